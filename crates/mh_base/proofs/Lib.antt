@@ -1,0 +1,5 @@
+mod Decimals
+mod EntryKinds
+mod EntryNames
+mod RunDigits
+mod TextLemmas

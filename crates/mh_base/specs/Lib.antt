@@ -1,0 +1,7 @@
+pub mod Counts
+pub mod Entries
+pub mod Folders
+pub mod Memory
+pub mod Names
+pub mod Numbers
+pub mod Streams
