@@ -1,0 +1,3 @@
+mod Folding
+mod Names
+mod Walking

@@ -1,0 +1,6 @@
+pub mod Fields
+pub mod Lines
+pub mod Message
+pub mod Unfolding
+pub mod View
+pub mod Walk

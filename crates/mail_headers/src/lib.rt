@@ -1,0 +1,13 @@
+//! Header fields of mail messages: a message is cut into its fields and its body without a copy.
+#![tactic(auto)]
+
+mod field;
+mod fields;
+mod message;
+mod spans;
+mod unfolding;
+
+pub use field::Field;
+pub use fields::Fields;
+pub use message::Message;
+pub use unfolding::unfold;

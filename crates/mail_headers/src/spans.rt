@@ -1,0 +1,85 @@
+// Spans of a header.
+ghost use Rattle.std.specs.Prelude.{◌≡◌, ◌==◌, ◌&&◌, not, ◌≤◌, ◌<◌, length};
+ghost use Rattle.std.specs.List.{prefix_len};
+ghost use Rattle.mail_headers.specs.Lines.{is_name_byte, is_blank, continues as continues_field, folded_len, without_end, without_feed, empty_line_len};
+
+/// How many bytes of a name stand at the front.
+pub(crate) fn name_len(text: &[u8]) -> usize
+    ensures value { result ≡ prefix_len is_name_byte text.now }
+    ensures inside { result ≤ length text.now }
+{
+    text.iter()
+        .take_while(|byte| 33 <= **byte && **byte <= 126 && **byte != b':')
+        .count()
+}
+
+/// How many blanks stand at the front.
+pub(crate) fn blank_len(text: &[u8]) -> usize
+    ensures value { result ≡ prefix_len is_blank text.now }
+    ensures inside { result ≤ length text.now }
+{
+    text.iter().take_while(|byte| **byte == b' ' || **byte == b'\t').count()
+}
+
+fn continues(bytes: &[u8]) -> bool
+    ensures { result ≡ continues_field bytes.now }
+{
+    match bytes.first() {
+        Some(byte) => *byte == b' ' || *byte == b'\t',
+        None => false,
+    }
+}
+
+fn ends_field(byte: u8, rest: &[u8]) -> bool
+    ensures { result ≡ (byte == 10 && not (continues_field rest.now)) }
+{
+    byte == b'\n' && !continues(rest)
+}
+
+/// The length of the first line with all lines that continue it.
+pub(crate) fn field_len(bytes: &[u8]) -> usize
+    ensures value { result ≡ folded_len bytes.now }
+    ensures inside { result ≤ length bytes.now }
+{
+    for (i, byte) in bytes.iter().enumerate() {
+        let (_, rest) = bytes.split_at(i + 1);
+        if ends_field(*byte, rest) {
+            return i + 1;
+        }
+    }
+    bytes.len()
+}
+
+fn without_return(text: &[u8]) -> &[u8]
+    ensures { result.now ≡ without_feed text.now }
+{
+    match text.split_last() {
+        Some((b'\r', front)) => front,
+        _ => text,
+    }
+}
+
+/// The text without the line end behind it.
+#[tactic(auto, unfolding(crate::specs::Lines::without_end))]
+pub(crate) fn without_line_end(text: &[u8]) -> &[u8]
+    ensures { result.now ≡ without_end text.now }
+{
+    match text.split_last() {
+        Some((b'\n', front)) => without_return(front),
+        _ => text,
+    }
+}
+
+/// The length of an empty line at the front, or 0.
+pub(crate) fn empty_line(bytes: &[u8]) -> usize
+    ensures value { result ≡ empty_line_len bytes.now }
+    ensures inside { result ≤ length bytes.now }
+{
+    if bytes.starts_with(b"\n") {
+        1
+    } else if bytes.starts_with(b"\r\n") {
+        2
+    } else {
+        0
+    }
+}
