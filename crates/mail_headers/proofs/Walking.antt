@@ -1,5 +1,5 @@
 -- The fields, one after another.
-use Rattle.std.proofs.Common.{◌≡◌, ℕ, zero, suc, ◌+◌, ◌-◌, ◌<◌, ◌≤◌, Bool, true, false, Option, Some, None, List, [], ◌∷◌, length, drop, refl, sym, ◌∙◌, ap, arith, rules, length-drop}
+use Rattle.std.proofs.Common.{◌≡◌, ℕ, zero, suc, ◌<◌, ◌≤◌, true, false, Option, Some, None, List, [], ◌∷◌, length, drop, refl, sym, ◌∙◌, ap, arith, rules, length-drop}
 use Rattle.std.specs.Prelude.{MatchOption, is_some}
 use Rattle.std.specs.Iterator.{MakesProgress, item_count}
 use Rattle.mail_headers.specs.declared.fields.Fields.{Fields}

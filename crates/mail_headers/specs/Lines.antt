@@ -1,6 +1,5 @@
 -- Lines of a header, and the bytes of names and blanks.
-use Rattle.std.specs.Prelude.{ℕ, ◌+◌, ◌==◌, ◌&&◌, ◌||◌, Bool, true, false, not, nat_le, List, [], ◌∷◌, ◌-◌, length, take, drop, slice_index, if◌then◌else◌}
-use Rattle.std.specs.List.{prefix_len}
+use Rattle.std.specs.Prelude.{ℕ, ◌+◌, ◌==◌, ◌&&◌, ◌||◌, Bool, false, not, nat_le, List, [], ◌∷◌, ◌-◌, length, take, slice_index, if◌then◌else◌}
 
 -- a byte of a field's name: printable and no colon
 abbrev pub is_name_byte : ℕ → Bool

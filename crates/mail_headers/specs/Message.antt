@@ -1,7 +1,6 @@
 -- What a message is: its fields, and behind them nothing, an empty line and the body, or the body at once.
-use Rattle.std.specs.Prelude.{◌≡◌, ◌≢◌, ◌⊎◌, ℕ, zero, suc, ◌+◌, ◌<◌, ◌==◌, Bool, true, false, List, [], ◌∷◌, ◌++◌, length, drop, Option, Some, None}
-use Rattle.std.specs.List.{list_all}
-use Rattle.mail_headers.specs.Lines.{is_name_byte, is_blank, continues, folded_len, empty_line_len}
+use Rattle.std.specs.Prelude.{ℕ, zero, suc, List, length, drop, Option, Some, None}
+use Rattle.mail_headers.specs.Lines.{folded_len, empty_line_len}
 use Rattle.mail_headers.specs.Fields.{FieldText, first_field}
 
 abbrev pub behind_first : Option FieldText → List ℕ → List ℕ → List ℕ

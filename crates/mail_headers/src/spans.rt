@@ -18,7 +18,9 @@ pub(crate) fn blank_len(text: &[u8]) -> usize
     ensures value { result ≡ prefix_len is_blank text.now }
     ensures inside { result ≤ length text.now }
 {
-    text.iter().take_while(|byte| **byte == b' ' || **byte == b'\t').count()
+    text.iter()
+        .take_while(|byte| **byte == b' ' || **byte == b'\t')
+        .count()
 }
 
 fn continues(bytes: &[u8]) -> bool

@@ -38,14 +38,19 @@ fn edge_len(text: &[u8]) -> usize
     ensures value { result ≡ prefix_len is_edge text.now }
     ensures inside { result ≤ length text.now }
 {
-    text.iter().take_while(|byte| **byte == b' ' || **byte == b'\t' || **byte == b'\r').count()
+    text.iter()
+        .take_while(|byte| **byte == b' ' || **byte == b'\t' || **byte == b'\r')
+        .count()
 }
 
 fn back_edge_len(text: &[u8]) -> usize
     ensures value { result ≡ suffix_len is_edge text.now }
     ensures inside { result ≤ length text.now }
 {
-    text.iter().rev().take_while(|byte| **byte == b' ' || **byte == b'\t' || **byte == b'\r').count()
+    text.iter()
+        .rev()
+        .take_while(|byte| **byte == b' ' || **byte == b'\t' || **byte == b'\r')
+        .count()
 }
 
 fn trim(text: &[u8]) -> &[u8]

@@ -1,6 +1,4 @@
-use Rattle.std.proofs.Common.{◌≡◌, sym, ◌∙◌, ap, refl}
-use Rattle.std.specs.Prelude.{◌==◌, ◌&&◌, not, slice_index}
-use Rattle.mail_headers.specs.Lines.{continues}
+use Rattle.std.proofs.Common.{sym, ◌∙◌, refl}
 use Rattle.mail_headers.proofs.Folding.{ends_here, goes_on, all_folded}
 use Rattle.mail_headers.proofs.spans.field_len.Goals as goal
 

@@ -1,4 +1,4 @@
-use Rattle.std.proofs.Common.{◌≡◌, sym, ◌∙◌, ap}
+use Rattle.std.proofs.Common.{sym, ◌∙◌, ap}
 use Rattle.mail_headers.specs.Fields.{first_value}
 use Rattle.mail_headers.specs.View.{field_text}
 use Rattle.mail_headers.proofs.Names.{first_here}

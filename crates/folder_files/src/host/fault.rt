@@ -1,0 +1,52 @@
+// Why a system call did not serve.
+use std::alloc::{AllocError, AllocFailed};
+use std::io;
+use std::io::ErrorKind;
+
+#[derive(Drop)]
+pub(crate) enum HostFault {
+    Failed,
+    Memory,
+}
+
+impl From<AllocError> for HostFault {
+    fn from(_: AllocError) -> Self {
+        HostFault::Memory
+    }
+}
+
+impl<T: Drop> From<AllocFailed<T>> for HostFault {
+    fn from(_: AllocFailed<T>) -> Self {
+        HostFault::Memory
+    }
+}
+
+impl From<io::Error> for HostFault {
+    fn from(error: io::Error) -> Self {
+        if error.kind() == ErrorKind::OutOfMemory {
+            HostFault::Memory
+        } else {
+            HostFault::Failed
+        }
+    }
+}
+
+/// What a call gave, or what its error says of the name.
+#[derive(Drop)]
+pub(crate) enum Found<T> {
+    There(T),
+    Gone,
+    Exists,
+}
+
+/// Reads an error: a missing name, a name that is taken, or a fault.
+pub(crate) fn looked_up<T: Drop>(outcome: io::Result<T>) -> Result<Found<T>, HostFault> {
+    match outcome {
+        Ok(value) => Ok(Found::There(value)),
+        Err(error) => match error.kind() {
+            ErrorKind::NotFound => Ok(Found::Gone),
+            ErrorKind::AlreadyExists => Ok(Found::Exists),
+            _ => Err(HostFault::from(error)),
+        },
+    }
+}

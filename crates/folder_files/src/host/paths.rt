@@ -1,0 +1,74 @@
+// The paths of places, names and outside files.
+use super::fault::HostFault;
+use crate::{FilePath, Place};
+use mh_base::{Bytes, Name};
+use std::alloc::Global;
+use std::str;
+
+/// The home directory's path.
+#[derive(Drop)]
+pub(crate) struct Paths {
+    home: Bytes,
+}
+
+/// A path's text; a path that is no UTF-8 is a fault.
+fn text(bytes: &[u8]) -> Result<&str, HostFault> {
+    match str::from_utf8(bytes) {
+        Ok(text) => Ok(text),
+        Err(_) => Err(HostFault::Failed),
+    }
+}
+
+fn below(alloc: Global, base: &str, name: &str) -> Result<String, HostFault> {
+    let mut path = String::from_str(alloc, base)?;
+    if !base.ends_with('/') {
+        path.push('/')?;
+    }
+    path.push_str(name)?;
+    Ok(path)
+}
+
+impl Paths {
+    pub(crate) fn new(home: Bytes) -> Paths {
+        Paths { home }
+    }
+
+    fn from_home(&self, alloc: Global, path: &str) -> Result<String, HostFault> {
+        if path.starts_with('/') {
+            Ok(String::from_str(alloc, path)?)
+        } else {
+            below(alloc, text(self.home.as_slice())?, path)
+        }
+    }
+
+    pub(crate) fn place(&self, alloc: Global, place: &Place) -> Result<String, HostFault> {
+        match place {
+            Place::Home => Ok(String::from_str(alloc, text(self.home.as_slice())?)?),
+            Place::Work => Ok(String::from_str(alloc, ".")?),
+            Place::Mail(path) => self.from_home(alloc, text(path.as_slice())?),
+            Place::Folder(path, name) => {
+                let mail = self.from_home(alloc, text(path.as_slice())?)?;
+                below(alloc, mail.as_str(), name.text().as_str())
+            }
+        }
+    }
+
+    pub(crate) fn entry(
+        &self,
+        alloc: Global,
+        place: &Place,
+        name: &Name,
+    ) -> Result<String, HostFault> {
+        let place = self.place(alloc, place)?;
+        below(alloc, place.as_str(), text(name.bytes())?)
+    }
+
+    pub(crate) fn file(&self, alloc: Global, path: &FilePath) -> Result<String, HostFault> {
+        let text = text(path.text.as_slice())?;
+        if path.home {
+            self.from_home(alloc, text)
+        } else {
+            Ok(String::from_str(alloc, text)?)
+        }
+    }
+}

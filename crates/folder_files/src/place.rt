@@ -1,0 +1,47 @@
+// Where steps are made.
+ghost use Rattle.std.specs.Prelude.{◌≡◌, IfOk};
+
+use mh_base::{Bytes, Duplicate, FolderName};
+use std::alloc::{AllocError, Global};
+
+/// A directory.
+#[derive(Drop)]
+pub enum Place {
+    /// The user's home directory.
+    Home,
+    /// The current directory.
+    Work,
+    /// The mail directory at this path, relative to home unless absolute.
+    Mail(Bytes),
+    /// A folder of the mail directory at this path.
+    Folder(Bytes, FolderName),
+}
+
+/// A file outside the mailbox, relative to home or to the current directory unless absolute.
+#[derive(Drop)]
+pub struct FilePath {
+    pub home: bool,
+    pub text: Bytes,
+}
+
+impl Duplicate for Place {
+    fn duplicate(&self, alloc: Global) -> Result<Place, AllocError> {
+        match self {
+            Place::Home => Ok(Place::Home),
+            Place::Work => Ok(Place::Work),
+            Place::Mail(path) => Ok(Place::Mail(path.duplicate(alloc)?)),
+            Place::Folder(path, name) => {
+                Ok(Place::Folder(path.duplicate(alloc)?, name.duplicate(alloc)?))
+            }
+        }
+    }
+}
+
+impl Duplicate for FilePath {
+    fn duplicate(&self, alloc: Global) -> Result<FilePath, AllocError> {
+        Ok(FilePath {
+            home: self.home,
+            text: self.text.duplicate(alloc)?,
+        })
+    }
+}

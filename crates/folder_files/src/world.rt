@@ -1,0 +1,72 @@
+// Worlds: what is on the disk, and what a crash may still take back.
+
+use crate::{FilePath, Place};
+use mh_base::{Bytes, List, Name};
+
+#[derive(Drop)]
+pub struct World {
+    pub directories: DirectoryList,
+    pub files: FileList,
+    pub drops: OutsideList,
+    pub locks: LockList,
+    pub ended: RunList,
+}
+
+/// A directory: what outlasts a crash, and the changes since, oldest first.
+#[derive(Drop)]
+pub struct Directory {
+    pub place: Place,
+    pub safe: SlotList,
+    pub pending: ChangeList,
+}
+
+/// A name and the file to which it leads.
+#[derive(Drop)]
+pub struct Slot {
+    pub name: Name,
+    pub file: u64,
+}
+
+/// One change of a directory.
+#[derive(Drop)]
+pub enum Change {
+    Set(Name, u64),
+    Gone(Name),
+    Moved(Name, Name),
+}
+
+/// A file; its bytes outlast a crash where it is safe.
+#[derive(Drop)]
+pub struct File {
+    pub id: u64,
+    pub bytes: Bytes,
+    pub safe: bool,
+}
+
+/// A file outside the mailbox, as a mail drop.
+#[derive(Drop)]
+pub struct Outside {
+    pub path: FilePath,
+    pub bytes: Bytes,
+}
+
+/// A lock and the run that holds it.
+#[derive(Drop)]
+pub struct Held {
+    pub place: Place,
+    pub run: u128,
+}
+
+pub type ChangeList = List<Change>;
+
+pub type DirectoryList = List<Directory>;
+
+pub type FileList = List<File>;
+
+pub type LockList = List<Held>;
+
+pub type OutsideList = List<Outside>;
+
+pub type RunList = List<u128>;
+
+pub type SlotList = List<Slot>;
