@@ -1,0 +1,6 @@
+pub mod Asking
+pub mod Follows
+pub mod Plan
+pub mod Rules
+pub mod Runs
+pub mod Text
