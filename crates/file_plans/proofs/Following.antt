@@ -699,6 +699,10 @@ stop_from {run = run} {cause = cause} {other = other} {from = from} {p = p} k {x
 pub no_room : {A E : Type 0} {run : ℕ} {cause : E → Cause} {p : Plan (Result A E)} {r : Result A E} (e : E) {x : State} → IsErr r × IsErrAnd r (λ f. f ≡ e) → cause e ≡ OfMemory → Follows run cause p x x r
 no_room {run = run} {cause = cause} {p = p} {r = r} e {x = x} is c = out_of_memory run cause p r e x is.0 is.1 c
 
+-- want of memory, said outright
+pub no_room_at : {A E : Type 0} {run : ℕ} {cause : E → Cause} {p : Plan (Result A E)} {e : E} {x : State} → cause e ≡ OfMemory → Follows run cause p x x (Err e)
+no_room_at {run = run} {cause = cause} {p = p} {e = e} {x = x} c = no_memory run cause p e x c
+
 pub done : {A E : Type 0} {run : ℕ} {cause : E → Cause} {a : A} {x : State} → Follows run cause (Return (Ok a)) x x (Ok a)
 done {run = run} {cause = cause} {a = a} {x = x} = gives run cause a x
 

@@ -1,0 +1,4 @@
+mod Causes
+mod Numbers
+mod Texts
+mod Showing

@@ -1,0 +1,18 @@
+//! The commands, and the top call that runs one of them.
+#![tactic(auto)]
+
+mod command;
+mod fault;
+mod lines;
+mod message_line;
+mod scan;
+mod setting;
+mod status;
+#[cfg(test)]
+mod tests;
+mod top;
+
+pub use fault::CommandFault;
+pub use setting::Setting;
+pub use status::Status;
+pub use top::mh;
