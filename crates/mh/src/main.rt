@@ -7,7 +7,7 @@ mod start;
 use folder_files::HostFiles;
 use mh_base::{StdSink, StdSource};
 use mh_tools::mh;
-use start::{Start, StartFault, start};
+use start::{Start, StartFault, read_start};
 use std::io::Write;
 use std::process::ExitCode;
 
@@ -21,7 +21,7 @@ fn run(rt: &HostRuntime) -> Result<u8, StartFault> {
         words,
         home,
         setting,
-    } = start(rt)?;
+    } = read_start(rt)?;
     let alloc = rt.alloc();
     let mut files = HostFiles::open(rt.clone()?, alloc, home)?;
     let mut input = StdSource::new(rt.stdin());

@@ -103,7 +103,7 @@ fn run_number(rt: &HostRuntime) -> Result<u128, StartFault> {
     Ok(u128::from_le_bytes(bytes))
 }
 
-pub fn start(rt: &HostRuntime) -> Result<Start, StartFault> {
+pub fn read_start(rt: &HostRuntime) -> Result<Start, StartFault> {
     let alloc = rt.alloc();
     let home = home(rt)?;
     let user = user(alloc, home.as_str())?;

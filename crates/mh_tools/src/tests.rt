@@ -1,1 +1,241 @@
-// Placeholder until the rows stand.
+// The rows of `scan`, over a folder in memory.
+mod shelf;
+
+use crate::{Setting, Status, mh};
+use folder_files::{Refusal, Which};
+use mh_base::{Bytes, MemSink, NumberList, PlainSink, PlainSource, Text, WordWhy};
+use shelf::Shelf;
+use std::alloc::Global;
+use std::process::Abort;
+use std::test::Fail;
+
+const ANN: &[u8] =
+    b"From: Ann Lee <ann@a.example>\nTo: bob@b.example\nSubject: Lunch\nDate: Tue, 02 Jun 2026 10:00:00 +0000\n\nAt noon?\n";
+
+const CY: &[u8] =
+    b"From: cy@c.example (Cy Dee)\nSubject: =?UTF-8?Q?Caf=C3=A9?=\nDate: Mon, 01 Jun 2026 09:30:00 +0000\n\nOpen at nine.\nBye.\n";
+
+const BOB: &[u8] = b"From: bob@b.example\nSubject: Re: Lunch\n\n";
+
+fn setting(alloc: Global) -> Result<Setting, Fail> {
+    let user = Text::from_str(alloc, "bob")?;
+    Ok(Setting::new(1, 1_780_394_400, 0, user).ok_or("setting")?)
+}
+
+fn words(alloc: Global, all: &[&str]) -> Result<Vec<String>, Fail> {
+    let mut words = Vec::new(alloc);
+    for word in all {
+        words.push(String::from_str(alloc, *word)?)?;
+    }
+    Ok(words)
+}
+
+/// Runs the words on the files, and compares status, output and error output.
+fn row(
+    rt: &(impl Abort + AllocGlobal),
+    files: &mut Shelf,
+    all: &[&str],
+    exit: u8,
+    out_wanted: &[u8],
+    err_wanted: &[u8],
+) -> Result<Status, Fail> {
+    let alloc = rt.alloc();
+    let mut input = PlainSource::new(Bytes::new(alloc));
+    let mut out = PlainSink::new(alloc);
+    let mut err = PlainSink::new(alloc);
+    let words = words(alloc, all)?;
+    let setting = setting(alloc)?;
+    let status = mh(
+        alloc, &words, &setting, files, &mut input, &mut out, &mut err,
+    );
+    assert_eq!(rt; status.exit(), exit);
+    assert_eq!(rt; out.bytes(), out_wanted);
+    assert_eq!(rt; err.bytes(), err_wanted);
+    Ok(status)
+}
+
+fn three(alloc: Global) -> Result<Shelf, Fail> {
+    let mut files = Shelf::new(alloc);
+    files.add(b"1", ANN)?;
+    files.add(b"2", CY)?;
+    files.add(b"3", BOB)?;
+    Ok(files)
+}
+
+#[test]
+fn three_messages(rt: HostRuntime) -> Result<(), Fail> {
+    let mut files = three(rt.alloc())?;
+    let lines = b"   1 Lunch\n   2 =?UTF-8?Q?Caf=C3=A9?=\n   3 Re: Lunch\n";
+    let _ = row(&rt, &mut files, &["scan", "+inbox"], 0, lines, b"")?;
+    Ok(())
+}
+
+#[test]
+fn a_read_fails(rt: HostRuntime) -> Result<(), Fail> {
+    let mut files = three(rt.alloc())?;
+    files.fail_at(3);
+    let status = row(
+        &rt,
+        &mut files,
+        &["scan", "+inbox"],
+        2,
+        b"   1 Lunch\n",
+        b"mh: fault of files\n",
+    )?;
+    assert!(rt; matches!(status, Status::Faulted(Which::Files)));
+    Ok(())
+}
+
+#[test]
+fn a_line_fails(rt: HostRuntime) -> Result<(), Fail> {
+    let alloc = rt.alloc();
+    let mut files = three(alloc)?;
+    let mut failing = NumberList::new(alloc);
+    failing.push(2)?;
+    let mut input = PlainSource::new(Bytes::new(alloc));
+    let mut out = MemSink::new(alloc, failing);
+    let mut err = PlainSink::new(alloc);
+    let words = words(alloc, &["scan", "+inbox"])?;
+    let setting = setting(alloc)?;
+    let status = mh(
+        alloc, &words, &setting, &mut files, &mut input, &mut out, &mut err,
+    );
+    assert_eq!(rt; status.exit(), 2);
+    assert_eq!(rt; out.bytes(), b"   1 Lunch\n".as_slice());
+    assert_eq!(rt; err.bytes(), b"mh: fault of output\n".as_slice());
+    Ok(())
+}
+
+#[test]
+fn wrong_words(rt: HostRuntime) -> Result<(), Fail> {
+    let mut files = three(rt.alloc())?;
+    let none = row(&rt, &mut files, &[], 1, b"", b"mh: no command\n")?;
+    assert!(rt;
+        matches!(
+            none,
+            Status::Refused(Refusal::BadSwitch {
+                place: 0,
+                why: WordWhy::NoCommand
+            })
+        )
+    );
+    let _ = row(
+        &rt,
+        &mut files,
+        &["scan", "inbox"],
+        1,
+        b"",
+        b"mh: unknown command: scan\n",
+    )?;
+    let _ = row(
+        &rt,
+        &mut files,
+        &["glue"],
+        1,
+        b"",
+        b"mh: unknown command: glue\n",
+    )?;
+    let _ = row(
+        &rt,
+        &mut files,
+        &["scan", "+inbox", "1"],
+        1,
+        b"",
+        b"mh: unknown command: scan\n",
+    )?;
+    let bad = row(
+        &rt,
+        &mut files,
+        &["scan", "+a//b"],
+        1,
+        b"",
+        b"mh: bad folder name: +a//b\n",
+    )?;
+    assert!(rt; matches!(bad, Status::Refused(Refusal::BadFolder(_))));
+    let gone = row(
+        &rt,
+        &mut files,
+        &["scan", "+none"],
+        1,
+        b"",
+        b"mh: no such folder: +none\n",
+    )?;
+    assert!(rt; matches!(gone, Status::Refused(Refusal::NoFolder(_))));
+    Ok(())
+}
+
+#[test]
+fn an_empty_folder(rt: HostRuntime) -> Result<(), Fail> {
+    let mut files = Shelf::new(rt.alloc());
+    let status = row(
+        &rt,
+        &mut files,
+        &["scan", "+inbox"],
+        1,
+        b"",
+        b"mh: no messages in range: all\n",
+    )?;
+    assert!(rt; matches!(status, Status::Refused(Refusal::EmptyRange(_))));
+    Ok(())
+}
+
+#[test]
+fn names_that_are_no_numbers(rt: HostRuntime) -> Result<(), Fail> {
+    let mut files = Shelf::new(rt.alloc());
+    for name in [b"007".as_slice(), b",3", b"12", b"4x"] {
+        files.add(name, BOB)?;
+    }
+    let _ = row(
+        &rt,
+        &mut files,
+        &["scan", "+inbox"],
+        0,
+        b"  12 Re: Lunch\n",
+        b"",
+    )?;
+    Ok(())
+}
+
+#[test]
+fn numbers_ascend(rt: HostRuntime) -> Result<(), Fail> {
+    let mut files = Shelf::new(rt.alloc());
+    files.add(b"10", ANN)?;
+    files.add(b"123456", BOB)?;
+    files.add(b"9", BOB)?;
+    let lines = b"   9 Re: Lunch\n  10 Lunch\n123456 Re: Lunch\n";
+    let _ = row(&rt, &mut files, &["scan", "+inbox"], 0, lines, b"")?;
+    Ok(())
+}
+
+#[test]
+fn odd_messages(rt: HostRuntime) -> Result<(), Fail> {
+    let mut files = Shelf::new(rt.alloc());
+    files.add(b"1", b"")?;
+    files.add(b"2", b"Subject: no end")?;
+    files.add(b"3", b"Subject: a\x00b\xff\n\n")?;
+    files.add(b"4", b"\n\nSubject: body\n")?;
+    files.add(b"5", b"SUBJECT : folded\r\n\ttwice\r\n over \r\n\r\n")?;
+    let lines = b"   1 \n   2 no end\n   3 a?b?\n   4 \n   5 folded?twice over\n";
+    let _ = row(&rt, &mut files, &["scan", "+inbox"], 0, lines, b"")?;
+    Ok(())
+}
+
+#[test]
+fn too_large(rt: HostRuntime) -> Result<(), Fail> {
+    let mut files = Shelf::new(rt.alloc());
+    files.add_long(b"1", 67_108_865)?;
+    let line = b"mh: too large: 67108865 bytes, limit 67108864\n";
+    let _ = row(&rt, &mut files, &["scan", "+inbox"], 1, b"", line)?;
+    Ok(())
+}
+
+#[test]
+fn settings(rt: HostRuntime) -> Result<(), Fail> {
+    let alloc = rt.alloc();
+    assert!(rt; Setting::new(1, -1, 0, Text::new(alloc)).is_none());
+    assert!(rt; Setting::new(1, 253_402_000_001, 0, Text::new(alloc)).is_none());
+    assert!(rt; Setting::new(1, 0, 1440, Text::new(alloc)).is_none());
+    assert!(rt; Setting::new(1, 0, -1440, Text::new(alloc)).is_none());
+    assert!(rt; Setting::new(1, 253_402_000_000, -1439, Text::new(alloc)).is_some());
+    Ok(())
+}

@@ -1,0 +1,9 @@
+mod FormLemmas
+mod ItemLemmas
+mod LineLemmas
+mod LookupLemmas
+mod OutcomeLemmas
+mod ReadingLemmas
+mod StepLemmas
+mod SwitchLemmas
+mod TextLemmas

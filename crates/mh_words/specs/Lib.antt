@@ -1,0 +1,8 @@
+pub mod Forms
+pub mod Items
+pub mod Lines
+pub mod Lookups
+pub mod Outcomes
+pub mod Readings
+pub mod Steps
+pub mod Switches
