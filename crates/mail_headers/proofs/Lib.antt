@@ -1,3 +1,4 @@
 mod Folding
 mod Names
 mod Walking
+mod Whole

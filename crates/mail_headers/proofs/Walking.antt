@@ -11,11 +11,11 @@ use Rattle.mail_headers.specs.Fields.{FieldText, field_in, first_field, with_fir
 use Rattle.mail_headers.specs.Message.{behind_first, rest_up_to, rest_of}
 use Rattle.mail_headers.proofs.Folding.{folded_len-some}
 
-none_in : first_field [] ≡ None
+pub none_in : first_field [] ≡ None
 unfolding field_in folded_len
 none_in = refl
 
-shorter : (bytes : List ℕ) (n : ℕ) → length bytes ≤ suc n → length (drop (folded_len bytes) bytes) ≤ n
+pub shorter : (bytes : List ℕ) (n : ℕ) → length bytes ≤ suc n → length (drop (folded_len bytes) bytes) ≤ n
 shorter [] n le = omega (arith, length-drop {A = ℕ})
 shorter (b ∷ bs) n le = let some = folded_len-some (b ∷ bs) (omega arith) in omega (arith, length-drop (folded_len (b ∷ bs)) (b ∷ bs))
 
@@ -41,7 +41,7 @@ rest_enough (suc n) (suc m) bytes p q =
 one_more : (n : ℕ) → n ≤ suc n
 one_more n = omega arith
 
-same_len : (n : ℕ) → n ≤ n
+pub same_len : (n : ℕ) → n ≤ n
 same_len n = omega arith
 
 pub fields_of-step : (bytes : List ℕ) → fields_of bytes ≡ with_first (first_field bytes) (fields_of (drop (folded_len bytes) bytes))

@@ -4,3 +4,4 @@ pub mod Message
 pub mod Unfolding
 pub mod View
 pub mod Walk
+pub mod Whole

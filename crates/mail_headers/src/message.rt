@@ -36,10 +36,13 @@ fn behind_fields(bytes: &[u8]) -> &[u8]
 
 impl<'a> Message<'a> {
     ghost use Rattle.mail_headers.specs.Walk.{fields_left};
+    ghost use Rattle.mail_headers.specs.Whole.{IsMessage, IsNoOther};
 
     /// Cuts a message. No bytes are refused.
     pub fn cut(bytes: &'a [u8]) -> Message<'a>
-        ensures { result ≡ bytes.now }
+        ensures bytes { result ≡ bytes.now }
+        ensures whole { IsMessage (fields_of result) (body_of result) result }
+        ensures alone { IsNoOther (fields_of result) (body_of result) result }
     {
         let rest = behind_fields(bytes);
         let (_, body) = rest.split_at(empty_line(rest));

@@ -34,13 +34,17 @@ fn join(alloc: Global, value: &[u8]) -> Result<Vec<u8>, AllocError>
     Ok(text)
 }
 
+fn is_edge_byte(byte: u8) -> bool
+    ensures { result ≡ is_edge byte }
+{
+    byte == b' ' || byte == b'\t' || byte == b'\r'
+}
+
 fn edge_len(text: &[u8]) -> usize
     ensures value { result ≡ prefix_len is_edge text.now }
     ensures inside { result ≤ length text.now }
 {
-    text.iter()
-        .take_while(|byte| **byte == b' ' || **byte == b'\t' || **byte == b'\r')
-        .count()
+    text.iter().take_while(|byte| is_edge_byte(**byte)).count()
 }
 
 fn back_edge_len(text: &[u8]) -> usize
@@ -49,7 +53,7 @@ fn back_edge_len(text: &[u8]) -> usize
 {
     text.iter()
         .rev()
-        .take_while(|byte| **byte == b' ' || **byte == b'\t' || **byte == b'\r')
+        .take_while(|byte| is_edge_byte(**byte))
         .count()
 }
 
