@@ -29,12 +29,15 @@ use crate::{DropCut, DropPiece, Entered, FolderMade, Listing, Locking, Reading, 
 use folder_files::{Answer, FilePath, Files, Place, Step};
 use mh_base::{Bytes, Duplicate, Name};
 use std::alloc::{AllocError, Global};
+use thiserror::Error;
 
 /// Why a step has no answer of its row.
-#[derive(Drop)]
+#[derive(Debug, PartialEq, Eq, Drop, Error)]
 pub enum Stop {
     /// The files failed; their count of faults rose.
+    #[error("files failed")]
     Failed,
+    #[error("out of memory")]
     Memory,
 }
 

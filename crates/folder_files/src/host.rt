@@ -17,7 +17,7 @@ use paths::Paths;
 use std::alloc::{AllocError, Global};
 
 /// Real directories, by the system's calls. They tell no story: that their steps are those of
-/// docs/DISK is trusted. Their count of faults rises at each Failed that they answer.
+/// docs/NO-LOSS.md is trusted. Their count of faults rises at each Failed that they answer.
 #[derive(Drop)]
 pub struct HostFiles {
     rt: HostRuntime,

@@ -16,6 +16,7 @@ ghost use Rattle.std.specs.Str.{chars};
 use crate::{Duplicate, Entry, Text, entry_of};
 use std::alloc::{AllocError, Global};
 use std::marker::Model;
+use thiserror::Error;
 
 /// A folder's name, relative to the mail directory: segments joined by slashes.
 #[derive(Drop)]
@@ -24,9 +25,11 @@ pub struct FolderName {
 }
 
 /// Why a word is no folder's name.
-#[derive(Debug, PartialEq, Eq, Drop)]
+#[derive(Debug, PartialEq, Eq, Drop, Error)]
 pub enum FolderFault {
+    #[error("no folder name")]
     BadFolder,
+    #[error("out of memory")]
     Memory,
 }
 

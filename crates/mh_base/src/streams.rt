@@ -5,21 +5,26 @@ ghost use Rattle.mh_base.specs.Streams.{SourceState, SinkState, Reads, Puts};
 
 use crate::Bytes;
 use std::alloc::Global;
+use thiserror::Error;
 
 /// Why nothing was read.
-#[derive(Debug, PartialEq, Eq, Drop)]
+#[derive(Debug, PartialEq, Eq, Drop, Error)]
 pub enum SourceFault {
     /// The source failed; its count of faults rose.
+    #[error("input failed")]
     Failed,
+    #[error("out of memory")]
     Memory,
 }
 
 /// Why a piece was not put, or not whole.
-#[derive(Debug, PartialEq, Eq, Drop)]
+#[derive(Debug, PartialEq, Eq, Drop, Error)]
 pub enum SinkFault {
     /// The sink failed; its count of faults rose. A part of the piece was appended.
+    #[error("output failed")]
     Failed,
     /// Nothing was appended.
+    #[error("out of memory")]
     Memory,
 }
 
