@@ -1,5 +1,8 @@
 // The rows of `scan`, over a folder in memory.
+mod disk;
+mod mail;
 mod shelf;
+mod values;
 
 use crate::{Setting, Status, mh};
 use folder_files::{Refusal, Which};
@@ -16,6 +19,10 @@ const CY: &[u8] =
     b"From: cy@c.example (Cy Dee)\nSubject: =?UTF-8?Q?Caf=C3=A9?=\nDate: Mon, 01 Jun 2026 09:30:00 +0000\n\nOpen at nine.\nBye.\n";
 
 const BOB: &[u8] = b"From: bob@b.example\nSubject: Re: Lunch\n\n";
+
+fn bytes_of(alloc: Global, bytes: &[u8]) -> Result<Bytes, Fail> {
+    Ok(Bytes::from_slice(alloc, bytes)?)
+}
 
 fn setting(alloc: Global) -> Result<Setting, Fail> {
     let user = Text::from_str(alloc, "bob")?;
