@@ -1,0 +1,12 @@
+pub mod Counting
+pub mod Cutting
+pub mod Drops
+pub mod Finding
+pub mod Giving
+pub mod Last
+pub mod Leaping
+pub mod Long
+pub mod Parting
+pub mod Places
+pub mod Readings
+pub mod Text
