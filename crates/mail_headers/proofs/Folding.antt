@@ -27,11 +27,11 @@ unfolding folded_len
 folded_len-some [] lt = absurd (omega arith)
 folded_len-some (b ∷ bs) lt = some_len (b == 10 && not (continues bs)) (folded_len bs)
 
-at_end : (b : ℕ) (bs : List ℕ) → b == 10 && not (continues bs) ≡ true → folded_len (b ∷ bs) ≡ 1
+pub at_end : (b : ℕ) (bs : List ℕ) → b == 10 && not (continues bs) ≡ true → folded_len (b ∷ bs) ≡ 1
 unfolding folded_len
 at_end b bs e = rw e refl
 
-inside : (b : ℕ) (bs : List ℕ) → b == 10 && not (continues bs) ≡ false → folded_len (b ∷ bs) ≡ 1 + folded_len bs
+pub inside : (b : ℕ) (bs : List ℕ) → b == 10 && not (continues bs) ≡ false → folded_len (b ∷ bs) ≡ 1 + folded_len bs
 unfolding folded_len
 inside b bs e = rw e refl
 

@@ -1,4 +1,4 @@
-mod Folding
+pub mod Folding
 mod Names
 mod Walking
 mod Whole

@@ -4,7 +4,7 @@ ghost use Rattle.std.specs.Iterator.{YieldsFirstBy, item_count};
 ghost use Rattle.mail_headers.specs.Fields.{fields_of};
 
 use crate::Field;
-use crate::spans::field_len;
+use crate::spans::folded_line_len;
 
 /// The fields of a header, in order.
 #[derive(Clone, Copy, Debug)]
@@ -31,7 +31,7 @@ impl<'a> Fields<'a> {
     pub(crate) fn step(&mut self) -> Option<Field<'a>>
         ensures { Steps self.old.rest.now self.new.rest.now result }
     {
-        let (text, behind) = self.rest.split_at(field_len(self.rest));
+        let (text, behind) = self.rest.split_at(folded_line_len(self.rest));
         let field = Field::read(text)?;
         self.rest = behind;
         Some(field)

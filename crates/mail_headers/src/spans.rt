@@ -38,8 +38,9 @@ fn ends_field(byte: u8, rest: &[u8]) -> bool
     byte == b'\n' && !continues(rest)
 }
 
-/// The length of the first line with all lines that continue it.
-pub(crate) fn field_len(bytes: &[u8]) -> usize
+/// The length of the first line with all lines that continue it (RFC 5322, section 2.2.3), their
+/// ends included.
+pub fn folded_line_len(bytes: &[u8]) -> usize
     ensures value { result ≡ folded_len bytes.now }
     ensures inside { result ≤ length bytes.now }
 {

@@ -9,7 +9,8 @@ use Rattle.mh_profile.specs.declared.named_value.NamedValue.{NamedValue}
 use Rattle.mh_profile.specs.Lines.{folded_lines}
 use Rattle.mh_profile.specs.Reading.{entry_of, listed, IsEntryOf}
 use Rattle.mh_profile.specs.Changes.{noted}
-use Rattle.mh_profile.proofs.LineLemmas.{cut_line, lone_field, folded_len-some, no_lines}
+use Rattle.mh_profile.proofs.LineLemmas.{cut_line, lone_field, no_lines}
+use Rattle.mail_headers.proofs.Folding.{folded_len-some}
 use Rattle.mh_profile.proofs.EntryLemmas.{more_of, more_of-noted, more_of-end}
 
 pub some_left : (n : ℕ) → n == 0 ≡ false → 0 < n
@@ -17,7 +18,7 @@ some_left n e = let other = eqb-false n 0 e in omega arith
 
 pub shorter : (rest : List ℕ) (n : ℕ) → n ≡ folded_len rest → 0 < length rest → length (drop n rest) < length rest
 shorter [] n is some = absurd (omega arith)
-shorter (b ∷ bs) n is some = let taken = folded_len-some b bs in omega (arith, length-drop n (b ∷ bs))
+shorter (b ∷ bs) n is some = let taken = folded_len-some (b ∷ bs) (omega arith) in omega (arith, length-drop n (b ∷ bs))
 
 listed_line : (line : List ℕ) (o : Option FieldText) (ls : List (List ℕ)) → field_in line ≡ o → listed (line ∷ ls) ≡ map entry_of (cons_option o (filter_map field_in ls))
 listed_line line o ls e = ap (λ f. map entry_of (cons_option f (filter_map field_in ls))) e

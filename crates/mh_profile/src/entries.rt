@@ -10,9 +10,10 @@ ghost use Rattle.mh_profile.specs.Validity.{AreEntries, IsEntry};
 
 use crate::NamedValue;
 use crate::key::name_key;
-use crate::lines::{line_len, read_entry};
+use crate::lines::read_entry;
 use crate::printing::put_entry;
 use indexmap::IndexMap;
+use mail_headers::folded_line_len;
 use mh_base::Bytes;
 use std::alloc::{AllocError, Global};
 use std::marker::Model;
@@ -83,7 +84,7 @@ impl Entries {
         let mut entries = Entries::new(alloc);
         let mut rest = bytes;
         while !rest.is_empty() {
-            let (line, behind) = rest.split_at(line_len(rest));
+            let (line, behind) = rest.split_at(folded_line_len(rest));
             if let Some(entry) = read_entry(alloc, line)? {
                 entries.note(entry)?;
             }

@@ -1,6 +1,5 @@
 // The lines of a profile.
 ghost use Rattle.std.specs.Prelude.{◌≡◌, ◌==◌, ◌&&◌, not, ◌≤◌, length, IfOk, IfSome, MatchOption, None, Some};
-ghost use Rattle.mail_headers.specs.Lines.{continues as continues_field, folded_len};
 ghost use Rattle.mail_headers.specs.Fields.{first_field};
 ghost use Rattle.mail_headers.specs.View.{field_text};
 ghost use Rattle.mh_profile.specs.Reading.{IsEntryOf, entry_of};
@@ -10,35 +9,6 @@ use crate::NamedValue;
 use mail_headers::{Field, Message, unfold};
 use mh_base::Bytes;
 use std::alloc::{AllocError, Global};
-
-fn continues(bytes: &[u8]) -> bool
-    ensures { result ≡ continues_field bytes.now }
-{
-    match bytes.first() {
-        Some(byte) => *byte == b' ' || *byte == b'\t',
-        None => false,
-    }
-}
-
-fn ends_line(byte: u8, rest: &[u8]) -> bool
-    ensures { result ≡ (byte == 10 && not (continues_field rest.now)) }
-{
-    byte == b'\n' && !continues(rest)
-}
-
-/// The length of the first line with all lines that continue it.
-pub(crate) fn line_len(bytes: &[u8]) -> usize
-    ensures value { result ≡ folded_len bytes.now }
-    ensures inside { result ≤ length bytes.now }
-{
-    for (i, byte) in bytes.iter().enumerate() {
-        let (_, rest) = bytes.split_at(i + 1);
-        if ends_line(*byte, rest) {
-            return i + 1;
-        }
-    }
-    bytes.len()
-}
 
 /// The field with which a line begins.
 fn field_of(line: &[u8]) -> Option<Field<'_>>

@@ -1,6 +1,6 @@
 // Fields and bodies of messages.
 use super::bytes_of;
-use mail_headers::{Message, unfold};
+use mail_headers::{Message, folded_line_len, unfold};
 use std::process::Abort;
 use std::test::Fail;
 
@@ -49,6 +49,7 @@ fn fields_by_name(rt: HostRuntime) -> Result<(), Fail> {
     let message = Message::cut(b"subject: first\nSubject: second\n\n");
     assert_eq!(rt; message.first(b"SUBJECT").ok_or("there")?, b" first".as_slice());
     assert!(rt; message.first(b"To").is_none());
+    assert_eq!(rt; folded_line_len(b"a\n b\nc"), 5);
     Ok(())
 }
 

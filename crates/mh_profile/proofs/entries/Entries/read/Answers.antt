@@ -13,24 +13,24 @@ loop-rest-init c =
 pub loop-rest-smaller-in_ok-note : goal.loop-rest-smaller-in_ok-note
 loop-rest-smaller-in_ok-note c =
     let some : 0 < length c.loop-rest.rest.now = some_left (length c.loop-rest.rest.now) (sym c.is_empty.ensures ∙ c.loop-rest-test.true) in
-    fewer c.loop-rest.rest.now c.split_at.result.0.now c.split_at.result.1.now c.line_len.result c.line_len.ensures.value c.split_at.ensures.front c.split_at.ensures.back some
+    fewer c.loop-rest.rest.now c.split_at.result.0.now c.split_at.result.1.now c.folded_line_len.result c.folded_line_len.ensures.value c.split_at.ensures.front c.split_at.ensures.back some
 
 pub loop-rest-preserved-in_ok-note : goal.loop-rest-preserved-in_ok-note
 loop-rest-preserved-in_ok-note c =
     let some : 0 < length c.loop-rest.rest.now = some_left (length c.loop-rest.rest.now) (sym c.is_empty.ensures ∙ c.loop-rest-test.true) in
     let found : IsEntryOf c.split_at.result.0.now (Some c.in-Some.entry) = subst (IsEntryOf c.split_at.result.0.now) c.in-Some.is c.in_ok-entry.ensures.entry in
-    step_some c.loop-rest.rest.now c.split_at.result.0.now c.split_at.result.1.now c.line_len.result c.line_len.ensures.value c.split_at.ensures.front c.split_at.ensures.back some c.loop-rest.entries c.note.new.self (entries_in c.args.bytes.now) c.in-Some.entry found c.in_ok-note.ensures c.loop-rest.invariant
+    step_some c.loop-rest.rest.now c.split_at.result.0.now c.split_at.result.1.now c.folded_line_len.result c.folded_line_len.ensures.value c.split_at.ensures.front c.split_at.ensures.back some c.loop-rest.entries c.note.new.self (entries_in c.args.bytes.now) c.in-Some.entry found c.in_ok-note.ensures c.loop-rest.invariant
 
 pub loop-rest-smaller : goal.loop-rest-smaller
 loop-rest-smaller c =
     let some : 0 < length c.loop-rest.rest.now = some_left (length c.loop-rest.rest.now) (sym c.is_empty.ensures ∙ c.loop-rest-test.true) in
-    fewer c.loop-rest.rest.now c.split_at.result.0.now c.split_at.result.1.now c.line_len.result c.line_len.ensures.value c.split_at.ensures.front c.split_at.ensures.back some
+    fewer c.loop-rest.rest.now c.split_at.result.0.now c.split_at.result.1.now c.folded_line_len.result c.folded_line_len.ensures.value c.split_at.ensures.front c.split_at.ensures.back some
 
 pub loop-rest-preserved : goal.loop-rest-preserved
 loop-rest-preserved c =
     let some : 0 < length c.loop-rest.rest.now = some_left (length c.loop-rest.rest.now) (sym c.is_empty.ensures ∙ c.loop-rest-test.true) in
     let none : IsEntryOf c.split_at.result.0.now None = subst (IsEntryOf c.split_at.result.0.now) c.in_default.is c.in_ok-entry.ensures.entry in
-    step_none c.loop-rest.rest.now c.split_at.result.0.now c.split_at.result.1.now c.line_len.result c.line_len.ensures.value c.split_at.ensures.front c.split_at.ensures.back some c.loop-rest.entries (entries_in c.args.bytes.now) none c.loop-rest.invariant
+    step_none c.loop-rest.rest.now c.split_at.result.0.now c.split_at.result.1.now c.folded_line_len.result c.folded_line_len.ensures.value c.split_at.ensures.front c.split_at.ensures.back some c.loop-rest.entries (entries_in c.args.bytes.now) none c.loop-rest.invariant
 
 pub returns : goal.returns
 returns c = ended c.loop-rest.rest.now c.loop-rest.entries (entries_in c.args.bytes.now) (sym c.is_empty.ensures ∙ c.loop-rest-test.false) c.loop-rest.invariant

@@ -1,6 +1,6 @@
 use Rattle.std.proofs.Common.{sym, ◌∙◌, refl}
 use Rattle.mail_headers.proofs.Folding.{ends_here, goes_on, all_folded}
-use Rattle.mail_headers.proofs.spans.field_len.Goals as goal
+use Rattle.mail_headers.proofs.spans.folded_line_len.Goals as goal
 
 pub returns-then-ends_field-clause-value : goal.returns-then-ends_field-clause-value
 returns-then-ends_field-clause-value c =
