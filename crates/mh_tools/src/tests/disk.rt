@@ -55,11 +55,17 @@ fn is_locked(
 }
 
 fn is_made(rt: &impl AllocGlobal, files: &mut HostFiles, place: &Place) -> Result<bool, Fail> {
-    Ok(matches!(ask_make_folder(rt.alloc(), ONE, files, place)?, FolderMade::Done))
+    Ok(matches!(
+        ask_make_folder(rt.alloc(), ONE, files, place)?,
+        FolderMade::Done
+    ))
 }
 
 fn is_synced(rt: &impl AllocGlobal, files: &mut HostFiles, place: &Place) -> Result<bool, Fail> {
-    Ok(matches!(ask_sync_folder(rt.alloc(), ONE, files, place)?, Touched::Done))
+    Ok(matches!(
+        ask_sync_folder(rt.alloc(), ONE, files, place)?,
+        Touched::Done
+    ))
 }
 
 fn is_created(
@@ -71,7 +77,10 @@ fn is_created(
     let alloc = rt.alloc();
     let name = name(alloc, text)?;
     let bytes = bytes_of(alloc, b"Subject: x\n")?;
-    Ok(matches!(ask_create(alloc, ONE, files, place, &name, &bytes)?, Entered::Done))
+    Ok(matches!(
+        ask_create(alloc, ONE, files, place, &name, &bytes)?,
+        Entered::Done
+    ))
 }
 
 fn is_file_synced(
@@ -81,7 +90,10 @@ fn is_file_synced(
     text: &[u8],
 ) -> Result<bool, Fail> {
     let name = name(rt.alloc(), text)?;
-    Ok(matches!(ask_sync_file(rt.alloc(), ONE, files, place, &name)?, Touched::Done))
+    Ok(matches!(
+        ask_sync_file(rt.alloc(), ONE, files, place, &name)?,
+        Touched::Done
+    ))
 }
 
 fn is_linked(
@@ -93,7 +105,10 @@ fn is_linked(
 ) -> Result<bool, Fail> {
     let from = name(rt.alloc(), from)?;
     let to = name(rt.alloc(), to)?;
-    Ok(matches!(ask_link(rt.alloc(), ONE, files, place, &from, &to)?, Entered::Done))
+    Ok(matches!(
+        ask_link(rt.alloc(), ONE, files, place, &from, &to)?,
+        Entered::Done
+    ))
 }
 
 fn is_renamed(
@@ -105,7 +120,10 @@ fn is_renamed(
 ) -> Result<bool, Fail> {
     let from = name(rt.alloc(), from)?;
     let to = name(rt.alloc(), to)?;
-    Ok(matches!(ask_rename(rt.alloc(), ONE, files, place, &from, &to)?, Touched::Done))
+    Ok(matches!(
+        ask_rename(rt.alloc(), ONE, files, place, &from, &to)?,
+        Touched::Done
+    ))
 }
 
 fn is_unlinked(
@@ -115,7 +133,10 @@ fn is_unlinked(
     text: &[u8],
 ) -> Result<bool, Fail> {
     let name = name(rt.alloc(), text)?;
-    Ok(matches!(ask_unlink(rt.alloc(), ONE, files, place, &name)?, Touched::Done))
+    Ok(matches!(
+        ask_unlink(rt.alloc(), ONE, files, place, &name)?,
+        Touched::Done
+    ))
 }
 
 /// Whether the file of 11 bytes is read, or is too long.
@@ -225,7 +246,10 @@ fn is_cut(
     drop: &FilePath,
     length: u64,
 ) -> Result<bool, Fail> {
-    Ok(matches!(ask_cut_drop(rt.alloc(), ONE, files, drop, length)?, DropCut::Done))
+    Ok(matches!(
+        ask_cut_drop(rt.alloc(), ONE, files, drop, length)?,
+        DropCut::Done
+    ))
 }
 
 fn is_empty(rt: &impl AllocGlobal, files: &mut HostFiles, drop: &FilePath) -> Result<bool, Fail> {

@@ -5,12 +5,7 @@ use std::process::Abort;
 use std::test::Fail;
 
 /// A message's fields and body.
-fn cut(
-    rt: &impl Abort,
-    bytes: &[u8],
-    fields: &[(&[u8], &[u8])],
-    body: &[u8],
-) {
+fn cut(rt: &impl Abort, bytes: &[u8], fields: &[(&[u8], &[u8])], body: &[u8]) {
     let message = Message::cut(bytes);
     assert_eq!(rt; message.bytes(), bytes);
     assert_eq!(rt; message.body(), body);
@@ -39,7 +34,12 @@ fn messages(rt: HostRuntime) -> Result<(), Fail> {
         &[(b"To", b" ann\r\n bob"), (b"Subject", b" Lunch")],
         b"At noon?\r\n",
     );
-    cut(&rt, b"A: b\nFrom ann\n\nx", &[(b"A", b" b")], b"From ann\n\nx");
+    cut(
+        &rt,
+        b"A: b\nFrom ann\n\nx",
+        &[(b"A", b" b")],
+        b"From ann\n\nx",
+    );
     cut(&rt, b"A:", &[(b"A", b"")], b"");
     Ok(())
 }
@@ -47,7 +47,10 @@ fn messages(rt: HostRuntime) -> Result<(), Fail> {
 #[test]
 fn fields_by_name(rt: HostRuntime) -> Result<(), Fail> {
     let message = Message::cut(b"subject: first\nSubject: second\n\n");
-    assert_eq!(rt; message.first(b"SUBJECT").ok_or("there")?, b" first".as_slice());
+    assert_eq!(rt;
+        message.first(b"SUBJECT").ok_or("there")?,
+        b" first".as_slice()
+    );
     assert!(rt; message.first(b"To").is_none());
     assert_eq!(rt; folded_line_len(b"a\n b\nc"), 5);
     Ok(())
@@ -62,7 +65,10 @@ fn unfolding(rt: HostRuntime) -> Result<(), Fail> {
         (b" a\rb ", b"a\rb"),
         (b" \r\n ", b""),
     ] {
-        assert!(rt; unfold(alloc, value)?.same(&bytes_of(alloc, line)?), "unfolded");
+        assert!(rt;
+            unfold(alloc, value)?.same(&bytes_of(alloc, line)?),
+            "unfolded"
+        );
     }
     Ok(())
 }

@@ -3,9 +3,8 @@ ghost use Rattle.std.specs.Prelude.{◌≢◌};
 
 use super::bytes_of;
 use mh_base::{
-    Bytes, Duplicate, Entry, FolderFault, FolderName, MemSink, MsgNum, Name, NumberList,
-    PlainSink, PlainSource, Sink, SinkFault, Source, StdSink, StdSource, Text, TextList, entry_name,
-    entry_of,
+    Bytes, Duplicate, Entry, FolderFault, FolderName, MemSink, MsgNum, Name, NumberList, PlainSink,
+    PlainSource, Sink, SinkFault, Source, StdSink, StdSource, Text, TextList, entry_name, entry_of,
 };
 use std::process::Abort;
 use std::test::Fail;
@@ -66,7 +65,10 @@ fn numbers_and_names(rt: HostRuntime) -> Result<(), Fail> {
     assert!(rt; MsgNum::read(b"012").is_none());
     let long = [b'x'; 256];
     for wrong in [b"".as_slice(), b"a/b", b"a\0b", long.as_slice()] {
-        assert!(rt; Name::new(Bytes::from_slice(alloc, wrong)?).is_none(), "no name");
+        assert!(rt;
+            Name::new(Bytes::from_slice(alloc, wrong)?).is_none(),
+            "no name"
+        );
     }
     let name = Name::new(Bytes::from_slice(alloc, b"caf\xE9")?).ok_or("a name")?;
     assert!(rt; name.same(&name.duplicate(alloc)?));
@@ -76,17 +78,37 @@ fn numbers_and_names(rt: HostRuntime) -> Result<(), Fail> {
 #[test]
 fn folder_names(rt: HostRuntime) -> Result<(), Fail> {
     let alloc = rt.alloc();
-    for (word, name) in [("+inbox", "inbox"), ("a/b", "a/b"), ("+\u{E9}t\u{E9}", "\u{E9}t\u{E9}")] {
+    for (word, name) in [
+        ("+inbox", "inbox"),
+        ("a/b", "a/b"),
+        ("+\u{E9}t\u{E9}", "\u{E9}t\u{E9}"),
+    ] {
         let read = FolderName::read(alloc, &Text::from_str(alloc, word)?)?;
         assert_eq!(rt; read.text().as_str(), name);
         assert!(rt; read.same(&read.duplicate(alloc)?));
     }
     for word in [
-        "+", "", "/a", "a/", "a//b", "a/../b", ".", "++a", " a", "a ", "a\tb", ",3", "a/.mh_lock",
-        "context", "context/a",
+        "+",
+        "",
+        "/a",
+        "a/",
+        "a//b",
+        "a/../b",
+        ".",
+        "++a",
+        " a",
+        "a ",
+        "a\tb",
+        ",3",
+        "a/.mh_lock",
+        "context",
+        "context/a",
     ] {
         let read = FolderName::read(alloc, &Text::from_str(alloc, word)?);
-        assert!(rt; matches!(read, Err(FolderFault::BadFolder)), "refused: {word}");
+        assert!(rt;
+            matches!(read, Err(FolderFault::BadFolder)),
+            "refused: {word}"
+        );
     }
     Ok(())
 }
@@ -122,7 +144,10 @@ fn numbers(rt: HostRuntime) -> Result<(), Fail> {
     *numbers.get_mut(0) = 5;
     numbers.pop();
     assert_eq!(rt; numbers.len(), 1);
-    assert_eq!(rt; NumberList::from_vec(numbers.into_vec()).as_slice(), [5u64].as_slice());
+    assert_eq!(rt;
+        NumberList::from_vec(numbers.into_vec()).as_slice(),
+        [5u64].as_slice()
+    );
     Ok(())
 }
 
