@@ -1,3 +1,14 @@
+pub mod Annotations
+pub mod Careful
+pub mod Commands
+pub mod CrashImage
+pub mod Deeds
+pub mod Directory
 pub mod Growing
+pub mod Histories
+pub mod Named
+pub mod Places
 pub mod Rows
+pub mod Steps
 pub mod Story
+pub mod Worlds
