@@ -1,5 +1,5 @@
 -- Lines that stand before the bytes of a message, and a message with such lines.
-use Rattle.std.specs.Prelude.{◌≡◌, ◌++◌, ◌==◌, ◌&&◌, ◌-◌, ℕ, Bool, true, false, not, bytes_eq, List, [], length, take, codes, slice_index, if◌then◌else◌}
+use Rattle.std.specs.Prelude.{◌≡◌, ◌++◌, ◌==◌, ◌&&◌, ◌-◌, ℕ, Bool, true, not, bytes_eq, List, [], length, take, codes, slice_index, if◌then◌else◌}
 use Rattle.std.specs.List.{list_all, slice_split}
 use Rattle.mail_headers.specs.Fields.{name_in, after_name}
 
@@ -15,4 +15,4 @@ are_annotations text =
 
 -- the copy is the bytes, or such lines and then the bytes
 abbrev pub Annotates : List ℕ → List ℕ → Type 0
-Annotates bytes copy = (text : List ℕ) × (are_annotations text ≡ true) × (copy ≡ text ++ bytes)
+Annotates bytes copy = (text : List ℕ) × (copy ≡ text ++ bytes) × (are_annotations text ≡ true)

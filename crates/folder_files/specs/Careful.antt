@@ -3,14 +3,13 @@ use Rattle.std.specs.Prelude.{◌≡◌, ◌≢◌, ◌++◌, ◌⊎◌, ℕ, tr
 use Rattle.mbox_drop.specs.Drops.{is_drop, messages}
 use Rattle.mh_base.specs.Entries.{kind_of}
 use Rattle.folder_files.specs.Annotations.{Annotates}
-use Rattle.folder_files.specs.Deeds.{Deed, did, Once, WasDone, HasFailed}
+use Rattle.folder_files.specs.Deeds.{Deed, did, Once, Since, Everywhere, WasDone, HasFailed}
 use Rattle.folder_files.specs.Named.{is_temp, is_temp_of, is_number, is_held, is_held_of, is_other, is_taking, is_backing_up, is_committed, is_work, original_of}
 use Rattle.folder_files.specs.Places.{is_folder}
 use Rattle.folder_files.specs.declared.place.Place.{Place}
 use Rattle.folder_files.specs.declared.place.FilePath.{FilePath}
 use Rattle.folder_files.specs.declared.step.Step.{Step}
 use Rattle.folder_files.specs.declared.step.Step.TheVariants as step
-use Rattle.folder_files.specs.declared.step.Answer.{Answer}
 use Rattle.folder_files.specs.declared.step.Answer.TheVariants.{Done, Content, Piece, Gone}
 
 -- the name was made, with whatever bytes
@@ -29,11 +28,14 @@ WasReady p temp bytes own = Once (λ d older. (d ≡ did (step.SyncFile p temp) 
 abbrev pub IsReady : ℕ → Place → List ℕ → List Deed → Type 0
 IsReady run p temp own = (is_temp_of run (kind_of temp) ≡ true) × WasSynced p temp own
 
--- a message with these bytes was put into this folder
+-- the run gave a number to a file that it was making
+abbrev pub IsPutLink : ℕ → Place → List ℕ → Deed → Type 0
+IsPutLink run q temp d =
+    (number : List ℕ) × (d ≡ did (step.Link q temp number) Done) × (is_temp_of run (kind_of temp) ≡ true) × (is_number (kind_of number) ≡ true)
+
+-- a message with these bytes was put into a folder
 abbrev pub IsPut : ℕ → Place → List ℕ → Deed → List Deed → Type 0
-IsPut run q bytes d older =
-    (temp : List ℕ) × (number : List ℕ) × (d ≡ did (step.Link q temp number) Done) × (is_temp_of run (kind_of temp) ≡ true) × (is_number (kind_of number) ≡ true)
-    × WasReady q temp bytes older
+IsPut run q bytes d older = (temp : List ℕ) × IsPutLink run q temp d × WasReady q temp bytes older
 
 -- the run renamed a number to its held name of that number
 abbrev pub WasTaken : ℕ → Place → List ℕ → List Deed → Type 0
@@ -57,32 +59,42 @@ WasCopied q temp bytes own = Once (λ d older. (copy : List ℕ) × (d ≡ did (
 
 -- such a file was put into a folder
 abbrev pub IsCopyPut : ℕ → List ℕ → Deed → List Deed → Type 0
-IsCopyPut run bytes d older =
-    (q : Place) × (temp : List ℕ) × (number : List ℕ) × (d ≡ did (step.Link q temp number) Done) × (is_temp_of run (kind_of temp) ≡ true)
-    × (is_number (kind_of number) ≡ true) × WasCopied q temp bytes older
+IsCopyPut run bytes d older = (q : Place) × (temp : List ℕ) × IsPutLink run q temp d × WasCopied q temp bytes older
 
--- after a reading of the held name a file was made with what was read, or with lines before it
+-- the held file was read, and the copy is what was read, or lines and then that
+abbrev pub WasReadAs : Place → List ℕ → List ℕ → List Deed → Type 0
+WasReadAs p held copy own = Once (λ d older. (bytes : List ℕ) × IsRead p held bytes d × Annotates bytes copy) own
+
+-- after such a reading a file was made with the copy
 abbrev pub WasCopiedFrom : Place → List ℕ → Place → List ℕ → List Deed → Type 0
-WasCopiedFrom p held q temp own =
-    Once (λ d older. (copy : List ℕ) × (d ≡ did (step.Create q temp copy) Done) × Once (λ e before. (bytes : List ℕ) × IsRead p held bytes e × Annotates bytes copy) older) own
+WasCopiedFrom p held q temp own = Once (λ d older. (copy : List ℕ) × (d ≡ did (step.Create q temp copy) Done) × WasReadAs p held copy older) own
 
 -- a successor of the held file was put into the folder q
 abbrev pub IsSuccessorPut : ℕ → Place → List ℕ → Place → Deed → List Deed → Type 0
-IsSuccessorPut run p held q d older =
-    (temp : List ℕ) × (number : List ℕ) × (d ≡ did (step.Link q temp number) Done) × (is_temp_of run (kind_of temp) ≡ true) × (is_number (kind_of number) ≡ true)
-    × WasCopiedFrom p held q temp older
+IsSuccessorPut run p held q d older = (temp : List ℕ) × IsPutLink run q temp d × WasCopiedFrom p held q temp older
+
+-- where the deed is a reading of the held file, a copy was put after it
+abbrev pub IsSucceeded : ℕ → Place → List ℕ → List Deed → Deed → Type 0
+IsSucceeded run p held newer d = (bytes : List ℕ) → IsRead p held bytes d → Once (IsCopyPut run bytes) newer
+
+-- where the deed puts a successor, its folder was synced after it
+abbrev pub IsSuccessorSynced : ℕ → Place → List ℕ → List Deed → Deed → List Deed → Type 0
+IsSuccessorSynced run p held newer d older = (q : Place) → IsSuccessorPut run p held q d older → WasDone (step.SyncFolder q) newer
+
+-- the run took the message and then read it
+abbrev pub WasTakenAndRead : ℕ → Place → List ℕ → List Deed → Type 0
+WasTakenAndRead run p held own = Once (λ d older. ((bytes : List ℕ) × IsRead p held bytes d) × WasTaken run p held older) own
 
 -- a message that the run took and read stands elsewhere: after each reading a copy was put, and after each such put its folder was synced
 pub record MayDiscard (run : ℕ) (p : Place) (held : List ℕ) (own : List Deed) : Type 0 where
   pub not_given_away : WasGivenAway p held own → ⊥
-  pub taken_and_read : Once (λ d older. ((bytes : List ℕ) × IsRead p held bytes d) × WasTaken run p held older) own
-  pub succeeded : (since before : List Deed) (d : Deed) (bytes : List ℕ) → own ≡ since ++ d ∷ before → IsRead p held bytes d → Once (IsCopyPut run bytes) since
-  pub synced : (newer older : List Deed) (d : Deed) (q : Place) → own ≡ newer ++ d ∷ older → IsSuccessorPut run p held q d older → WasDone (step.SyncFolder q) newer
+  pub taken_and_read : WasTakenAndRead run p held own
+  pub succeeded : Everywhere (λ newer d older. IsSucceeded run p held newer d) own
+  pub synced : Everywhere (IsSuccessorSynced run p held) own
 
 -- the run has the lock: it was taken, and not let go since
-pub data HasLock (p : Place) : List Deed → Type 0 where
-  now : {d : Deed} {own : List Deed} → d ≡ did (step.Lock p) Done → HasLock p (d ∷ own)
-  on : {d : Deed} {own : List Deed} → d.step ≢ step.Unlock p → HasLock p own → HasLock p (d ∷ own)
+abbrev pub HasLock : Place → List Deed → Type 0
+HasLock p own = Since (λ d older. d ≡ did (step.Lock p) Done) (λ d. d.step ≡ step.Unlock p) own
 
 -- what the name holds is known: it was read, or found missing, or replaced by the run itself
 abbrev pub IsKnown : ℕ → Place → List ℕ → Deed → Type 0
@@ -92,9 +104,8 @@ IsKnown run p name d =
     ⊎ ((temp : List ℕ) × (d ≡ did (step.Rename p temp name) Done) × (is_temp_of run (kind_of temp) ≡ true)))
 
 -- the run has the lock, and since it got it knows what the name holds
-pub data HasBase (run : ℕ) (p : Place) (name : List ℕ) : List Deed → Type 0 where
-  now : {d : Deed} {own : List Deed} → IsKnown run p name d → HasLock p own → HasBase run p name (d ∷ own)
-  on : {d : Deed} {own : List Deed} → d.step ≢ step.Unlock p → HasBase run p name own → HasBase run p name (d ∷ own)
+abbrev pub HasBase : ℕ → Place → List ℕ → List Deed → Type 0
+HasBase run p name own = Since (λ d older. IsKnown run p name d × HasLock p older) (λ d. d.step ≡ step.Unlock p) own
 
 -- a piece of an outside file from this place on
 abbrev pub IsPiece : FilePath → ℕ → List ℕ → ℕ → Deed → Type 0

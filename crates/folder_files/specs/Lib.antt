@@ -4,11 +4,14 @@ pub mod Commands
 pub mod CrashImage
 pub mod Deeds
 pub mod Directory
+pub mod Giving
 pub mod Growing
 pub mod Histories
 pub mod Named
 pub mod Places
 pub mod Rows
+pub mod Seen
 pub mod Steps
 pub mod Story
+pub mod Walks
 pub mod Worlds

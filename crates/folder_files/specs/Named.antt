@@ -1,8 +1,8 @@
 -- Names by their kinds, as the write discipline asks for them.
-use Rattle.std.specs.Prelude.{◌≡◌, ◌++◌, ◌==◌, ◌&&◌, ℕ, Bool, true, false, bytes_eq, List, ◌∷◌, codes}
+use Rattle.std.specs.Prelude.{◌++◌, ◌==◌, ◌&&◌, ℕ, Bool, true, false, bytes_eq, List, ◌∷◌, codes}
 use Rattle.mh_base.specs.Entries.{kind_of}
 use Rattle.mh_base.specs.declared.entry.Entry.{Entry}
-use Rattle.mh_base.specs.declared.entry.Entry.TheVariants.{Number, Backup, Held, Temp, Sequences, LockFile, Other}
+use Rattle.mh_base.specs.declared.entry.Entry.TheVariants.{Number, Backup, Held, Temp, Sequences, Other}
 use Rattle.folder_files.specs.declared.place.Place.{Place}
 use Rattle.folder_files.specs.declared.place.Place.TheVariants.{Home, Work, Mail, Folder}
 

@@ -1,5 +1,5 @@
 -- Which places, paths and names are the same.
-use Rattle.std.specs.Prelude.{◌≡◌, ◌++◌, ◌==◌, ◌&&◌, ℕ, Bool, true, false, not, bytes_eq, List, [], ◌∷◌}
+use Rattle.std.specs.Prelude.{◌==◌, ◌&&◌, ℕ, Bool, true, false, not, bytes_eq, List, [], ◌∷◌}
 use Rattle.folder_files.specs.declared.place.Place.{Place}
 use Rattle.folder_files.specs.declared.place.Place.TheVariants.{Home, Work, Mail, Folder}
 use Rattle.folder_files.specs.declared.place.FilePath.{FilePath}

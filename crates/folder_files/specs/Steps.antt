@@ -1,10 +1,10 @@
 -- What each step makes of a world, and which answers it has there.
-use Rattle.std.specs.Prelude.{◌≡◌, ◌≢◌, ◌++◌, ◌+◌, ◌<◌, ◌==◌, ◌&&◌, ◌||◌, ℕ, suc, Bool, true, false, not, nat_lt, bytes_eq, ◌⊎◌, List, [], ◌∷◌, length, take, drop, is_none, is_some, Option, Some, None, if◌then◌else◌}
+use Rattle.std.specs.Prelude.{◌≡◌, ◌≢◌, ◌+◌, ◌==◌, ◌&&◌, ◌||◌, ℕ, Bool, true, false, not, nat_lt, bytes_eq, List, [], ◌∷◌, length, take, drop, is_none, is_some, Option, Some, None, if◌then◌else◌}
 use Rattle.std.specs.Ordering.{nat_cmp}
 use Rattle.std.specs.Cmp.Lexicographic.{slice_cmp}
 use Rattle.std.specs.declared.cmp.Ordering.TheVariants.{Less}
 use Rattle.folder_files.specs.Places.{same_place, same_path, is_parent}
-use Rattle.folder_files.specs.Directory.{Slots, DirectoryMap, now_in}
+use Rattle.folder_files.specs.Directory.{DirectoryMap, now_in}
 use Rattle.folder_files.specs.Worlds.{FileState, WorldMap}
 use Rattle.folder_files.specs.declared.place.Place.{Place}
 use Rattle.folder_files.specs.declared.place.FilePath.{FilePath}

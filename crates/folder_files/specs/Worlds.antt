@@ -1,5 +1,5 @@
 -- Worlds as maps, what the lists of the code show of them, and the worlds from which histories start.
-use Rattle.std.specs.Prelude.{◌≡◌, ◌≢◌, ◌+◌, ◌<◌, ◌==◌, ◌&&◌, ◌||◌, ℕ, max, Bool, true, false, bytes_eq, List, [], ◌∷◌, map, reverse, Option, Some, None, if◌then◌else◌, All}
+use Rattle.std.specs.Prelude.{◌≡◌, ◌+◌, ◌==◌, ◌&&◌, ◌||◌, ℕ, max, Bool, true, false, bytes_eq, List, [], ◌∷◌, reverse, Option, Some, None, if◌then◌else◌}
 use Rattle.folder_files.specs.Places.{same_place, same_path}
 use Rattle.folder_files.specs.Directory.{Slots, DirectoryMap}
 use Rattle.folder_files.specs.declared.place.Place.{Place}

@@ -2,6 +2,7 @@
 //! that make steps, and the real directories.
 #![tactic(auto)]
 
+mod discipline;
 mod event;
 mod files;
 mod host;
@@ -11,6 +12,7 @@ mod script;
 mod step;
 mod world;
 
+pub use discipline::may_step;
 pub use event::{After, Event, EventList, History};
 pub use files::Files;
 pub use host::HostFiles;

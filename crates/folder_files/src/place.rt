@@ -1,5 +1,5 @@
 // Where steps are made.
-ghost use Rattle.std.specs.Prelude.{◌≡◌, IfOk};
+ghost use Rattle.std.specs.Prelude.{◌≡◌, ◌↔◌, IfOk, IsTrue};
 
 use mh_base::{Bytes, Duplicate, FolderName};
 use std::alloc::{AllocError, Global};
@@ -22,6 +22,29 @@ pub enum Place {
 pub struct FilePath {
     pub home: bool,
     pub text: Bytes,
+}
+
+impl Place {
+    pub fn same(&self, other: &Place) -> bool
+        ensures { IsTrue result ↔ (self.now ≡ other.now) }
+    {
+        match (self, other) {
+            (Place::Home, Place::Home) | (Place::Work, Place::Work) => true,
+            (Place::Mail(path), Place::Mail(other)) => path.same(other),
+            (Place::Folder(path, name), Place::Folder(other, named)) => {
+                path.same(other) && name.text().same(named.text())
+            }
+            _ => false,
+        }
+    }
+}
+
+impl FilePath {
+    pub fn same(&self, other: &FilePath) -> bool
+        ensures { IsTrue result ↔ (self.now ≡ other.now) }
+    {
+        self.home == other.home && self.text.same(&other.text)
+    }
 }
 
 impl Duplicate for Place {

@@ -3,8 +3,8 @@ ghost use Rattle.std.specs.Prelude.{◌≡◌, ◌==◌, ◌&&◌, not, ◌≤�
 ghost use Rattle.std.specs.List.{prefix_len};
 ghost use Rattle.mail_headers.specs.Lines.{is_name_byte, is_blank, continues as continues_field, folded_len, without_end, without_feed, empty_line_len};
 
-/// How many bytes of a name stand at the front.
-pub(crate) fn name_len(text: &[u8]) -> usize
+/// How many bytes of a field's name stand at the front (RFC 5322, section 3.6.8).
+pub fn name_len(text: &[u8]) -> usize
     ensures value { result ≡ prefix_len is_name_byte text.now }
     ensures inside { result ≤ length text.now }
 {
