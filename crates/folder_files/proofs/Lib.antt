@@ -1,3 +1,4 @@
+pub mod Worked
 pub mod Cuts
 pub mod Kinding
 pub mod Pieces

@@ -1,4 +1,5 @@
 // The rows of `scan`, over a folder in memory.
+mod careful;
 mod disk;
 mod mail;
 mod shelf;
