@@ -1,3 +1,8 @@
+pub mod Making
+pub mod Naming
+pub mod Placing
+pub mod Slotting
+pub mod Leading
 pub mod Worked
 pub mod Cuts
 pub mod Kinding

@@ -1,16 +1,15 @@
 -- Small cases of the definitions, worked out by hand, as facts that compute.
-use Rattle.std.proofs.Common.{◌≡◌, ◌∷◌, [], ℕ, Bool, true, false, List, refl, subst, sym, Option, Some, None, ◌==◌, ◌+◌, bytes_eq}
+use Rattle.std.proofs.Common.{◌≡◌, ◌∷◌, [], ℕ, Bool, true, false, List, refl, subst, sym, Some, None, ◌==◌, ◌+◌}
 use Rattle.std.proofs.lemmas.Slice.Eq.{bytes_eq-Decides}
-use Rattle.std.specs.Prelude.{if◌then◌else◌}
-use Rattle.folder_files.specs.Careful.{Puts, Cuts, Takes, Discards, Removes, Commits, looks, IsCareful}
-use Rattle.folder_files.specs.Commands.{makes, Looking, Incorporating, Removing, Refiling}
-use Rattle.folder_files.specs.CrashImage.{IsDirectoryImage, IsCrashImage}
+use Rattle.folder_files.specs.Careful.{Puts, Takes, Commits, looks}
+use Rattle.folder_files.specs.Commands.{makes, Looking, Incorporating, Removing}
+use Rattle.folder_files.specs.CrashImage.{IsCrashImage}
 use Rattle.folder_files.specs.Deeds.{did}
-use Rattle.folder_files.specs.Directory.{Slots, DirectoryMap, lead, kept_lead, touches, IsClosed, now_in}
-use Rattle.folder_files.specs.Histories.{own, has_acted, delivered, after_event, world_after, IsLegal, begins, answers, crashes, stops, AreCareful, AreHonest, AreOrderly, AreConsecutive, IsAlone}
-use Rattle.folder_files.specs.Places.{same_place, is_parent}
-use Rattle.folder_files.specs.Steps.{made, left_by, link_answer, create_answer, cut_answer, piece_answer, reading_of, IsListing}
-use Rattle.folder_files.specs.Worlds.{WorldMap, shown, no_directory, IsStart}
+use Rattle.folder_files.specs.Directory.{Slots, lead, kept_lead, touches, IsClosed, now_in}
+use Rattle.folder_files.specs.Histories.{own, has_acted, delivered, after_event, world_after, IsLegal, begins, answers, stops, AreCareful, AreHonest, AreOrderly, AreConsecutive}
+use Rattle.folder_files.specs.Places.{is_parent}
+use Rattle.folder_files.specs.Steps.{made, left_by, create_answer, cut_answer, piece_answer, reading_of}
+use Rattle.folder_files.specs.Worlds.{shown, IsStart}
 use Rattle.folder_files.specs.declared.world.Change.{Change}
 use Rattle.folder_files.specs.declared.world.Change.TheVariants as change
 use Rattle.folder_files.specs.declared.world.World.{World}

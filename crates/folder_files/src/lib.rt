@@ -8,6 +8,7 @@ mod files;
 mod host;
 mod place;
 mod refusal;
+mod room;
 mod script;
 mod step;
 mod world;

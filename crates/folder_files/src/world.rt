@@ -1,7 +1,9 @@
 // Worlds: what is on the disk, and what a crash may still take back.
+ghost use Rattle.std.specs.Prelude.{◌≡◌, IfOk};
 
 use crate::{FilePath, Place};
-use mh_base::{Bytes, List, Name};
+use mh_base::{Bytes, Duplicate, List, Name};
+use std::alloc::{AllocError, Global};
 
 #[derive(Drop)]
 pub struct World {
@@ -70,3 +72,12 @@ pub type OutsideList = List<Outside>;
 pub type RunList = List<u128>;
 
 pub type SlotList = List<Slot>;
+
+impl Duplicate for Slot {
+    fn duplicate(&self, alloc: Global) -> Result<Slot, AllocError> {
+        Ok(Slot {
+            name: self.name.duplicate(alloc)?,
+            file: self.file,
+        })
+    }
+}
