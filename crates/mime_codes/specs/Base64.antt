@@ -6,15 +6,19 @@ use Rattle.base64.specs.Rfc4648.{encode}
 abbrev pub alphabet : List ℕ
 alphabet = codes "ABCDEFGHIJKLMNOPQRSTUVWXYZabcdefghijklmnopqrstuvwxyz0123456789+/"
 
+-- A to Z
 abbrev pub is_capital : ℕ → Bool
 is_capital c = nat_le 65 c && nat_le c 90
 
+-- a to z
 abbrev pub is_small : ℕ → Bool
 is_small c = nat_le 97 c && nat_le c 122
 
+-- 0 to 9
 abbrev pub is_digit : ℕ → Bool
 is_digit c = nat_le 48 c && nat_le c 57
 
+-- a character of the alphabet
 abbrev pub is_symbol : ℕ → Bool
 is_symbol c = is_capital c || is_small c || is_digit c || c == 43 || c == 47
 
