@@ -2,7 +2,7 @@
 use Rattle.std.proofs.Common.{◌≡◌, ℕ, ◌-◌, true, eq-eqb, Option, Some, List, length, take, drop, get_or, refl, ap, ◌∙◌, arith, take_all, length-drop, ℤ}
 use Rattle.std.proofs.lemmas.List.{drop-drop}
 use Rattle.mail_dates.specs.declared.mail_date.MailDate.{MailDate}
-use Rattle.mail_dates.specs.declared.picking.Clock.{Clock}
+use Rattle.mail_dates.specs.declared.written.Clock.{Clock}
 use Rattle.mail_dates.specs.declared.names.Case.TheVariants.{Any}
 use Rattle.mail_dates.specs.Numbers.{decimal, short_number}
 use Rattle.mail_dates.specs.Names.{month_in}

@@ -7,7 +7,7 @@ use Rattle.jiff_core.specs.Calendar.{IsWithin}
 use Rattle.mail_dates.specs.Clocks.{clock_at, clock_of, weekday_on}
 use Rattle.mail_dates.specs.Numbers.{IsTime, decimal, short_number, time_in, year_by}
 use Rattle.mail_dates.specs.Names.{same, month_in, weekday_named}
-use Rattle.mail_dates.specs.declared.picking.Clock.{Clock}
+use Rattle.mail_dates.specs.declared.written.Clock.{Clock}
 use Rattle.mail_dates.specs.Reading.{dated, first_by, zone_in}
 use Rattle.mail_dates.specs.Words.{words}
 

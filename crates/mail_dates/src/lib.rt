@@ -2,9 +2,12 @@
 #![tactic(auto)]
 
 mod bad_date;
+mod blanks;
 mod mail_date;
+mod named_days;
 mod names;
 mod numbers;
+mod numeric;
 mod outside;
 mod picking;
 mod reading;
@@ -13,6 +16,7 @@ mod showing;
 mod tests;
 mod time;
 mod word;
+mod written;
 mod zones;
 
 pub use bad_date::BadDate;

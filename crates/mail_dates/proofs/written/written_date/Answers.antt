@@ -3,7 +3,7 @@ use Rattle.std.proofs.lemmas.Int.{to_z-of_z}
 use Rattle.mail_dates.proofs.Picked.{written_read, trimmed_read}
 use Rattle.mail_dates.specs.Words.{words}
 use Rattle.mail_dates.specs.Picking.{is_blank}
-use Rattle.mail_dates.proofs.picking.written_date.Goals as goal
+use Rattle.mail_dates.proofs.written.written_date.Goals as goal
 
 pub returns-clause-value : goal.returns-clause-value
 returns-clause-value c =

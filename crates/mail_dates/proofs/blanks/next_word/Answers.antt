@@ -3,7 +3,7 @@ use Rattle.std.proofs.lemmas.Bool.Decides.{nat_tests}
 use Rattle.std.proofs.lemmas.List.{nil_from_length}
 use Rattle.mail_dates.specs.Picking.{is_blank}
 use Rattle.mail_dates.proofs.Parting.{none_cut, word_parted}
-use Rattle.mail_dates.proofs.picking.next_word.Goals as goal
+use Rattle.mail_dates.proofs.blanks.next_word.Goals as goal
 
 pub returns-then-is_empty : goal.returns-then-is_empty
 returns-then-is_empty c =

@@ -1,7 +1,7 @@
 use Rattle.std.proofs.Common.{refl, FitsSigned, w16}
 use Rattle.std.proofs.lemmas.Int.{to_z-of_z}
 use Rattle.mail_dates.proofs.Picked.{numeric_read}
-use Rattle.mail_dates.proofs.picking.numeric_date.Goals as goal
+use Rattle.mail_dates.proofs.numeric.numeric_date.Goals as goal
 
 pub returns-then-text-eq45-2-clause-value : goal.returns-then-text-eq45-2-clause-value
 returns-then-text-eq45-2-clause-value c =
