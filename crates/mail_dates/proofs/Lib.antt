@@ -1,0 +1,7 @@
+mod Calendars
+mod Commenting
+mod Cutting
+mod Digits
+mod Fronts
+mod Parting
+mod Picked

@@ -1,0 +1,10 @@
+pub mod Clocks
+pub mod Left
+pub mod Names
+pub mod Numbers
+pub mod Picking
+pub mod Reading
+pub mod Seen
+pub mod Shown
+pub mod WordView
+pub mod Words

@@ -1,0 +1,10 @@
+mod Encoding
+mod Filling
+mod Gathering
+mod Groups
+mod Lines
+mod Octets
+mod Reading
+mod Restoring
+mod Returning
+mod Writing

@@ -1,0 +1,87 @@
+// Symbols of base64.
+ghost use Rattle.std.specs.Prelude.{◌≡◌, ◌↔◌, ◌+◌, ◌*◌, ◌/◌, ◌%◌, ◌<◌, ◌≤◌, [], ◌∷◌, ◌++◌, length, take, drop, map, IsTrue};
+ghost use Rattle.std.specs.List.{AllPass};
+ghost use Rattle.mime_codes.specs.Base64.{is_symbol as is_of_alphabet, sextet, octets};
+
+use base64::engine::general_purpose::STANDARD;
+use std::marker::Model;
+
+pub(crate) fn is_symbol(byte: u8) -> bool
+    ensures { result ≡ is_of_alphabet byte }
+{
+    matches!(byte, b'A'..=b'Z' | b'a'..=b'z' | b'0'..=b'9' | b'+' | b'/')
+}
+
+/// Decodes groups of four symbols.
+fn decode_groups(symbols: &[u8], bytes: &mut [u8])
+    requires whole { length symbols.now % 4 ≡ 0 }
+    requires symbols { AllPass is_of_alphabet symbols.now }
+    requires room { length symbols.now / 4 * 3 ≤ length bytes.old }
+    ensures { take (length symbols.now / 4 * 3) bytes.new ≡ octets (map sextet symbols.now) }
+{
+    let Ok(_) = STANDARD.decode_slice_unchecked(symbols, bytes) else {
+        unreachable!();
+    };
+}
+
+/// At most 1,024 symbols that wait to be decoded, which contracts see as a list.
+#[derive(Drop)]
+pub(crate) struct Symbols {
+    bytes: [u8; 1024],
+    len: usize,
+}
+
+impl Model for Symbols {
+    ghost use Rattle.std.specs.Prelude.{ℕ, List, ◌≤◌, take};
+    ghost use Rattle.std.specs.List.{AllPass};
+    ghost use Rattle.mime_codes.specs.Base64.{is_symbol as is_of_alphabet};
+
+    ghost Value = { List ℕ };
+
+    ghost view = { λ s. take s.len s.bytes };
+
+    ghost invariant = { λ s. (s.len ≤ 1024) × AllPass is_of_alphabet (take s.len s.bytes) };
+}
+
+impl Symbols {
+    pub(crate) fn new() -> Symbols
+        ensures { result ≡ [] }
+    {
+        Symbols {
+            bytes: [b'A'; 1024],
+            len: 0,
+        }
+    }
+
+    pub(crate) fn is_full(&self) -> bool
+        ensures { IsTrue result ↔ (length self.now ≡ 1024) }
+    {
+        self.len == 1024
+    }
+
+    pub(crate) fn push(&mut self, symbol: u8)
+        requires room { length self.old < 1024 }
+        requires symbol { IsTrue (is_of_alphabet symbol) }
+        ensures { self.new ≡ self.old ++ symbol ∷ [] }
+    {
+        self.bytes[self.len] = symbol;
+        self.len += 1;
+    }
+
+    /// Decodes all symbols that wait, from place `at` on.
+    pub(crate) fn decode(&mut self, into: &mut [u8], at: usize) -> usize
+        requires { at + length self.old * 3 / 4 ≤ length into.old }
+        ensures count { result ≡ at + length (octets (map sextet self.old)) }
+        ensures written { into.new ≡ take at into.old ++ octets (map sextet self.old) ++ drop result into.old }
+        ensures empty { self.new ≡ [] }
+    {
+        let whole = (self.len + 3) / 4 * 4;
+        self.bytes[self.len..whole].fill(b'A');
+        let mut bytes = [0u8; 768];
+        decode_groups(&self.bytes[..whole], &mut bytes);
+        let count = self.len * 3 / 4;
+        into[at..at + count].copy_from_slice(&bytes[..count]);
+        self.len = 0;
+        at + count
+    }
+}
