@@ -1,0 +1,38 @@
+-- Tests and their choices.
+use Rattle.std.proofs.Common.{◌≡◌, Bool, true, false, refl, sym}
+use Rattle.std.specs.Prelude.{Result, Ok, Err, OnOk, OnErr, ◌||◌, if◌then◌else◌}
+
+-- two tests that mean the same are the same
+pub same_test : (a b : Bool) → (a ≡ true → b ≡ true) → (b ≡ true → a ≡ true) → a ≡ b
+same_test true true f g = refl
+same_test true false f g = sym (f refl)
+same_test false true f g = g refl
+same_test false false f g = refl
+
+pub or_swap : (a b c : Bool) → a || (b || c) ≡ b || (a || c)
+or_swap true true c = refl
+or_swap true false c = refl
+or_swap false true c = refl
+or_swap false false c = refl
+
+pub or_group : (a b c : Bool) → (a || b) || c ≡ a || (b || c)
+or_group true b c = refl
+or_group false b c = refl
+
+pub or_nothing : (a : Bool) → a || false ≡ a
+or_nothing true = refl
+or_nothing false = refl
+
+-- what holds in both cases of a test
+pub choose : {X : Type 0} (P : X → Type 0) (b : Bool) (x y : X) → (b ≡ true → P x) → (b ≡ false → P y) → P (if b then x else y)
+choose P true x y f g = f refl
+choose P false x y f g = g refl
+
+-- what follows where a call succeeded, and where it ends in the same either way
+pub ok_then : {A E : Type 0} (P Q : Type 0) (r : Result A E) → (P → Q) → OnOk r P → OnOk r Q
+ok_then P Q (Ok a) f h = f h
+ok_then P Q (Err e) f h = tt
+
+pub settled : {A E : Type 0} (P Q R : Type 0) (r : Result A E) → OnOk r P → OnErr r Q → (P → R) → (Q → R) → R
+settled P Q R (Ok a) h k f g = f h
+settled P Q R (Err e) h k f g = g k

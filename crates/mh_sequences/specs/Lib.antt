@@ -1,0 +1,4 @@
+pub mod Edits
+pub mod Joins
+pub mod Runs
+pub mod Stretches
