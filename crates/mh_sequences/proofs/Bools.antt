@@ -36,3 +36,19 @@ ok_then P Q (Err e) f h = tt
 pub settled : {A E : Type 0} (P Q R : Type 0) (r : Result A E) → OnOk r P → OnErr r Q → (P → R) → (Q → R) → R
 settled P Q R (Ok a) h k f g = f h
 settled P Q R (Err e) h k f g = g k
+
+-- choices by two tests
+pub either_way : {X : Type 0} (b : Bool) (x : X) → x ≡ (if b then x else x)
+either_way true x = refl
+either_way false x = refl
+
+pub swapped : {X : Type 0} (a b : Bool) (x y z : X) → (a ≡ true → b ≡ true → ⊥) → (if a then x else (if b then y else z)) ≡ (if b then y else (if a then x else z))
+swapped true true x y z never = absurd (never refl refl)
+swapped true false x y z never = refl
+swapped false true x y z never = refl
+swapped false false x y z never = refl
+
+pub shadowed : {X : Type 0} (a b : Bool) (x y z : X) → a ≡ b → (if a then x else z) ≡ (if a then x else (if b then y else z))
+shadowed true b x y z e = refl
+shadowed false true x y z e = cc
+shadowed false false x y z e = refl

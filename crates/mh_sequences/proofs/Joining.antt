@@ -5,7 +5,7 @@ use Rattle.std.proofs.lemmas.Bool.{or_from, cases_lt}
 use Rattle.std.proofs.lemmas.Bool.Decides.{nat_tests}
 use Rattle.mh_sequences.specs.declared.run.Run.{Run}
 use Rattle.mh_sequences.specs.declared.join.Join.{Join}
-use Rattle.mh_sequences.specs.declared.join.Join.TheVariants.{Both, Either, FirstAlone}
+use Rattle.mh_sequences.specs.declared.join.Join.TheVariants.{Both, Either, FirstAlone, Second}
 use Rattle.mh_sequences.specs.Joins.{joins}
 use Rattle.mh_sequences.specs.Runs.{AreRuns, AreRunsFrom, inside, has}
 use Rattle.mh_sequences.proofs.Removing.{has_below}
@@ -14,6 +14,7 @@ joins_none : (how : Join) → joins how false false ≡ false
 joins_none Both = refl
 joins_none Either = refl
 joins_none FirstAlone = refl
+joins_none Second = refl
 
 above_from : (low : ℕ) (rs : List Run) → AreRunsFrom low rs → (n : ℕ) → 999999 < n → has rs n ≡ false
 above_from low [] h n lt = refl

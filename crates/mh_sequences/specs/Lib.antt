@@ -1,4 +1,9 @@
+pub mod Changes
 pub mod Edits
 pub mod Joins
+pub mod Marks
+pub mod Names
+pub mod Placing
 pub mod Runs
+pub mod Sequences
 pub mod Stretches

@@ -8,6 +8,7 @@ pub(crate) enum Join {
     Both,
     Either,
     FirstAlone,
+    Second,
 }
 
 impl Join {
@@ -18,6 +19,7 @@ impl Join {
             Join::Both => first && second,
             Join::Either => first || second,
             Join::FirstAlone => first && !second,
+            Join::Second => second,
         }
     }
 }

@@ -2,11 +2,20 @@
 //! context's entries, changed and printed.
 #![tactic(auto)]
 
+mod change;
 mod join;
+mod mark;
 mod num_set;
+mod place;
 mod run;
 mod runs;
+mod seq_name;
+mod sequences;
 mod stretch;
+mod user;
 
+pub use mark::{Mark, MarkList, Pair, PairList, SeqNameList};
 pub use num_set::NumSet;
 pub use run::Run;
+pub use seq_name::{SeqFault, SeqName};
+pub use sequences::Sequences;

@@ -109,7 +109,8 @@ impl NumSet {
     }
 
     pub fn is_empty(&self) -> bool
-        ensures { result ≡ (length self.now.runs == 0) }
+        ensures value { result ≡ (length self.now.runs == 0) }
+        ensures valid { AreRuns self.now.runs }
     {
         self.runs.is_empty()
     }
