@@ -2,11 +2,13 @@ pub mod Adding
 pub mod Bools
 pub mod Changing
 pub mod Counting
+pub mod EntryLemmas
 pub mod Joined
 pub mod Joining
 pub mod NameLemmas
 pub mod PlaceLemmas
 pub mod Placing
+pub mod ReadingLemmas
 pub mod Removing
 pub mod RunLemmas
 pub mod Stretches

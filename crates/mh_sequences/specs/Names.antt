@@ -1,5 +1,5 @@
 -- Names of sequences.
-use Rattle.std.specs.Prelude.{◌≡◌, ℕ, ◌&&◌, ◌||◌, Bool, false, not, nat_le, bytes_eq, List, [], ◌∷◌, length, codes, Option, None, Some}
+use Rattle.std.specs.Prelude.{◌≡◌, ℕ, ◌&&◌, ◌||◌, Bool, true, false, not, nat_le, bytes_eq, List, [], ◌∷◌, length, codes, Option, None, Some}
 use Rattle.std.specs.List.{list_all}
 use Rattle.std.specs.Char.{is_ascii_alphabetic, is_ascii_alphanumeric}
 
@@ -20,4 +20,4 @@ is_seq_name name = begins_with_letter name && list_all is_ascii_alphanumeric nam
 -- what was read from bytes: the name that they are, or nothing where they are none
 abbrev pub IsNameIn : List ℕ → Option (List ℕ) → Type 0
 IsNameIn bytes None = is_seq_name bytes ≡ false
-IsNameIn bytes (Some name) = name ≡ bytes
+IsNameIn bytes (Some name) = (name ≡ bytes) × (is_seq_name bytes ≡ true)

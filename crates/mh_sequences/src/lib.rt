@@ -3,10 +3,13 @@
 #![tactic(auto)]
 
 mod change;
+mod escape;
 mod join;
+mod lists;
 mod mark;
 mod num_set;
 mod place;
+mod reading;
 mod run;
 mod runs;
 mod seq_name;

@@ -5,15 +5,18 @@ ghost use Rattle.mh_sequences.specs.Changes.{IsAllChanged, IsCut, IsJoined, chan
 ghost use Rattle.mh_sequences.specs.Joins.{joins};
 ghost use Rattle.mh_sequences.specs.Marks.{IsMarked, moved, moved_cur, set_to};
 ghost use Rattle.mh_sequences.specs.Placing.{placed};
+ghost use Rattle.mh_sequences.specs.Reading.{IsReading};
 ghost use Rattle.mh_sequences.specs.Runs.{AreRuns, has};
 ghost use Rattle.mh_sequences.specs.Sequences.{AreSequences, member, runs_of, public_of, told};
 
 use crate::change::{Change, change_all, new_number};
 use crate::join::Join;
 use crate::place::{Place, place_of};
+use crate::reading::{read_cur, read_users};
 use crate::user::User;
 use crate::{Mark, NumSet, PairList, SeqName};
-use mh_base::MsgNum;
+use mh_base::{FolderName, MsgNum};
+use mh_profile::Entries;
 use std::alloc::{AllocError, Global};
 use std::marker::Model;
 
@@ -73,6 +76,15 @@ impl Sequences {
             users: Vec::new(alloc),
             cur: None,
         }
+    }
+
+    /// The sequences of a folder, by its text and by the context's entries.
+    pub fn read(alloc: Global, public: &[u8], context: &Entries, folder: &FolderName) -> Result<Sequences, AllocError>
+        ensures { IfOk result (λ s. IsReading public.now context.now folder.now s) }
+    {
+        let mut sequences = read_users(alloc, public, context, folder)?;
+        sequences.cur = read_cur(alloc, public)?;
+        Ok(sequences)
     }
 
     /// How many user's sequences there are.

@@ -12,8 +12,11 @@ returns-in_default c = false_from_ne_true (is_seq_name c.args.bytes.now) (λ h. 
 named : (c : goal.In_ok-from_str) → is_seq_name c.args.bytes.now ≡ true
 named c = sym c.is_name.ensures ∙ c.if-not-is_name.false
 
-pub returns : goal.returns
-returns c = c.in_ok-from_str.ensures ∙ ap chars c.in-Ok.ensures.cases.0 ∙ plain_chars c.args.bytes.now (named c)
+same : (c : goal.In_ok-from_str) → c.in_ok-from_str.field-0 ≡ c.args.bytes.now
+same c = c.in_ok-from_str.ensures ∙ ap chars c.in-Ok.ensures.cases.0 ∙ plain_chars c.args.bytes.now (named c)
 
 pub invariant_of-result : goal.invariant_of-result
-invariant_of-result c = ap is_seq_name (returns c) ∙ named c
+invariant_of-result c = ap is_seq_name (same c) ∙ named c
+
+pub returns : goal.returns
+returns c = (same c, named c)
