@@ -8,6 +8,7 @@ pub mod Joining
 pub mod NameLemmas
 pub mod PlaceLemmas
 pub mod Placing
+pub mod PrintingLemmas
 pub mod ReadingLemmas
 pub mod Removing
 pub mod RunLemmas

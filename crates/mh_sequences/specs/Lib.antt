@@ -5,6 +5,7 @@ pub mod Lists
 pub mod Marks
 pub mod Names
 pub mod Placing
+pub mod Printing
 pub mod Reading
 pub mod Runs
 pub mod Sequences

@@ -9,14 +9,18 @@ mod lists;
 mod mark;
 mod num_set;
 mod place;
+mod printing;
 mod reading;
 mod run;
 mod runs;
 mod seq_name;
 mod sequences;
 mod stretch;
+#[cfg(test)]
+mod tests;
 mod user;
 
+pub use mh_profile::{EntryList, NamedValue};
 pub use mark::{Mark, MarkList, Pair, PairList, SeqNameList};
 pub use num_set::NumSet;
 pub use run::Run;

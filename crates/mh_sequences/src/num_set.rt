@@ -122,6 +122,13 @@ impl NumSet {
         number_at(&self.runs, index)
     }
 
+    pub(crate) fn as_slice(&self) -> &[Run]
+        ensures value { result.now ≡ self.now.runs }
+        ensures valid { AreRuns result.now }
+    {
+        self.runs.as_slice()
+    }
+
     /// The same set again.
     pub(crate) fn copy(&self, alloc: Global) -> Result<NumSet, AllocError>
         ensures { IfOk result (λ s. s.runs ≡ self.now.runs) }

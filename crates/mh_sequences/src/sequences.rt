@@ -5,18 +5,21 @@ ghost use Rattle.mh_sequences.specs.Changes.{IsAllChanged, IsCut, IsJoined, chan
 ghost use Rattle.mh_sequences.specs.Joins.{joins};
 ghost use Rattle.mh_sequences.specs.Marks.{IsMarked, moved, moved_cur, set_to};
 ghost use Rattle.mh_sequences.specs.Placing.{placed};
-ghost use Rattle.mh_sequences.specs.Reading.{IsReading};
+ghost use Rattle.mh_sequences.specs.Printing.{private_entries, text_of};
+ghost use Rattle.mh_sequences.specs.Reading.{IsReading, suffix};
 ghost use Rattle.mh_sequences.specs.Runs.{AreRuns, has};
 ghost use Rattle.mh_sequences.specs.Sequences.{AreSequences, member, runs_of, public_of, told};
 
 use crate::change::{Change, change_all, new_number};
+use crate::escape::suffix_of;
 use crate::join::Join;
 use crate::place::{Place, place_of};
+use crate::printing::{private_list, put_cur, put_lines};
 use crate::reading::{read_cur, read_users};
 use crate::user::User;
 use crate::{Mark, NumSet, PairList, SeqName};
-use mh_base::{FolderName, MsgNum};
-use mh_profile::Entries;
+use mh_base::{Bytes, FolderName, MsgNum};
+use mh_profile::{Entries, EntryList};
 use std::alloc::{AllocError, Global};
 use std::marker::Model;
 
@@ -219,5 +222,24 @@ impl Sequences {
                 Ok(())
             }
         }
+    }
+
+    /// The public sequences and the current message as the folder's text.
+    pub fn print(&self, alloc: Global) -> Result<Bytes, AllocError>
+        ensures text { IfOk result (λ text. text ≡ text_of self.now) }
+    {
+        let mut text = Bytes::new(alloc);
+        put_lines(alloc, &mut text, &self.users, true)?;
+        put_cur(alloc, &mut text, self.cur)?;
+        put_lines(alloc, &mut text, &self.users, false)?;
+        Ok(text)
+    }
+
+    /// The private sequences as entries of the context.
+    pub fn context_entries(&self, alloc: Global, folder: &FolderName) -> Result<EntryList, AllocError>
+        ensures entries { IfOk result (λ entries. entries ≡ private_entries (suffix folder.now) self.now.users) }
+    {
+        let ending = suffix_of(alloc, folder)?;
+        private_list(alloc, &self.users, ending.as_slice())
     }
 }
