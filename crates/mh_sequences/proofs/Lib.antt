@@ -3,12 +3,15 @@ pub mod Bools
 pub mod Changing
 pub mod Counting
 pub mod EntryLemmas
+pub mod FieldsBack
 pub mod Joined
 pub mod Joining
+pub mod ListText
 pub mod NameLemmas
 pub mod PlaceLemmas
 pub mod Placing
 pub mod PrintingLemmas
+pub mod ReadBack
 pub mod ReadingLemmas
 pub mod Removing
 pub mod RunLemmas

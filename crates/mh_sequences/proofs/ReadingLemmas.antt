@@ -17,7 +17,7 @@ use Rattle.mh_sequences.specs.Reading.{lists_public, has_field, lists_private, a
 use Rattle.mh_sequences.proofs.Bools.{same_test, or_nothing}
 use Rattle.mh_sequences.proofs.PlaceLemmas.{same_is, same_self}
 
-same_turned : (a b : List ℕ) → bytes_eq a b ≡ bytes_eq b a
+pub same_turned : (a b : List ℕ) → bytes_eq a b ≡ bytes_eq b a
 same_turned a b =
     same_test (bytes_eq a b) (bytes_eq b a)
     (λ h. ap (λ x. bytes_eq b x) (same_is a b h) ∙ same_self b)
