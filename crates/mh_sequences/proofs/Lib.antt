@@ -15,4 +15,5 @@ pub mod ReadBack
 pub mod ReadingLemmas
 pub mod Removing
 pub mod RunLemmas
+pub mod Same
 pub mod Stretches

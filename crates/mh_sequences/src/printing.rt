@@ -1,6 +1,7 @@
 // Sequences as text.
-ghost use Rattle.std.specs.Prelude.{◌≡◌, ◌++◌, ◌∷◌, [], ℕ, Option, decimal, map, filter, codes, IfOk, OnOk};
+ghost use Rattle.std.specs.Prelude.{◌≡◌, ◌++◌, ◌∷◌, [], ℕ, Option, decimal, map, filter, codes, IfOk, IfSome, OnOk};
 ghost use Rattle.std.specs.List.{flat_map};
+ghost use Rattle.mh_base.specs.Numbers.{IsMsgNum};
 ghost use Rattle.mh_profile.specs.declared.named_value.NamedValue.{NamedValue as EntryValue};
 ghost use Rattle.mh_profile.specs.Printing.{printed, printed_entry};
 ghost use Rattle.mh_sequences.specs.Printing.{cur_entry, entry_of, is_before_cur as stands_before_cur, is_private as stands_in_context, is_shown as stands_in_text, list_text, private_entries, private_entry as private_entry_of, run_text};
@@ -102,7 +103,8 @@ pub(crate) fn put_lines(alloc: Global, text: &mut Bytes, users: &[User], before:
 }
 
 pub(crate) fn put_cur(alloc: Global, text: &mut Bytes, cur: Option<MsgNum>) -> Result<(), AllocError>
-    ensures { OnOk result (text.new ≡ text.old ++ printed (cur_entry cur)) }
+    ensures text { OnOk result (text.new ≡ text.old ++ printed (cur_entry cur)) }
+    ensures range { OnOk result (IfSome cur IsMsgNum) }
 {
     match cur {
         Some(n) => {

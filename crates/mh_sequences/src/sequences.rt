@@ -1,6 +1,6 @@
 // All sequences of a folder.
-ghost use Rattle.std.specs.Prelude.{◌≡◌, ◌≤◌, ◌==◌, ℕ, List, true, [], length, map, slice_get, IfOk, OnOk, OnErr, MatchOption, bytes_eq, Bool, if◌then◌else◌, None, Some, IsTrue};
-ghost use Rattle.mh_sequences.specs.Names.{is_seq_name};
+ghost use Rattle.std.specs.Prelude.{◌≡◌, ◌≤◌, ◌==◌, ℕ, List, true, [], length, map, slice_get, IfOk, IfSome, OnOk, OnErr, MatchOption, bytes_eq, Bool, if◌then◌else◌, None, Some, IsTrue};
+ghost use Rattle.mh_base.specs.Numbers.{IsMsgNum};
 ghost use Rattle.mh_sequences.specs.Changes.{IsAllChanged, IsCut, IsJoined, change_of};
 ghost use Rattle.mh_sequences.specs.Joins.{joins};
 ghost use Rattle.mh_sequences.specs.Marks.{IsMarked, moved, moved_cur, set_to};
@@ -8,7 +8,7 @@ ghost use Rattle.mh_sequences.specs.Placing.{placed};
 ghost use Rattle.mh_sequences.specs.Printing.{private_entries, text_of};
 ghost use Rattle.mh_sequences.specs.Reading.{IsReading, suffix};
 ghost use Rattle.mh_sequences.specs.Runs.{AreRuns, has};
-ghost use Rattle.mh_sequences.specs.Sequences.{AreSequences, member, runs_of, public_of, told};
+ghost use Rattle.mh_sequences.specs.Sequences.{AreSequences, Marked, member, runs_of, public_of, told};
 
 use crate::change::{Change, change_all, new_number};
 use crate::escape::suffix_of;
@@ -81,12 +81,22 @@ impl Sequences {
         }
     }
 
-    /// The sequences of a folder, by its text and by the context's entries.
-    pub fn read(alloc: Global, public: &[u8], context: &Entries, folder: &FolderName) -> Result<Sequences, AllocError>
-        ensures { IfOk result (λ s. IsReading public.now context.now folder.now s) }
+    fn read_all(alloc: Global, public: &[u8], context: &Entries, folder: &FolderName) -> Result<Sequences, AllocError>
+        ensures reading { IfOk result (λ s. IsReading public.now context.now folder.now s) }
+        ensures valid { IfOk result (λ s. AreSequences s.users) }
     {
         let mut sequences = read_users(alloc, public, context, folder)?;
         sequences.cur = read_cur(alloc, public)?;
+        Ok(sequences)
+    }
+
+    /// The sequences of a folder, by its text and by the context's entries: the one reading of both.
+    pub fn read(alloc: Global, public: &[u8], context: &Entries, folder: &FolderName) -> Result<Sequences, AllocError>
+        ensures reading { IfOk result (λ s. IsReading public.now context.now folder.now s) }
+        ensures valid { IfOk result (λ s. AreSequences s.users) }
+        ensures alone { IfOk result (λ s. (other : Marked) → AreSequences other.users → IsReading public.now context.now folder.now other → other ≡ s) }
+    {
+        let sequences = Sequences::read_all(alloc, public, context, folder)?;
         Ok(sequences)
     }
 
@@ -157,6 +167,7 @@ impl Sequences {
 
     /// Joins a set to the sequence of this name.
     pub(crate) fn join(&mut self, name: &SeqName, numbers: &NumSet, how: Join, public: Option<bool>) -> Result<(), AllocError>
+        ensures valid { AreSequences self.new.users }
         ensures ok { OnOk result (IsJoined name.now numbers.now.runs how public self.old self.new) }
         ensures err { OnErr result (self.new ≡ self.old) }
     {
@@ -166,6 +177,7 @@ impl Sequences {
     }
 
     fn change(&mut self, change: Change<'_>) -> Result<(), AllocError>
+        ensures valid { AreSequences self.new.users }
         ensures ok { OnOk result (IsAllChanged (change_of change.entry) self.old.users self.new.users) }
         ensures cur { self.new.cur ≡ self.old.cur }
         ensures err { OnErr result (self.new ≡ self.old) }
@@ -176,13 +188,23 @@ impl Sequences {
 
     /// Drops the numbers that are not listed from all sequences, and leaves the current message.
     pub fn cut(&mut self, listing: &NumSet) -> Result<(), AllocError>
+        ensures valid { AreSequences self.new.users }
         ensures ok { OnOk result (IsCut listing.now.runs self.old self.new) }
         ensures err { OnErr result (self.new ≡ self.old) }
     {
         self.change(Change::Keep(listing))
     }
 
+    fn point(&mut self, cur: Option<MsgNum>)
+        ensures users { self.new.users ≡ self.old.users }
+        ensures valid { AreSequences self.new.users }
+        ensures cur { self.new.cur ≡ cur }
+    {
+        self.cur = cur;
+    }
+
     fn move_numbers(&mut self, pairs: &PairList) -> Result<(), AllocError>
+        ensures valid { AreSequences self.new.users }
         ensures ok { OnOk result (IsAllChanged (moved pairs.now) self.old.users self.new.users × (self.new.cur ≡ moved_cur pairs.now self.old.cur)) }
         ensures err { OnErr result (self.new ≡ self.old) }
     {
@@ -196,6 +218,7 @@ impl Sequences {
 
     /// Does what a mark says.
     pub fn apply(&mut self, mark: &Mark) -> Result<(), AllocError>
+        ensures valid { AreSequences self.new.users }
         ensures ok { OnOk result (IsMarked mark.now self.old self.new) }
         ensures err { OnErr result (self.new ≡ self.old) }
     {
@@ -218,20 +241,31 @@ impl Sequences {
             Mark::Withdraw { numbers } => self.change(Change::Withdraw(numbers)),
             Mark::Move { pairs } => self.move_numbers(pairs),
             Mark::Cur(cur) => {
-                self.cur = *cur;
+                self.point(*cur);
                 Ok(())
             }
         }
     }
 
-    /// The public sequences and the current message as the folder's text.
-    pub fn print(&self, alloc: Global) -> Result<Bytes, AllocError>
+    fn text(&self, alloc: Global) -> Result<Bytes, AllocError>
         ensures text { IfOk result (λ text. text ≡ text_of self.now) }
+        ensures valid { AreSequences self.now.users }
+        ensures range { IfOk result (λ _. IfSome self.now.cur IsMsgNum) }
     {
         let mut text = Bytes::new(alloc);
         put_lines(alloc, &mut text, &self.users, true)?;
         put_cur(alloc, &mut text, self.cur)?;
         put_lines(alloc, &mut text, &self.users, false)?;
+        Ok(text)
+    }
+
+    /// The public sequences and the current message as the folder's text. With the entries of
+    /// `context_entries` it reads back as these sequences.
+    pub fn print(&self, alloc: Global) -> Result<Bytes, AllocError>
+        ensures text { IfOk result (λ text. text ≡ text_of self.now) }
+        ensures reads_back { IfOk result (λ text. (folder : List ℕ) → IsReading text (private_entries (suffix folder) self.now.users) folder self.now) }
+    {
+        let text = self.text(alloc)?;
         Ok(text)
     }
 

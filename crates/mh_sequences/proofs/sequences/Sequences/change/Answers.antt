@@ -14,3 +14,6 @@ pub returns-clause-ok : goal.returns-clause-ok
 returns-clause-ok c =
     subst (λ old. IsAllChanged (change_of c.args.change) old (map told c.in_ok-self-inside.field-0.items)) (ap (λ v. v.users) c.self.view_is)
     (each_changed (change_of c.args.change) (change_none c.args.change) (map told c.self.inside.users.items) (map told c.in_ok-self-inside.field-0.items) (each c) c.self.invariant)
+
+pub returns-clause-valid : goal.returns-clause-valid
+returns-clause-valid c = invariant_of-self c
