@@ -1,6 +1,6 @@
 -- Tests and their choices.
 use Rattle.std.proofs.Common.{◌≡◌, Bool, true, false, refl, sym}
-use Rattle.std.specs.Prelude.{Result, Ok, Err, OnOk, OnErr, ◌||◌, if◌then◌else◌}
+use Rattle.std.specs.Prelude.{Result, Ok, Err, OnOk, OnErr, IfOk, ◌||◌, if◌then◌else◌}
 
 -- two tests that mean the same are the same
 pub same_test : (a b : Bool) → (a ≡ true → b ≡ true) → (b ≡ true → a ≡ true) → a ≡ b
@@ -52,3 +52,7 @@ pub shadowed : {X : Type 0} (a b : Bool) (x y z : X) → a ≡ b → (if a then 
 shadowed true b x y z e = refl
 shadowed false true x y z e = cc
 shadowed false false x y z e = refl
+
+pub if_ok_then : {A E : Type 0} (P Q R : A → Type 0) (r : Result A E) → ((a : A) → P a → Q a → R a) → IfOk r P → IfOk r Q → IfOk r R
+if_ok_then P Q R (Ok a) f h k = f a h k
+if_ok_then P Q R (Err e) f h k = tt

@@ -1,23 +1,18 @@
 -- Every sequence changed.
-use Rattle.std.proofs.Common.{◌≡◌, ℕ, suc, ◌+◌, ◌<◌, ◌≤◌, Bool, true, false, List, [], ◌∷◌, ◌++◌, length, map, take, drop, get_or, refl, sym, ◌∙◌, ap, subst, arith, append_assoc, append-nil}
-use Rattle.std.specs.Prelude.{bytes_eq, ◌&&◌, ◌||◌, ◌==◌, not, IsTrue, if◌then◌else◌}
+use Rattle.std.proofs.Common.{◌≡◌, ℕ, ◌+◌, ◌<◌, Bool, true, false, List, [], ◌∷◌, ◌++◌, length, take, get_or, refl, sym, ◌∙◌, ap, subst, append_assoc, append-nil}
+use Rattle.std.specs.Prelude.{bytes_eq, ◌&&◌, ◌||◌, ◌==◌, not, if◌then◌else◌}
 use Rattle.std.specs.List.{list_any}
-use Rattle.std.proofs.lemmas.Bool.{cases_Bool}
-use Rattle.std.specs.declared.cmp.Ordering.TheVariants.{Less}
 use Rattle.std.proofs.lemmas.List.Folds.{list_any_more}
 use Rattle.mh_sequences.specs.declared.run.Run.{Run}
-use Rattle.mh_sequences.specs.declared.user.User.{User}
 use Rattle.mh_sequences.specs.declared.mark.Pair.{Pair}
 use Rattle.mh_sequences.specs.declared.change.Change.{Change}
 use Rattle.mh_sequences.specs.declared.change.Change.TheVariants.{Keep, Withdraw, Move}
-use Rattle.mh_sequences.specs.Runs.{AreRuns, has}
-use Rattle.mh_sequences.specs.Marks.{moved, moved_to}
-use Rattle.mh_sequences.specs.Sequences.{Sequence, IsSequence, Precedes, AreSequences, told, told_of, runs_of, public_of, member, order}
+use Rattle.mh_sequences.specs.Runs.{has}
+use Rattle.mh_sequences.specs.Sequences.{Sequence, Precedes, AreSequences, runs_of, public_of, member}
 use Rattle.mh_sequences.specs.Placing.{alone}
 use Rattle.mh_sequences.specs.Changes.{change_of, IsChanged, IsEach, IsAllChanged}
-use Rattle.mh_sequences.proofs.PlaceLemmas.{absent, item_at}
+use Rattle.mh_sequences.proofs.PlaceLemmas.{absent}
 use Rattle.mh_sequences.proofs.Placing.{tells, in_front, alone_valid, precedes_alone, runs_alone, public_alone}
-use Rattle.mh_sequences.proofs.Bools.{choose}
 
 module _ (f : (ℕ → Bool) → ℕ → Bool) (none : (n : ℕ) → f (has []) n ≡ false) where
   each_precedes : (xs ys : List Sequence) (q : List ℕ) → IsEach f xs ys → Precedes q xs → Precedes q ys
@@ -66,7 +61,7 @@ module _ (f : (ℕ → Bool) → ℕ → Bool) where
 
   pub one_kept : (all kept now rest : List Sequence) (x : Sequence) (runs : List Run) → IsChanged f x.runs runs → now ≡ kept ++ alone x.name x.public runs → IsSoFar all kept (x ∷ rest) → IsSoFar all now rest
   one_kept all kept now rest x runs is e so = record {
-      whole = λ more m. subst (IsEach f all) (sym (append_assoc kept (alone x.name x.public runs) more) ∙ ap (λ l. l ++ more) (sym e)) (so.whole (alone x.name x.public runs ++ more) (runs, more, is, refl, m));
+    whole = λ more m. subst (IsEach f all) (sym (append_assoc kept (alone x.name x.public runs) more) ∙ ap (λ l. l ++ more) (sym e)) (so.whole (alone x.name x.public runs ++ more) (runs, more, is, refl, m));
   }
 
   pub ended : (all kept : List Sequence) → IsSoFar all kept [] → IsEach f all kept

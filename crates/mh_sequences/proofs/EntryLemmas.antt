@@ -1,7 +1,6 @@
 -- Entries and the names of private sequences.
-use Rattle.std.proofs.Common.{◌≡◌, ℕ, zero, suc, ◌+◌, ◌-◌, ◌<◌, ◌≤◌, Bool, true, false, Option, Some, None, List, [], ◌∷◌, ◌++◌, length, map, take, drop, refl, sym, ◌∙◌, ap, subst, arith, length-append}
-use Rattle.std.specs.Prelude.{bytes_eq, slice_get, ◌&&◌, ◌||◌, not, codes, if◌then◌else◌}
-use Rattle.std.specs.List.{list_any}
+use Rattle.std.proofs.Common.{◌≡◌, ℕ, zero, suc, ◌-◌, Bool, true, false, Some, None, List, [], ◌∷◌, ◌++◌, length, map, take, drop, refl, sym, ◌∙◌, ap, subst, arith, length-append}
+use Rattle.std.specs.Prelude.{bytes_eq, slice_get, ◌&&◌, not, codes, if◌then◌else◌}
 use Rattle.std.proofs.lemmas.Bool.{or_left, or_parts, both_ways}
 use Rattle.std.proofs.lemmas.List.{take-append-drop, take_at, drop_at}
 use Rattle.mh_profile.specs.declared.named_value.NamedValue.{NamedValue}

@@ -1,25 +1,24 @@
 -- Printed entries are fields again.
-use Rattle.std.proofs.Common.{◌≡◌, ℕ, zero, suc, ◌+◌, ◌<◌, ◌≤◌, Bool, true, false, Option, Some, None, List, [], ◌∷◌, ◌++◌, length, map, filter, take, drop, refl, sym, ◌∙◌, ap, subst, arith, append_assoc}
-use Rattle.std.specs.Prelude.{bytes_eq, ◌&&◌, ◌||◌, ◌==◌, not, nat_le, codes, if◌then◌else◌}
-use Rattle.std.specs.List.{list_all, list_any, find}
-use Rattle.std.specs.Char.{is_ascii_alphanumeric, is_ascii_alphabetic}
+use Rattle.std.proofs.Common.{◌≡◌, ℕ, ◌≤◌, true, false, Some, List, [], ◌∷◌, ◌++◌, length, map, take, drop, refl, sym, ◌∙◌, ap, arith, append_assoc}
+use Rattle.std.specs.Prelude.{bytes_eq, ◌&&◌, ◌||◌, ◌==◌, not, nat_le}
+use Rattle.std.specs.List.{list_all, list_any}
+use Rattle.std.specs.Char.{is_ascii_alphanumeric}
 use Rattle.std.proofs.lemmas.Bool.{and_parts, and_from, and_left, not-true, le-leb, ne_eqb, both_ways}
 use Rattle.std.proofs.lemmas.List.{take_at, drop_at}
-use Rattle.mail_headers.specs.Fields.{FieldText, field_in, first_field, fields_of, with_first}
+use Rattle.mail_headers.specs.Fields.{FieldText, field_in, fields_of, with_first}
 use Rattle.mail_headers.specs.Lines.{is_name_byte, continues, folded_len, without_end}
-use Rattle.mail_headers.specs.Unfolding.{unfolded}
 use Rattle.mail_headers.proofs.Folding.{at_end, inside}
 use Rattle.mail_headers.proofs.Walking.{fields_of-step, fields_none, none_in}
 use Rattle.mh_profile.specs.declared.named_value.NamedValue.{NamedValue}
 use Rattle.mh_profile.specs.Names.{IsFieldName}
-use Rattle.mh_profile.specs.Values.{IsUnfolded, is_no_feed}
+use Rattle.mh_profile.specs.Values.{is_no_feed}
 use Rattle.mh_profile.specs.Validity.{IsEntry}
 use Rattle.mh_profile.specs.Printing.{printed_entry, printed}
 use Rattle.mh_profile.proofs.PrintLemmas.{field_here, line_is, starts, body_clean}
 use Rattle.mh_profile.proofs.UnfoldingLemmas.{value_read}
 use Rattle.mh_sequences.specs.Names.{is_seq_name, begins_with_letter}
-use Rattle.mh_sequences.specs.Lists.{items, is_listed, lists}
-use Rattle.mh_sequences.specs.Reading.{lists_public, has_field, cur_in, first_or}
+use Rattle.mh_sequences.specs.Lists.{lists}
+use Rattle.mh_sequences.specs.Reading.{lists_public, has_field}
 use Rattle.mh_sequences.proofs.NameLemmas.{name_bytes, name_starts, low}
 
 -- each has a field's name and a value on one line

@@ -1,12 +1,12 @@
 -- A set joined to a sequence.
-use Rattle.std.proofs.Common.{◌≡◌, ℕ, Bool, true, false, Option, List, [], ◌∷◌, refl, sym, ◌∙◌, ap, subst}
-use Rattle.std.specs.Prelude.{bytes_eq, IsTrue, if◌then◌else◌}
+use Rattle.std.proofs.Common.{◌≡◌, ℕ, Bool, true, false, Option, List, [], refl, sym, ◌∙◌, ap}
+use Rattle.std.specs.Prelude.{bytes_eq, if◌then◌else◌}
 use Rattle.mh_sequences.specs.declared.run.Run.{Run}
 use Rattle.mh_sequences.specs.declared.join.Join.{Join}
 use Rattle.mh_sequences.specs.Runs.{has}
 use Rattle.mh_sequences.specs.Joins.{joins}
 use Rattle.mh_sequences.specs.Marks.{set_to}
-use Rattle.mh_sequences.specs.Sequences.{Sequence, AreSequences, Marked, marked_of, runs_of, public_of, member}
+use Rattle.mh_sequences.specs.Sequences.{Sequence, AreSequences, marked_of, runs_of, public_of, member}
 use Rattle.mh_sequences.specs.Placing.{placed}
 use Rattle.mh_sequences.specs.Changes.{IsJoined}
 use Rattle.mh_sequences.proofs.PlaceLemmas.{same_is}
@@ -26,7 +26,7 @@ module _ (name : List ℕ) (numbers : List Run) (how : Join) (public : Option Bo
 
   pub is_joined : IsJoined name numbers how public (marked_of old cur) (marked_of new cur)
   is_joined = record {
-      members = λ s n. shown s n ∙ members s n (bytes_eq s name) (same_is s name);
-      state = λ s n m. ap (λ l. public_of l s) e ∙ told_placed (λ x. x.public) true name p runs old h s ∙ states s n (bytes_eq s name) (same_is s name) (sym (shown s n) ∙ m);
-      cur = refl;
+    members = λ s n. shown s n ∙ members s n (bytes_eq s name) (same_is s name);
+    state = λ s n m. ap (λ l. public_of l s) e ∙ told_placed (λ x. x.public) true name p runs old h s ∙ states s n (bytes_eq s name) (same_is s name) (sym (shown s n) ∙ m);
+    cur = refl;
   }

@@ -1,13 +1,11 @@
 -- Lists of numbers, written and read.
-use Rattle.std.proofs.Common.{◌≡◌, ℕ, zero, suc, ◌+◌, ◌-◌, ◌<◌, ◌≤◌, ◌^◌, Bool, true, false, Option, Some, None, List, [], ◌∷◌, ◌++◌, length, map, get_or, take, drop, refl, sym, ◌∙◌, ap, subst, arith, append_assoc, append-nil, length-append, ⊎_elim}
+use Rattle.std.proofs.Common.{◌≡◌, ℕ, suc, ◌+◌, ◌-◌, ◌<◌, ◌≤◌, ◌^◌, Bool, true, false, Some, None, List, [], ◌∷◌, ◌++◌, length, map, get_or, take, drop, refl, sym, ◌∙◌, ap, subst, arith, append_assoc, append-nil, length-append, ⊎_elim}
 use Rattle.std.proofs.Math.Seq.{get_or-append_seam}
 use Rattle.std.proofs.lemmas.List.Sums.{AllPass-from_list_all}
-use Rattle.std.specs.Prelude.{◌&&◌, ◌||◌, ◌==◌, not, nat_le, nat_lt, decimal, if◌then◌else◌}
-use Rattle.std.specs.List.{list_all, list_any, prefix_len, suffix_len, flat_map, slice_split, All}
+use Rattle.std.specs.Prelude.{◌&&◌, ◌||◌, ◌==◌, not, nat_le, decimal, if◌then◌else◌}
+use Rattle.std.specs.List.{list_all, list_any, prefix_len, suffix_len, flat_map, All}
 use Rattle.std.specs.Str.Parse.{AllDigits}
-use Rattle.std.specs.Char.{digit_value}
-use Rattle.std.proofs.lemmas.Bool.{and_parts, and_from, ltb-true, ltb-false, leb-true, le-leb, lt-ltb, eqb-true, eqb-false, ne_eqb, or_left, or_from, or_cases}
-use Rattle.std.proofs.lemmas.Bool.Decides.{nat_tests}
+use Rattle.std.proofs.lemmas.Bool.{and_parts, and_from, leb-true, le-leb, lt-ltb, eqb-true, ne_eqb, or_left, or_from, or_cases}
 use Rattle.std.proofs.lemmas.Fmt.{decimal_is_IsNumeral}
 use Rattle.std.proofs.lemmas.Str.Parse.{digit_from_value}
 use Rattle.std.proofs.lemmas.List.{take_at, drop_at}
@@ -15,12 +13,12 @@ use Rattle.std.proofs.lemmas.List.Splits.{slice_split_at, slice_split_none}
 use Rattle.std.proofs.lemmas.List.Sums.{suffix_len_is}
 use Rattle.mail_headers.specs.Lines.{is_blank}
 use Rattle.mail_headers.specs.Unfolding.{is_edge}
-use Rattle.mh_base.specs.Numbers.{IsMsgNum, number_of, decimal_of, in_range}
+use Rattle.mh_base.specs.Numbers.{IsMsgNum, number_of, in_range}
 use Rattle.mh_base.proofs.Decimals.{decimal_of_some, decimal_of_none}
 use Rattle.mh_profile.specs.Values.{IsUnfolded, is_no_feed}
 use Rattle.mh_profile.proofs.UnfoldingLemmas.{bare_value}
 use Rattle.mh_sequences.specs.declared.run.Run.{Run}
-use Rattle.mh_sequences.specs.Runs.{AreRuns, AreRunsFrom, inside, has}
+use Rattle.mh_sequences.specs.Runs.{AreRuns, AreRunsFrom, has}
 use Rattle.mh_sequences.specs.Lists.{items, between, up_to, alone_or, is_no_dash, run_in, run_has, lists}
 use Rattle.mh_sequences.specs.Printing.{run_text, list_text}
 use Rattle.mh_sequences.proofs.Bools.{choose}

@@ -1,18 +1,18 @@
 -- Sequences by name, in byte order.
-use Rattle.std.proofs.Common.{◌≡◌, ℕ, zero, suc, ◌+◌, ◌<◌, ◌≤◌, Bool, true, false, List, [], ◌∷◌, ◌++◌, length, map, take, drop, get_or, refl, sym, ◌∙◌, ap, subst, arith, add-one, ltb, Option, Some, None, ⊎_elim, append-nil}
+use Rattle.std.proofs.Common.{◌≡◌, ℕ, zero, suc, ◌+◌, ◌<◌, Bool, true, false, List, [], ◌∷◌, ◌++◌, length, map, take, drop, get_or, refl, sym, ◌∙◌, ap, subst, arith, add-one, ltb, Some, append-nil}
 use Rattle.std.proofs.Math.Seq.{drop-length}
 use Rattle.std.specs.Prelude.{bytes_eq, slice_index_or, slice_get, slice_set, ◌==◌, if◌then◌else◌}
-use Rattle.std.specs.Ordering.{nat_cmp, is_eq}
+use Rattle.std.specs.Ordering.{is_eq}
 use Rattle.std.specs.declared.cmp.Ordering.{Ordering}
 use Rattle.std.specs.declared.cmp.Ordering.TheVariants.{Less, Equal, Greater}
 use Rattle.std.proofs.lemmas.Bool.{eqb-true, ltb-true}
 use Rattle.std.proofs.lemmas.List.{take-append-drop}
-use Rattle.std.proofs.lemmas.Cmp.{nat_list_cmp_total, tied_itself}
+use Rattle.std.proofs.lemmas.Cmp.{nat_list_cmp_total}
 use Rattle.std.proofs.lemmas.Map.Text.{is_eq-slice_cmp}
 use Rattle.std.proofs.lemmas.Slice.Eq.{bytes_eq-Decides}
 use Rattle.mh_sequences.specs.declared.run.Run.{Run}
 use Rattle.mh_sequences.specs.declared.user.User.{User}
-use Rattle.mh_sequences.specs.Sequences.{Sequence, told, IsSequence, Precedes, AreSequences, told_of, runs_of, public_of, order}
+use Rattle.mh_sequences.specs.Sequences.{Sequence, told, Precedes, AreSequences, told_of, runs_of, public_of, order}
 use Rattle.mh_sequences.specs.Placing.{alone, by_order, placed, IsAt, IsBefore}
 
 pub same_by : (a b : List ℕ) (o : Ordering) → order a b ≡ o → bytes_eq a b ≡ is_eq o
@@ -57,18 +57,18 @@ taken_more (x ∷ xs) (suc i) s e rest = ap (λ l. x ∷ l) (taken_more xs i s e
 module _ (name : List ℕ) (ss : List Sequence) (i : ℕ) (s : Sequence) (at : drop i ss ≡ s ∷ drop (suc i) ss) (is : IsPassed name ss i) where
   pub one_more : order name s.name ≡ Greater → IsPassed name ss (i + 1)
   one_more e = rw (add-one i) (record {
-      put = λ p r. is.put p r ∙ ap (λ l. take i ss ++ placed name p r l) at ∙ ap (λ o. take i ss ++ by_order o (alone name p r ++ (s ∷ drop (suc i) ss)) (alone name p r ++ drop (suc i) ss) (s ∷ placed name p r (drop (suc i) ss))) e ∙ taken_more ss i s at (placed name p r (drop (suc i) ss));
-      runs = is.runs ∙ ap (λ l. runs_of l name) at ∙ ap (λ b. if b then s.runs else runs_of (drop (suc i) ss) name) (same_by name s.name Greater e);
-      public = is.public ∙ ap (λ l. public_of l name) at ∙ ap (λ b. if b then s.public else public_of (drop (suc i) ss) name) (same_by name s.name Greater e);
+    put = λ p r. is.put p r ∙ ap (λ l. take i ss ++ placed name p r l) at ∙ ap (λ o. take i ss ++ by_order o (alone name p r ++ (s ∷ drop (suc i) ss)) (alone name p r ++ drop (suc i) ss) (s ∷ placed name p r (drop (suc i) ss))) e ∙ taken_more ss i s at (placed name p r (drop (suc i) ss));
+    runs = is.runs ∙ ap (λ l. runs_of l name) at ∙ ap (λ b. if b then s.runs else runs_of (drop (suc i) ss) name) (same_by name s.name Greater e);
+    public = is.public ∙ ap (λ l. public_of l name) at ∙ ap (λ b. if b then s.public else public_of (drop (suc i) ss) name) (same_by name s.name Greater e);
   })
 
   pub found_here : i < length ss → ((d : Sequence) → slice_index_or ss i d ≡ s) → order name s.name ≡ Equal → IsAt name ss i
   found_here lt value e = record {
-      within = lt;
-      put = λ p r. is.put p r ∙ ap (λ l. take i ss ++ placed name p r l) at ∙ ap (λ o. take i ss ++ by_order o (alone name p r ++ (s ∷ drop (suc i) ss)) (alone name p r ++ drop (suc i) ss) (s ∷ placed name p r (drop (suc i) ss))) e ∙ ap (λ j. take i ss ++ (alone name p r ++ drop j ss)) (sym (add-one i));
-      named = λ d. ap (λ x. x.name) (value d) ∙ sym (same_is name s.name (same_by name s.name Equal e));
-      runs = λ d. is.runs ∙ ap (λ l. runs_of l name) at ∙ ap (λ b. if b then s.runs else runs_of (drop (suc i) ss) name) (same_by name s.name Equal e) ∙ ap (λ x. x.runs) (sym (value d));
-      public = λ d. is.public ∙ ap (λ l. public_of l name) at ∙ ap (λ b. if b then s.public else public_of (drop (suc i) ss) name) (same_by name s.name Equal e) ∙ ap (λ x. x.public) (sym (value d));
+    within = lt;
+    put = λ p r. is.put p r ∙ ap (λ l. take i ss ++ placed name p r l) at ∙ ap (λ o. take i ss ++ by_order o (alone name p r ++ (s ∷ drop (suc i) ss)) (alone name p r ++ drop (suc i) ss) (s ∷ placed name p r (drop (suc i) ss))) e ∙ ap (λ j. take i ss ++ (alone name p r ++ drop j ss)) (sym (add-one i));
+    named = λ d. ap (λ x. x.name) (value d) ∙ sym (same_is name s.name (same_by name s.name Equal e));
+    runs = λ d. is.runs ∙ ap (λ l. runs_of l name) at ∙ ap (λ b. if b then s.runs else runs_of (drop (suc i) ss) name) (same_by name s.name Equal e) ∙ ap (λ x. x.runs) (sym (value d));
+    public = λ d. is.public ∙ ap (λ l. public_of l name) at ∙ ap (λ b. if b then s.public else public_of (drop (suc i) ss) name) (same_by name s.name Equal e) ∙ ap (λ x. x.public) (sym (value d));
   }
 
   pub stopped_here : AreSequences ss → i < length ss → order name s.name ≡ Less → IsBefore name ss i
@@ -76,18 +76,18 @@ module _ (name : List ℕ) (ss : List Sequence) (i : ℕ) (s : Sequence) (at : d
       let rest : AreSequences (s ∷ drop (suc i) ss) = subst AreSequences at (drop_sequences ss i h) in
       let all : Precedes name (s ∷ drop (suc i) ss) = (e, before_all name s.name (drop (suc i) ss) e rest.1) in
       record {
-      within = omega arith;
-      put = λ p r. is.put p r ∙ ap (λ l. take i ss ++ placed name p r l) at ∙ ap (λ o. take i ss ++ by_order o (alone name p r ++ (s ∷ drop (suc i) ss)) (alone name p r ++ drop (suc i) ss) (s ∷ placed name p r (drop (suc i) ss))) e ∙ ap (λ l. take i ss ++ (alone name p r ++ l)) (sym at);
-      runs = is.runs ∙ ap (λ l. runs_of l name) at ∙ absent (λ x. x.runs) [] name (s ∷ drop (suc i) ss) all;
-      public = is.public ∙ ap (λ l. public_of l name) at ∙ absent (λ x. x.public) true name (s ∷ drop (suc i) ss) all;
-  }
+        within = omega arith;
+        put = λ p r. is.put p r ∙ ap (λ l. take i ss ++ placed name p r l) at ∙ ap (λ o. take i ss ++ by_order o (alone name p r ++ (s ∷ drop (suc i) ss)) (alone name p r ++ drop (suc i) ss) (s ∷ placed name p r (drop (suc i) ss))) e ∙ ap (λ l. take i ss ++ (alone name p r ++ l)) (sym at);
+        runs = is.runs ∙ ap (λ l. runs_of l name) at ∙ absent (λ x. x.runs) [] name (s ∷ drop (suc i) ss) all;
+        public = is.public ∙ ap (λ l. public_of l name) at ∙ absent (λ x. x.public) true name (s ∷ drop (suc i) ss) all;
+      }
 
 pub all_passed : (name : List ℕ) (ss : List Sequence) → IsPassed name ss (length ss) → IsBefore name ss (length ss)
 all_passed name ss is = record {
-    within = omega arith;
-    put = λ p r. is.put p r ∙ ap (λ l. take (length ss) ss ++ placed name p r l) (drop-length ss) ∙ ap (λ l. take (length ss) ss ++ l) (sym (append-nil (alone name p r))) ∙ ap (λ l. take (length ss) ss ++ (alone name p r ++ l)) (sym (drop-length ss));
-    runs = is.runs ∙ ap (λ l. runs_of l name) (drop-length ss);
-    public = is.public ∙ ap (λ l. public_of l name) (drop-length ss);
+  within = omega arith;
+  put = λ p r. is.put p r ∙ ap (λ l. take (length ss) ss ++ placed name p r l) (drop-length ss) ∙ ap (λ l. take (length ss) ss ++ l) (sym (append-nil (alone name p r))) ∙ ap (λ l. take (length ss) ss ++ (alone name p r ++ l)) (sym (drop-length ss));
+  runs = is.runs ∙ ap (λ l. runs_of l name) (drop-length ss);
+  public = is.public ∙ ap (λ l. public_of l name) (drop-length ss);
 }
 
 -- what an item tells

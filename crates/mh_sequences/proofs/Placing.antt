@@ -1,17 +1,17 @@
 -- What a placed sequence changes.
-use Rattle.std.proofs.Common.{◌≡◌, ℕ, suc, ◌+◌, ◌<◌, ◌≤◌, Bool, true, false, List, [], ◌∷◌, ◌++◌, length, refl, sym, ◌∙◌, ap, subst, arith, ⊎_elim}
+use Rattle.std.proofs.Common.{◌≡◌, ℕ, Bool, true, List, [], ◌∷◌, ◌++◌, refl, sym, ◌∙◌, ap, subst, arith}
 use Rattle.std.specs.Prelude.{bytes_eq, if◌then◌else◌}
-use Rattle.std.specs.Ordering.{nat_cmp, is_eq, ordering_reverse}
+use Rattle.std.specs.Ordering.{ordering_reverse}
 use Rattle.std.specs.declared.cmp.Ordering.{Ordering}
 use Rattle.std.specs.declared.cmp.Ordering.TheVariants.{Less, Equal, Greater}
-use Rattle.std.proofs.lemmas.Bool.{cases_Bool, both_ways}
+use Rattle.std.proofs.lemmas.Bool.{both_ways}
 use Rattle.std.proofs.lemmas.Cmp.{nat_list_cmp_total}
 use Rattle.mh_sequences.specs.declared.run.Run.{Run}
 use Rattle.mh_sequences.specs.Names.{is_seq_name}
 use Rattle.mh_sequences.specs.Runs.{AreRuns, has}
-use Rattle.mh_sequences.specs.Sequences.{Sequence, IsSequence, Precedes, AreSequences, told_of, runs_of, public_of, order}
+use Rattle.mh_sequences.specs.Sequences.{Sequence, Precedes, AreSequences, told_of, order}
 use Rattle.mh_sequences.specs.Placing.{alone, by_order, placed}
-use Rattle.mh_sequences.proofs.PlaceLemmas.{same_by, same_self, same_is, before_all, absent}
+use Rattle.mh_sequences.proofs.PlaceLemmas.{same_by, same_is, before_all, absent}
 use Rattle.mh_sequences.proofs.Bools.{choose, either_way, swapped, shadowed}
 
 -- what is told of the sequence alone

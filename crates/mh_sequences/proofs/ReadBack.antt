@@ -1,30 +1,27 @@
 -- What is printed reads back.
 use Rattle.std.proofs.Common.{◌≡◌, ℕ, zero, suc, ◌+◌, ◌<◌, ◌≤◌, Bool, true, false, Option, Some, None, List, [], ◌∷◌, ◌++◌, length, map, filter, refl, sym, ◌∙◌, ap, subst, arith, append-nil}
-use Rattle.std.specs.Prelude.{bytes_eq, is_some, ◌&&◌, ◌||◌, not, codes, decimal, IfSome, IsTrue, if◌then◌else◌}
-use Rattle.std.specs.List.{list_all, list_any, find}
+use Rattle.std.specs.Prelude.{bytes_eq, is_some, ◌&&◌, ◌||◌, not, codes, decimal, IfSome, if◌then◌else◌}
+use Rattle.std.specs.List.{list_any, find}
 use Rattle.std.specs.declared.cmp.Ordering.TheVariants.{Less}
-use Rattle.std.proofs.lemmas.Bool.{and_parts, and_cases, or_parts, not-true, both_ways, cases_Bool}
-use Rattle.std.proofs.lemmas.List.{map-append}
+use Rattle.std.proofs.lemmas.Bool.{and_parts, both_ways}
 use Rattle.std.proofs.lemmas.List.Folds.{list_any-append}
-use Rattle.mail_headers.specs.Fields.{FieldText, fields_of}
+use Rattle.mail_headers.specs.Fields.{fields_of}
 use Rattle.mail_headers.specs.Unfolding.{unfolded}
-use Rattle.mh_base.specs.Numbers.{IsMsgNum, number_of}
+use Rattle.mh_base.specs.Numbers.{IsMsgNum}
 use Rattle.mh_profile.specs.declared.named_value.NamedValue.{NamedValue}
-use Rattle.mh_profile.specs.Validity.{IsEntry}
-use Rattle.mh_profile.specs.Printing.{printed}
 use Rattle.mh_profile.proofs.UnfoldingLemmas.{value_read}
 use Rattle.mh_sequences.specs.Names.{is_seq_name, is_reserved}
 use Rattle.mh_sequences.specs.Runs.{has}
 use Rattle.mh_sequences.specs.Lists.{items, is_listed, lists}
-use Rattle.mh_sequences.specs.Printing.{list_text, is_shown, is_private, is_before_cur, entry_of, private_entry, cur_entry, public_entries, private_entries, text_of}
+use Rattle.mh_sequences.specs.Printing.{is_shown, is_private, is_before_cur, entry_of, private_entry, cur_entry, public_entries, private_entries, text_of}
 use Rattle.mh_sequences.specs.Reading.{attribute, suffix, lists_public, lists_private, has_field, cur_in, first_or, IsReading}
-use Rattle.mh_sequences.specs.Sequences.{Sequence, IsSequence, Precedes, AreSequences, Marked, runs_of, public_of, member, order}
-use Rattle.mh_sequences.proofs.Bools.{or_nothing, choose}
+use Rattle.mh_sequences.specs.Sequences.{Sequence, Precedes, AreSequences, Marked, runs_of, public_of, member}
+use Rattle.mh_sequences.proofs.Bools.{or_nothing}
 use Rattle.mh_sequences.proofs.EntryLemmas.{name_between}
 use Rattle.mh_sequences.proofs.FieldsBack.{AllEntries, shown, fields_printed, lists_shown, names_shown, field_name}
 use Rattle.mh_sequences.proofs.ListText.{lists_back, list_unfolded, number_unfolded, number_item, number_read, number_run}
 use Rattle.mh_sequences.proofs.NameLemmas.{name_free}
-use Rattle.mh_sequences.proofs.PlaceLemmas.{same_is, same_self, same_by, absent}
+use Rattle.mh_sequences.proofs.PlaceLemmas.{same_is, same_by}
 use Rattle.mh_sequences.proofs.ReadingLemmas.{same_turned}
 
 -- no sequence is named as the current message is
@@ -226,7 +223,7 @@ cur_here (Some n) ss h k =
 
 pub reads_back : (m : Marked) → AreSequences m.users → IfSome m.cur IsMsgNum → (folder : List ℕ) → IsReading (text_of m) (private_entries (suffix folder) m.users) folder m
 reads_back m h k folder = record {
-    numbers = λ name n. numbers_back m h k (suffix folder) name n (is_seq_name name) refl;
-    public = λ name n is. public_back m h k name n (and_parts (is_seq_name name) (lists_public (fields_of (text_of m)) name n || lists_private (private_entries (suffix folder) m.users) (suffix folder) name n) (sym (numbers_back m h k (suffix folder) name n (is_seq_name name) refl) ∙ is)).0 is;
-    cur = sym (ap cur_in (fields_printed (public_entries m) (valid_all m h k)) ∙ cur_past (is_shown true) m.users (cur_entry m.cur ++ map entry_of (filter (is_shown false) m.users)) h ∙ cur_here m.cur m.users h k);
+  numbers = λ name n. numbers_back m h k (suffix folder) name n (is_seq_name name) refl;
+  public = λ name n is. public_back m h k name n (and_parts (is_seq_name name) (lists_public (fields_of (text_of m)) name n || lists_private (private_entries (suffix folder) m.users) (suffix folder) name n) (sym (numbers_back m h k (suffix folder) name n (is_seq_name name) refl) ∙ is)).0 is;
+  cur = sym (ap cur_in (fields_printed (public_entries m) (valid_all m h k)) ∙ cur_past (is_shown true) m.users (cur_entry m.cur ++ map entry_of (filter (is_shown false) m.users)) h ∙ cur_here m.cur m.users h k);
 }

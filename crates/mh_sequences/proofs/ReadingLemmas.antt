@@ -1,8 +1,7 @@
 -- Fields and entries read one after another.
-use Rattle.std.proofs.Common.{◌≡◌, ℕ, zero, suc, ◌+◌, ◌<◌, ◌≤◌, Bool, true, false, Option, Some, None, List, [], ◌∷◌, length, drop, refl, sym, ◌∙◌, ap, subst, arith, add-one, ⊎_elim}
-use Rattle.std.specs.Prelude.{bytes_eq, slice_get, ◌&&◌, ◌||◌, IsTrue, codes, if◌then◌else◌}
-use Rattle.std.specs.List.{list_any, find}
-use Rattle.std.proofs.lemmas.Bool.{and_parts, or_cases, cases_Bool, both_ways}
+use Rattle.std.proofs.Common.{◌≡◌, ℕ, zero, suc, ◌+◌, ◌≤◌, Bool, true, false, Some, List, [], ◌∷◌, length, drop, refl, sym, ◌∙◌, ap, subst, arith, add-one, ⊎_elim}
+use Rattle.std.specs.Prelude.{bytes_eq, slice_get, ◌&&◌, ◌||◌, if◌then◌else◌}
+use Rattle.std.proofs.lemmas.Bool.{and_parts, both_ways}
 use Rattle.mail_headers.specs.Fields.{FieldText}
 use Rattle.mail_headers.specs.Unfolding.{unfolded}
 use Rattle.mh_profile.specs.declared.named_value.NamedValue.{NamedValue}
@@ -24,7 +23,7 @@ same_turned a b =
     (λ h. ap (λ x. bytes_eq a x) (same_is b a h) ∙ same_self a)
 
 joined_as : (b v e l h m : Bool) → (b ≡ true → v ≡ true) → b ≡ e → h ≡ l → (if b then m || h else m) ≡ m || (v && (e && l))
-joined_as true v e l h m valid same is = (λ i. m || (sym (valid refl) i && (same i && is i))) 
+joined_as true v e l h m valid same is = (λ i. m || (sym (valid refl) i && (same i && is i)))
 joined_as false true e l h m valid same is = sym (or_nothing m) ∙ ap (λ x. m || (x && l)) same
 joined_as false false e l h m valid same is = sym (or_nothing m)
 
@@ -35,9 +34,9 @@ both_as false false e valid same = refl
 
 pub noted : (name list nm : List ℕ) (numbers : List Run) (public : Bool) (old new : Marked) → nm ≡ name → is_seq_name name ≡ true → ((n : ℕ) → has numbers n ≡ lists list n) → IsJoined nm numbers Either (Some public) old new → IsNoted name list public old new
 noted name list nm numbers public old new is valid same j = record {
-    members = λ s n. j.members s n ∙ joined_as (bytes_eq s nm) (is_seq_name s) (bytes_eq name s) (lists list n) (has numbers n) (member old.users s n) (named s) (turned s) (same n);
-    state = λ s n m. j.state s n m ∙ ap (λ b. if b then public else public_of old.users s) (both_as (bytes_eq s nm) (is_seq_name s) (bytes_eq name s) (named s) (turned s));
-    cur = j.cur;
+  members = λ s n. j.members s n ∙ joined_as (bytes_eq s nm) (is_seq_name s) (bytes_eq name s) (lists list n) (has numbers n) (member old.users s n) (named s) (turned s) (same n);
+  state = λ s n m. j.state s n m ∙ ap (λ b. if b then public else public_of old.users s) (both_as (bytes_eq s nm) (is_seq_name s) (bytes_eq name s) (named s) (turned s));
+  cur = j.cur;
 }
   where
     named : (s : List ℕ) → bytes_eq s nm ≡ true → is_seq_name s ≡ true
@@ -58,9 +57,9 @@ not_both false e never = refl
 
 pub unnoted : (name list : List ℕ) (public : Bool) (s : Marked) → is_seq_name name ≡ false → IsNoted name list public s s
 unnoted name list public s bad = record {
-    members = λ t n. sym (ap (λ b. member s.users t n || b) (neither (is_seq_name t) (bytes_eq name t) (lists list n) (lacks t)) ∙ or_nothing (member s.users t n));
-    state = λ t n m. sym (ap (λ b. if b then public else public_of s.users t) (not_both (is_seq_name t) (bytes_eq name t) (lacks t)));
-    cur = refl;
+  members = λ t n. sym (ap (λ b. member s.users t n || b) (neither (is_seq_name t) (bytes_eq name t) (lists list n) (lacks t)) ∙ or_nothing (member s.users t n));
+  state = λ t n m. sym (ap (λ b. if b then public else public_of s.users t) (not_both (is_seq_name t) (bytes_eq name t) (lacks t)));
+  cur = refl;
 }
   where
     lacks : (t : List ℕ) → bytes_eq name t ≡ true → is_seq_name t ≡ false
@@ -91,17 +90,17 @@ pub record IsPublicSoFar (all rest : List FieldText) (s : Marked) : Type 0 where
 
 pub public_begun : (all : List FieldText) (s : Marked) → s.users ≡ [] → IsPublicSoFar all all s
 public_begun all s e = record {
-    numbers = λ name n. ap (λ us. member us name n || (is_seq_name name && lists_public all name n)) e;
-    public = λ name n m. ap (λ us. public_of us name) e;
+  numbers = λ name n. ap (λ us. member us name n || (is_seq_name name && lists_public all name n)) e;
+  public = λ name n m. ap (λ us. public_of us name) e;
 }
 
 pub public_more : (all rest : List FieldText) (f : FieldText) (old new : Marked) → IsNoted f.name (unfolded f.value) true old new → IsPublicSoFar all (f ∷ rest) old → IsPublicSoFar all rest new
 public_more all rest f old new is before = record {
-    numbers = λ name n.
-        ap (λ b. b || (is_seq_name name && lists_public rest name n)) (is.members name n)
-        ∙ regroup (member old.users name n) (is_seq_name name) (bytes_eq f.name name && lists (unfolded f.value) n) (lists_public rest name n)
-        ∙ before.numbers name n;
-    public = state_kept f.name (unfolded f.value) true old new (λ t. true) is refl before.public;
+  numbers = λ name n.
+      ap (λ b. b || (is_seq_name name && lists_public rest name n)) (is.members name n)
+      ∙ regroup (member old.users name n) (is_seq_name name) (bytes_eq f.name name && lists (unfolded f.value) n) (lists_public rest name n)
+      ∙ before.numbers name n;
+  public = state_kept f.name (unfolded f.value) true old new (λ t. true) is refl before.public;
 }
 
 nothing_left : (v : Bool) (m : Bool) → m || (v && false) ≡ m
@@ -110,8 +109,8 @@ nothing_left false m = or_nothing m
 
 pub public_done : (all : List FieldText) (s : Marked) → IsPublicSoFar all [] s → IsPublicPart all s
 public_done all s is = record {
-    numbers = λ name n. sym (nothing_left (is_seq_name name) (member s.users name n)) ∙ is.numbers name n;
-    public = λ name n m. is.public name n m;
+  numbers = λ name n. sym (nothing_left (is_seq_name name) (member s.users name n)) ∙ is.numbers name n;
+  public = λ name n m. is.public name n m;
 }
 
 listed_there : (fields : List FieldText) (name : List ℕ) (n : ℕ) → lists_public fields name n ≡ true → has_field fields name ≡ true
@@ -133,30 +132,30 @@ share false x y = refl
 
 pub both_begun : (fields : List FieldText) (all : List NamedValue) (ending : List ℕ) (s : Marked) → IsPublicPart fields s → IsBothSoFar fields all all ending s
 both_begun fields all ending s is = record {
-    numbers = λ name n. ap (λ b. b || (is_seq_name name && lists_private all ending name n)) (is.numbers name n) ∙ share (is_seq_name name) (lists_public fields name n) (lists_private all ending name n);
-    public = λ name n m. is.public name n m ∙ sym (listed_there fields name n (and_parts (is_seq_name name) (lists_public fields name n) (sym (is.numbers name n) ∙ m)).1);
+  numbers = λ name n. ap (λ b. b || (is_seq_name name && lists_private all ending name n)) (is.numbers name n) ∙ share (is_seq_name name) (lists_public fields name n) (lists_private all ending name n);
+  public = λ name n m. is.public name n m ∙ sym (listed_there fields name n (and_parts (is_seq_name name) (lists_public fields name n) (sym (is.numbers name n) ∙ m)).1);
 }
 
 pub both_more : (fields : List FieldText) (all rest : List NamedValue) (ending : List ℕ) (e : NamedValue) (x : List ℕ) (old new : Marked) → ((s : List ℕ) → bytes_eq e.name (attribute ending s) ≡ bytes_eq x s) → IsNoted x e.value (has_field fields x) old new → IsBothSoFar fields all (e ∷ rest) ending old → IsBothSoFar fields all rest ending new
 both_more fields all rest ending e x old new named is before = record {
-    numbers = λ name n.
-        ap (λ b. b || (is_seq_name name && lists_private rest ending name n)) (is.members name n)
-        ∙ regroup (member old.users name n) (is_seq_name name) (bytes_eq x name && lists e.value n) (lists_private rest ending name n)
-        ∙ ap (λ b. member old.users name n || (is_seq_name name && ((b && lists e.value n) || lists_private rest ending name n))) (sym (named name))
-        ∙ before.numbers name n;
-    public = state_kept x e.value (has_field fields x) old new (has_field fields) is refl before.public;
+  numbers = λ name n.
+      ap (λ b. b || (is_seq_name name && lists_private rest ending name n)) (is.members name n)
+      ∙ regroup (member old.users name n) (is_seq_name name) (bytes_eq x name && lists e.value n) (lists_private rest ending name n)
+      ∙ ap (λ b. member old.users name n || (is_seq_name name && ((b && lists e.value n) || lists_private rest ending name n))) (sym (named name))
+      ∙ before.numbers name n;
+  public = state_kept x e.value (has_field fields x) old new (has_field fields) is refl before.public;
 }
 
 pub both_same : (fields : List FieldText) (all rest : List NamedValue) (ending : List ℕ) (e : NamedValue) (s : Marked) → ((t : List ℕ) → bytes_eq e.name (attribute ending t) ≡ false) → IsBothSoFar fields all (e ∷ rest) ending s → IsBothSoFar fields all rest ending s
 both_same fields all rest ending e s never before = record {
-    numbers = λ name n. ap (λ b. member s.users name n || (is_seq_name name && ((b && lists e.value n) || lists_private rest ending name n))) (sym (never name)) ∙ before.numbers name n;
-    public = before.public;
+  numbers = λ name n. ap (λ b. member s.users name n || (is_seq_name name && ((b && lists e.value n) || lists_private rest ending name n))) (sym (never name)) ∙ before.numbers name n;
+  public = before.public;
 }
 
 pub both_done : (fields : List FieldText) (all : List NamedValue) (ending : List ℕ) (s : Marked) → IsBothSoFar fields all [] ending s → IsBothParts fields all ending s
 both_done fields all ending s is = record {
-    numbers = λ name n. sym (nothing_left (is_seq_name name) (member s.users name n)) ∙ is.numbers name n;
-    public = λ name n m. is.public name n m;
+  numbers = λ name n. sym (nothing_left (is_seq_name name) (member s.users name n)) ∙ is.numbers name n;
+  public = λ name n m. is.public name n m;
 }
 
 found_drop : (es : List NamedValue) (i : ℕ) (e : NamedValue) → slice_get es i ≡ Some e → drop i es ≡ e ∷ drop (suc i) es

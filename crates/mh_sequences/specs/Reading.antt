@@ -1,5 +1,5 @@
 -- What a folder's text and the context say of its sequences.
-use Rattle.std.specs.Prelude.{◌≡◌, ℕ, ◌+◌, ◌/◌, ◌%◌, ◌≤◌, ◌==◌, ◌&&◌, ◌||◌, ◌⊎◌, length, slice_get, Bool, true, false, not, nat_le, bytes_eq, IsTrue, Option, None, Some, List, [], ◌∷◌, ◌++◌, codes, if◌then◌else◌}
+use Rattle.std.specs.Prelude.{◌≡◌, ℕ, ◌/◌, ◌%◌, ◌≤◌, ◌==◌, ◌&&◌, ◌||◌, ◌⊎◌, length, slice_get, Bool, true, false, not, nat_le, bytes_eq, IsTrue, Option, None, Some, List, [], ◌∷◌, ◌++◌, codes, if◌then◌else◌}
 use Rattle.std.specs.List.{list_any, flat_map, find}
 use Rattle.std.specs.Borrow.{Bor}
 use Rattle.std.specs.Fmt.{digit_glyph}

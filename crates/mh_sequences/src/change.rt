@@ -69,7 +69,12 @@ fn changed(alloc: Global, numbers: &NumSet, change: Change<'_>) -> Result<NumSet
 }
 
 /// Puts the changed sequence last, where anything is left of it.
-fn keep(alloc: Global, kept: &mut Vec<User>, user: &User, change: Change<'_>) -> Result<(), AllocError>
+fn keep(
+    alloc: Global,
+    kept: &mut Vec<User>,
+    user: &User,
+    change: Change<'_>,
+) -> Result<(), AllocError>
     ensures { OnOk result ((runs : List RunValue) × IsChanged (change_of change.entry) user.now.numbers.runs runs × (map told kept.new.items ≡ map told kept.old.items ++ alone user.now.name user.now.public runs)) }
 {
     let numbers = changed(alloc, &user.numbers, change)?;
@@ -86,7 +91,11 @@ fn keep(alloc: Global, kept: &mut Vec<User>, user: &User, change: Change<'_>) ->
 }
 
 /// The sequences changed.
-pub(crate) fn change_all(alloc: Global, users: &[User], change: Change<'_>) -> Result<Vec<User>, AllocError>
+pub(crate) fn change_all(
+    alloc: Global,
+    users: &[User],
+    change: Change<'_>,
+) -> Result<Vec<User>, AllocError>
     ensures { IfOk result (λ v. IsEach (change_of change.entry) (map told users.now) (map told v.items)) }
 {
     let mut kept = Vec::new(alloc);

@@ -20,8 +20,8 @@ mod stretch;
 mod tests;
 mod user;
 
-pub use mh_profile::{EntryList, NamedValue};
 pub use mark::{Mark, MarkList, Pair, PairList, SeqNameList};
+pub use mh_profile::{EntryList, NamedValue};
 pub use num_set::NumSet;
 pub use run::Run;
 pub use seq_name::{SeqFault, SeqName};

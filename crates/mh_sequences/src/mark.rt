@@ -37,10 +37,14 @@ pub enum Mark {
         public: Option<bool>,
     },
     /// Takes the numbers out of every sequence.
-    Withdraw { numbers: NumSet },
+    Withdraw {
+        numbers: NumSet,
+    },
     /// Puts each number's new one in its place, all at once, in every sequence and as the current
     /// message.
-    Move { pairs: PairList },
+    Move {
+        pairs: PairList,
+    },
     /// Sets the current message, or none.
     Cur(Option<MsgNum>),
 }

@@ -93,7 +93,12 @@ fn put_user(alloc: Global, text: &mut Bytes, user: &User, before: bool) -> Resul
 }
 
 /// Writes the lines of the public sequences before `cur`, or behind it.
-pub(crate) fn put_lines(alloc: Global, text: &mut Bytes, users: &[User], before: bool) -> Result<(), AllocError>
+pub(crate) fn put_lines(
+    alloc: Global,
+    text: &mut Bytes,
+    users: &[User],
+    before: bool,
+) -> Result<(), AllocError>
     ensures { OnOk result (text.new ≡ text.old ++ printed (map entry_of (filter (stands_in_text before) (map told users.now)))) }
 {
     for user in users {
@@ -102,7 +107,11 @@ pub(crate) fn put_lines(alloc: Global, text: &mut Bytes, users: &[User], before:
     Ok(())
 }
 
-pub(crate) fn put_cur(alloc: Global, text: &mut Bytes, cur: Option<MsgNum>) -> Result<(), AllocError>
+pub(crate) fn put_cur(
+    alloc: Global,
+    text: &mut Bytes,
+    cur: Option<MsgNum>,
+) -> Result<(), AllocError>
     ensures text { OnOk result (text.new ≡ text.old ++ printed (cur_entry cur)) }
     ensures range { OnOk result (IfSome cur IsMsgNum) }
 {
@@ -134,7 +143,12 @@ fn private_entry(alloc: Global, user: &User, ending: &[u8]) -> Result<NamedValue
     })
 }
 
-fn push_private(alloc: Global, entries: &mut EntryList, user: &User, ending: &[u8]) -> Result<(), AllocError>
+fn push_private(
+    alloc: Global,
+    entries: &mut EntryList,
+    user: &User,
+    ending: &[u8],
+) -> Result<(), AllocError>
     ensures { OnOk result (entries.new ≡ entries.old ++ private_entries ending.now (told user.now ∷ [])) }
 {
     if user.public {
@@ -144,7 +158,11 @@ fn push_private(alloc: Global, entries: &mut EntryList, user: &User, ending: &[u
 }
 
 /// The entries of the private sequences.
-pub(crate) fn private_list(alloc: Global, users: &[User], ending: &[u8]) -> Result<EntryList, AllocError>
+pub(crate) fn private_list(
+    alloc: Global,
+    users: &[User],
+    ending: &[u8],
+) -> Result<EntryList, AllocError>
     ensures { IfOk result (λ es. es ≡ private_entries ending.now (map told users.now)) }
 {
     let mut entries = List::new(alloc);

@@ -27,7 +27,13 @@ fn has_field(text: &[u8], name: &[u8]) -> bool
 }
 
 /// Adds the numbers of a list to the sequence of this name, where it is a sequence's name.
-fn note(alloc: Global, sequences: &mut Sequences, name: &[u8], list: &[u8], public: bool) -> Result<(), AllocError>
+fn note(
+    alloc: Global,
+    sequences: &mut Sequences,
+    name: &[u8],
+    list: &[u8],
+    public: bool,
+) -> Result<(), AllocError>
     ensures { OnOk result (IsNoted name.now list.now public sequences.old sequences.new) }
 {
     match SeqName::in_bytes(alloc, name)? {
@@ -100,7 +106,14 @@ pub(crate) fn read_cur(alloc: Global, text: &[u8]) -> Result<Option<MsgNum>, All
 }
 
 /// Notes the entry at a place of the context.
-fn note_entry(alloc: Global, sequences: &mut Sequences, text: &[u8], name: &[u8], list: &[u8], ending: &[u8]) -> Result<(), AllocError>
+fn note_entry(
+    alloc: Global,
+    sequences: &mut Sequences,
+    text: &[u8],
+    name: &[u8],
+    list: &[u8],
+    ending: &[u8],
+) -> Result<(), AllocError>
     ensures { OnOk result (IsEntryNoted (fields_of text.now) name.now list.now ending.now sequences.old sequences.new) }
 {
     match private_name(name, ending) {
@@ -109,7 +122,14 @@ fn note_entry(alloc: Global, sequences: &mut Sequences, text: &[u8], name: &[u8]
     }
 }
 
-fn note_at(alloc: Global, sequences: &mut Sequences, text: &[u8], context: &Entries, index: u64, ending: &[u8]) -> Result<(), AllocError>
+fn note_at(
+    alloc: Global,
+    sequences: &mut Sequences,
+    text: &[u8],
+    context: &Entries,
+    index: u64,
+    ending: &[u8],
+) -> Result<(), AllocError>
     requires valid { AreEntries context.now }
     requires within { index < length context.now }
     ensures { OnOk result (IsPlaceNoted (fields_of text.now) context.now index ending.now sequences.old sequences.new) }
@@ -121,7 +141,13 @@ fn note_at(alloc: Global, sequences: &mut Sequences, text: &[u8], context: &Entr
 }
 
 /// Adds the private sequences of a folder to those of its text.
-fn add_private(alloc: Global, sequences: Sequences, text: &[u8], context: &Entries, ending: &[u8]) -> Result<Sequences, AllocError>
+fn add_private(
+    alloc: Global,
+    sequences: Sequences,
+    text: &[u8],
+    context: &Entries,
+    ending: &[u8],
+) -> Result<Sequences, AllocError>
     requires { IsPublicPart (fields_of text.now) sequences }
     ensures { IfOk result (λ s. IsBothParts (fields_of text.now) context.now ending.now s) }
 {
@@ -133,7 +159,12 @@ fn add_private(alloc: Global, sequences: Sequences, text: &[u8], context: &Entri
 }
 
 /// The sequences of a folder's text and of the context.
-pub(crate) fn read_users(alloc: Global, text: &[u8], context: &Entries, folder: &FolderName) -> Result<Sequences, AllocError>
+pub(crate) fn read_users(
+    alloc: Global,
+    text: &[u8],
+    context: &Entries,
+    folder: &FolderName,
+) -> Result<Sequences, AllocError>
     ensures { IfOk result (λ s. IsBothParts (fields_of text.now) context.now (suffix folder.now) s) }
 {
     let public = read_public(alloc, text)?;

@@ -44,7 +44,13 @@ impl Model for Sequences {
 }
 
 /// Puts a sequence at its place, or away where the set is empty.
-fn put(alloc: Global, users: &mut Vec<User>, name: &SeqName, numbers: NumSet, public: bool) -> Result<(), AllocError>
+fn put(
+    alloc: Global,
+    users: &mut Vec<User>,
+    name: &SeqName,
+    numbers: NumSet,
+    public: bool,
+) -> Result<(), AllocError>
     requires { AreSequences (map told users.old.items) }
     ensures ok { OnOk result (map told users.new.items ≡ placed name.now public numbers.runs (map told users.old.items)) }
     ensures valid { AreSequences (map told users.new.items) }
@@ -62,7 +68,14 @@ fn put(alloc: Global, users: &mut Vec<User>, name: &SeqName, numbers: NumSet, pu
         Place::Before(_) if numbers.is_empty() => {}
         Place::Before(at) => {
             let name = name.copy(alloc)?;
-            users.insert(at, User { name, numbers, public })?;
+            users.insert(
+                at,
+                User {
+                    name,
+                    numbers,
+                    public,
+                },
+            )?;
         }
     }
     Ok(())
@@ -81,7 +94,12 @@ impl Sequences {
         }
     }
 
-    fn read_all(alloc: Global, public: &[u8], context: &Entries, folder: &FolderName) -> Result<Sequences, AllocError>
+    fn read_all(
+        alloc: Global,
+        public: &[u8],
+        context: &Entries,
+        folder: &FolderName,
+    ) -> Result<Sequences, AllocError>
         ensures reading { IfOk result (λ s. IsReading public.now context.now folder.now s) }
         ensures valid { IfOk result (λ s. AreSequences s.users) }
     {
@@ -91,13 +109,17 @@ impl Sequences {
     }
 
     /// The sequences of a folder, by its text and by the context's entries: the one reading of both.
-    pub fn read(alloc: Global, public: &[u8], context: &Entries, folder: &FolderName) -> Result<Sequences, AllocError>
+    pub fn read(
+        alloc: Global,
+        public: &[u8],
+        context: &Entries,
+        folder: &FolderName,
+    ) -> Result<Sequences, AllocError>
         ensures reading { IfOk result (λ s. IsReading public.now context.now folder.now s) }
         ensures valid { IfOk result (λ s. AreSequences s.users) }
         ensures alone { IfOk result (λ s. (other : Marked) → AreSequences other.users → IsReading public.now context.now folder.now other → other ≡ s) }
     {
-        let sequences = Sequences::read_all(alloc, public, context, folder)?;
-        Ok(sequences)
+        Sequences::read_all(alloc, public, context, folder)
     }
 
     /// How many user's sequences there are.
@@ -166,7 +188,13 @@ impl Sequences {
     }
 
     /// Joins a set to the sequence of this name.
-    pub(crate) fn join(&mut self, name: &SeqName, numbers: &NumSet, how: Join, public: Option<bool>) -> Result<(), AllocError>
+    pub(crate) fn join(
+        &mut self,
+        name: &SeqName,
+        numbers: &NumSet,
+        how: Join,
+        public: Option<bool>,
+    ) -> Result<(), AllocError>
         ensures valid { AreSequences self.new.users }
         ensures ok { OnOk result (IsJoined name.now numbers.now.runs how public self.old self.new) }
         ensures err { OnErr result (self.new ≡ self.old) }
@@ -265,12 +293,15 @@ impl Sequences {
         ensures text { IfOk result (λ text. text ≡ text_of self.now) }
         ensures reads_back { IfOk result (λ text. (folder : List ℕ) → IsReading text (private_entries (suffix folder) self.now.users) folder self.now) }
     {
-        let text = self.text(alloc)?;
-        Ok(text)
+        self.text(alloc)
     }
 
     /// The private sequences as entries of the context.
-    pub fn context_entries(&self, alloc: Global, folder: &FolderName) -> Result<EntryList, AllocError>
+    pub fn context_entries(
+        &self,
+        alloc: Global,
+        folder: &FolderName,
+    ) -> Result<EntryList, AllocError>
         ensures entries { IfOk result (λ entries. entries ≡ private_entries (suffix folder.now) self.now.users) }
     {
         let ending = suffix_of(alloc, folder)?;

@@ -1,4 +1,6 @@
 // Sequences by hand.
+ghost use Rattle.std.specs.Prelude.{◌≡◌, IfOk};
+
 use crate::{Mark, NumSet, Pair, PairList, Run, SeqName, Sequences};
 use mh_base::{FolderName, MsgNum, Text};
 use mh_profile::Entries;
@@ -6,7 +8,9 @@ use std::alloc::Global;
 use std::process::Abort;
 use std::test::Fail;
 
-fn number(n: u32) -> Result<MsgNum, Fail> {
+fn number(n: u32) -> Result<MsgNum, Fail>
+    ensures { IfOk result (λ m. m ≡ n) }
+{
     Ok(MsgNum::new(n).ok_or("no message number")?)
 }
 
@@ -41,6 +45,31 @@ fn all_but(alloc: Global, n: u32) -> Result<NumSet, Fail> {
     Ok(set)
 }
 
+/// Whether the set has just the numbers that the plain one has.
+fn agrees(numbers: &NumSet, plain: &[bool]) -> bool {
+    plain.iter().enumerate().all(|(n, there)| {
+        match MsgNum::new(u32::try_from(n).unwrap_or(0)) {
+            Some(n) => numbers.has(n) == *there,
+            None => true,
+        }
+    })
+}
+
+/// Inserts a number or removes it, by a number that stands for chance.
+fn change(numbers: &mut NumSet, plain: &mut [bool], chance: u32) -> Result<(), Fail> {
+    let n = 1 + chance / 16 % 24;
+    let there = chance % 5 < 3;
+    if there {
+        numbers.insert(number(n)?)?;
+    } else {
+        numbers.remove(number(n)?)?;
+    }
+    if let Some(place) = plain.get_mut(n as usize) {
+        *place = there;
+    }
+    Ok(())
+}
+
 fn folder(alloc: Global) -> Result<FolderName, Fail> {
     Ok(FolderName::read(alloc, &Text::from_str(alloc, "inbox")?)?)
 }
@@ -48,12 +77,7 @@ fn folder(alloc: Global) -> Result<FolderName, Fail> {
 /// The sequences of the folder `inbox`, by its text and the context's.
 fn read(alloc: Global, text: &str, context: &str) -> Result<Sequences, Fail> {
     let context = Entries::read(alloc, context.as_bytes())?;
-    Ok(Sequences::read(
-        alloc,
-        text.as_bytes(),
-        &context,
-        &folder(alloc)?,
-    )?)
+    Ok(Sequences::read(alloc, text.as_bytes(), &context, &folder(alloc)?)?)
 }
 
 fn prints(alloc: Global, sequences: &Sequences, text: &str) -> Result<bool, Fail> {
@@ -61,12 +85,7 @@ fn prints(alloc: Global, sequences: &Sequences, text: &str) -> Result<bool, Fail
 }
 
 /// Whether there is one private sequence, of this entry.
-fn has_entry(
-    alloc: Global,
-    sequences: &Sequences,
-    name: &str,
-    value: &str,
-) -> Result<bool, Fail> {
+fn has_entry(alloc: Global, sequences: &Sequences, name: &str, value: &str) -> Result<bool, Fail> {
     let entries = sequences.context_entries(alloc, &folder(alloc)?)?;
     Ok(match entries.as_slice() {
         [entry] => {
@@ -160,7 +179,18 @@ fn names_are_letters_and_digits(rt: HostRuntime) -> Result<(), Fail> {
         assert!(rt; is_name(alloc, text)?, "{text}");
     }
     for text in [
-        "", "2x", "a-b", "a b", "first", "last", "cur", "prev", "next", "all", "new", "caf\u{e9}",
+        "",
+        "2x",
+        "a-b",
+        "a b",
+        "first",
+        "last",
+        "cur",
+        "prev",
+        "next",
+        "all",
+        "new",
+        "caf\u{e9}",
     ] {
         assert!(rt; !is_name(alloc, text)?, "{text}");
     }
@@ -184,6 +214,19 @@ fn one_number_of_many_is_removed(rt: HostRuntime) -> Result<(), Fail> {
 }
 
 #[test]
+fn changes_agree_with_a_plain_set(rt: HostRuntime) -> Result<(), Fail> {
+    let mut numbers = NumSet::new(rt.alloc());
+    let mut plain = [false; 25];
+    let mut chance: u32 = 12_345;
+    for _ in 0..500 {
+        chance = chance.wrapping_mul(1_664_525).wrapping_add(1_013_904_223);
+        change(&mut numbers, &mut plain, chance)?;
+        assert!(rt; agrees(&numbers, &plain));
+    }
+    Ok(())
+}
+
+#[test]
 fn neighbours_are_one_run(rt: HostRuntime) -> Result<(), Fail> {
     let alloc = rt.alloc();
     let mut numbers = set(alloc, &[2, 4, 7])?;
@@ -199,9 +242,30 @@ fn neighbours_are_one_run(rt: HostRuntime) -> Result<(), Fail> {
 fn texts_are_read(rt: HostRuntime) -> Result<(), Fail> {
     let alloc = rt.alloc();
     assert!(rt; reads_as(alloc, "todo: 5-1 x 2 0 7-\ncur: 1-2\n", "", "todo: 2\n")?);
-    assert!(rt; reads_as(alloc, "todo: 1\ncur: 3\na: 4\ntodo:\t2\n  5-6 \n", "", "a: 4\ncur: 3\ntodo: 1-2 5-6\n")?);
-    assert!(rt; reads_as(alloc, "cur: x 9\nfirst: 1\nb: 2-3 3-4\nno field\nc: 1\n", "", "b: 2-4\ncur: 9\n")?);
-    assert!(rt; reads_as(alloc, "todo:\n", "atr-todo-inbox: 1\natr-x-other: 2\natr-cur-inbox: 2\n", "todo: 1\n")?);
+    assert!(rt;
+        reads_as(
+            alloc,
+            "todo: 1\ncur: 3\na: 4\ntodo:\t2\n  5-6 \n",
+            "",
+            "a: 4\ncur: 3\ntodo: 1-2 5-6\n"
+        )?
+    );
+    assert!(rt;
+        reads_as(
+            alloc,
+            "cur: x 9\nfirst: 1\nb: 2-3 3-4\nno field\nc: 1\n",
+            "",
+            "b: 2-4\ncur: 9\n"
+        )?
+    );
+    assert!(rt;
+        reads_as(
+            alloc,
+            "todo:\n",
+            "atr-todo-inbox: 1\natr-x-other: 2\natr-cur-inbox: 2\n",
+            "todo: 1\n"
+        )?
+    );
     Ok(())
 }
 
@@ -226,7 +290,14 @@ fn marks_change_sequences(rt: HostRuntime) -> Result<(), Fail> {
     assert!(rt; deletes(alloc, text, &[1, 2, 3, 9], "cur: 3\nmine: 2 5\n")?);
     assert!(rt; sets(alloc, text, &[6], "cur: 3\nmine: 2 5\ntodo: 6\n")?);
     assert!(rt; withdraws(alloc, text, &[2, 3, 5], "cur: 3\ntodo: 1 9\n")?);
-    assert!(rt; moves(alloc, text, &[(1, 2), (2, 3), (3, 1)], "cur: 1\nmine: 3 5\ntodo: 1-3 9\n")?);
+    assert!(rt;
+        moves(
+            alloc,
+            text,
+            &[(1, 2), (2, 3), (3, 1)],
+            "cur: 1\nmine: 3 5\ntodo: 1-3 9\n"
+        )?
+    );
     assert!(rt; cuts(alloc, text, &[1, 9], "cur: 3\ntodo: 1 9\n")?);
     assert!(rt; points(alloc, text, Some(7), "cur: 7\nmine: 2 5\ntodo: 1-3 9\n")?);
     assert!(rt; points(alloc, text, None, "mine: 2 5\ntodo: 1-3 9\n")?);

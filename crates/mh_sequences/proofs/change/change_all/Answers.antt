@@ -1,9 +1,9 @@
-use Rattle.std.proofs.Common.{◌≡◌, ◌≤◌, ◌+◌, ℕ, List, [], ◌∷◌, zero, suc, refl, drop, map, length, sym, ◌∙◌, ap, subst, add-one, arith}
+use Rattle.std.proofs.Common.{◌≡◌, ◌≤◌, ◌+◌, ℕ, List, [], ◌∷◌, zero, suc, refl, drop, map, length, subst, add-one, arith}
 use Rattle.mh_sequences.specs.declared.user.User.{User}
-use Rattle.mh_sequences.specs.Changes.{change_of, IsEach}
+use Rattle.mh_sequences.specs.Changes.{change_of}
 use Rattle.mh_sequences.specs.Sequences.{told}
 use Rattle.mh_sequences.proofs.Changing.{IsSoFar, one_kept, ended}
-use Rattle.mh_sequences.proofs.PlaceLemmas.{item_at, told_length}
+use Rattle.mh_sequences.proofs.PlaceLemmas.{item_at}
 use Rattle.mh_sequences.proofs.change.change_all.Goals as goal
 
 pub loop-user-preserved : goal.loop-user-preserved

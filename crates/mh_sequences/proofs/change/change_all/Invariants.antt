@@ -1,4 +1,4 @@
-use Rattle.std.proofs.Common.{◌≡◌, drop, map}
+use Rattle.std.proofs.Common.{drop, map}
 use Rattle.mh_sequences.specs.Changes.{change_of}
 use Rattle.mh_sequences.specs.Sequences.{told}
 use Rattle.mh_sequences.proofs.Changing.{IsSoFar}

@@ -1,6 +1,6 @@
-use Rattle.std.proofs.Common.{◌≡◌, ◌<◌, length, map, sym, ◌∙◌, arith}
+use Rattle.std.proofs.Common.{map, sym, ◌∙◌, arith}
 use Rattle.mh_sequences.specs.Sequences.{told}
-use Rattle.mh_sequences.proofs.PlaceLemmas.{none_passed, one_more, found_here, stopped_here, all_told, item_at, value_at, told_length}
+use Rattle.mh_sequences.proofs.PlaceLemmas.{one_more, found_here, stopped_here, item_at, value_at, told_length}
 use Rattle.mh_sequences.proofs.place.place_of.Goals as goal
 
 pub returns-in-Less : goal.returns-in-Less

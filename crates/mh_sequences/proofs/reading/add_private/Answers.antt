@@ -1,4 +1,3 @@
-use Rattle.std.proofs.Common.{arith}
 use Rattle.mail_headers.specs.Fields.{fields_of}
 use Rattle.mh_sequences.proofs.ReadingLemmas.{both_begun, place_more}
 use Rattle.mh_sequences.proofs.reading.add_private.Goals as goal

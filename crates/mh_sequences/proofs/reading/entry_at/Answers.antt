@@ -1,5 +1,4 @@
-use Rattle.std.proofs.Common.{◌≡◌, sym, ◌∙◌, ap, Some, None, slice_get, subst}
-use Rattle.std.specs.Prelude.{MatchOption}
+use Rattle.std.proofs.Common.{◌≡◌, Some, None}
 use Rattle.mh_profile.specs.Changes.{value_of}
 use Rattle.mh_sequences.proofs.EntryLemmas.{entry_with, entry_without}
 use Rattle.mh_sequences.proofs.reading.entry_at.Goals as goal

@@ -1,4 +1,3 @@
-use Rattle.std.proofs.Common.{◌≡◌}
 use Rattle.mail_headers.specs.Fields.{fields_of}
 use Rattle.mail_headers.specs.Walk.{fields_left}
 use Rattle.mh_sequences.proofs.ReadingLemmas.{IsPublicSoFar}

@@ -1,4 +1,4 @@
-use Rattle.std.proofs.Common.{◌≡◌, map, ap, subst}
+use Rattle.std.proofs.Common.{map, ap, subst}
 use Rattle.mh_sequences.specs.Changes.{change_of, IsEach, IsAllChanged}
 use Rattle.mh_sequences.specs.Sequences.{told}
 use Rattle.mh_sequences.proofs.Changing.{each_valid, each_changed, change_none}

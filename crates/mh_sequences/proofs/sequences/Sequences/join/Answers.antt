@@ -11,7 +11,7 @@ use Rattle.mh_sequences.proofs.sequences.Sequences.join.Goals as goal
 pub returns-clause-ok : goal.returns-clause-ok
 returns-clause-ok c =
     let set : (n : ℕ) → has c.in_ok-joined.joined.runs n ≡ joins c.args.how (member (map told c.self.inside.users.items) c.args.name.now n) (has c.args.numbers.now.runs n) =
-        λ n. c.in_ok-joined.ensures n ∙ ap (λ v. joins c.args.how (member v.users c.args.name.now n) (has c.args.numbers.now.runs n)) (sym c.self.view_is) in
+    λ n. c.in_ok-joined.ensures n ∙ ap (λ v. joins c.args.how (member v.users c.args.name.now n) (has c.args.numbers.now.runs n)) (sym c.self.view_is) in
     let state = c.state-public.ensures ∙ ap (λ v. set_to c.args.public (public_of v.users c.args.name.now)) (sym c.self.view_is) in
     ok_then _ _ c.put.result
     (λ e. subst (λ old. IsJoined c.args.name.now c.args.numbers.now.runs c.args.how c.args.public old (marked_of (map told c.put.new.users.items) c.self.inside.cur)) c.self.view_is

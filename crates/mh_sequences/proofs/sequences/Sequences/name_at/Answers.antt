@@ -1,5 +1,4 @@
-use Rattle.std.proofs.Common.{◌≡◌, map, sym, ◌∙◌, ap, slice_get, ltb, length, get_or, true}
-use Rattle.mh_sequences.specs.Sequences.{told}
+use Rattle.std.proofs.Common.{map, sym, ◌∙◌, ap, slice_get}
 use Rattle.mh_sequences.proofs.PlaceLemmas.{name_looked_up}
 use Rattle.mh_sequences.proofs.sequences.Sequences.name_at.Goals as goal
 
