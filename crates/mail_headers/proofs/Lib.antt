@@ -1,4 +1,4 @@
 pub mod Folding
 mod Names
-mod Walking
+pub mod Walking
 mod Whole

@@ -1,4 +1,4 @@
-mod Decimals
+pub mod Decimals
 mod EntryKinds
 mod EntryNames
 mod RunDigits

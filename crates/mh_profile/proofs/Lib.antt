@@ -1,8 +1,8 @@
 mod EntryLemmas
 mod FieldLemmas
-mod KeyLemmas
-mod LineLemmas
+pub mod KeyLemmas
+pub mod LineLemmas
 mod MapLemmas
-mod PrintLemmas
+pub mod PrintLemmas
 mod ReadLemmas
 pub mod UnfoldingLemmas

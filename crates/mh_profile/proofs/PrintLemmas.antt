@@ -53,7 +53,7 @@ some_name : (name : List ℕ) → 1 ≤ length name → length name == 0 ≡ fal
 some_name name some = ne_eqb (length name) 0 (λ e. omega arith)
 
 -- the field that a name, a colon and a text are
-field_here : (name r : List ℕ) → IsFieldName name → field_in (name ++ 58 ∷ r) ≡ Some (record { name = name; value = without_end r })
+pub field_here : (name r : List ℕ) → IsFieldName name → field_in (name ++ 58 ∷ r) ≡ Some (record { name = name; value = without_end r })
 unfolding field_in
 field_here name r is =
     let long = name_long name r is.clean in
@@ -64,7 +64,7 @@ field_here name r is =
     ∙ ap (λ t. field_by name (after_colon (drop (prefix_len is_blank t) t))) behind
 
 -- the line of an entry, as a name, a colon and a text
-line_is : (e : NamedValue) → printed_entry e ≡ e.name ++ 58 ∷ (32 ∷ e.value ++ 10 ∷ [])
+pub line_is : (e : NamedValue) → printed_entry e ≡ e.name ++ 58 ∷ (32 ∷ e.value ++ 10 ∷ [])
 line_is e = append_assoc (e.name ++ 58 ∷ 32 ∷ []) e.value (10 ∷ []) ∙ append_assoc e.name (58 ∷ 32 ∷ []) (e.value ++ 10 ∷ [])
 
 entry_here : (e : NamedValue) → IsEntry e → (ls : List (List ℕ)) → listed (printed_entry e ∷ ls) ≡ e ∷ listed ls
@@ -73,7 +73,7 @@ entry_here e is ls =
     ∙ ap (λ f. Rattle.std.proofs.Common.map entry_of (Rattle.std.specs.List.cons_option f (Rattle.std.specs.List.filter_map field_in ls))) (field_here e.name (32 ∷ e.value ++ 10 ∷ []) is.name)
     ∙ ap (λ v. record { name = e.name; value = v } ∷ listed ls) (value_read e.value is.value)
 
-starts : (name r : List ℕ) → IsFieldName name → continues (name ++ r) ≡ false
+pub starts : (name r : List ℕ) → IsFieldName name → continues (name ++ r) ≡ false
 starts [] r is = absurd (omega (arith, is.some))
 starts (c ∷ cs) r is = name_no_blank c (and_parts (is_name_byte c) (list_all is_name_byte cs) is.clean).0
 
@@ -82,7 +82,7 @@ printed_starts : (es : List NamedValue) → AreEntries es → continues (printed
 printed_starts [] h = refl
 printed_starts (e ∷ es) h = ap (λ l. continues (l ++ printed es)) (line_is e) ∙ ap continues (append_assoc e.name (58 ∷ (32 ∷ e.value ++ 10 ∷ [])) (printed es)) ∙ starts e.name (58 ∷ (32 ∷ e.value ++ 10 ∷ []) ++ printed es) h.0.name
 
-body_clean : (e : NamedValue) → IsEntry e → list_all is_no_feed (e.name ++ (58 ∷ 32 ∷ []) ++ e.value) ≡ true
+pub body_clean : (e : NamedValue) → IsEntry e → list_all is_no_feed (e.name ++ (58 ∷ 32 ∷ []) ++ e.value) ≡ true
 body_clean e is =
     all_append is_no_feed (e.name ++ 58 ∷ 32 ∷ []) e.value
     (all_append is_no_feed e.name (58 ∷ 32 ∷ []) (all_weaker is_name_byte is_no_feed name_no_feed e.name is.name.clean) refl)

@@ -1,0 +1,11 @@
+use Rattle.std.proofs.Common.{◌≡◌}
+use Rattle.mail_headers.specs.Fields.{fields_of}
+use Rattle.mail_headers.specs.Walk.{fields_left}
+use Rattle.mh_sequences.specs.Reading.{cur_in}
+use Rattle.mh_sequences.proofs.reading.read_cur.Given as goal
+
+abbrev pub invariant-loop-field : goal.invariant-loop-field
+invariant-loop-field l =
+    (goal.iterator-loop-field).can_next l.field-iterator
+    × (goal.iterator-loop-field).is_finite l.field-iterator
+    × (cur_in (fields_left l.field-iterator) ≡ cur_in (fields_of l.text))

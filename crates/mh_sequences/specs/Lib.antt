@@ -1,0 +1,12 @@
+pub mod Changes
+pub mod Edits
+pub mod Joins
+pub mod Lists
+pub mod Marks
+pub mod Names
+pub mod Placing
+pub mod Printing
+pub mod Reading
+pub mod Runs
+pub mod Sequences
+pub mod Stretches

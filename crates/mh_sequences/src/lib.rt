@@ -1,0 +1,28 @@
+//! Sequences of messages: sets of message numbers with names, read from a folder's text and the
+//! context's entries, changed and printed.
+#![tactic(auto)]
+
+mod change;
+mod escape;
+mod join;
+mod lists;
+mod mark;
+mod num_set;
+mod place;
+mod printing;
+mod reading;
+mod run;
+mod runs;
+mod seq_name;
+mod sequences;
+mod stretch;
+#[cfg(test)]
+mod tests;
+mod user;
+
+pub use mark::{Mark, MarkList, Pair, PairList, SeqNameList};
+pub use mh_profile::{EntryList, NamedValue};
+pub use num_set::NumSet;
+pub use run::Run;
+pub use seq_name::{SeqFault, SeqName};
+pub use sequences::Sequences;

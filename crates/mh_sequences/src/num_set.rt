@@ -1,0 +1,166 @@
+// Sets of message numbers.
+ghost use Rattle.std.specs.Prelude.{◌≡◌, ◌≤◌, ◌+◌, ◌==◌, ◌&&◌, ◌||◌, not, ℕ, [], length, IfOk, OnOk, OnErr, IsOk, MatchOption, slice_get, None, Some, if◌then◌else◌};
+ghost use Rattle.mh_sequences.specs.Joins.{joins};
+ghost use Rattle.mh_sequences.specs.Runs.{AreRuns, has, inside, numbers_of};
+
+use crate::Run;
+use crate::join::Join;
+use crate::run::number;
+use crate::runs::{add, number_at, stretch, take_out, total};
+use mh_base::MsgNum;
+use std::alloc::{AllocError, Global};
+use std::marker::Model;
+
+/// A set of message numbers. Contracts see its runs, and for how many more it has room.
+#[derive(Drop)]
+pub struct NumSet {
+    runs: Vec<Run>,
+}
+
+impl Model for NumSet {
+    ghost use Rattle.std.specs.Prelude.{◌-◌, vec_len};
+    ghost use Rattle.std.specs.Vec.{vec_capacity};
+    ghost use Rattle.mh_sequences.specs.Runs.{AreRuns, Numbers, set_of};
+
+    ghost Value = { Numbers };
+
+    ghost view = { λ s. set_of s.runs.items (vec_capacity s.runs - vec_len s.runs) };
+
+    ghost invariant = { λ s. AreRuns s.runs.items };
+}
+
+impl NumSet {
+    /// The empty set.
+    pub fn new(alloc: Global) -> NumSet
+        ensures { result.runs ≡ [] }
+    {
+        NumSet {
+            runs: Vec::new(alloc),
+        }
+    }
+
+    pub fn has(&self, n: MsgNum) -> bool
+        ensures { result ≡ has self.now.runs n }
+    {
+        stretch(&self.runs, n.get()).all
+    }
+
+    /// Makes room for so many runs. With room for one, a set can be changed without asking for memory.
+    pub fn reserve(&mut self, more: u64) -> Result<(), AllocError>
+        requires { more ≤ 1000000 }
+        ensures ok { OnOk result (more ≤ self.new.spare) }
+        ensures runs { self.new.runs ≡ self.old.runs }
+        ensures err { OnErr result (self.new ≡ self.old) }
+    {
+        self.runs.reserve(more as usize)
+    }
+
+    /// Adds all numbers of a run.
+    pub fn insert_run(&mut self, run: Run) -> Result<(), AllocError>
+        requires { run.from ≤ run.to }
+        ensures ok { OnOk result ((n : ℕ) → has self.new.runs n ≡ (inside run n || has self.old.runs n)) }
+        ensures err { OnErr result (self.new ≡ self.old) }
+        ensures succeeds { 1 ≤ self.old.spare → IsOk result }
+        ensures spare { self.old.spare ≤ self.new.spare + 1 }
+    {
+        add(&mut self.runs, run)
+    }
+
+    /// Adds a number.
+    pub fn insert(&mut self, n: MsgNum) -> Result<(), AllocError>
+        ensures ok { OnOk result ((m : ℕ) → has self.new.runs m ≡ (m == n || has self.old.runs m)) }
+        ensures err { OnErr result (self.new ≡ self.old) }
+        ensures succeeds { 1 ≤ self.old.spare → IsOk result }
+        ensures spare { self.old.spare ≤ self.new.spare + 1 }
+    {
+        self.insert_run(Run { from: n, to: n })
+    }
+
+    /// Takes a number away.
+    pub fn remove(&mut self, n: MsgNum) -> Result<(), AllocError>
+        ensures ok { OnOk result ((m : ℕ) → has self.new.runs m ≡ (has self.old.runs m && not (m == n))) }
+        ensures err { OnErr result (self.new ≡ self.old) }
+        ensures succeeds { 1 ≤ self.old.spare → IsOk result }
+        ensures spare { self.old.spare ≤ self.new.spare + 1 }
+    {
+        take_out(&mut self.runs, n.get())
+    }
+
+    /// How many runs of consecutive numbers there are, each as long as it can be.
+    pub fn runs(&self) -> u64
+        ensures value { result ≡ length self.now.runs }
+        ensures valid { AreRuns self.now.runs }
+    {
+        self.runs.len() as u64
+    }
+
+    /// The run at this place, ascending from 0.
+    pub fn run_at(&self, index: u64) -> Option<Run>
+        ensures { MatchOption result (slice_get self.now.runs index ≡ None) (λ r. slice_get self.now.runs index ≡ Some r) }
+    {
+        self.runs.get(index as usize).copied()
+    }
+
+    /// How many numbers there are.
+    pub fn len(&self) -> u64
+        ensures { result ≡ length (numbers_of self.now.runs) }
+    {
+        total(&self.runs)
+    }
+
+    pub fn is_empty(&self) -> bool
+        ensures value { result ≡ (length self.now.runs == 0) }
+        ensures valid { AreRuns self.now.runs }
+    {
+        self.runs.is_empty()
+    }
+
+    /// The number at this place, ascending from 0.
+    pub fn at(&self, index: u64) -> Option<MsgNum>
+        ensures { result ≡ slice_get (numbers_of self.now.runs) index }
+    {
+        number_at(&self.runs, index)
+    }
+
+    pub(crate) fn as_slice(&self) -> &[Run]
+        ensures value { result.now ≡ self.now.runs }
+        ensures valid { AreRuns result.now }
+    {
+        self.runs.as_slice()
+    }
+
+    /// The same set again.
+    pub(crate) fn copy(&self, alloc: Global) -> Result<NumSet, AllocError>
+        ensures { IfOk result (λ s. s.runs ≡ self.now.runs) }
+    {
+        Ok(NumSet {
+            runs: self.runs.as_slice().to_vec(alloc)?,
+        })
+    }
+
+    /// The set of this and another.
+    pub(crate) fn join(
+        &self,
+        alloc: Global,
+        other: &NumSet,
+        how: Join,
+    ) -> Result<NumSet, AllocError>
+        ensures { IfOk result (λ s. (n : ℕ) → has s.runs n ≡ joins how (has self.now.runs n) (has other.now.runs n)) }
+    {
+        let mut joined = NumSet::new(alloc);
+        let mut from = 1;
+        while from <= 999_999 {
+            let first = stretch(&self.runs, from);
+            let second = stretch(&other.runs, from);
+            let to = first.to.min(second.to);
+            if how.takes(first.all, second.all) {
+                joined.insert_run(Run {
+                    from: number(from),
+                    to: number(to),
+                })?;
+            }
+            from = to + 1;
+        }
+        Ok(joined)
+    }
+}

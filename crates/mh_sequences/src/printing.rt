@@ -1,0 +1,173 @@
+// Sequences as text.
+ghost use Rattle.std.specs.Prelude.{◌≡◌, ◌++◌, ◌∷◌, [], ℕ, Option, decimal, map, filter, codes, IfOk, IfSome, OnOk};
+ghost use Rattle.std.specs.List.{flat_map};
+ghost use Rattle.mh_base.specs.Numbers.{IsMsgNum};
+ghost use Rattle.mh_profile.specs.declared.named_value.NamedValue.{NamedValue as EntryValue};
+ghost use Rattle.mh_profile.specs.Printing.{printed, printed_entry};
+ghost use Rattle.mh_sequences.specs.Printing.{cur_entry, entry_of, is_before_cur as stands_before_cur, is_private as stands_in_context, is_shown as stands_in_text, list_text, private_entries, private_entry as private_entry_of, run_text};
+ghost use Rattle.mh_sequences.specs.Reading.{attribute};
+ghost use Rattle.mh_sequences.specs.Sequences.{told};
+
+use crate::Run;
+use crate::user::User;
+use itoa::Buffer;
+use mh_base::{Bytes, List, MsgNum};
+use mh_profile::{EntryList, NamedValue};
+use std::alloc::{AllocError, Global};
+use std::cmp::Ordering;
+
+fn put_number(text: &mut Bytes, n: MsgNum) -> Result<(), AllocError>
+    ensures { OnOk result (text.new ≡ text.old ++ decimal n) }
+{
+    let mut buffer = Buffer::new();
+    text.extend(buffer.format(n.get()).as_bytes())
+}
+
+fn put_run(text: &mut Bytes, run: &Run) -> Result<(), AllocError>
+    ensures { OnOk result (text.new ≡ text.old ++ run_text run.now) }
+{
+    put_number(text, run.from)?;
+    if run.from.get() == run.to.get() {
+        return Ok(());
+    }
+    text.extend(b"-")?;
+    put_number(text, run.to)
+}
+
+/// Writes each run behind a space.
+fn put_runs(text: &mut Bytes, runs: &[Run]) -> Result<(), AllocError>
+    ensures { OnOk result (text.new ≡ text.old ++ flat_map (λ r. 32 ∷ run_text r) runs.now) }
+{
+    for run in runs {
+        text.extend(b" ")?;
+        put_run(text, run)?;
+    }
+    Ok(())
+}
+
+fn list_of(alloc: Global, runs: &[Run]) -> Result<Bytes, AllocError>
+    ensures { IfOk result (λ b. b ≡ list_text runs.now) }
+{
+    let mut text = Bytes::new(alloc);
+    let Some((first, others)) = runs.split_first() else {
+        return Ok(text);
+    };
+    put_run(&mut text, first)?;
+    put_runs(&mut text, others)?;
+    Ok(text)
+}
+
+fn put_line(text: &mut Bytes, name: &[u8], list: &[u8]) -> Result<(), AllocError>
+    ensures { OnOk result (text.new ≡ text.old ++ printed_entry (record { name = name.now; value = list.now })) }
+{
+    text.extend(name)?;
+    text.extend(b": ")?;
+    text.extend(list)?;
+    text.extend(b"\n")
+}
+
+fn is_before_cur(name: &[u8]) -> bool
+    ensures { result ≡ stands_before_cur name.now }
+{
+    name.cmp(&b"cur".as_slice()) == Ordering::Less
+}
+
+fn is_shown(user: &User, before: bool) -> bool
+    ensures { result ≡ stands_in_text before (told user.now) }
+{
+    if before {
+        user.public && is_before_cur(user.name.bytes())
+    } else {
+        user.public && !is_before_cur(user.name.bytes())
+    }
+}
+
+fn put_user(alloc: Global, text: &mut Bytes, user: &User, before: bool) -> Result<(), AllocError>
+    ensures { OnOk result (text.new ≡ text.old ++ printed (map entry_of (filter (stands_in_text before) (told user.now ∷ [])))) }
+{
+    if !is_shown(user, before) {
+        return Ok(());
+    }
+    let list = list_of(alloc, user.numbers.as_slice())?;
+    put_line(text, user.name.bytes(), list.as_slice())
+}
+
+/// Writes the lines of the public sequences before `cur`, or behind it.
+pub(crate) fn put_lines(
+    alloc: Global,
+    text: &mut Bytes,
+    users: &[User],
+    before: bool,
+) -> Result<(), AllocError>
+    ensures { OnOk result (text.new ≡ text.old ++ printed (map entry_of (filter (stands_in_text before) (map told users.now)))) }
+{
+    for user in users {
+        put_user(alloc, text, user, before)?;
+    }
+    Ok(())
+}
+
+pub(crate) fn put_cur(
+    alloc: Global,
+    text: &mut Bytes,
+    cur: Option<MsgNum>,
+) -> Result<(), AllocError>
+    ensures text { OnOk result (text.new ≡ text.old ++ printed (cur_entry cur)) }
+    ensures range { OnOk result (IfSome cur IsMsgNum) }
+{
+    match cur {
+        Some(n) => {
+            let mut list = Bytes::new(alloc);
+            put_number(&mut list, n)?;
+            put_line(text, b"cur", list.as_slice())
+        }
+        None => Ok(()),
+    }
+}
+
+fn attribute_of(alloc: Global, name: &[u8], ending: &[u8]) -> Result<Bytes, AllocError>
+    ensures { IfOk result (λ b. b ≡ attribute ending.now name.now) }
+{
+    let mut text = Bytes::from_slice(alloc, b"atr-")?;
+    text.extend(name)?;
+    text.extend(ending)?;
+    Ok(text)
+}
+
+fn private_entry(alloc: Global, user: &User, ending: &[u8]) -> Result<NamedValue, AllocError>
+    ensures { IfOk result (λ e. e ≡ private_entry_of ending.now (told user.now)) }
+{
+    Ok(NamedValue {
+        name: attribute_of(alloc, user.name.bytes(), ending)?,
+        value: list_of(alloc, user.numbers.as_slice())?,
+    })
+}
+
+fn push_private(
+    alloc: Global,
+    entries: &mut EntryList,
+    user: &User,
+    ending: &[u8],
+) -> Result<(), AllocError>
+    ensures { OnOk result (entries.new ≡ entries.old ++ private_entries ending.now (told user.now ∷ [])) }
+{
+    if user.public {
+        return Ok(());
+    }
+    entries.push(private_entry(alloc, user, ending)?)
+}
+
+/// The entries of the private sequences.
+pub(crate) fn private_list(
+    alloc: Global,
+    users: &[User],
+    ending: &[u8],
+) -> Result<EntryList, AllocError>
+    ensures { IfOk result (λ es. es ≡ private_entries ending.now (map told users.now)) }
+{
+    let mut entries = List::new(alloc);
+    for user in users {
+        push_private(alloc, &mut entries, user, ending)?;
+    }
+    Ok(entries)
+}
