@@ -1,5 +1,5 @@
 -- Texts written one sequence after another.
-use Rattle.std.proofs.Common.{◌≡◌, ℕ, zero, suc, ◌+◌, ◌<◌, Bool, List, [], ◌∷◌, ◌++◌, length, map, filter, take, get_or, refl, sym, ◌∙◌, ap, arith, add-one, append_assoc}
+use Rattle.std.proofs.Common.{◌≡◌, ℕ, zero, suc, ◌+◌, ◌<◌, Bool, List, [], ◌∷◌, ◌++◌, length, map, filter, take, get_or, sym, ◌∙◌, ap, arith, add-one, append_assoc}
 use Rattle.std.proofs.lemmas.Grind.{flat_map-append}
 use Rattle.std.proofs.lemmas.List.{map-append}
 use Rattle.std.proofs.lemmas.List.Elements.{filter-append}
@@ -32,9 +32,3 @@ line_more before start old now us i u lt e step was =
 pub private_more : (ending : List ℕ) (old now : List NamedValue) (us : List User) (i : ℕ) (u : User) → i < length us → u ≡ get_or us i u → now ≡ old ++ private_entries ending (told u ∷ []) → old ≡ private_entries ending (take i (map told us)) → now ≡ private_entries ending (take (i + 1) (map told us))
 private_more ending old now us i u lt e step was =
     step ∙ ap (λ t. t ++ private_entries ending (told u ∷ [])) was ∙ sym (chosen is_private (private_entry ending) us i u lt e)
-
-pub all_taken : (us : List User) (i : ℕ) → i ≡ length us → take i (map told us) ≡ map told us
-all_taken [] zero e = refl
-all_taken [] (suc i) e = refl
-all_taken (x ∷ xs) zero e = absurd (omega arith)
-all_taken (x ∷ xs) (suc i) e = ap (λ l. told x ∷ l) (all_taken xs i (omega arith))
