@@ -1,3 +1,7 @@
+pub mod Outsides
+pub mod Locking
+pub mod Syncing
+pub mod Keyed
 pub mod Making
 pub mod Naming
 pub mod Placing

@@ -1,14 +1,15 @@
 -- Small cases of the definitions, worked out by hand, as facts that compute.
-use Rattle.std.proofs.Common.{◌≡◌, ◌∷◌, [], ℕ, Bool, true, false, List, refl, subst, sym, Some, None, ◌==◌, ◌+◌}
+use Rattle.std.proofs.Common.{◌≡◌, ◌∷◌, [], ℕ, Bool, true, false, List, refl, subst, sym, Some, None, ◌==◌, ◌+◌, ◌||◌, bytes_eq}
+use Rattle.std.specs.Prelude.{if◌then◌else◌, is_some}
 use Rattle.std.proofs.lemmas.Slice.Eq.{bytes_eq-Decides}
-use Rattle.folder_files.specs.Careful.{Puts, Takes, Commits, looks}
+use Rattle.folder_files.specs.Careful.{HasLock, Puts, Takes, Commits, looks}
 use Rattle.folder_files.specs.Commands.{makes, Looking, Incorporating, Removing}
 use Rattle.folder_files.specs.CrashImage.{IsCrashImage}
 use Rattle.folder_files.specs.Deeds.{did}
 use Rattle.folder_files.specs.Directory.{Slots, lead, kept_lead, touches, IsClosed, now_in}
-use Rattle.folder_files.specs.Histories.{own, has_acted, delivered, after_event, world_after, IsLegal, begins, answers, stops, AreCareful, AreHonest, AreOrderly, AreConsecutive}
+use Rattle.folder_files.specs.Histories.{own, has_acted, delivered, after_event, world_after, IsLegal, begins, answers, stops, AreCareful, AreHonest, AreOrderly, AreConsecutive, IsAlone}
 use Rattle.folder_files.specs.Places.{is_parent}
-use Rattle.folder_files.specs.Steps.{made, left_by, create_answer, cut_answer, piece_answer, reading_of}
+use Rattle.folder_files.specs.Steps.{made, left_by, create_answer, cut_answer, piece_answer, reading_of, IsListing, IsLocked, MayLeave}
 use Rattle.folder_files.specs.Worlds.{shown, IsStart}
 use Rattle.folder_files.specs.declared.world.Change.{Change}
 use Rattle.folder_files.specs.declared.world.Change.TheVariants as change
@@ -195,3 +196,49 @@ removing_takes_not = refl
 
 looking_commits : makes Looking Commits ≡ true
 looking_commits = refl
+
+-- the one name of `inbox`
+one_listed : IsListing ((shown small).directories inbox) ((49 ∷ []) ∷ [])
+unfolding shown
+one_listed = record { ascending = tt; all = λ x. found (bytes_eq (49 ∷ []) x) }
+  where
+    found : (b : Bool) → (b || false) ≡ is_some {T = ℕ} (if b then Some 7 else None)
+    found true = refl
+    found false = refl
+
+-- run 9 has its lock, so run 5 may find it busy
+found_busy : IsLocked (shown small) 5 inbox answer.Busy
+unfolding shown
+found_busy = (refl, (9, (λ e. cc (e)), refl))
+
+-- or get it all the same, which is not honest
+got_anyway : IsLocked (shown small) 5 inbox answer.Done
+unfolding shown
+got_anyway = refl
+
+not_honest : AreHonest small (event.Act 5 (step.Lock inbox) answer.Done after.Made ∷ []) → ⊥
+unfolding world_after shown
+not_honest h = true_false (h.0 9 (λ e. cc (e)))
+  where
+    true_false : true ≡ false → ⊥
+    true_false e = cc (e)
+
+-- a name taken away without the lock is out of order
+not_orderly : AreOrderly (event.Act 5 (step.Unlink inbox (49 ∷ [])) answer.Done after.Made ∷ []) → ⊥
+unfolding own
+not_orderly o = no_lock (o.0 inbox tt refl)
+  where
+    no_lock : HasLock inbox [] → ⊥
+    no_lock l = elim l [ ]
+
+-- a failed Create may leave other bytes, and an Unlink may not
+torn_create : MayLeave (step.Create inbox (50 ∷ []) (120 ∷ [])) (after.Torn (121 ∷ []))
+torn_create = tt
+
+no_torn_unlink : MayLeave (step.Unlink inbox (50 ∷ [])) (after.Torn (121 ∷ [])) → ⊥
+no_torn_unlink t = t
+
+-- one step by itself is made alone
+one_alone : IsAlone 5 empty (event.Act 5 (step.SyncFolder inbox) answer.Gone after.Made ∷ []) (0 ∷ [])
+unfolding world_after shown
+one_alone = record { consecutive = tt; unlocked = λ p other n. refl }

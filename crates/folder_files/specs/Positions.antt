@@ -1,5 +1,5 @@
 -- Where a directory stands in a list, and what a change at one place does to all.
-use Rattle.std.specs.Prelude.{◌≡◌, ◌≢◌, ◌==◌, ◌+◌, false, ℕ, zero, suc, List, [], ◌∷◌, if◌then◌else◌}
+use Rattle.std.specs.Prelude.{◌≡◌, ◌≢◌, ◌==◌, ◌+◌, Bool, true, false, ℕ, zero, suc, List, [], ◌∷◌, if◌then◌else◌}
 use Rattle.folder_files.specs.Directory.{DirectoryMap}
 use Rattle.folder_files.specs.Places.{same_place}
 use Rattle.folder_files.specs.declared.place.Place.{Place}
@@ -45,3 +45,15 @@ with_file w b = record w { files = λ f. if w.next_file == f then record { bytes
 -- to which this name leads
 abbrev pub with_new : WorldMap → Place → List ℕ → List ℕ → WorldMap
 with_new w q n b = with_change (with_file w b) q (Set n w.next_file)
+
+-- the first items, so many, fail the test
+abbrev pub SkipsBy : {A : Type 0} → (A → Bool) → List A → ℕ → Type 0
+SkipsBy t [] i = Unit {0}
+SkipsBy t (x ∷ xs) zero = Unit {0}
+SkipsBy t (x ∷ xs) (suc i) = (t x ≡ false) × SkipsBy t xs i
+
+-- the item at this index passes it
+abbrev pub IsAtBy : {A : Type 0} → (A → Bool) → List A → ℕ → Type 0
+IsAtBy t [] i = ⊥
+IsAtBy t (x ∷ xs) zero = t x ≡ true
+IsAtBy t (x ∷ xs) (suc i) = IsAtBy t xs i

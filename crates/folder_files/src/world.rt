@@ -81,3 +81,12 @@ impl Duplicate for Slot {
         })
     }
 }
+
+impl Duplicate for Held {
+    fn duplicate(&self, alloc: Global) -> Result<Held, AllocError> {
+        Ok(Held {
+            place: self.place.duplicate(alloc)?,
+            run: self.run,
+        })
+    }
+}

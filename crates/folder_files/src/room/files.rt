@@ -1,6 +1,6 @@
 // Steps that make files and change them.
-ghost use Rattle.std.specs.Prelude.{◌≡◌, OnOk, OnErr, IfSome, ℕ};
-ghost use Rattle.folder_files.specs.Positions.{with_new};
+ghost use Rattle.std.specs.Prelude.{◌≡◌, ◌<◌, ◌==◌, OnOk, OnErr, IfSome, IfNone, length, ℕ};
+ghost use Rattle.folder_files.specs.Positions.{with_new, SkipsBy, IsAtBy};
 ghost use Rattle.folder_files.specs.Steps.{made};
 ghost use Rattle.folder_files.specs.Worlds.{shown, next_of};
 ghost use Rattle.folder_files.specs.declared.step.Step.TheVariants as step;
@@ -69,5 +69,30 @@ pub fn create(
     match leads(world, place, name) {
         Some(_) => Ok(()),
         None => create_free(alloc, world, place, name, bytes),
+    }
+}
+
+/// Where the file of this id stands.
+pub fn file_position(files: &[File], id: u64) -> Option<usize>
+    ensures found { IfSome result (λ i. (i < length files.now) × SkipsBy (λ x. x.id == id) files.now i × IsAtBy (λ x. x.id == id) files.now i) }
+    ensures none { IfNone result (SkipsBy (λ x. x.id == id) files.now (length files.now)) }
+{
+    for index in 0..files.len() {
+        if files[index].id == id {
+            return Some(index);
+        }
+    }
+    None
+}
+
+/// The bytes of the name's file outlast a crash.
+pub fn sync_file(world: &mut World, place: &Place, name: &Name)
+    ensures { (run : ℕ) → shown world.new ≡ made (shown world.old) run (step.SyncFile place.now name.now) }
+{
+    let Some(id) = leads(world, place, name) else {
+        return;
+    };
+    if let Some(index) = file_position(world.files.as_slice(), id) {
+        world.files.get_mut(index).safe = true;
     }
 }
