@@ -8,6 +8,7 @@ use Rattle.folder_files.specs.CrashImage.{IsCrashImage}
 use Rattle.folder_files.specs.Deeds.{did}
 use Rattle.folder_files.specs.Directory.{Slots, lead, kept_lead, touches, IsClosed, now_in}
 use Rattle.folder_files.specs.Histories.{own, has_acted, delivered, after_event, world_after, IsLegal, begins, answers, stops, AreCareful, AreHonest, AreOrderly, AreConsecutive, IsAlone}
+use Rattle.mh_base.specs.Folders.{is_folder_name}
 use Rattle.folder_files.specs.Places.{is_parent}
 use Rattle.folder_files.specs.Steps.{made, left_by, create_answer, cut_answer, piece_answer, reading_of, IsListing, IsLocked, MayLeave}
 use Rattle.folder_files.specs.Worlds.{shown, IsStart}
@@ -68,8 +69,12 @@ inbox = place.Folder (109 ∷ []) (105 ∷ [])
 made_with_inbox : is_parent (place.Mail (109 ∷ [])) inbox ≡ true
 made_with_inbox = refl
 
-below_inbox : is_parent inbox (place.Folder (109 ∷ []) (105 ∷ (47 ∷ (97 ∷ [])))) ≡ true
-below_inbox = refl
+below_inbox : is_folder_name (105 ∷ []) ≡ true → is_parent inbox (place.Folder (109 ∷ []) (105 ∷ (47 ∷ (97 ∷ [])))) ≡ true
+below_inbox e = e
+
+-- `i ` stands before a slash in `i /a`, and no folder is called so
+no_folder_above : is_folder_name (105 ∷ (32 ∷ [])) ≡ false → is_parent (place.Folder (109 ∷ []) (105 ∷ (32 ∷ []))) (place.Folder (109 ∷ []) (105 ∷ (32 ∷ (47 ∷ (97 ∷ []))))) ≡ false
+no_folder_above e = e
 
 no_parent : is_parent inbox (place.Folder (109 ∷ []) (105 ∷ (97 ∷ []))) ≡ false
 no_parent = refl

@@ -22,6 +22,7 @@ Grows-trans run a b c l m p q =
       history = simp (q.history, p.history, map-append, append_assoc);
       asked = simp (q.asked, p.asked, long, spread, append_assoc);
       others = AreOthers-append run l m p.others q.others;
+      possible = λ old. q.possible (p.possible old);
     }
 
 pub GrowsBy-trans : (run : ℕ) (a b c : Option Story) (l m : List Moment) → GrowsBy run a b l → GrowsBy run b c m → GrowsBy run a c (l ++ m)
@@ -33,7 +34,7 @@ GrowsBy-trans run None None (Some c) l m p q = absurd q
 GrowsBy-trans run (Some a) (Some b) None l m p q = absurd q
 
 Grows-none : (run : ℕ) (a : Story) → Grows run a a []
-Grows-none run a = record { start = refl; history = sym (append-nil a.history); asked = sym (append-nil a.asked); others = tt }
+Grows-none run a = record { start = refl; history = sym (append-nil a.history); asked = sym (append-nil a.asked); others = tt; possible = λ old. old }
 
 pub GrowsBy-none : (run : ℕ) (a : Option Story) → GrowsBy run a a []
 GrowsBy-none run None = tt

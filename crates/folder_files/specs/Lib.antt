@@ -9,11 +9,9 @@ pub mod Growing
 pub mod Histories
 pub mod Named
 pub mod Places
-pub mod Positions
 pub mod Rows
 pub mod Seen
 pub mod Steps
 pub mod Story
 pub mod Walks
-pub mod Ways
 pub mod Worlds

@@ -1,5 +1,6 @@
 -- Which places, paths and names are the same.
 use Rattle.std.specs.Prelude.{◌==◌, ◌&&◌, ℕ, Bool, true, false, not, bytes_eq, List, [], ◌∷◌}
+use Rattle.mh_base.specs.Folders.{is_folder_name}
 use Rattle.folder_files.specs.declared.place.Place.{Place}
 use Rattle.folder_files.specs.declared.place.Place.TheVariants.{Home, Work, Mail, Folder}
 use Rattle.folder_files.specs.declared.place.FilePath.{FilePath}
@@ -43,7 +44,7 @@ continues [] (c ∷ text) = c == 47
 continues (b ∷ name) [] = false
 continues (b ∷ name) (c ∷ text) = b == c && continues name text
 
--- a directory of which the second is a folder, or a folder below: these are made with it
+-- a directory of which the second is a folder, or a folder below that may be called so: these are made with it
 abbrev pub is_parent : Place → Place → Bool
 is_parent Home p = false
 is_parent Work p = false
@@ -54,4 +55,4 @@ is_parent (Mail path) (Folder other name) = bytes_eq path other
 is_parent (Folder path name) Home = false
 is_parent (Folder path name) Work = false
 is_parent (Folder path name) (Mail other) = false
-is_parent (Folder path name) (Folder other name_) = bytes_eq path other && continues name name_
+is_parent (Folder path name) (Folder other name_) = bytes_eq path other && continues name name_ && is_folder_name name

@@ -1,6 +1,7 @@
 -- What files tell of themselves, and how a call adds to it.
 use Rattle.std.specs.Prelude.{◌≡◌, ◌≢◌, ◌++◌, ◌∷◌, [], List, ℕ, ◌+◌, ◌≤◌, Option, Some, None, map, length}
 use Rattle.mh_base.specs.Counts.{Rose}
+use Rattle.folder_files.specs.Histories.{IsLegal, past_of}
 use Rattle.folder_files.specs.declared.step.Step.{Step}
 use Rattle.folder_files.specs.declared.step.Answer.{Answer}
 use Rattle.folder_files.specs.declared.step.Answer.TheVariants.{Failed}
@@ -47,12 +48,17 @@ AreOthers run [] = Unit {0}
 AreOthers run (Mine s a f ∷ ms) = AreOthers run ms
 AreOthers run (Theirs e ∷ ms) = IsOther run e × AreOthers run ms
 
--- the story went on by these moments
+-- what is told may have happened
+abbrev pub IsPossible : Story → Type 0
+IsPossible s = IsLegal s.start (past_of s.history)
+
+-- the story went on by these moments, and stays a possible one
 pub record Grows (run : ℕ) (old new : Story) (log : List Moment) : Type 0 where
   pub start : new.start ≡ old.start
   pub history : new.history ≡ old.history ++ map (event_of run) log
   pub asked : new.asked ≡ old.asked ++ places (length old.history) log
   pub others : AreOthers run log
+  pub possible : IsPossible old → IsPossible new
 
 -- the same, where a story is told
 abbrev pub GrowsBy : ℕ → Option Story → Option Story → List Moment → Type 0

@@ -1,7 +1,10 @@
 // What happens to a world.
 
+ghost use Rattle.std.specs.Prelude.{◌≡◌, IfOk};
+
 use crate::{Answer, FilePath, Step, World};
-use mh_base::{Bytes, List};
+use mh_base::{Bytes, Duplicate, List};
+use std::alloc::{AllocError, Global};
 
 /// What a step left behind.
 #[derive(Drop)]
@@ -40,3 +43,13 @@ pub enum Event {
 pub type EventList = List<Event>;
 
 pub type History = EventList;
+
+impl Duplicate for After {
+    fn duplicate(&self, alloc: Global) -> Result<After, AllocError> {
+        match self {
+            After::Before => Ok(After::Before),
+            After::Made => Ok(After::Made),
+            After::Torn(bytes) => Ok(After::Torn(bytes.duplicate(alloc)?)),
+        }
+    }
+}

@@ -8,8 +8,6 @@ mod files;
 mod host;
 mod place;
 mod refusal;
-mod room;
-mod script;
 mod step;
 mod world;
 
@@ -19,7 +17,6 @@ pub use files::Files;
 pub use host::HostFiles;
 pub use place::{FilePath, Place};
 pub use refusal::{Refusal, Which};
-pub use script::{Happening, Keep, KeepList, Prompt, PromptList};
 pub use step::{Answer, Step};
 pub use world::{
     Change, ChangeList, Directory, DirectoryList, File, FileList, Held, LockList, Outside,

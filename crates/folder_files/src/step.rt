@@ -1,7 +1,10 @@
 // Steps and their answers.
 
+ghost use Rattle.std.specs.Prelude.{◌≡◌, IfOk};
+
 use crate::{FilePath, Place};
-use mh_base::{Bytes, Name, NameList};
+use mh_base::{Bytes, Duplicate, Name, NameList};
+use std::alloc::{AllocError, Global};
 
 /// One step on the files: a directory changes by such steps alone.
 #[derive(Drop)]
@@ -60,4 +63,67 @@ pub enum Answer {
     Grown,
     /// The files failed; their count of faults rose.
     Failed,
+}
+
+impl Duplicate for Step {
+    fn duplicate(&self, alloc: Global) -> Result<Step, AllocError> {
+        match self {
+            Step::List(place) => Ok(Step::List(place.duplicate(alloc)?)),
+            Step::Read(place, name, limit) => {
+                Ok(Step::Read(place.duplicate(alloc)?, name.duplicate(alloc)?, *limit))
+            }
+            Step::MakeFolder(place) => Ok(Step::MakeFolder(place.duplicate(alloc)?)),
+            Step::Create(place, name, bytes) => Ok(Step::Create(
+                place.duplicate(alloc)?,
+                name.duplicate(alloc)?,
+                bytes.duplicate(alloc)?,
+            )),
+            Step::SyncFile(place, name) => {
+                Ok(Step::SyncFile(place.duplicate(alloc)?, name.duplicate(alloc)?))
+            }
+            Step::SyncFolder(place) => Ok(Step::SyncFolder(place.duplicate(alloc)?)),
+            Step::Link(place, from, to) => Ok(Step::Link(
+                place.duplicate(alloc)?,
+                from.duplicate(alloc)?,
+                to.duplicate(alloc)?,
+            )),
+            Step::Rename(place, from, to) => Ok(Step::Rename(
+                place.duplicate(alloc)?,
+                from.duplicate(alloc)?,
+                to.duplicate(alloc)?,
+            )),
+            Step::Unlink(place, name) => {
+                Ok(Step::Unlink(place.duplicate(alloc)?, name.duplicate(alloc)?))
+            }
+            Step::Lock(place) => Ok(Step::Lock(place.duplicate(alloc)?)),
+            Step::Unlock(place) => Ok(Step::Unlock(place.duplicate(alloc)?)),
+            Step::ReadFile(path, limit) => Ok(Step::ReadFile(path.duplicate(alloc)?, *limit)),
+            Step::ReadDrop { path, from, most } => Ok(Step::ReadDrop {
+                path: path.duplicate(alloc)?,
+                from: *from,
+                most: *most,
+            }),
+            Step::CutDrop(path, length) => Ok(Step::CutDrop(path.duplicate(alloc)?, *length)),
+        }
+    }
+}
+
+impl Duplicate for Answer {
+    fn duplicate(&self, alloc: Global) -> Result<Answer, AllocError> {
+        match self {
+            Answer::Done => Ok(Answer::Done),
+            Answer::Names(names) => Ok(Answer::Names(names.duplicate(alloc)?)),
+            Answer::Content(bytes) => Ok(Answer::Content(bytes.duplicate(alloc)?)),
+            Answer::Piece { bytes, length } => Ok(Answer::Piece {
+                bytes: bytes.duplicate(alloc)?,
+                length: *length,
+            }),
+            Answer::Long(length) => Ok(Answer::Long(*length)),
+            Answer::Gone => Ok(Answer::Gone),
+            Answer::Exists => Ok(Answer::Exists),
+            Answer::Busy => Ok(Answer::Busy),
+            Answer::Grown => Ok(Answer::Grown),
+            Answer::Failed => Ok(Answer::Failed),
+        }
+    }
 }

@@ -90,3 +90,56 @@ impl Duplicate for Held {
         })
     }
 }
+
+impl Duplicate for Outside {
+    fn duplicate(&self, alloc: Global) -> Result<Outside, AllocError> {
+        Ok(Outside {
+            path: self.path.duplicate(alloc)?,
+            bytes: self.bytes.duplicate(alloc)?,
+        })
+    }
+}
+
+impl Duplicate for Change {
+    fn duplicate(&self, alloc: Global) -> Result<Change, AllocError> {
+        match self {
+            Change::Set(name, file) => Ok(Change::Set(name.duplicate(alloc)?, *file)),
+            Change::Gone(name) => Ok(Change::Gone(name.duplicate(alloc)?)),
+            Change::Moved(from, to) => {
+                Ok(Change::Moved(from.duplicate(alloc)?, to.duplicate(alloc)?))
+            }
+        }
+    }
+}
+
+impl Duplicate for Directory {
+    fn duplicate(&self, alloc: Global) -> Result<Directory, AllocError> {
+        Ok(Directory {
+            place: self.place.duplicate(alloc)?,
+            safe: self.safe.duplicate(alloc)?,
+            pending: self.pending.duplicate(alloc)?,
+        })
+    }
+}
+
+impl Duplicate for File {
+    fn duplicate(&self, alloc: Global) -> Result<File, AllocError> {
+        Ok(File {
+            id: self.id,
+            bytes: self.bytes.duplicate(alloc)?,
+            safe: self.safe,
+        })
+    }
+}
+
+impl Duplicate for World {
+    fn duplicate(&self, alloc: Global) -> Result<World, AllocError> {
+        Ok(World {
+            directories: self.directories.duplicate(alloc)?,
+            files: self.files.duplicate(alloc)?,
+            drops: self.drops.duplicate(alloc)?,
+            locks: self.locks.duplicate(alloc)?,
+            ended: self.ended.duplicate(alloc)?,
+        })
+    }
+}

@@ -1,6 +1,0 @@
-use Rattle.std.proofs.Common.{rules}
-use Rattle.folder_files.proofs.Locking.{end_made}
-use Rattle.folder_files.proofs.room.locks.end.Goals as goal
-
-pub returns-clause-ok : goal.returns-clause-ok
-returns-clause-ok c = end_made c.args.world.now c.args.run c.in_ok-kept.kept _ (search rules) (search rules)

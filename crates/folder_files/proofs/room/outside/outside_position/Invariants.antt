@@ -1,6 +1,0 @@
-use Rattle.folder_files.specs.Places.{same_path}
-use Rattle.folder_files.specs.Positions.{SkipsBy}
-use Rattle.folder_files.proofs.room.outside.outside_position.Given as goal
-
-abbrev pub invariant-loop-index : goal.invariant-loop-index
-invariant-loop-index l = SkipsBy (λ o. same_path o.path l.path) l.drops l.index

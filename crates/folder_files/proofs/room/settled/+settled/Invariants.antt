@@ -1,5 +1,0 @@
-use Rattle.std.proofs.Common.{length}
-use Rattle.folder_files.proofs.room.settled.+settled.Given as goal
-
-abbrev pub decreases-settled : goal.decreases-settled
-decreases-settled l = length l.pending.now

@@ -1,5 +1,0 @@
-use Rattle.folder_files.proofs.Slotting.{LacksOnly}
-use Rattle.folder_files.proofs.room.settled.without.Given as goal
-
-abbrev pub invariant-loop-slot : goal.invariant-loop-slot
-invariant-loop-slot l = LacksOnly l.name l.kept.items l.yielded

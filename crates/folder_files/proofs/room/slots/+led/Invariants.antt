@@ -1,5 +1,0 @@
-use Rattle.std.proofs.Common.{length}
-use Rattle.folder_files.proofs.room.slots.+led.Given as goal
-
-abbrev pub decreases-led : goal.decreases-led
-decreases-led l = length l.pending.now

@@ -1,0 +1,9 @@
+pub mod Outsides
+pub mod Locking
+pub mod Syncing
+pub mod Keyed
+pub mod Making
+pub mod Naming
+pub mod Placing
+pub mod Slotting
+pub mod Leading

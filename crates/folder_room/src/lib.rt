@@ -1,0 +1,15 @@
+//! A mailbox in memory: files that store their history and run a script of what else happens.
+#![tactic(auto)]
+
+mod answers;
+mod disk;
+mod files;
+mod locks;
+mod naming;
+mod outside;
+mod places;
+mod script;
+mod settled;
+mod slots;
+
+pub use script::{Happening, Keep, KeepList, Prompt, PromptList};
