@@ -3,7 +3,12 @@ pub mod Locking
 pub mod Syncing
 pub mod Keyed
 pub mod Making
-pub mod Naming
+pub mod Renaming
 pub mod Placing
 pub mod Slotting
 pub mod Leading
+pub mod Above
+pub mod Folders
+pub mod Ordered
+pub mod Closed
+pub mod Crashed

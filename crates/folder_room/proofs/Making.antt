@@ -11,7 +11,7 @@ use Rattle.folder_files.specs.declared.step.Step.TheVariants as step
 use Rattle.folder_files.specs.declared.world.Change.TheVariants as change
 use Rattle.folder_files.specs.declared.world.File.{File}
 use Rattle.folder_files.specs.declared.world.World.{World}
-use Rattle.folder_room.proofs.Naming.{agree_at, stays_at}
+use Rattle.folder_room.proofs.Renaming.{agree_at, stays_at}
 
 -- the files up to this id are below the next
 new_file : (xs : List File) (x : File) (f : ℕ) → (k : ℕ) → next_of xs ≤ k → x.id ≡ k → file_of (xs ++ x ∷ []) f ≡ (if k == f then record { bytes = x.bytes; safe = x.safe } else file_of xs f)

@@ -1,2 +1,7 @@
 pub mod Positions
 pub mod Ways
+pub mod Closing
+pub mod Crashing
+pub mod Played
+pub mod Parents
+pub mod Seen

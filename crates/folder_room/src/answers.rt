@@ -113,7 +113,7 @@ fn outside<'a>(drops: &'a [Outside], path: &FilePath) -> Option<&'a Bytes>
     }
 }
 
-#[tactic(auto, unfolding(crate::specs::Worlds::shown))]
+#[tactic(auto, unfolding(folder_files::specs::Worlds::shown))]
 fn outside_in<'a>(world: &'a World, path: &FilePath) -> Option<&'a Bytes>
     ensures { MatchOption result ((shown world.now).outside path.now ≡ None) (λ bytes. (shown world.now).outside path.now ≡ Some bytes.now) }
 {

@@ -4,9 +4,12 @@
 mod answers;
 mod disk;
 mod files;
+mod images;
+mod listing;
 mod locks;
 mod naming;
 mod outside;
+mod parents;
 mod places;
 mod script;
 mod settled;

@@ -3,7 +3,7 @@ use Rattle.std.proofs.lemmas.Result.{on_ok_weaker}
 use Rattle.folder_room.specs.Positions.{with_change}
 use Rattle.folder_files.specs.Worlds.{shown}
 use Rattle.folder_files.specs.declared.world.Change.TheVariants as change
-use Rattle.folder_room.proofs.Naming.{link_made, link_none, link_taken}
+use Rattle.folder_room.proofs.Renaming.{link_made, link_none, link_taken}
 use Rattle.folder_room.proofs.naming.link.Goals as goal
 
 pub returns-in_default-clause-ok : goal.returns-in_default-clause-ok

@@ -3,7 +3,7 @@ use Rattle.std.proofs.lemmas.Result.{on_ok_weaker}
 use Rattle.folder_room.specs.Positions.{with_change}
 use Rattle.folder_files.specs.Worlds.{shown}
 use Rattle.folder_files.specs.declared.world.Change.TheVariants as change
-use Rattle.folder_room.proofs.Naming.{rename_made, rename_none, rename_itself}
+use Rattle.folder_room.proofs.Renaming.{rename_made, rename_none, rename_itself}
 use Rattle.folder_room.proofs.naming.rename.Goals as goal
 
 pub returns-then-same-clause-ok : goal.returns-then-same-clause-ok

@@ -1,6 +1,6 @@
 use Rattle.std.proofs.Common.{◌∙◌}
 use Rattle.std.proofs.lemmas.Result.{on_ok_weaker}
-use Rattle.folder_room.proofs.Naming.{sync_made}
+use Rattle.folder_room.proofs.Renaming.{sync_made}
 use Rattle.folder_room.proofs.naming.sync_folder.Goals as goal
 
 pub returns-clause-ok : goal.returns-clause-ok

@@ -3,7 +3,7 @@ use Rattle.std.proofs.lemmas.Result.{on_ok_weaker}
 use Rattle.folder_room.specs.Positions.{with_change}
 use Rattle.folder_files.specs.Worlds.{shown}
 use Rattle.folder_files.specs.declared.world.Change.TheVariants as change
-use Rattle.folder_room.proofs.Naming.{unlink_made, unlink_none}
+use Rattle.folder_room.proofs.Renaming.{unlink_made, unlink_none}
 use Rattle.folder_room.proofs.naming.unlink.Goals as goal
 
 pub returns-in-None-clause-ok : goal.returns-in-None-clause-ok

@@ -1,0 +1,29 @@
+-- What contracts see of a mailbox in memory.
+use Rattle.std.specs.Prelude.{◌≡◌, ◌+◌, ◌-◌, ◌^◌, ℕ, min, List, Some}
+use Rattle.folder_files.specs.Histories.{world_after, IsLegal, past_of}
+use Rattle.folder_files.specs.Story.{Story, FilesState}
+use Rattle.folder_files.specs.Worlds.{shown}
+use Rattle.folder_files.specs.declared.event.Event.{Event}
+use Rattle.folder_files.specs.declared.world.World.{World}
+use Rattle.folder_room.specs.declared.script.Prompt.{Prompt}
+
+-- the start, the events since, the places of the steps that calls asked for, the script, how many calls there were, and how many failed
+pub record Seen : Type 0 where
+  pub start : World
+  pub history : List Event
+  pub asked : List ℕ
+  pub script : List Prompt
+  pub calls : ℕ
+  pub faults : ℕ
+
+abbrev pub story_of : Seen → Story
+story_of r = record { start = r.start; history = r.history; asked = r.asked }
+
+-- one more, as far as 64 bits go
+abbrev pub one_more : ℕ → ℕ
+one_more n = min (n + 1) (2 ^ 64 - 1)
+
+-- the world is the history's, which may have happened
+pub record IsNow (start world : World) (history : List Event) : Type 0 where
+  pub shows : shown world ≡ world_after start (past_of history)
+  pub legal : IsLegal start (past_of history)
