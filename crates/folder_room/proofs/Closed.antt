@@ -122,16 +122,18 @@ newest_is c cs a names = ap (λ b. if b then is_kept c cs a names else kept_set 
 
 all_kept : (x : List ℕ) (cs : List Change) (a : ℕ → Bool) (names : List (List ℕ)) → In x names → AllKept x cs (kept_set cs a names)
 all_kept x [] a names i = tt
-all_kept x (c ∷ cs) a names i =
-    (λ t. newest_is c cs a names ∙ or_right (a (length cs)) (touches_any c names) (any_touched c x names i t),
-      kept_agrees x cs (kept_set cs a (touched_by (is_kept c cs a names) c names)) (kept_set (c ∷ cs) a names) (older_agree c cs a names) (all_kept x cs a (touched_by (is_kept c cs a names) c names) (stays_in x (is_kept c cs a names) c names i)))
+all_kept x (c ∷ cs) a names i = (
+  λ t. newest_is c cs a names ∙ or_right (a (length cs)) (touches_any c names) (any_touched c x names i t),
+  kept_agrees x cs (kept_set cs a (touched_by (is_kept c cs a names) c names)) (kept_set (c ∷ cs) a names) (older_agree c cs a names) (all_kept x cs a (touched_by (is_kept c cs a names) c names) (stays_in x (is_kept c cs a names) c names i)),
+)
 
 set_closed : (cs : List Change) (a : ℕ → Bool) (names : List (List ℕ)) → IsClosed cs (kept_set cs a names)
 set_closed [] a names = tt
-set_closed (c ∷ cs) a names =
-    (λ e x t. kept_agrees x cs (kept_set cs a (touched_by (is_kept c cs a names) c names)) (kept_set (c ∷ cs) a names) (older_agree c cs a names)
-        (all_kept x cs a (touched_by (is_kept c cs a names) c names) (subst (λ b. In x (touched_by b c names)) (sym (sym (newest_is c cs a names) ∙ e)) (in_back x names (names_of c) (touched_names c x t)))),
-      closed_agrees cs (kept_set cs a (touched_by (is_kept c cs a names) c names)) (kept_set (c ∷ cs) a names) (older_agree c cs a names) (set_closed cs a (touched_by (is_kept c cs a names) c names)))
+set_closed (c ∷ cs) a names = (
+  λ e x t. kept_agrees x cs (kept_set cs a (touched_by (is_kept c cs a names) c names)) (kept_set (c ∷ cs) a names) (older_agree c cs a names)
+      (all_kept x cs a (touched_by (is_kept c cs a names) c names) (subst (λ b. In x (touched_by b c names)) (sym (sym (newest_is c cs a names) ∙ e)) (in_back x names (names_of c) (touched_names c x t)))),
+  closed_agrees cs (kept_set cs a (touched_by (is_kept c cs a names) c names)) (kept_set (c ∷ cs) a names) (older_agree c cs a names) (set_closed cs a (touched_by (is_kept c cs a names) c names)),
+)
 
 below_or_last : (i n : ℕ) → i < suc n → (i ≡ n) ⊎ (i < n)
 below_or_last i n l = go (n == i) ((Decides-eqb n i).0) ((Decides-eqb n i).1)

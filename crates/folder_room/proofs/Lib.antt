@@ -12,3 +12,4 @@ pub mod Folders
 pub mod Ordered
 pub mod Closed
 pub mod Crashed
+pub mod Looking

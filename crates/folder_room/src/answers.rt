@@ -4,6 +4,8 @@ ghost use Rattle.folder_files.specs.Directory.{now_in};
 ghost use Rattle.folder_files.specs.Steps as steps;
 ghost use Rattle.folder_files.specs.Worlds.{shown, outside_of, holds_of};
 ghost use Rattle.folder_files.specs.declared.step.Answer.TheVariants as answer;
+ghost use Rattle.folder_files.specs.declared.step.Step.TheVariants as step;
+ghost use Rattle.folder_room.specs.Played.{IsHonest};
 
 use crate::disk::{is_there, leads};
 use crate::files::file_position;
@@ -196,7 +198,8 @@ fn is_busy(locks: &[Held], run: u128, place: &Place) -> bool
 
 /// For a Lock: busy where another run has it.
 pub fn lock(world: &World, run: u128, place: &Place) -> Answer
-    ensures { steps.IsLocked (shown world.now) run place.now result }
+    ensures fits { steps.IsLocked (shown world.now) run place.now result }
+    ensures honest { IsHonest (shown world.now) run (step.Lock place.now) result }
 {
     if !is_there(world, place) {
         return Answer::Gone;

@@ -2,6 +2,7 @@
 #![tactic(auto)]
 
 mod answers;
+mod course;
 mod disk;
 mod files;
 mod images;
@@ -14,5 +15,6 @@ mod places;
 mod script;
 mod settled;
 mod slots;
+mod steps;
 
 pub use script::{Happening, Keep, KeepList, Prompt, PromptList};
