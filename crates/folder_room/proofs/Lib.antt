@@ -13,3 +13,10 @@ pub mod Ordered
 pub mod Closed
 pub mod Crashed
 pub mod Looking
+pub mod Turns
+pub mod Coursing
+pub mod Turning
+pub mod Fitting
+pub mod Finishing
+pub mod Fitted
+pub mod Telling

@@ -3,5 +3,6 @@ pub mod Ways
 pub mod Closing
 pub mod Crashing
 pub mod Played
+pub mod Left
 pub mod Parents
 pub mod Seen

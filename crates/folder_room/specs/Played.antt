@@ -47,18 +47,25 @@ has_acted_or_is run past r = (run == r) || has_acted past r
 abbrev pub IsSkipped : ℕ → List Event → ℕ → Step → Type 0
 IsSkipped run past r s = (r ≡ run) ⊎ (IsCareful r (own r past) s → ⊥)
 
--- at a call of this run a turn was played from its first prompt on, until these were left: each that wasn't skipped added its event
+-- a crash within the step: the last of its turn, said to come after the step was made
+abbrev pub is_within : Happening → List Happening → Bool
+is_within (Crash keeps fill true) [] = true
+is_within what turn = false
+
+-- at a call of this run one prompt acted: it added its event, or was skipped
+pub data PlaysOne (start : World) (run : ℕ) : Happening → List Event → List Event → Type 0 where
+  skips : (r : ℕ) (s : Step) {past : List Event} → IsSkipped run past r s → PlaysOne start run (Other r s) past past
+  acts : (r : ℕ) (s : Step) (a : Answer) (m : After) {past : List Event} → r ≢ run → IsCareful r (own r past) s → PlaysOne start run (Other r s) past (event.Act r s a m ∷ past)
+  delivers : (path : FilePath) (piece : List ℕ) {past : List Event} → PlaysOne start run (Deliver path piece) past (event.Deliver path piece ∷ past)
+  fails : (m : After) {past : List Event} → PlaysOne start run (Fail m) past past
+  crashes : (keeps : List Keep) (fill : ℕ) (is_made : Bool) (v : World) {past : List Event} → IsCrashBy keeps fill (has_acted_or_is run past) (world_after start past) (shown v)
+      → PlaysOne start run (Crash keeps fill is_made) past (event.Crash v ∷ past)
+
+-- a turn was played from its first prompt on, until these were left; a crash within the step of a run that is live is left
 pub data Plays (start : World) (run : ℕ) (left : List Happening) : List Happening → List Event → List Event → Type 0 where
   stops : {past : List Event} → Plays start run left left past past
-  skips : (r : ℕ) (s : Step) {turn : List Happening} {past now : List Event} → IsSkipped run past r s → Plays start run left turn past now
-      → Plays start run left (Other r s ∷ turn) past now
-  acts : (r : ℕ) (s : Step) (a : Answer) (m : After) {turn : List Happening} {past now : List Event} → r ≢ run → IsCareful r (own r past) s
-      → Plays start run left turn (event.Act r s a m ∷ past) now → Plays start run left (Other r s ∷ turn) past now
-  delivers : (path : FilePath) (piece : List ℕ) {turn : List Happening} {past now : List Event} → Plays start run left turn (event.Deliver path piece ∷ past) now
-      → Plays start run left (Deliver path piece ∷ turn) past now
-  fails : (m : After) {turn : List Happening} {past now : List Event} → Plays start run left turn past now → Plays start run left (Fail m ∷ turn) past now
-  crashes : (keeps : List Keep) (fill : ℕ) (is_made : Bool) (v : World) {turn : List Happening} {past now : List Event} → IsCrashBy keeps fill (has_acted_or_is run past) (world_after start past) (shown v)
-      → Plays start run left turn (event.Crash v ∷ past) now → Plays start run left (Crash keeps fill is_made ∷ turn) past now
+  plays : (what : Happening) (turn : List Happening) {past mid now : List Event} → (is_within what turn ≡ true → (world_after start past).ended run ≡ true)
+      → PlaysOne start run what past mid → Plays start run left turn mid now → Plays start run left (what ∷ turn) past now
 
 -- a failed Create may leave a file of other bytes; another step was then not made
 abbrev pub failing : Step → After → After

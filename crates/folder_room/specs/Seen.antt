@@ -4,6 +4,8 @@ use Rattle.folder_files.specs.Histories.{world_after, IsLegal, past_of}
 use Rattle.folder_files.specs.Story.{Story, FilesState}
 use Rattle.folder_files.specs.Worlds.{shown}
 use Rattle.folder_files.specs.declared.event.Event.{Event}
+use Rattle.folder_files.specs.declared.step.Answer.{Answer}
+use Rattle.folder_files.specs.declared.step.Answer.TheVariants.{Done, Names, Content, Piece, Long, Gone, Exists, Busy, Grown, Failed}
 use Rattle.folder_files.specs.declared.world.World.{World}
 use Rattle.folder_room.specs.declared.script.Prompt.{Prompt}
 
@@ -22,6 +24,19 @@ story_of r = record { start = r.start; history = r.history; asked = r.asked }
 -- one more, as far as 64 bits go
 abbrev pub one_more : ℕ → ℕ
 one_more n = min (n + 1) (2 ^ 64 - 1)
+
+-- the count of faults after this answer
+abbrev pub faults_after : ℕ → Answer → ℕ
+faults_after n Failed = one_more n
+faults_after n Done = n
+faults_after n (Names names) = n
+faults_after n (Content bytes) = n
+faults_after n (Piece bytes length_) = n
+faults_after n (Long length_) = n
+faults_after n Gone = n
+faults_after n Exists = n
+faults_after n Busy = n
+faults_after n Grown = n
 
 -- the world is the history's, which may have happened
 pub record IsNow (start world : World) (history : List Event) : Type 0 where

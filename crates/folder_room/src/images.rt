@@ -196,7 +196,7 @@ fn all_filled(alloc: Global, files: &[File], fill: u8) -> Result<FileList, Alloc
     Ok(all)
 }
 
-fn has_ended(ended: &[u128], run: u128) -> bool
+pub fn has_ended(ended: &[u128], run: u128) -> bool
     ensures { result ≡ has_run ended.now run }
 {
     match ended.split_first() {

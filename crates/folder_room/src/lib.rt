@@ -12,9 +12,12 @@ mod naming;
 mod outside;
 mod parents;
 mod places;
+mod playing;
+mod room;
 mod script;
 mod settled;
 mod slots;
 mod steps;
 
+pub use room::Room;
 pub use script::{Happening, Keep, KeepList, Prompt, PromptList};
