@@ -1,0 +1,5 @@
+mod Complements
+mod Meeting
+mod Rising
+mod Spans
+mod Walking

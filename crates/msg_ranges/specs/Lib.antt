@@ -1,0 +1,7 @@
+pub mod Choosing
+pub mod Forms
+pub mod Reading
+pub mod Runs
+pub mod Selecting
+pub mod Selection
+pub mod Words

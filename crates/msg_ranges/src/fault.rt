@@ -1,0 +1,33 @@
+// Why words are refused.
+ghost use Rattle.std.specs.Prelude.{◌≡◌};
+ghost use Rattle.msg_ranges.specs.declared.fault.SelectFault.TheVariants.{Memory};
+
+use std::alloc::AllocError;
+use thiserror::Error;
+
+/// Why words select nothing: the place of the first word that is refused, from 0.
+#[derive(Debug, PartialEq, Eq, Drop, Error)]
+pub enum SelectFault {
+    /// It has none of the forms.
+    #[error("word {0} names no messages")]
+    BadSpec(u64),
+    /// Its message, or a message in it, is not there.
+    #[error("the message of word {0} is not there")]
+    Absent(u64),
+    /// No message is in its range.
+    #[error("no message is in the range of word {0}")]
+    EmptyRange(u64),
+    /// No message is in its sequence.
+    #[error("no message is in the sequence of word {0}")]
+    EmptySequence(u64),
+    #[error("out of memory")]
+    Memory,
+}
+
+impl From<AllocError> for SelectFault {
+    ghost from_gives = { λ _ e. e ≡ Memory };
+
+    fn from(_error: AllocError) -> SelectFault {
+        SelectFault::Memory
+    }
+}
