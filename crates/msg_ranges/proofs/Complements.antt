@@ -18,11 +18,11 @@ left_out from rs n = nat_le from n && nat_le n 999999 && not (has rs n)
 pub record IsLeft (runs now rest : List Run) (from : ℕ) : Type 0 where
   pub some : 1 ≤ from
   pub top : from ≤ 1000000
-  pub valid : AreRunsFrom from rest
+  pub valid : AreRuns runs → AreRunsFrom from rest
   pub same : (n : ℕ) → has now n || left_out from rest n ≡ left_out 1 runs n
 
-pub left_begun : (runs now : List Run) → AreRuns runs → now ≡ [] → IsLeft runs now runs 1
-left_begun runs now h e = record { some = omega arith; top = omega arith; valid = h; same = λ n. ap (λ l. has l n || left_out 1 runs n) e }
+pub left_begun : (runs now : List Run) → now ≡ [] → IsLeft runs now runs 1
+left_begun runs now e = record { some = omega arith; top = omega arith; valid = λ h. h; same = λ n. ap (λ l. has l n || left_out 1 runs n) e }
 
 -- before a run, in it, and behind it
 parts : (r : Run) (rs : List Run) (from n : ℕ) → from ≤ r.from → r.from ≤ r.to → r.to ≤ 999999 → 1 ≤ from → AreRunsFrom (r.to + 2) rs → left_out from (r ∷ rs) n ≡ (nat_le from n && nat_le n (r.from - 1)) || left_out (r.to + 1) rs n
@@ -52,13 +52,13 @@ parts r rs from n low order top some h = ⊎_elim
     (cases_lt n (r.to + 1)))
     (cases_lt n r.from)
 
-pub left_more : (runs now next : List Run) (i from : ℕ) (r : Run) → IsRunAt runs i r → IsLeft runs now (drop i runs) from → ((n : ℕ) → has next n ≡ (nat_le from n && nat_le n (r.from - 1)) || has now n) → IsLeft runs next (drop (i + 1) runs) (r.to + 1)
-left_more runs now next i from r a is put =
-    let h : AreRunsFrom from (r ∷ drop (i + 1) runs) = subst (AreRunsFrom from) a.head is.valid in
+pub left_more : (runs now next : List Run) (i from : ℕ) (r : Run) → AreRuns runs → IsRunAt runs i r → IsLeft runs now (drop i runs) from → ((n : ℕ) → has next n ≡ (nat_le from n && nat_le n (r.from - 1)) || has now n) → IsLeft runs next (drop (i + 1) runs) (r.to + 1)
+left_more runs now next i from r v a is put =
+    let h : AreRunsFrom from (r ∷ drop (i + 1) runs) = subst (AreRunsFrom from) a.head (is.valid v) in
     record {
   some = omega arith;
   top = omega (arith, h.2);
-  valid = weaker (r.to + 1) (r.to + 2) (drop (i + 1) runs) (omega arith) h.3;
+  valid = λ _. weaker (r.to + 1) (r.to + 2) (drop (i + 1) runs) (omega arith) h.3;
   same = λ n.
       ap (λ b. b || left_out (r.to + 1) (drop (i + 1) runs) n) (put n)
       ∙ or_group (nat_le from n && nat_le n (r.from - 1)) (has now n) (left_out (r.to + 1) (drop (i + 1) runs) n)
@@ -86,3 +86,9 @@ left_all runs now next rest from is e put n =
     ∙ or_turn (left_out from [] n) (has now n)
     ∙ ap (λ l. has now n || left_out from l n) (sym e)
     ∙ is.same n
+
+-- the same, where the ends of the run go by other names
+pub left_step : (runs now next : List Run) (i from low high : ℕ) (r : Run) → AreRuns runs → IsRunAt runs i r → low ≡ r.from → high ≡ r.to → IsLeft runs now (drop i runs) from → ((n : ℕ) → has next n ≡ (nat_le from n && nat_le n (low - 1)) || has now n) → IsLeft runs next (drop (i + 1) runs) (high + 1)
+left_step runs now next i from low high r v a e f is put =
+    subst (λ z. IsLeft runs next (drop (i + 1) runs) (z + 1)) (sym f)
+    (left_more runs now next i from r v a is (λ n. put n ∙ ap (λ z. (nat_le from n && nat_le n (z - 1)) || has now n) e))

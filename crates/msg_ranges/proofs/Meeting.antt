@@ -1,7 +1,7 @@
 -- Sets that were made run by run.
 use Rattle.std.proofs.Common.{◌≡◌, ℕ, zero, suc, ◌+◌, ◌-◌, ◌<◌, ◌≤◌, Bool, true, false, Some, None, List, [], ◌∷◌, ◌++◌, length, take, drop, refl, sym, ◌∙◌, ap, subst, arith, ⊎_elim}
 use Rattle.std.specs.Prelude.{◌&&◌, ◌||◌, ◌==◌, not, nat_le, nat_lt}
-use Rattle.std.proofs.lemmas.Bool.{cases_lt, cases_Bool, or_from, or_left, and_left, and_right}
+use Rattle.std.proofs.lemmas.Bool.{ltb-true, ltb-false, cases_lt, cases_Bool, or_from, or_left, and_left, and_right}
 use Rattle.std.proofs.lemmas.Bool.Decides.{nat_tests}
 use Rattle.mh_sequences.specs.declared.run.Run.{Run}
 use Rattle.mh_sequences.specs.Runs.{AreRuns, AreRunsFrom, inside, has}
@@ -10,8 +10,9 @@ use Rattle.mh_sequences.proofs.Bools.{or_swap, or_group, or_nothing}
 use Rattle.msg_ranges.specs.Runs.{IsAt, IsRunAt}
 
 -- what was found of both sets, and what is left of both, is what both have
-abbrev pub AreMet : List Run → List Run → List Run → List Run → List Run → Type 0
-AreMet first second both xs ys = (n : ℕ) → has both n || (has xs n && has ys n) ≡ has first n && has second n
+pub record AreMet (first second both xs ys : List Run) : Type 0 where
+  pub valid : AreRuns both
+  pub same : (n : ℕ) → has both n || (has xs n && has ys n) ≡ has first n && has second n
 
 -- a run behind another has none of its numbers
 apart : (x : Run) (ys : List Run) (high n : ℕ) → AreRunsFrom high ys → x.to < high → inside x n && has ys n ≡ false
@@ -43,37 +44,48 @@ drop_second x y xs ys n le h =
     ∙ (λ i. swap_and (inside y n) (inside x n) i || swap_and (has ys n) (has (x ∷ xs) n) i)
 
 -- one step
-pub meet_more : (first second both more : List Run) (x y : Run) (xs ys left right : List Run) → AreMet first second both (x ∷ xs) (y ∷ ys) → ((n : ℕ) → has more n ≡ (inside x n && inside y n) || has both n) → ((n : ℕ) → has (x ∷ xs) n && has (y ∷ ys) n ≡ (inside x n && inside y n) || (has left n && has right n)) → AreMet first second more left right
-meet_more first second both more x y xs ys left right met put step n =
-    ap (λ b. b || (has left n && has right n)) (put n)
-    ∙ or_group (inside x n && inside y n) (has both n) (has left n && has right n)
-    ∙ or_swap (inside x n && inside y n) (has both n) (has left n && has right n)
-    ∙ ap (λ b. has both n || b) (sym (step n))
-    ∙ met n
-
--- nothing is left of one of them
-pub met_all : (first second both xs ys : List Run) → AreMet first second both xs ys → ((n : ℕ) → has xs n && has ys n ≡ false) → (n : ℕ) → has both n ≡ has first n && has second n
-met_all first second both xs ys met none n = sym (ap (λ b. has both n || b) (none n) ∙ or_nothing (has both n)) ∙ met n
+meet_more : (first second both more : List Run) (x y : Run) (xs ys left right : List Run) → AreMet first second both (x ∷ xs) (y ∷ ys) → AreRuns more → ((n : ℕ) → has more n ≡ (inside x n && inside y n) || has both n) → ((n : ℕ) → has (x ∷ xs) n && has (y ∷ ys) n ≡ (inside x n && inside y n) || (has left n && has right n)) → AreMet first second more left right
+meet_more first second both more x y xs ys left right met valid put step = record {
+  valid = valid;
+  same = λ n.
+      ap (λ b. b || (has left n && has right n)) (put n)
+      ∙ or_group (inside x n && inside y n) (has both n) (has left n && has right n)
+      ∙ or_swap (inside x n && inside y n) (has both n) (has left n && has right n)
+      ∙ ap (λ b. has both n || b) (sym (step n))
+      ∙ met.same n;
+}
 
 none_right : (a : Bool) → a && false ≡ false
 none_right true = refl
 none_right false = refl
 
-pub first_done : (xs ys : List Run) → xs ≡ [] → (n : ℕ) → has xs n && has ys n ≡ false
-first_done xs ys e n = ap (λ l. has l n && has ys n) e
+-- nothing is left of one of them
+pub first_done : (first second both xs ys : List Run) → AreMet first second both xs ys → xs ≡ [] → (n : ℕ) → has both n ≡ has first n && has second n
+first_done first second both xs ys met e n =
+    let none : has xs n && has ys n ≡ false = ap (λ l. has l n && has ys n) e in
+    sym (ap (λ b. has both n || b) none ∙ or_nothing (has both n)) ∙ met.same n
 
-pub second_done : (xs ys : List Run) → ys ≡ [] → (n : ℕ) → has xs n && has ys n ≡ false
-second_done xs ys e n = ap (λ l. has xs n && has l n) e ∙ none_right (has xs n)
+pub second_done : (first second both xs ys : List Run) → AreMet first second both xs ys → ys ≡ [] → (n : ℕ) → has both n ≡ has first n && has second n
+second_done first second both xs ys met e n =
+    let none : has xs n && has ys n ≡ false = ap (λ l. has xs n && has l n) e ∙ none_right (has xs n) in
+    sym (ap (λ b. has both n || b) none ∙ or_nothing (has both n)) ∙ met.same n
 
 pub none_met : (first second both : List Run) → both ≡ [] → AreMet first second both first second
-none_met first second both e n = ap (λ l. has l n || (has first n && has second n)) e
+none_met first second both e = record { valid = subst AreRuns (sym e) tt; same = λ n. ap (λ l. has l n || (has first n && has second n)) e }
 
--- the step at places
-pub meet_at : (first second both more : List Run) (x y : Run) (i j : ℕ) (ends : Bool) → IsRunAt first i x → IsRunAt second j y → AreMet first second both (drop i first) (drop j second) → ((n : ℕ) → has more n ≡ (inside x n && inside y n) || has both n) → (x.to < y.to → AreMet first second more (drop (i + 1) first) (drop j second)) × (y.to ≤ x.to → AreMet first second more (drop i first) (drop (j + 1) second))
-meet_at first second both more x y i j ends a b met put =
-    let here : AreMet first second both (x ∷ drop (i + 1) first) (y ∷ drop (j + 1) second) = subst (λ l. AreMet first second both l (y ∷ drop (j + 1) second)) a.head (subst (λ l. AreMet first second both (drop i first) l) b.head met) in
-    (λ lt. subst (λ l. AreMet first second more (drop (i + 1) first) l) (sym b.head) (meet_more first second both more x y (drop (i + 1) first) (drop (j + 1) second) (drop (i + 1) first) (y ∷ drop (j + 1) second) here put (λ n. drop_first x y (drop (i + 1) first) (drop (j + 1) second) n lt b.valid.3)),
-    λ le. subst (λ l. AreMet first second more l (drop (j + 1) second)) (sym a.head) (meet_more first second both more x y (drop (i + 1) first) (drop (j + 1) second) (x ∷ drop (i + 1) first) (drop (j + 1) second) here put (λ n. drop_second x y (drop (i + 1) first) (drop (j + 1) second) n le a.valid.3)))
+module _ (first second both more : List Run) (x y : Run) (i j : ℕ) (a : IsRunAt first i x) (b : IsRunAt second j y) (met : AreMet first second both (drop i first) (drop j second)) (valid : AreRuns more) (put : (n : ℕ) → has more n ≡ (inside x n && inside y n) || has both n) where
+  here : AreMet first second both (x ∷ drop (i + 1) first) (y ∷ drop (j + 1) second)
+  here = subst (λ l. AreMet first second both l (y ∷ drop (j + 1) second)) a.head (subst (λ l. AreMet first second both (drop i first) l) b.head met)
+
+  pub on_first : nat_lt x.to y.to ≡ true → AreMet first second more (drop (i + 1) first) (drop j second)
+  on_first t =
+      let lt = ltb-true x.to y.to t in
+      subst (λ l. AreMet first second more (drop (i + 1) first) l) (sym b.head) (meet_more first second both more x y (drop (i + 1) first) (drop (j + 1) second) (drop (i + 1) first) (y ∷ drop (j + 1) second) here valid put (λ n. drop_first x y (drop (i + 1) first) (drop (j + 1) second) n lt b.valid.3))
+
+  pub on_second : nat_lt x.to y.to ≡ false → AreMet first second more (drop i first) (drop (j + 1) second)
+  on_second t =
+      let le = ltb-false x.to y.to t in
+      subst (λ l. AreMet first second more l (drop (j + 1) second)) (sym a.head) (meet_more first second both more x y (drop (i + 1) first) (drop (j + 1) second) (x ∷ drop (i + 1) first) (drop (j + 1) second) here valid put (λ n. drop_second x y (drop (i + 1) first) (drop (j + 1) second) n le a.valid.3))
 
 -- all of a set was added, but for what is left
 pub record IsAdded (old more now rest : List Run) : Type 0 where

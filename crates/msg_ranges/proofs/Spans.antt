@@ -3,11 +3,13 @@ use Rattle.std.proofs.Common.{◌≡◌, ℕ, zero, suc, ◌+◌, ◌-◌, ◌<�
 use Rattle.std.proofs.Math.Seq.{drop-nil}
 use Rattle.std.specs.Prelude.{◌&&◌, ◌||◌, ◌==◌, nat_le, nat_lt, filter, slice_get, if◌then◌else◌}
 use Rattle.std.specs.List.{range_with_len}
-use Rattle.std.proofs.lemmas.Bool.{cases_lt, leb-true, leb-false, le-leb, lt-leb, cond-true, cond-false, eqb-true, cases_eq, eq-eqb, ne_eqb}
+use Rattle.std.proofs.lemmas.Bool.{cases_lt, leb-true, leb-false, le-leb, lt-leb, cond-true, cond-false, eqb-true, cases_eq, eq-eqb, ne_eqb, and_from, and_left, and_right}
 use Rattle.std.proofs.lemmas.Option.{slice_get_past}
+use Rattle.mh_sequences.specs.declared.run.Run.{Run}
+use Rattle.mh_sequences.specs.Runs.{AreRuns, AreRunsFrom, numbers_of}
 use Rattle.mh_sequences.proofs.Bools.{choose}
 use Rattle.msg_ranges.specs.Selection.{from, up_to, least, greatest, take_last}
-use Rattle.msg_ranges.proofs.Rising.{Rise, rise_weaker}
+use Rattle.msg_ranges.proofs.Rising.{Rise, rise_weaker, rise_runs, rise_filter}
 
 -- a test that all pass, or none
 pub none_up_to : (a low : ℕ) (xs : List ℕ) → Rise low xs → a < low → up_to a xs ≡ []
@@ -110,3 +112,71 @@ just n (x ∷ xs) =
     (λ f. let le = leb-true x n e in let ge = leb-true n x f in ap (λ l. x ∷ l) (just n xs) ∙ sym (cond-true (x == n) (x ∷ filter (λ x. x == n) xs) (filter (λ x. x == n) xs) (eq-eqb x n (omega arith))))
     (λ f. let gt = leb-false n x f in just n xs ∙ sym (cond-false (x == n) (x ∷ filter (λ x. x == n) xs) (filter (λ x. x == n) xs) (ne_eqb x n (λ s. omega arith)))))
     (λ e. let gt = leb-false x n e in just n xs ∙ sym (cond-false (x == n) (x ∷ filter (λ x. x == n) xs) (filter (λ x. x == n) xs) (ne_eqb x n (λ s. omega arith))))
+
+-- two tests as one
+pub two_tests : (p q : ℕ → Bool) (xs : List ℕ) → filter (λ x. p x && q x) xs ≡ filter p (filter q xs)
+two_tests p q [] = refl
+two_tests p q (x ∷ xs) =
+    choose (λ l. filter (λ x. p x && q x) (x ∷ xs) ≡ filter p l) (q x) (x ∷ filter q xs) (filter q xs)
+    (λ e. choose (λ l. filter (λ x. p x && q x) (x ∷ xs) ≡ l) (p x) (x ∷ filter p (filter q xs)) (filter p (filter q xs))
+    (λ f. cond-true (p x && q x) (x ∷ filter (λ x. p x && q x) xs) (filter (λ x. p x && q x) xs) (and_from (p x) (q x) f e) ∙ ap (λ l. x ∷ l) (two_tests p q xs))
+    (λ f. cond-false (p x && q x) (x ∷ filter (λ x. p x && q x) xs) (filter (λ x. p x && q x) xs) (and_left (p x) (q x) f) ∙ two_tests p q xs))
+    (λ e. cond-false (p x && q x) (x ∷ filter (λ x. p x && q x) xs) (filter (λ x. p x && q x) xs) (and_right (p x) (q x) e) ∙ two_tests p q xs)
+
+pub none_pass : (xs : List ℕ) → filter (λ x. false) xs ≡ []
+none_pass [] = refl
+none_pass (x ∷ xs) = none_pass xs
+
+-- numbers that are at most this
+abbrev pub Stay : ℕ → List ℕ → Type 0
+Stay top [] = Unit {0}
+Stay top (x ∷ xs) = (x ≤ top) × Stay top xs
+
+pub all_up_to : (top : ℕ) (xs : List ℕ) → Stay top xs → up_to top xs ≡ xs
+all_up_to top [] h = refl
+all_up_to top (x ∷ xs) h = cond-true (nat_le x top) (x ∷ up_to top xs) (up_to top xs) (le-leb x top h.0) ∙ ap (λ l. x ∷ l) (all_up_to top xs h.1)
+
+stay_range : (top a k : ℕ) (xs : List ℕ) → a + k ≤ top + 1 → Stay top xs → Stay top (range_with_len a k ++ xs)
+stay_range top a zero xs le h = h
+stay_range top a (suc k) xs le h = (omega arith, stay_range top (a + 1) k xs (omega arith) h)
+
+pub stay_runs : (low : ℕ) (rs : List Run) → AreRunsFrom low rs → Stay 999999 (numbers_of rs)
+stay_runs low [] h = tt
+stay_runs low (r ∷ rs) h = stay_range 999999 r.from (r.to + 1 - r.from) (numbers_of rs) (omega arith) (stay_runs (r.to + 2) rs h.3)
+
+pub all_at_most : (rs : List Run) → AreRuns rs → up_to 999999 (numbers_of rs) ≡ numbers_of rs
+all_at_most rs h = all_up_to 999999 (numbers_of rs) (stay_runs 1 rs h)
+
+pub all_at_least : (rs : List Run) → AreRuns rs → from 1 (numbers_of rs) ≡ numbers_of rs
+all_at_least rs h = all_from 1 1 (numbers_of rs) (rise_runs 1 rs h) (omega arith)
+
+module _ (xs : List ℕ) (h : Rise 1 xs) where
+  -- the nearest numbers
+  pub least_above : (n : ℕ) → slice_get xs (length (up_to n xs)) ≡ least (from (n + 1) xs)
+  least_above n =
+      let e : length (up_to n xs) ≡ length (up_to n xs) + 0 = omega arith in
+      ap (slice_get xs) e ∙ sym (get_behind xs (length (up_to n xs)) 0) ∙ ap (λ l. slice_get l 0) (sym (back_from n 1 xs h))
+
+  pub greatest_up_to : (n : ℕ) → 1 ≤ length (up_to n xs) → slice_get xs (length (up_to n xs) - 1) ≡ greatest (up_to n xs)
+  greatest_up_to n some =
+      sym (get_in_front xs (length (up_to n xs)) (length (up_to n xs) - 1) (omega arith)) ∙ ap (λ l. slice_get l (length (up_to n xs) - 1)) (sym (front_up_to n 1 xs h))
+
+  starts : (a : ℕ) → 1 ≤ a → from a xs ≡ drop (length (up_to (a - 1) xs)) xs
+  starts a some = let e : a ≡ a - 1 + 1 = omega arith in ap (λ z. from z xs) e ∙ back_from (a - 1) 1 xs h
+
+  -- the first so many from a number on
+  pub first_some : (a count y : ℕ) → 1 ≤ a → slice_get xs (length (up_to (a - 1) xs) + count) ≡ Some y → take count (from a xs) ≡ from a (up_to (y - 1) xs)
+  first_some a count y some e =
+      before_place 1 (from a xs) count y (omega arith) (rise_filter (λ x. nat_le a x) 1 xs h)
+      (ap (λ l. slice_get l count) (starts a some) ∙ get_behind xs (length (up_to (a - 1) xs)) count ∙ e)
+      ∙ filter_swap (λ x. nat_le x (y - 1)) (λ x. nat_le a x) xs
+
+  pub first_all : (a count : ℕ) → 1 ≤ a → slice_get xs (length (up_to (a - 1) xs) + count) ≡ None → take count (from a xs) ≡ from a xs
+  first_all a count some e = take_all (from a xs) count (ap (λ l. slice_get l count) (starts a some) ∙ get_behind xs (length (up_to (a - 1) xs)) count ∙ e)
+
+  -- the last so many up to a number
+  pub last_some : (a k y : ℕ) → slice_get xs k ≡ Some y → drop k (up_to a xs) ≡ from y (up_to a xs)
+  last_some a k y e = drop_up_to 1 xs a k h ∙ ap (up_to a) (from_place 1 xs k y h e) ∙ filter_swap (λ x. nat_le x a) (λ x. nat_le y x) xs
+
+  pub last_none : (a k : ℕ) → slice_get xs k ≡ None → drop k (up_to a xs) ≡ []
+  last_none a k e = drop_up_to 1 xs a k h ∙ ap (up_to a) (drop_all xs k e)

@@ -62,7 +62,8 @@ pub(crate) fn take_from(
     count: u32,
 ) -> Result<NumSet, AllocError>
     requires { 1 ≤ from }
-    ensures { IfOk result (λ s. numbers_of s.runs ≡ take count (from_number from (numbers_of set.now.runs))) }
+    ensures numbers { IfOk result (λ s. numbers_of s.runs ≡ take count (from_number from (numbers_of set.now.runs))) }
+    ensures valid { AreRuns set.now.runs }
 {
     let place = count_up_to(set, from - 1) + u64::from(count);
     match set.at(place) {
@@ -79,7 +80,8 @@ pub(crate) fn take_up_to(
     count: u32,
 ) -> Result<NumSet, AllocError>
     requires { to ≤ 999999 }
-    ensures { IfOk result (λ s. numbers_of s.runs ≡ last_of count (up_to to (numbers_of set.now.runs))) }
+    ensures numbers { IfOk result (λ s. numbers_of s.runs ≡ last_of count (up_to to (numbers_of set.now.runs))) }
+    ensures valid { AreRuns set.now.runs }
 {
     let place = count_up_to(set, to).saturating_sub(u64::from(count));
     match set.at(place) {

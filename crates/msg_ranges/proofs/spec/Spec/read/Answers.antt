@@ -1,0 +1,20 @@
+use Rattle.std.proofs.Common.{◌≡◌, ℕ, List, Some, None, ap, sym, ◌∙◌, rules}
+use Rattle.std.specs.Str.{encode_utf8_all}
+use Rattle.msg_ranges.specs.Forms.{plain_form, form_with_sequence, form_of}
+use Rattle.msg_ranges.proofs.Forming.{plain_reads, with_sequence_reads, one_reading, no_reading, found_first, found_second}
+use Rattle.msg_ranges.proofs.spec.Spec.read.Goals as goal
+
+pub returns-in-Some-clause-reading : goal.returns-in-Some-clause-reading
+returns-in-Some-clause-reading c = plain_reads c.args.negation.now (encode_utf8_all c.args.text.now) c.in-Some.spec ?
+
+pub returns-in-Some-clause-alone : goal.returns-in-Some-clause-alone
+returns-in-Some-clause-alone c other r = one_reading c.args.negation.now (encode_utf8_all c.args.text.now) c.in-Some.spec other (found_first c.args.negation.now (encode_utf8_all c.args.text.now) c.in-Some.spec ?) r
+
+pub returns-in-Some-2-clause-reading : goal.returns-in-Some-2-clause-reading
+returns-in-Some-2-clause-reading c = with_sequence_reads c.args.negation.now (encode_utf8_all c.args.text.now) c.in-Some-2.spec ? ?
+
+pub returns-in-Some-2-clause-alone : goal.returns-in-Some-2-clause-alone
+returns-in-Some-2-clause-alone c other r = one_reading c.args.negation.now (encode_utf8_all c.args.text.now) c.in-Some-2.spec other (found_second c.args.negation.now (encode_utf8_all c.args.text.now) (Some c.in-Some-2.spec) ? ?) r
+
+pub returns-in-None-clause-refused : goal.returns-in-None-clause-refused
+returns-in-None-clause-refused c _ = no_reading c.args.negation.now (encode_utf8_all c.args.text.now) (found_second c.args.negation.now (encode_utf8_all c.args.text.now) None ? ?)
