@@ -56,17 +56,17 @@ pub left_more : (runs now next : List Run) (i from : ℕ) (r : Run) → AreRuns 
 left_more runs now next i from r v a is put =
     let h : AreRunsFrom from (r ∷ drop (i + 1) runs) = subst (AreRunsFrom from) a.head (is.valid v) in
     record {
-  some = omega arith;
-  top = omega (arith, h.2);
-  valid = λ _. weaker (r.to + 1) (r.to + 2) (drop (i + 1) runs) (omega arith) h.3;
-  same = λ n.
-      ap (λ b. b || left_out (r.to + 1) (drop (i + 1) runs) n) (put n)
-      ∙ or_group (nat_le from n && nat_le n (r.from - 1)) (has now n) (left_out (r.to + 1) (drop (i + 1) runs) n)
-      ∙ or_swap (nat_le from n && nat_le n (r.from - 1)) (has now n) (left_out (r.to + 1) (drop (i + 1) runs) n)
-      ∙ ap (λ b. has now n || b) (sym (parts r (drop (i + 1) runs) from n h.0 h.1 h.2 is.some h.3))
-      ∙ ap (λ l. has now n || left_out from l n) (sym a.head)
-      ∙ is.same n;
-}
+      some = omega arith;
+      top = omega (arith, h.2);
+      valid = λ _. weaker (r.to + 1) (r.to + 2) (drop (i + 1) runs) (omega arith) h.3;
+      same = λ n.
+          ap (λ b. b || left_out (r.to + 1) (drop (i + 1) runs) n) (put n)
+          ∙ or_group (nat_le from n && nat_le n (r.from - 1)) (has now n) (left_out (r.to + 1) (drop (i + 1) runs) n)
+          ∙ or_swap (nat_le from n && nat_le n (r.from - 1)) (has now n) (left_out (r.to + 1) (drop (i + 1) runs) n)
+          ∙ ap (λ b. has now n || b) (sym (parts r (drop (i + 1) runs) from n h.0 h.1 h.2 is.some h.3))
+          ∙ ap (λ l. has now n || left_out from l n) (sym a.head)
+          ∙ is.same n;
+    }
 
 bare : (a b : Bool) → a && b && true ≡ a && b
 bare true true = refl

@@ -46,10 +46,10 @@ plain_read prefix (Count a way n) k h =
     (halves_found 58 (name_text a) (count_text way n) (name_no_colon a h.0)) refl
     ∙ (λ i. count_form (name_read a h.0 i) (count_read way n h.1 i))
 plain_read prefix All k h = refl
-plain_read prefix (Sequence s) k h = absurd (both_ways true k refl)
-plain_read prefix (SequenceCount s way n) k h = absurd (both_ways true k refl)
-plain_read prefix (SequenceSpot s spot) k h = absurd (both_ways true k refl)
-plain_read prefix (Negated s) k h = absurd (both_ways true k refl)
+plain_read prefix (Sequence s) k h = absurd (both_ways false refl k)
+plain_read prefix (SequenceCount s way n) k h = absurd (both_ways false refl k)
+plain_read prefix (SequenceSpot s spot) k h = absurd (both_ways false refl k)
+plain_read prefix (Negated s) k h = absurd (both_ways false refl k)
 
 -- what is read so: a form without a sequence, as it is written
 pub record IsPlain (word : List ℕ) (spec : Spec) : Type 0 where
@@ -102,10 +102,10 @@ allowed_plain prefix word (One a) k = tt
 allowed_plain prefix word (Range a b) k = tt
 allowed_plain prefix word (Count a way n) k = tt
 allowed_plain prefix word All k = tt
-allowed_plain prefix word (Sequence s) k = absurd (both_ways true k refl)
-allowed_plain prefix word (SequenceCount s way n) k = absurd (both_ways true k refl)
-allowed_plain prefix word (SequenceSpot s spot) k = absurd (both_ways true k refl)
-allowed_plain prefix word (Negated s) k = absurd (both_ways true k refl)
+allowed_plain prefix word (Sequence s) k = absurd (both_ways false refl k)
+allowed_plain prefix word (SequenceCount s way n) k = absurd (both_ways false refl k)
+allowed_plain prefix word (SequenceSpot s spot) k = absurd (both_ways false refl k)
+allowed_plain prefix word (Negated s) k = absurd (both_ways false refl k)
 
 -- a word with a form without a sequence is read so
 pub plain_reads : (prefix word : List ℕ) (spec : Spec) → plain_form word ≡ Some spec → Reads prefix word spec
@@ -113,16 +113,16 @@ plain_reads prefix word spec s =
     let is = plain_is word spec s in
     record { written = is.written prefix; proper = is.proper; allowed = allowed_plain prefix word spec is.kind }
 
+not_all : (s : List ℕ) → is_seq_name s ≡ true → bytes_eq s (codes "all") ≡ false
+unfolding is_seq_name
+not_all s h = false_from_ne_true (bytes_eq s (codes "all")) (λ t. let never : is_seq_name (codes "all") ≡ true = ap is_seq_name (sym (same_is s (codes "all") t)) ∙ h in both_ways (is_seq_name (codes "all")) refl never)
+
 -- a sequence's name has no other form
 name_not_plain : (s : List ℕ) → is_seq_name s ≡ true → plain_form s ≡ None
 name_not_plain s h =
     by_halves s None None (halves_none 58 s (name_colon s h)) (halves_none 45 s (name_dash s h))
     ∙ cond-false (bytes_eq s (codes "all")) _ _ (not_all s h)
     ∙ ap one_form (no_name_in s h)
-  where
-    not_all : (s : List ℕ) → is_seq_name s ≡ true → bytes_eq s (codes "all") ≡ false
-    unfolding is_seq_name
-    not_all s h = false_from_ne_true (bytes_eq s (codes "all")) (λ t. let never : is_seq_name (codes "all") ≡ true = ap is_seq_name (sym (same_is s (codes "all") t)) ∙ h in both_ways true never refl)
 
 part_not_plain : (s back : List ℕ) → is_seq_name s ≡ true → plain_form (s ++ (58 ∷ back)) ≡ None
 part_not_plain s back h =

@@ -47,14 +47,14 @@ none_selected f words runs e = record { sets = []; each = tt; union = λ n. ap (
 pub select_more : (f : Folder) (words : List (List ℕ)) (i : ℕ) (w : List ℕ) (old more new : List Run) → slice_get words i ≡ Some w → IsSelection f (take i words) old → ComesTo f i w (Ok (numbers_of more)) → ((n : ℕ) → has new n ≡ has old n || has more n) → IsSelection f (take (i + 1) words) new
 select_more f words i w old more new at is here put =
     rw (add-one i, one_more words i w at) (record {
-  sets = is.sets ++ (numbers_of more ∷ []);
-  each = designate_more f 0 i (take i words) is.sets w (numbers_of more) (let n = so_many words i w at in omega arith) is.each here;
-  union = λ n.
-      put n
-      ∙ (λ j. is.union n j || sym (lists_numbers more n) j)
-      ∙ ap (λ b. list_any (λ xs. lists xs n) is.sets || b) (sym (or_nothing (lists (numbers_of more) n)))
-      ∙ sym (list_any-append (λ xs. lists xs n) is.sets (numbers_of more ∷ []));
-})
+      sets = is.sets ++ (numbers_of more ∷ []);
+      each = designate_more f 0 i (take i words) is.sets w (numbers_of more) (let n = so_many words i w at in omega arith) is.each here;
+      union = λ n.
+          put n
+          ∙ (λ j. is.union n j || sym (lists_numbers more n) j)
+          ∙ ap (λ b. list_any (λ xs. lists xs n) is.sets || b) (sym (or_nothing (lists (numbers_of more) n)))
+          ∙ sym (list_any-append (λ xs. lists xs n) is.sets (numbers_of more ∷ []));
+    })
 
 first_refused : (f : Folder) (words : List (List ℕ)) (i j : ℕ) (w : List ℕ) (old : List Run) (fault : SelectFault) → slice_get words i ≡ Some w → IsSelection f (take i words) old → j ≡ i → ComesTo f i w (Err fault) → IsFirstRefused f words j fault
 first_refused f words i j w old fault at is e here = subst (λ k. IsFirstRefused f words k fault) (sym e) (record { sets = is.sets; before = is.each; word = w; at = at; refused = here })

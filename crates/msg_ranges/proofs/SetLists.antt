@@ -34,9 +34,10 @@ has_above low (r ∷ rs) h n lt =
 
 -- a number of a set is a message number
 number : (rs : List Run) → AreRuns rs → (n : ℕ) → has rs n ≡ true → (1 ≤ n) × (n ≤ 999999)
-number rs h n t =
-    ( ⊎_elim (λ lt. absurd (both_ways (has rs n) (has_below 1 rs h n lt) t)) (λ le. le) (cases_lt n 1)
-    , ⊎_elim (λ lt. absurd (both_ways (has rs n) (has_above 1 rs h n lt) t)) (λ le. omega arith) (cases_lt 999999 n) )
+number rs h n t = (
+  ⊎_elim (λ lt. absurd (both_ways (has rs n) (has_below 1 rs h n lt) t)) (λ le. le) (cases_lt n 1),
+  ⊎_elim (λ lt. absurd (both_ways (has rs n) (has_above 1 rs h n lt) t)) (λ le. omega arith) (cases_lt 999999 n),
+)
 
 within : (rs : List Run) → AreRuns rs → (n : ℕ) (b : Bool) → has rs n && (nat_le 1 n && nat_le n 999999 && b) ≡ has rs n && b
 within rs h n b = ⊎_elim

@@ -52,10 +52,10 @@ pub counted_more : (runs : List Run) (to i count more : ℕ) (r : Run) → IsRun
 counted_more runs to i count more r a is le size =
     let k : ℕ = r.to + 1 - r.from in
     let cut : length (up_to to (numbers_of (drop i runs))) ≡ min k (to + 1 - r.from) + length (up_to to (numbers_of (drop (i + 1) runs))) =
-      ap (λ l. length (up_to to (numbers_of l))) a.head
-      ∙ ap length (filter-append (λ x. nat_le x to) (range_with_len r.from k) (numbers_of (drop (i + 1) runs)))
-      ∙ length-append (up_to to (range_with_len r.from k)) (up_to to (numbers_of (drop (i + 1) runs)))
-      ∙ ap (λ z. z + length (up_to to (numbers_of (drop (i + 1) runs)))) (count_range to r.from k) in
+    ap (λ l. length (up_to to (numbers_of l))) a.head
+    ∙ ap length (filter-append (λ x. nat_le x to) (range_with_len r.from k) (numbers_of (drop (i + 1) runs)))
+    ∙ length-append (up_to to (range_with_len r.from k)) (up_to to (numbers_of (drop (i + 1) runs)))
+    ∙ ap (λ z. z + length (up_to to (numbers_of (drop (i + 1) runs)))) (count_range to r.from k) in
     let same = is.same in
     let order = a.valid.1 in
     record { same = omega arith }

@@ -47,11 +47,7 @@ pub(crate) fn below(set: &NumSet, n: u32) -> Option<MsgNum>
     ensures { result ≡ greatest_of (up_to (n - 1) (numbers_of set.now.runs)) }
 {
     let count = count_up_to(set, n.saturating_sub(1));
-    if count == 0 {
-        None
-    } else {
-        set.at(count - 1)
-    }
+    if count == 0 { None } else { set.at(count - 1) }
 }
 
 /// The first so many numbers that are at least this.

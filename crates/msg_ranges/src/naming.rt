@@ -24,11 +24,7 @@ fn present(listing: &NumSet, cur: Option<MsgNum>) -> Option<MsgNum>
     ensures { result ≡ existing (numbers_of listing.now.runs) cur }
 {
     let cur = cur?;
-    if listing.has(cur) {
-        Some(cur)
-    } else {
-        None
-    }
+    if listing.has(cur) { Some(cur) } else { None }
 }
 
 /// The number that a name stands for.

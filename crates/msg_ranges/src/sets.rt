@@ -41,11 +41,7 @@ fn ends_before(first: &Run, second: &Run) -> bool
 }
 
 /// The numbers of both sets.
-pub(crate) fn common(
-    alloc: Global,
-    first: &NumSet,
-    second: &NumSet,
-) -> Result<NumSet, AllocError>
+pub(crate) fn common(alloc: Global, first: &NumSet, second: &NumSet) -> Result<NumSet, AllocError>
     ensures both { IfOk result (λ s. (n : ℕ) → has s.runs n ≡ (has first.now.runs n && has second.now.runs n)) }
     ensures valid { IfOk result (λ s. AreRuns s.runs) }
     ensures valid_first { AreRuns first.now.runs }

@@ -42,7 +42,11 @@ fn texts(alloc: Global, words: &[&str]) -> Result<TextList, Fail> {
 #[derive(Clone, Copy)]
 struct Folder<'a>(&'a [u32], &'a str, &'a str);
 
-fn answer(alloc: Global, folder: Folder<'_>, words: &[&str]) -> Result<Result<NumSet, SelectFault>, Fail> {
+fn answer(
+    alloc: Global,
+    folder: Folder<'_>,
+    words: &[&str],
+) -> Result<Result<NumSet, SelectFault>, Fail> {
     let Folder(numbers, text, negation) = folder;
     let listing = set(alloc, numbers)?;
     let sequences = read(alloc, text)?;
@@ -51,7 +55,12 @@ fn answer(alloc: Global, folder: Folder<'_>, words: &[&str]) -> Result<Result<Nu
 }
 
 /// Whether the words select just these messages.
-fn selects(alloc: Global, folder: Folder<'_>, words: &[&str], wanted: &[u32]) -> Result<bool, Fail> {
+fn selects(
+    alloc: Global,
+    folder: Folder<'_>,
+    words: &[&str],
+    wanted: &[u32],
+) -> Result<bool, Fail> {
     let wanted = set(alloc, wanted)?;
     match answer(alloc, folder, words)? {
         Ok(set) => Ok((0..wanted.len().max(set.len())).all(|i| set.at(i) == wanted.at(i))),
@@ -60,7 +69,12 @@ fn selects(alloc: Global, folder: Folder<'_>, words: &[&str], wanted: &[u32]) ->
 }
 
 /// Whether the words are refused so.
-fn refuses(alloc: Global, folder: Folder<'_>, words: &[&str], wanted: SelectFault) -> Result<bool, Fail> {
+fn refuses(
+    alloc: Global,
+    folder: Folder<'_>,
+    words: &[&str],
+    wanted: SelectFault,
+) -> Result<bool, Fail> {
     match answer(alloc, folder, words)? {
         Ok(_) => Ok(false),
         Err(fault) => Ok(fault == wanted),
@@ -76,8 +90,25 @@ fn numbers_are_found_or_refused(rt: HostRuntime) -> Result<(), Fail> {
     assert!(rt; refuses(alloc, folder, &["99"], SelectFault::Absent(0))?);
     assert!(rt; selects(alloc, folder, &["4-99"], &[4, 5])?);
     assert!(rt; refuses(alloc, folder, &["99-200"], SelectFault::EmptyRange(0))?);
-    for word in ["0", "1000000", "007", "seq:cur", "all:n", "", "4-", "4:0", "4:+", "cur:first", "new", "-", ":"] {
-        assert!(rt; refuses(alloc, folder, &["2", word], SelectFault::BadSpec(1))?, "{word}");
+    for word in [
+        "0",
+        "1000000",
+        "007",
+        "seq:cur",
+        "all:n",
+        "",
+        "4-",
+        "4:0",
+        "4:+",
+        "cur:first",
+        "new",
+        "-",
+        ":",
+    ] {
+        assert!(rt;
+            refuses(alloc, folder, &["2", word], SelectFault::BadSpec(1))?,
+            "{word}"
+        );
     }
     Ok(())
 }
@@ -95,7 +126,14 @@ fn counts_go_up_or_down(rt: HostRuntime) -> Result<(), Fail> {
     assert!(rt; refuses(alloc, folder, &["cur:-2"], SelectFault::Absent(0))?);
     assert!(rt; refuses(alloc, folder, &["5-2"], SelectFault::EmptyRange(0))?);
     assert!(rt; selects(alloc, folder, &["9", "2-3", "next"], &[2, 3, 5, 9])?);
-    assert!(rt; refuses(alloc, folder, &["first", "6", "cur"], SelectFault::Absent(1))?);
+    assert!(rt;
+        refuses(
+            alloc,
+            folder,
+            &["first", "6", "cur"],
+            SelectFault::Absent(1)
+        )?
+    );
     Ok(())
 }
 
@@ -115,11 +153,26 @@ fn sequences_are_parts_of_the_folder(rt: HostRuntime) -> Result<(), Fail> {
 fn an_empty_folder_has_no_ends(rt: HostRuntime) -> Result<(), Fail> {
     let alloc = rt.alloc();
     let folder = Folder(&[], "cur: 3\n", "");
-    for word in ["all", "first", "last", "first-cur", "cur-last", "3-last", "last:3", "first:-1"] {
-        assert!(rt; refuses(alloc, folder, &[word], SelectFault::EmptyRange(0))?, "{word}");
+    for word in [
+        "all",
+        "first",
+        "last",
+        "first-cur",
+        "cur-last",
+        "3-last",
+        "last:3",
+        "first:-1",
+    ] {
+        assert!(rt;
+            refuses(alloc, folder, &[word], SelectFault::EmptyRange(0))?,
+            "{word}"
+        );
     }
     for word in ["cur", "next", "prev:2", "3", "cur-3"] {
-        assert!(rt; refuses(alloc, folder, &[word], SelectFault::Absent(0))?, "{word}");
+        assert!(rt;
+            refuses(alloc, folder, &[word], SelectFault::Absent(0))?,
+            "{word}"
+        );
     }
     Ok(())
 }
@@ -133,9 +186,30 @@ fn a_prefix_negates(rt: HostRuntime) -> Result<(), Fail> {
     assert!(rt; selects(alloc, folder, &["notnone"], &FIVE)?);
     assert!(rt; refuses(alloc, folder, &["nottodo:1"], SelectFault::BadSpec(0))?);
     assert!(rt; refuses(alloc, folder, &["not"], SelectFault::BadSpec(0))?);
-    assert!(rt; refuses(alloc, Folder(&FIVE, "todo: 1-5\n", "not"), &["nottodo"], SelectFault::EmptySequence(0))?);
-    assert!(rt; refuses(alloc, Folder(&FIVE, text, ""), &["nottodo"], SelectFault::EmptySequence(0))?);
-    assert!(rt; selects(alloc, Folder(&FIVE, text, "l"), &["last", "ltodo"], &[2, 3, 4, 5])?);
+    assert!(rt;
+        refuses(
+            alloc,
+            Folder(&FIVE, "todo: 1-5\n", "not"),
+            &["nottodo"],
+            SelectFault::EmptySequence(0)
+        )?
+    );
+    assert!(rt;
+        refuses(
+            alloc,
+            Folder(&FIVE, text, ""),
+            &["nottodo"],
+            SelectFault::EmptySequence(0)
+        )?
+    );
+    assert!(rt;
+        selects(
+            alloc,
+            Folder(&FIVE, text, "l"),
+            &["last", "ltodo"],
+            &[2, 3, 4, 5]
+        )?
+    );
     Ok(())
 }
 

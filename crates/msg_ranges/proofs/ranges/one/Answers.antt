@@ -11,5 +11,5 @@ pub returns : goal.returns
 returns c =
     let xs : List ℕ = numbers_of c.args.listing.now.runs in
     let same : numbers_of c.in_ok-set.set.runs ≡ filter (λ x. x == c.in-Some.n) xs =
-      c.in_ok-set.ensures.numbers ∙ (λ i. from (c.get.ensures.value i) (up_to (c.get-2.ensures.value i) xs)) ∙ just c.in-Some.n xs in
+    c.in_ok-set.ensures.numbers ∙ (λ i. from (c.get.ensures.value i) (up_to (c.get-2.ensures.value i) xs)) ∙ just c.in-Some.n xs in
     rw c.in-Some.is (gives_some c.args.index (Absent c.args.index) c.in_ok-set.set (filter (λ x. x == c.in-Some.n) xs) c.some_or.result refl same c.some_or.ensures)

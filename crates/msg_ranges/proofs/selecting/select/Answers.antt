@@ -14,13 +14,13 @@ pub returns-in_err-set-clause-refusal : goal.returns-in_err-set-clause-refusal
 returns-in_err-set-clause-refusal c =
     let p = err_from_is_err_and c.from_residual.result c.from_residual.ensures.1 in
     let at : slice_get (map encode_utf8_all c.args.specs.now) c.loop-index.index ≡ Some (encode_utf8_all c.word-item.result) =
-      word_at encode_utf8_all c.args.specs.now c.loop-index.index c.word-item.result (rw c.as_slice-word-items.ensures at c.loop-index-test.true) (rw c.as_slice-word-items.ensures at c.word-item.is) in
+    word_at encode_utf8_all c.args.specs.now c.loop-index.index c.word-item.result (rw c.as_slice-word-items.ensures at c.loop-index-test.true) (rw c.as_slice-word-items.ensures at c.word-item.is) in
     rw (p.1, p.2) (refuse _ (map encode_utf8_all c.args.specs.now) c.loop-index.index (encode_utf8_all c.word-item.result) c.loop-index.selected.runs c.in_err-set.field-0.0 at c.loop-index.invariant c.in_err-set.ensures)
 
 pub loop-index-preserved : goal.loop-index-preserved
 loop-index-preserved c =
     let at : slice_get (map encode_utf8_all c.args.specs.now) c.loop-index.index ≡ Some (encode_utf8_all c.word-item.result) =
-      word_at encode_utf8_all c.args.specs.now c.loop-index.index c.word-item.result (rw c.as_slice-word-items.ensures at c.loop-index-test.true) (rw c.as_slice-word-items.ensures at c.word-item.is) in
+    word_at encode_utf8_all c.args.specs.now c.loop-index.index c.word-item.result (rw c.as_slice-word-items.ensures at c.loop-index-test.true) (rw c.as_slice-word-items.ensures at c.word-item.is) in
     select_more _ (map encode_utf8_all c.args.specs.now) c.loop-index.index (encode_utf8_all c.word-item.result) c.loop-index.selected.runs c.in_ok-set.set.runs c.insert_all.new.set.runs at c.loop-index.invariant c.in_ok-set.ensures c.in_ok-insert_all.ensures
 
 pub returns-clause-selection : goal.returns-clause-selection
