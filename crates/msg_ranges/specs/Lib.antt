@@ -1,5 +1,6 @@
 pub mod Choosing
 pub mod Forms
+pub mod Plain
 pub mod Reading
 pub mod Runs
 pub mod Selecting

@@ -10,6 +10,8 @@ mod halves;
 mod members;
 mod names;
 mod naming;
+#[cfg(test)]
+mod plain;
 mod ranges;
 mod selecting;
 mod sets;
