@@ -8,6 +8,7 @@ use Rattle.mh_sequences.specs.Runs.{AreRuns, AreRunsFrom, Numbers, numbers_of}
 use Rattle.msg_ranges.specs.declared.fault.SelectFault.{SelectFault}
 use Rattle.msg_ranges.specs.declared.fault.SelectFault.TheVariants.{BadSpec, Absent, EmptyRange, EmptySequence, Memory}
 use Rattle.msg_ranges.specs.Choosing.{IsOf, IsMeant, Gives, GivesSome}
+use Rattle.msg_ranges.specs.Plain.{GivesList}
 use Rattle.msg_ranges.specs.Selection.{some_or, unless_void}
 
 pub if_ok : {A E : Type 0} (P Q : A → Type 0) (r : Result A E) → ((a : A) → P a → Q a) → IfOk r P → IfOk r Q
@@ -58,3 +59,11 @@ gives_inside k end xs meant r e g = subst (λ m. Gives k m r) (sym (void_no k en
 
 pub gives_among : (k : ℕ) (end : Bool) (rs : List Run) (meant : Result (List ℕ) SelectFault) (r : Result Numbers SelectFault) → AreRuns rs → (length rs == 0) ≡ false → Gives k meant r → Gives k (unless_void k end (numbers_of rs) meant) r
 gives_among k end rs meant r h e g = subst (λ m. Gives k m r) (sym (void_some k end (numbers_of rs) meant (some_numbers rs h e))) g
+
+given_some : (k : ℕ) (fault : SelectFault) (xs : List ℕ) → IsOf k fault → GivesList k (some_or fault xs) (some_or fault xs)
+given_some k fault [] of = meant_self k fault of
+given_some k fault (x ∷ xs) of = refl
+
+-- the same of lists
+pub gives_list : (k : ℕ) (fault : SelectFault) (xs ys : List ℕ) (r : Result (List ℕ) SelectFault) → IsOf k fault → xs ≡ ys → r ≡ some_or fault xs → GivesList k (some_or fault ys) r
+gives_list k fault xs ys r of e is = subst (λ z. GivesList k (some_or fault ys) z) (ap (some_or fault) (sym e) ∙ sym is) (given_some k fault ys of)

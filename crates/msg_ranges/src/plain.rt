@@ -1,5 +1,5 @@
 // What words designate, number by number.
-ghost use Rattle.std.specs.Prelude.{◌≡◌, ◌≤◌, ◌==◌, ◌||◌, not, filter, take, IfOk};
+ghost use Rattle.std.specs.Prelude.{◌≡◌, ◌≤◌, ◌==◌, ◌||◌, not, filter, find, take, IfOk};
 ghost use Rattle.mh_sequences.specs.Sequences.{member};
 ghost use Rattle.msg_ranges.specs.Plain.{GivesList};
 ghost use Rattle.msg_ranges.specs.Selection.{between, chosen, counted as counted_from, counted_members, from as from_number, goes_up as goes_up_by, is_end as is_end_name, members as members_of, named as named_number, one as one_of, others as others_of, some_or as some_numbers_or, spotted, take_last as last_of, unless_void, up_to as up_to_number};
@@ -38,6 +38,12 @@ fn just(alloc: Global, numbers: &[MsgNum], n: u32) -> Result<Vec<MsgNum>, AllocE
         .copied()
         .filter(|x| x.get() == n)
         .collect(alloc)
+}
+
+fn found(numbers: &[MsgNum], n: u32) -> Option<MsgNum>
+    ensures { result ≡ find (λ x. x == n) numbers.now }
+{
+    numbers.iter().copied().find(|x| x.get() == n)
 }
 
 fn first(alloc: Global, numbers: &[MsgNum], count: u32) -> Result<Vec<MsgNum>, AllocError>
@@ -105,7 +111,7 @@ fn named(
         Base::First => Ok(numbers.first().copied()),
         Base::Last => Ok(numbers.last().copied()),
         Base::Cur => match sequences.cur() {
-            Some(cur) => Ok(numbers.iter().copied().find(|x| x.get() == cur.get())),
+            Some(cur) => Ok(found(numbers, cur.get())),
             None => Ok(None),
         },
         Base::Prev => {
