@@ -1,10 +1,10 @@
 -- Answers and what was meant.
-use Rattle.std.proofs.Common.{◌≡◌, ℕ, zero, suc, ◌+◌, ◌-◌, ◌<◌, ◌≤◌, Bool, true, false, List, [], ◌∷◌, ◌++◌, length, refl, sym, ◌∙◌, ap, subst, arith, length-append}
-use Rattle.std.specs.Prelude.{Result, Ok, Err, IfOk, ◌||◌, ◌==◌}
+use Rattle.std.proofs.Common.{◌≡◌, ℕ, ◌+◌, ◌-◌, ◌≤◌, Bool, true, false, List, [], ◌∷◌, length, refl, sym, ◌∙◌, ap, subst, arith, length-append}
+use Rattle.std.specs.Prelude.{Result, Ok, Err, IfOk, ◌==◌}
 use Rattle.std.specs.List.{range_with_len}
 use Rattle.std.proofs.lemmas.List.FromFn.{length-range_with_len}
 use Rattle.mh_sequences.specs.declared.run.Run.{Run}
-use Rattle.mh_sequences.specs.Runs.{AreRuns, AreRunsFrom, Numbers, numbers_of}
+use Rattle.mh_sequences.specs.Runs.{AreRuns, Numbers, numbers_of}
 use Rattle.msg_ranges.specs.declared.fault.SelectFault.{SelectFault}
 use Rattle.msg_ranges.specs.declared.fault.SelectFault.TheVariants.{BadSpec, Absent, EmptyRange, EmptySequence, Memory}
 use Rattle.msg_ranges.specs.Choosing.{IsOf, IsMeant, Gives, GivesSome}

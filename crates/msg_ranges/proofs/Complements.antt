@@ -1,14 +1,14 @@
 -- Numbers that a set doesn't have.
-use Rattle.std.proofs.Common.{◌≡◌, ℕ, zero, suc, ◌+◌, ◌-◌, ◌<◌, ◌≤◌, Bool, true, false, Some, None, List, [], ◌∷◌, ◌++◌, length, take, drop, refl, sym, ◌∙◌, ap, subst, arith, ⊎_elim}
-use Rattle.std.specs.Prelude.{◌&&◌, ◌||◌, ◌==◌, not, nat_le, nat_lt}
-use Rattle.std.proofs.lemmas.Bool.{cases_lt, cases_Bool, or_from, or_left, and_left, and_right}
+use Rattle.std.proofs.Common.{◌≡◌, ℕ, ◌+◌, ◌-◌, ◌≤◌, Bool, true, false, List, [], ◌∷◌, drop, refl, sym, ◌∙◌, ap, subst, arith, ⊎_elim}
+use Rattle.std.specs.Prelude.{◌&&◌, ◌||◌, not, nat_le}
+use Rattle.std.proofs.lemmas.Bool.{cases_lt, or_from, and_right}
 use Rattle.std.proofs.lemmas.Bool.Decides.{nat_tests}
 use Rattle.mh_sequences.specs.declared.run.Run.{Run}
 use Rattle.mh_sequences.specs.Runs.{AreRuns, AreRunsFrom, inside, has}
 use Rattle.mh_sequences.proofs.Adding.{weaker}
 use Rattle.mh_sequences.proofs.Removing.{has_below}
-use Rattle.mh_sequences.proofs.Bools.{or_swap, or_group, or_nothing}
-use Rattle.msg_ranges.specs.Runs.{IsAt, IsRunAt}
+use Rattle.mh_sequences.proofs.Bools.{or_swap, or_group}
+use Rattle.msg_ranges.specs.Runs.{IsRunAt}
 
 -- from a number on, what the runs leave out
 abbrev pub left_out : ℕ → List Run → ℕ → Bool

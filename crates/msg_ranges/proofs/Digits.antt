@@ -1,13 +1,12 @@
 -- Bytes of numbers and of names.
-use Rattle.std.proofs.Common.{◌≡◌, ℕ, zero, suc, ◌+◌, ◌<◌, ◌≤◌, ◌^◌, Bool, true, false, Some, None, List, [], ◌∷◌, ◌++◌, length, refl, sym, ◌∙◌, ap, subst, arith}
-use Rattle.std.specs.Prelude.{◌&&◌, ◌||◌, ◌==◌, not, nat_le, nat_lt, decimal, codes, bytes_eq, Option, if◌then◌else◌}
-use Rattle.std.specs.List.{list_all, list_any}
+use Rattle.std.proofs.Common.{◌≡◌, ℕ, ◌<◌, ◌≤◌, ◌^◌, Bool, true, false, Some, None, List, [], ◌∷◌, length, refl, sym, ◌∙◌, ap, subst, arith}
+use Rattle.std.specs.Prelude.{◌&&◌, ◌==◌, nat_le, nat_lt, decimal, bytes_eq, Option}
+use Rattle.std.specs.List.{list_all}
 use Rattle.std.specs.Str.Parse.{AllDigits}
 use Rattle.std.specs.Char.{is_ascii_alphanumeric}
 use Rattle.std.proofs.lemmas.Bool.{eqb-true, and_parts, and_from, leb-true, le-leb, ltb-true, ne_eqb, or_from, both_ways, false_from_ne_true}
 use Rattle.std.proofs.lemmas.Fmt.{decimal_is_IsNumeral}
 use Rattle.std.proofs.lemmas.Str.Parse.{digit_from_value}
-use Rattle.std.proofs.lemmas.List.Folds.{list_any-append}
 use Rattle.mh_base.specs.Numbers.{IsMsgNum, number_of, decimal_of, in_range}
 use Rattle.mh_base.proofs.Decimals.{decimal_of_is}
 use Rattle.mh_sequences.specs.Names.{is_seq_name, begins_with_letter}

@@ -1,27 +1,24 @@
 -- Forms of words, read back.
-use Rattle.std.proofs.Common.{◌≡◌, ℕ, zero, suc, ◌+◌, ◌<◌, ◌≤◌, Bool, true, false, Some, None, List, [], ◌∷◌, ◌++◌, length, take, drop, refl, sym, ◌∙◌, ap, subst, arith}
-use Rattle.std.specs.Prelude.{◌==◌, ◌||◌, codes, bytes_eq, nat_eq, Option, if◌then◌else◌}
-use Rattle.std.specs.List.{starts_with}
+use Rattle.std.proofs.Common.{◌≡◌, ℕ, true, false, Some, None, List, [], ◌∷◌, ◌++◌, length, take, drop, refl, sym, ◌∙◌, ap, subst}
+use Rattle.std.specs.Prelude.{◌==◌, ◌||◌, codes, bytes_eq, Option}
 use Rattle.std.proofs.Math.Seq.{drop-append_seam}
-use Rattle.std.proofs.lemmas.Bool.{cond-true, cond-false, or_from, both_ways, cases_Bool, false_from_ne_true}
+use Rattle.std.proofs.lemmas.Bool.{cond-true, cond-false, or_from, both_ways, false_from_ne_true}
 use Rattle.std.proofs.lemmas.List.{take-append-drop}
 use Rattle.std.proofs.lemmas.List.Folds.{list_any-append}
-use Rattle.mh_base.specs.Numbers.{IsMsgNum}
 use Rattle.mh_sequences.specs.Names.{is_seq_name}
 use Rattle.mh_sequences.proofs.Bools.{choose}
 use Rattle.mh_sequences.proofs.PlaceLemmas.{same_is}
 use Rattle.msg_ranges.specs.declared.counts.Counted.{Counted}
 use Rattle.msg_ranges.specs.declared.spec.Base.{Base}
-use Rattle.msg_ranges.specs.declared.spec.Way.{Way}
 use Rattle.msg_ranges.specs.declared.spec.Spot.{Spot}
 use Rattle.msg_ranges.specs.declared.spec.Spec.{Spec}
 use Rattle.msg_ranges.specs.declared.spec.Spec.TheVariants.{One, Range, Count, All, Sequence, SequenceCount, SequenceSpot, Negated}
 use Rattle.msg_ranges.specs.Forms.{Halves, halves, name_in, count_in, spot_in, one_form, range_form, count_form, single_form, cut_form, plain_form, part_form, cut_sequence_form, sequence_form, negated_form, form_with_sequence, first_of, form_of}
 use Rattle.msg_ranges.specs.Selecting.{IsBad}
-use Rattle.msg_ranges.specs.Words.{name_text, count_text, spot_text, text_of, IsName, IsSpec, has_no_sequence, negates, HasSequence, IsAllowed, Reads}
+use Rattle.msg_ranges.specs.Words.{name_text, count_text, spot_text, text_of, IsSpec, has_no_sequence, negates, HasSequence, IsAllowed, Reads}
 use Rattle.msg_ranges.proofs.Cutting.{stands, halves_found, halves_none, halves_are}
 use Rattle.msg_ranges.proofs.Digits.{name_dash, name_colon}
-use Rattle.msg_ranges.proofs.Parts.{name_read, name_is, name_no_dash, name_no_colon, name_not_all, name_no_sequence, no_name_in, count_read, count_is, spot_read, spot_is, count_no_spot}
+use Rattle.msg_ranges.proofs.Parts.{name_read, name_is, name_no_dash, name_no_colon, name_not_all, no_name_in, count_read, count_is, spot_read, spot_is, count_no_spot}
 
 -- two parts with a byte between have another byte where one of them has it
 stands_joined : (mark between : ℕ) (front back : List ℕ) → stands mark front ≡ false → (between == mark) ≡ false → stands mark back ≡ false → stands mark (front ++ (between ∷ back)) ≡ false

@@ -1,8 +1,8 @@
 -- Names, counts and places in sequences, read back.
-use Rattle.std.proofs.Common.{◌≡◌, ℕ, zero, suc, ◌+◌, ◌<◌, ◌≤◌, Bool, true, false, Some, None, List, [], ◌∷◌, ◌++◌, length, refl, sym, ◌∙◌, ap, subst, arith}
-use Rattle.std.specs.Prelude.{◌==◌, decimal, codes, bytes_eq, Option, if◌then◌else◌}
+use Rattle.std.proofs.Common.{◌≡◌, ℕ, ◌<◌, true, false, Some, None, List, [], ◌∷◌, length, refl, sym, ◌∙◌, ap, subst, arith}
+use Rattle.std.specs.Prelude.{◌==◌, decimal, codes, bytes_eq, Option}
 use Rattle.std.specs.List.{list_all}
-use Rattle.std.proofs.lemmas.Bool.{eqb-true, ne_eqb, and_parts, cond-true, cond-false}
+use Rattle.std.proofs.lemmas.Bool.{eqb-true, ne_eqb, and_parts, cond-false}
 use Rattle.mh_base.specs.Numbers.{IsMsgNum, number_of}
 use Rattle.mh_sequences.specs.Names.{is_seq_name}
 use Rattle.mh_sequences.proofs.Bools.{choose}

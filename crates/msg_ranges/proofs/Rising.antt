@@ -1,15 +1,13 @@
 -- Ascending numbers.
-use Rattle.std.proofs.Common.{◌≡◌, ℕ, zero, suc, ◌+◌, ◌-◌, ◌<◌, ◌≤◌, Bool, true, false, Some, None, List, [], ◌∷◌, ◌++◌, length, take, drop, refl, sym, ◌∙◌, ap, subst, arith, ⊎_elim, min}
-use Rattle.std.specs.Prelude.{◌&&◌, ◌||◌, ◌==◌, nat_le, nat_lt, filter, find, slice_get, if◌then◌else◌}
+use Rattle.std.proofs.Common.{◌≡◌, ℕ, zero, suc, ◌+◌, ◌-◌, ◌<◌, ◌≤◌, Bool, true, false, Some, None, List, [], ◌∷◌, ◌++◌, refl, sym, ◌∙◌, ap, subst, arith, ⊎_elim}
+use Rattle.std.specs.Prelude.{◌&&◌, ◌||◌, ◌==◌, nat_le, nat_lt, filter, find}
 use Rattle.std.specs.List.{list_any, range_with_len}
-use Rattle.std.proofs.lemmas.Bool.{cases_lt, cases_Bool, cases_order, or_from, or_left, and_left, and_right, and_from, eqb-true, ne_eqb, eq-eqb, leb-true, leb-false, le-leb, lt-leb, both_ways}
+use Rattle.std.proofs.lemmas.Bool.{cases_lt, cases_Bool, cases_order, or_from, or_left, and_right, and_from, eqb-true, ne_eqb, eq-eqb, both_ways}
 use Rattle.std.proofs.lemmas.Bool.Decides.{nat_tests}
 use Rattle.std.proofs.lemmas.List.Folds.{list_any-append}
-use Rattle.std.proofs.lemmas.List.Elements.{filter-append}
 use Rattle.mh_sequences.specs.declared.run.Run.{Run}
 use Rattle.mh_sequences.specs.Runs.{AreRuns, AreRunsFrom, inside, has, numbers_of}
 use Rattle.mh_sequences.proofs.Bools.{choose}
-use Rattle.msg_ranges.specs.Selection.{from, up_to, least, greatest, take_last}
 
 -- the list has the number
 abbrev pub lists : List ℕ → ℕ → Bool

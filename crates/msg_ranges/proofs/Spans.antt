@@ -1,15 +1,14 @@
 -- Parts of ascending numbers.
-use Rattle.std.proofs.Common.{◌≡◌, ℕ, zero, suc, ◌+◌, ◌-◌, ◌<◌, ◌≤◌, Bool, true, false, Some, None, List, [], ◌∷◌, ◌++◌, length, take, drop, refl, sym, ◌∙◌, ap, subst, arith, ⊎_elim, min}
+use Rattle.std.proofs.Common.{◌≡◌, ℕ, zero, suc, ◌+◌, ◌-◌, ◌<◌, ◌≤◌, Bool, false, Some, None, List, [], ◌∷◌, ◌++◌, length, take, drop, refl, sym, ◌∙◌, ap, arith, ⊎_elim}
 use Rattle.std.proofs.Math.Seq.{drop-nil}
-use Rattle.std.specs.Prelude.{◌&&◌, ◌||◌, ◌==◌, nat_le, nat_lt, filter, slice_get, if◌then◌else◌}
+use Rattle.std.specs.Prelude.{◌&&◌, ◌==◌, nat_le, filter, slice_get}
 use Rattle.std.specs.List.{range_with_len}
-use Rattle.std.proofs.lemmas.Bool.{cases_lt, leb-true, leb-false, le-leb, lt-leb, cond-true, cond-false, eqb-true, cases_eq, eq-eqb, ne_eqb, and_from, and_left, and_right}
-use Rattle.std.proofs.lemmas.Option.{slice_get_past}
+use Rattle.std.proofs.lemmas.Bool.{cases_lt, leb-true, leb-false, le-leb, lt-leb, cond-true, cond-false, eq-eqb, ne_eqb, and_from, and_left, and_right}
 use Rattle.mh_sequences.specs.declared.run.Run.{Run}
 use Rattle.mh_sequences.specs.Runs.{AreRuns, AreRunsFrom, numbers_of}
 use Rattle.mh_sequences.proofs.Bools.{choose}
-use Rattle.msg_ranges.specs.Selection.{from, up_to, least, greatest, take_last}
-use Rattle.msg_ranges.proofs.Rising.{Rise, rise_weaker, rise_runs, rise_filter}
+use Rattle.msg_ranges.specs.Selection.{from, up_to, least, greatest}
+use Rattle.msg_ranges.proofs.Rising.{Rise, rise_runs, rise_filter}
 
 -- a test that all pass, or none
 pub none_up_to : (a low : ℕ) (xs : List ℕ) → Rise low xs → a < low → up_to a xs ≡ []

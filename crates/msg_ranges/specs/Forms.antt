@@ -1,5 +1,5 @@
 -- The forms of words, read from the front.
-use Rattle.std.specs.Prelude.{ℕ, ◌==◌, Bool, bytes_eq, Option, Some, None, codes, List, [], ◌∷◌, length, drop, if◌then◌else◌}
+use Rattle.std.specs.Prelude.{ℕ, ◌==◌, bytes_eq, Option, Some, None, codes, List, [], ◌∷◌, length, drop, if◌then◌else◌}
 use Rattle.mh_base.specs.Numbers.{number_of}
 use Rattle.mh_sequences.specs.Names.{is_seq_name}
 use Rattle.msg_ranges.specs.declared.counts.Counted.{Counted}

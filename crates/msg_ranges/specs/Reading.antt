@@ -1,7 +1,7 @@
 -- Words that were read.
-use Rattle.std.specs.Prelude.{◌≡◌, ◌⊎◌, ℕ, Option, None, Some, List}
+use Rattle.std.specs.Prelude.{◌≡◌, ℕ, Option, None, Some, List}
 use Rattle.std.specs.Borrow.{Bor}
-use Rattle.msg_ranges.specs.Forms.{Halves, halves}
+use Rattle.msg_ranges.specs.Forms.{halves}
 
 -- a text was cut at the first such byte, or has none
 abbrev pub AreHalves : ℕ → List ℕ → Option (Bor (List ℕ) × Bor (List ℕ)) → Type 0

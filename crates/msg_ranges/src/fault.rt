@@ -8,16 +8,12 @@ use thiserror::Error;
 /// Why words select nothing: the place of the first word that is refused, from 0.
 #[derive(Debug, PartialEq, Eq, Drop, Error)]
 pub enum SelectFault {
-    /// It has none of the forms.
     #[error("word {0} names no messages")]
     BadSpec(u64),
-    /// Its message, or a message in it, is not there.
     #[error("the message of word {0} is not there")]
     Absent(u64),
-    /// No message is in its range.
     #[error("no message is in the range of word {0}")]
     EmptyRange(u64),
-    /// No message is in its sequence.
     #[error("no message is in the sequence of word {0}")]
     EmptySequence(u64),
     #[error("out of memory")]

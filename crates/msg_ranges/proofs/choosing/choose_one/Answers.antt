@@ -1,4 +1,4 @@
-use Rattle.std.proofs.Common.{◌≡◌, sym, ◌∙◌}
+use Rattle.std.proofs.Common.{sym, ◌∙◌}
 use Rattle.mh_sequences.specs.Runs.{numbers_of}
 use Rattle.msg_ranges.proofs.Answering.{gives_inside, gives_among}
 use Rattle.msg_ranges.proofs.choosing.choose_one.Goals as goal

@@ -1,5 +1,5 @@
 use Rattle.std.proofs.Common.{◌≤◌, arith}
-use Rattle.msg_ranges.proofs.Sums.{few_up_to, few_counted, counted_before, counted_more, counted_end}
+use Rattle.msg_ranges.proofs.Sums.{few_counted, counted_before, counted_more, counted_end}
 use Rattle.msg_ranges.proofs.counting.count_up_to.Goals as goal
 
 pub returns-then-to-from-clause-count : goal.returns-then-to-from-clause-count

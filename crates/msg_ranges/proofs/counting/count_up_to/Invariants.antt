@@ -1,4 +1,4 @@
-use Rattle.std.proofs.Common.{◌≡◌, ◌+◌, ◌-◌, length, drop}
+use Rattle.std.proofs.Common.{◌-◌, length}
 use Rattle.msg_ranges.proofs.Sums.{IsCounted}
 use Rattle.msg_ranges.proofs.counting.count_up_to.Given as goal
 

@@ -1,6 +1,4 @@
-use Rattle.std.proofs.Common.{◌≡◌, List, ℕ, [], length, drop, sym, ◌∙◌, ap}
-use Rattle.msg_ranges.specs.Forms.{Halves}
-use Rattle.std.specs.Prelude.{Some, Option}
+use Rattle.std.proofs.Common.{sym, ◌∙◌}
 use Rattle.msg_ranges.proofs.Cutting.{cut_some, cut_none, no_length}
 use Rattle.msg_ranges.proofs.halves.halves.Goals as goal
 

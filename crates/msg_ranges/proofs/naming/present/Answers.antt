@@ -1,6 +1,5 @@
-use Rattle.std.proofs.Common.{◌≡◌, sym, ◌∙◌, ap, subst, Some, None}
+use Rattle.std.proofs.Common.{sym, ◌∙◌}
 use Rattle.mh_sequences.specs.Runs.{numbers_of}
-use Rattle.msg_ranges.specs.Selection.{existing}
 use Rattle.msg_ranges.proofs.Rising.{lists_numbers, found, not_found}
 use Rattle.msg_ranges.proofs.naming.present.Goals as goal
 

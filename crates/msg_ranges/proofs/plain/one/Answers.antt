@@ -1,4 +1,4 @@
-use Rattle.std.proofs.Common.{◌≡◌, ap, refl, ◌∙◌}
+use Rattle.std.proofs.Common.{ap, refl, ◌∙◌}
 use Rattle.std.specs.Prelude.{◌==◌, filter}
 use Rattle.msg_ranges.specs.declared.fault.SelectFault.TheVariants.{Absent}
 use Rattle.msg_ranges.proofs.Answering.{gives_list}

@@ -1,6 +1,6 @@
-use Rattle.std.proofs.Common.{◌≡◌, ℕ, List, Some, None, ap, sym, ◌∙◌, rules}
+use Rattle.std.proofs.Common.{Some, None, ap, sym, ◌∙◌}
 use Rattle.std.specs.Str.{encode_utf8_all}
-use Rattle.msg_ranges.specs.Forms.{plain_form, form_with_sequence, form_of}
+use Rattle.msg_ranges.specs.Forms.{plain_form, form_with_sequence}
 use Rattle.msg_ranges.proofs.Forming.{plain_reads, with_sequence_reads, one_reading, no_reading, found_first, found_second}
 use Rattle.msg_ranges.proofs.spec.Spec.read.Goals as goal
 
