@@ -7,7 +7,7 @@ use Rattle.mh_sequences.specs.declared.run.Run.{Run}
 use Rattle.mh_sequences.specs.Runs.{AreRuns, Numbers, numbers_of}
 use Rattle.msg_ranges.specs.declared.fault.SelectFault.{SelectFault}
 use Rattle.msg_ranges.specs.declared.fault.SelectFault.TheVariants.{BadSpec, Absent, EmptyRange, EmptySequence, Memory}
-use Rattle.msg_ranges.specs.Choosing.{IsOf, IsMeant, Gives, GivesSome}
+use Rattle.msg_ranges.specs.Choosing.{IsMeant, Gives, GivesSome}
 use Rattle.msg_ranges.specs.Plain.{GivesList}
 use Rattle.msg_ranges.specs.Selection.{some_or, unless_void}
 
@@ -28,6 +28,14 @@ some_is fault (x ∷ xs) some = refl
 
 pub some_of : (fault : SelectFault) (rs : List Run) → AreRuns rs → (length rs == 0) ≡ false → some_or fault (numbers_of rs) ≡ Ok (numbers_of rs)
 some_of fault rs h e = some_is fault (numbers_of rs) (some_numbers rs h e)
+
+-- the fault names the word at this place
+abbrev pub IsOf : ℕ → SelectFault → Type 0
+IsOf k (BadSpec j) = j ≡ k
+IsOf k (Absent j) = j ≡ k
+IsOf k (EmptyRange j) = j ≡ k
+IsOf k (EmptySequence j) = j ≡ k
+IsOf k Memory = ⊥
 
 meant_self : (k : ℕ) (fault : SelectFault) → IsOf k fault → IsMeant k (Err fault) fault
 meant_self k (BadSpec j) h = (h, refl)

@@ -6,14 +6,6 @@ use Rattle.msg_ranges.specs.declared.fault.SelectFault.TheVariants.{BadSpec, Abs
 use Rattle.msg_ranges.specs.Selecting.{Folder, ComesTo}
 use Rattle.msg_ranges.specs.Selection.{some_or}
 
--- the fault names the word at this place
-abbrev pub IsOf : ℕ → SelectFault → Type 0
-IsOf k (BadSpec j) = j ≡ k
-IsOf k (Absent j) = j ≡ k
-IsOf k (EmptyRange j) = j ≡ k
-IsOf k (EmptySequence j) = j ≡ k
-IsOf k Memory = ⊥
-
 -- the refusal that was meant, or want of memory
 abbrev pub IsMeant : ℕ → Result (List ℕ) SelectFault → SelectFault → Type 0
 IsMeant k meant (BadSpec j) = (j ≡ k) × (meant ≡ Err (BadSpec j))

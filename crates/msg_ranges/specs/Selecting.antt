@@ -10,7 +10,7 @@ use Rattle.msg_ranges.specs.declared.spec.Spec.{Spec}
 use Rattle.msg_ranges.specs.Words.{Reads}
 use Rattle.msg_ranges.specs.Selection.{chosen}
 
--- no form is written so
+-- the word has none of the forms
 abbrev pub IsBad : List ℕ → List ℕ → Type 0
 IsBad prefix word = (spec : Spec) → Reads prefix word spec → ⊥
 

@@ -1,4 +1,4 @@
--- Which messages of a folder a word designates.
+-- Which messages of a folder a word designates (after nmh's manual page mh-sequence).
 use Rattle.std.specs.Prelude.{ℕ, ◌+◌, ◌-◌, ◌==◌, ◌||◌, Bool, true, false, not, nat_le, Option, Some, None, unwrap_or, Result, Ok, Err, List, [], ◌∷◌, length, take, drop, filter, find, slice_get, if◌then◌else◌}
 use Rattle.mh_sequences.specs.Sequences.{Marked, member}
 use Rattle.msg_ranges.specs.declared.fault.SelectFault.{SelectFault}

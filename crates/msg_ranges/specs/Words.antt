@@ -1,4 +1,4 @@
--- Words that name messages: how each is written.
+-- Words that name messages: how each is written (after nmh's manual page mh-sequence).
 use Rattle.std.specs.Prelude.{◌≡◌, ℕ, Bool, true, false, nat_eq, IsTrue, codes, decimal, List, [], ◌∷◌, ◌++◌}
 use Rattle.std.specs.List.{starts_with}
 use Rattle.mh_base.specs.Numbers.{IsMsgNum}
@@ -21,7 +21,7 @@ name_text Cur = codes "cur"
 name_text Prev = codes "prev"
 name_text Next = codes "next"
 
--- a count: a sign or none, and a number
+-- a count: a sign or none, and a number; 43 is a plus sign and 45 a minus sign
 abbrev pub count_text : Way → ℕ → List ℕ
 count_text Unsigned n = decimal n
 count_text Plus n = 43 ∷ decimal n
@@ -96,7 +96,7 @@ IsAllowed prefix word (SequenceCount s way n) = negates prefix word ≡ false
 IsAllowed prefix word (SequenceSpot s spot) = negates prefix word ≡ false
 IsAllowed prefix word (Negated s) = IsTrue (negates prefix word) × HasSequence word
 
--- the word, in bytes, is read so
+-- the word, in bytes, is read so: as it is written, where that is allowed
 pub record Reads (prefix word : List ℕ) (spec : Spec) : Type 0 where
   pub written : word ≡ text_of prefix spec
   pub proper : IsSpec spec
