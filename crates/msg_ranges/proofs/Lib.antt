@@ -1,0 +1,13 @@
+mod Answering
+mod Complements
+mod Cutting
+mod Digits
+mod Forming
+mod Meeting
+mod Parts
+mod Rising
+mod Selections
+mod SetLists
+mod Spans
+mod Sums
+mod Walking
