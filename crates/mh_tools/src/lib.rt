@@ -8,8 +8,6 @@ mod message_line;
 mod scan;
 mod setting;
 mod status;
-#[cfg(test)]
-mod tests;
 mod top;
 
 pub use fault::CommandFault;

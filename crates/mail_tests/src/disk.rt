@@ -1,5 +1,5 @@
 // Every step on real directories, asked for as commands ask for it.
-use super::bytes_of;
+use crate::given::bytes_of;
 use file_plans::{
     DropCut, DropPiece, Entered, FolderMade, Listing, Locking, Reading, Touched, ask, ask_create,
     ask_cut_drop, ask_link, ask_list, ask_lock, ask_make_folder, ask_read, ask_read_drop,

@@ -1,7 +1,7 @@
 // Names, numbers, text, lists and streams, by their written rules.
 ghost use Rattle.std.specs.Prelude.{◌≢◌};
 
-use super::bytes_of;
+use crate::given::bytes_of;
 use mh_base::{
     Bytes, Duplicate, Entry, FolderFault, FolderName, MemSink, MsgNum, Name, NumberList, PlainSink,
     PlainSource, Sink, SinkFault, Source, StdSink, StdSource, Text, TextList, entry_name, entry_of,

@@ -1,14 +1,10 @@
 // The rows of `scan`, over a folder in memory.
-mod careful;
-mod disk;
-mod mail;
-mod shelf;
-mod values;
-
-use crate::{Setting, Status, mh};
-use folder_files::{Refusal, Which};
+use crate::given::{Mailbox, bytes_of};
+use crate::script::script;
+use folder_files::{OutsideList, Refusal, Which};
+use folder_room::Room;
 use mh_base::{Bytes, MemSink, NumberList, PlainSink, PlainSource, Text, WordWhy};
-use shelf::Shelf;
+use mh_tools::{Setting, Status, mh};
 use std::alloc::Global;
 use std::process::Abort;
 use std::test::Fail;
@@ -21,8 +17,18 @@ const CY: &[u8] =
 
 const BOB: &[u8] = b"From: bob@b.example\nSubject: Re: Lunch\n\n";
 
-fn bytes_of(alloc: Global, bytes: &[u8]) -> Result<Bytes, Fail> {
-    Ok(Bytes::from_slice(alloc, bytes)?)
+fn room(alloc: Global, mailbox: Mailbox, prompts: &str) -> Result<Room, Fail> {
+    let world = mailbox.world(alloc, OutsideList::new(alloc))?;
+    Ok(Room::new(alloc, world, script(alloc, prompts)?)?)
+}
+
+/// A folder of these messages.
+fn shelf(alloc: Global, messages: &[(&[u8], &[u8])], prompts: &str) -> Result<Room, Fail> {
+    let mut mailbox = Mailbox::new(alloc);
+    for (name, bytes) in messages {
+        mailbox.add(alloc, name, bytes_of(alloc, bytes)?)?;
+    }
+    room(alloc, mailbox, prompts)
 }
 
 fn setting(alloc: Global) -> Result<Setting, Fail> {
@@ -41,7 +47,7 @@ fn words(alloc: Global, all: &[&str]) -> Result<Vec<String>, Fail> {
 /// Runs the words on the files, and compares status, output and error output.
 fn row(
     rt: &(impl Abort + AllocGlobal),
-    files: &mut Shelf,
+    files: &mut Room,
     all: &[&str],
     exit: u8,
     out_wanted: &[u8],
@@ -62,17 +68,13 @@ fn row(
     Ok(status)
 }
 
-fn three(alloc: Global) -> Result<Shelf, Fail> {
-    let mut files = Shelf::new(alloc);
-    files.add(b"1", ANN)?;
-    files.add(b"2", CY)?;
-    files.add(b"3", BOB)?;
-    Ok(files)
+fn three(alloc: Global, prompts: &str) -> Result<Room, Fail> {
+    shelf(alloc, &[(b"1", ANN), (b"2", CY), (b"3", BOB)], prompts)
 }
 
 #[test]
 fn three_messages(rt: HostRuntime) -> Result<(), Fail> {
-    let mut files = three(rt.alloc())?;
+    let mut files = three(rt.alloc(), "")?;
     let lines = b"   1 Lunch\n   2 =?UTF-8?Q?Caf=C3=A9?=\n   3 Re: Lunch\n";
     let _ = row(&rt, &mut files, &["scan", "+inbox"], 0, lines, b"")?;
     Ok(())
@@ -80,8 +82,7 @@ fn three_messages(rt: HostRuntime) -> Result<(), Fail> {
 
 #[test]
 fn a_read_fails(rt: HostRuntime) -> Result<(), Fail> {
-    let mut files = three(rt.alloc())?;
-    files.fail_at(3);
+    let mut files = three(rt.alloc(), "3 fail before")?;
     let status = row(
         &rt,
         &mut files,
@@ -97,7 +98,7 @@ fn a_read_fails(rt: HostRuntime) -> Result<(), Fail> {
 #[test]
 fn a_line_fails(rt: HostRuntime) -> Result<(), Fail> {
     let alloc = rt.alloc();
-    let mut files = three(alloc)?;
+    let mut files = three(alloc, "")?;
     let mut failing = NumberList::new(alloc);
     failing.push(2)?;
     let mut input = PlainSource::new(Bytes::new(alloc));
@@ -116,7 +117,7 @@ fn a_line_fails(rt: HostRuntime) -> Result<(), Fail> {
 
 #[test]
 fn wrong_words(rt: HostRuntime) -> Result<(), Fail> {
-    let mut files = three(rt.alloc())?;
+    let mut files = three(rt.alloc(), "")?;
     let none = row(&rt, &mut files, &[], 1, b"", b"mh: no command\n")?;
     assert!(rt;
         matches!(
@@ -174,7 +175,7 @@ fn wrong_words(rt: HostRuntime) -> Result<(), Fail> {
 
 #[test]
 fn an_empty_folder(rt: HostRuntime) -> Result<(), Fail> {
-    let mut files = Shelf::new(rt.alloc());
+    let mut files = shelf(rt.alloc(), &[], "")?;
     let status = row(
         &rt,
         &mut files,
@@ -189,10 +190,12 @@ fn an_empty_folder(rt: HostRuntime) -> Result<(), Fail> {
 
 #[test]
 fn names_that_are_no_numbers(rt: HostRuntime) -> Result<(), Fail> {
-    let mut files = Shelf::new(rt.alloc());
-    for name in [b"007".as_slice(), b",3", b"12", b"4x"] {
-        files.add(name, BOB)?;
-    }
+    let alloc = rt.alloc();
+    let mut files = shelf(
+        alloc,
+        &[(b"007", BOB), (b",3", BOB), (b"12", BOB), (b"4x", BOB)],
+        "",
+    )?;
     let _ = row(
         &rt,
         &mut files,
@@ -206,10 +209,11 @@ fn names_that_are_no_numbers(rt: HostRuntime) -> Result<(), Fail> {
 
 #[test]
 fn numbers_ascend(rt: HostRuntime) -> Result<(), Fail> {
-    let mut files = Shelf::new(rt.alloc());
-    files.add(b"10", ANN)?;
-    files.add(b"123456", BOB)?;
-    files.add(b"9", BOB)?;
+    let mut files = shelf(
+        rt.alloc(),
+        &[(b"10", ANN), (b"123456", BOB), (b"9", BOB)],
+        "",
+    )?;
     let lines = b"   9 Re: Lunch\n  10 Lunch\n123456 Re: Lunch\n";
     let _ = row(&rt, &mut files, &["scan", "+inbox"], 0, lines, b"")?;
     Ok(())
@@ -217,12 +221,14 @@ fn numbers_ascend(rt: HostRuntime) -> Result<(), Fail> {
 
 #[test]
 fn odd_messages(rt: HostRuntime) -> Result<(), Fail> {
-    let mut files = Shelf::new(rt.alloc());
-    files.add(b"1", b"")?;
-    files.add(b"2", b"Subject: no end")?;
-    files.add(b"3", b"Subject: a\x00b\xff\n\n")?;
-    files.add(b"4", b"\n\nSubject: body\n")?;
-    files.add(b"5", b"SUBJECT : folded\r\n\ttwice\r\n over \r\n\r\n")?;
+    let messages: [(&[u8], &[u8]); 5] = [
+        (b"1", b""),
+        (b"2", b"Subject: no end"),
+        (b"3", b"Subject: a\x00b\xff\n\n"),
+        (b"4", b"\n\nSubject: body\n"),
+        (b"5", b"SUBJECT : folded\r\n\ttwice\r\n over \r\n\r\n"),
+    ];
+    let mut files = shelf(rt.alloc(), &messages, "")?;
     let lines = b"   1 \n   2 no end\n   3 a?b?\n   4 \n   5 folded?twice over\n";
     let _ = row(&rt, &mut files, &["scan", "+inbox"], 0, lines, b"")?;
     Ok(())
@@ -230,8 +236,14 @@ fn odd_messages(rt: HostRuntime) -> Result<(), Fail> {
 
 #[test]
 fn too_large(rt: HostRuntime) -> Result<(), Fail> {
-    let mut files = Shelf::new(rt.alloc());
-    files.add_long(b"1", 67_108_865)?;
+    let alloc = rt.alloc();
+    let mut mailbox = Mailbox::new(alloc);
+    mailbox.add(
+        alloc,
+        b"1",
+        Bytes::from_vec(vec![in alloc; 0u8; 67_108_865]?),
+    )?;
+    let mut files = room(alloc, mailbox, "")?;
     let line = b"mh: too large: 67108865 bytes, limit 67108864\n";
     let _ = row(&rt, &mut files, &["scan", "+inbox"], 1, b"", line)?;
     Ok(())

@@ -1,5 +1,5 @@
 // Fields and bodies of messages.
-use super::bytes_of;
+use crate::given::bytes_of;
 use mail_headers::{Message, folded_line_len, unfold};
 use std::process::Abort;
 use std::test::Fail;

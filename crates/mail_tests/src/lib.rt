@@ -1,0 +1,19 @@
+//! Tests that cross crates. There is nothing here but tests.
+#![tactic(auto)]
+
+#[cfg(test)]
+mod careful;
+#[cfg(test)]
+mod disk;
+#[cfg(test)]
+mod given;
+#[cfg(test)]
+mod mail;
+#[cfg(test)]
+mod room;
+#[cfg(test)]
+mod scan;
+#[cfg(test)]
+mod script;
+#[cfg(test)]
+mod values;
