@@ -1,0 +1,2 @@
+//! The laws of careful runs: no message is lost, whatever they do and wherever the machine stops.
+#![tactic(auto)]
