@@ -1,5 +1,5 @@
 -- What a closed set of changes leaves.
-use Rattle.std.proofs.Common.{◌≡◌, ℕ, Bool, true, false, ◌||◌, ◌⊎◌, inl, inr, List, [], ◌∷◌, length, Option, Some, refl, sym, ◌∙◌, ap, subst, bytes_eq, if◌then◌else◌}
+use Rattle.std.proofs.Common.{◌≡◌, ℕ, Bool, true, false, ◌⊎◌, inl, inr, List, [], ◌∷◌, length, Option, Some, refl, sym, ◌∙◌, ap, subst, bytes_eq, if◌then◌else◌}
 use Rattle.mh_base.specs.Entries.{kind_of}
 use Rattle.folder_files.specs.Directory.{touches, Slots, after_change, lead, kept_lead, AllKept, IsClosed}
 use Rattle.folder_files.specs.Named.{is_held}

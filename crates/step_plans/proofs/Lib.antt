@@ -1,2 +1,17 @@
 pub mod Names
 pub mod Closing
+pub mod Changes
+pub mod Effects
+pub mod Past
+pub mod Holds
+pub mod Discipline
+pub mod StepHolds
+pub mod Inv
+pub mod Beginning
+pub mod Crashes
+pub mod Law
+pub mod Sound
+pub mod Kept
+pub mod Once
+pub mod Taken
+pub mod Told

@@ -1,6 +1,7 @@
 -- Names and their kinds.
-use Rattle.std.proofs.Common.{◌≡◌, ℕ, ◌<◌, Bool, true, false, ◌||◌, ◌&&◌, ◌⊎◌, inl, inr, List, [], ◌∷◌, take, drop, refl, sym, ◌∙◌, ap, arith, bytes_eq, decimal, codes, Option, Some, None, if◌then◌else◌, nat_lt, ◌==◌}
+use Rattle.std.proofs.Common.{◌≡◌, ℕ, Bool, true, false, ◌||◌, ◌&&◌, ◌⊎◌, inl, inr, List, [], ◌∷◌, take, drop, refl, sym, ◌∙◌, ap, arith, bytes_eq, decimal, codes, Option, Some, None, if◌then◌else◌, nat_lt, ◌==◌}
 use Rattle.std.proofs.lemmas.Bool.Decides.{nat_tests}
+use Rattle.std.specs.Fmt.{digits}
 use Rattle.std.proofs.lemmas.Slice.Eq.{bytes_eq-Decides}
 use Rattle.mh_base.specs.Numbers.{number_of, in_range, decimal_of, run_of}
 use Rattle.mh_base.specs.Entries.{kind_of, number_by, backup_in, held_after, held_by, held_in, temp_after, temp_by, temp_in, hidden_in}
@@ -292,7 +293,7 @@ unfolding kind_of
 original_both name = backup_both (number_of _)
 
 context_both : (x : List ℕ) → x ≡ codes "context" → (is_standing x ≡ false) × (is_own x ≡ false)
-unfolding kind_of
+unfolding kind_of decimal_of digits
 context_both x e = rw e (refl, refl)
 
 committed_both : (p : Place) (x : List ℕ) → is_committed p x ≡ true → (is_standing x ≡ false) × (is_own x ≡ false)

@@ -1,2 +1,6 @@
 //! The laws of careful runs: no message is lost, whatever they do and wherever the machine stops.
 #![tactic(auto)]
+
+mod laws;
+
+pub use laws::{durable_by_own_steps, never_taken, no_loss};

@@ -1,0 +1,36 @@
+// The laws, each the contract of a function that does nothing.
+ghost use Rattle.std.specs.Prelude.{◌≡◌, ℕ, true, List, ◌∷◌};
+ghost use Rattle.mh_base.specs.Entries.{kind_of};
+ghost use Rattle.folder_files.specs.Histories.{IsLegal, AreCareful, own};
+ghost use Rattle.folder_files.specs.Named.{is_number};
+ghost use Rattle.folder_files.specs.Worlds.{IsStart};
+ghost use Rattle.folder_files.specs.declared.event.After.{After};
+ghost use Rattle.folder_files.specs.declared.event.Event.{Event};
+ghost use Rattle.folder_files.specs.declared.event.Event.TheVariants.{Act};
+ghost use Rattle.folder_files.specs.declared.place.Place.{Place};
+ghost use Rattle.folder_files.specs.declared.step.Answer.{Answer};
+ghost use Rattle.folder_files.specs.declared.step.Step.{Step};
+ghost use Rattle.folder_files.specs.declared.world.World.{World};
+ghost use Rattle.step_plans.specs.Durable.{HasPutAndSynced, IsDurable};
+ghost use Rattle.step_plans.specs.MailInvariant.{MailInvariant};
+ghost use Rattle.step_plans.specs.Moments.{Leads};
+ghost use Rattle.step_plans.specs.NoLoss.{LosesNothing};
+ghost use Rattle.step_plans.specs.Starts.{HasNoneOfTheirs};
+
+/// Whatever careful runs do, in whatever order, with crashes before, after and within any step.
+pub fn no_loss()
+    ensures invariant { (start : World) (past : List Event) → IsStart start → IsLegal start past → AreCareful past → HasNoneOfTheirs start past → MailInvariant start past }
+    ensures kept { (start : World) (past : List Event) → IsStart start → IsLegal start past → AreCareful past → HasNoneOfTheirs start past → LosesNothing start past }
+{}
+
+/// No step makes a number that leads to a file lead to another.
+pub fn never_taken()
+    ensures { (start : World) (past : List Event) (run : ℕ) (s : Step) (a : Answer) (m : After) → IsLegal start (Act run s a m ∷ past) → AreCareful (Act run s a m ∷ past)
+        → (p : Place) (number : List ℕ) (f g : ℕ) → is_number (kind_of number) ≡ true → Leads start past p number f → Leads start (Act run s a m ∷ past) p number g → f ≡ g }
+{}
+
+/// What a run put and synced by its own account is durable from then on, also after the run has ended.
+pub fn durable_by_own_steps()
+    ensures { (start : World) (past : List Event) → IsStart start → IsLegal start past → AreCareful past → HasNoneOfTheirs start past
+        → (run : ℕ) (p : Place) (bytes : List ℕ) → HasPutAndSynced run p bytes (own run past) → (f : ℕ) × IsDurable start p f bytes past }
+{}
