@@ -15,3 +15,5 @@ pub mod Kept
 pub mod Once
 pub mod Taken
 pub mod Told
+pub mod Tried
+pub mod Drops

@@ -63,7 +63,7 @@ durable_act start past r p o b s a m put rest w = elim (once_case r o s a m past
         let es = did_step e in let ea = did_answer e in let x = put er ea h in
         (x.0, subst (λ (k : Step). IsDurable start p x.0 b (Act o k a m ∷ past)) (sym es) (subst (λ (k : Answer). IsDurable start p x.0 b (Act o (step.SyncFolder p) k m ∷ past)) (sym ea) (now x.1)))
 
-lives_before : (start : World) (r o : ℕ) (s : Step) (a : Answer) (m : After) (past : List Event) → IsNext (world_after start past) o s a m → IsLive r (world_after start (Act o s a m ∷ past)) → IsLive r (world_after start past)
+pub lives_before : (start : World) (r o : ℕ) (s : Step) (a : Answer) (m : After) (past : List Event) → IsNext (world_after start past) o s a m → IsLive r (world_after start (Act o s a m ∷ past)) → IsLive r (world_after start past)
 lives_before start r o s a m past nx lv = subst (λ (z : WorldMap). z.ended r ≡ false) (world_next start o s a m past nx) lv
 
 put_told : (start : World) (r : ℕ) (p : Place) (b : List ℕ) {past : List Event} → IsStart start → IsLegal start past → AreCareful past → HasNoneOfTheirs start past → IsLive r (world_after start past) → HasPut r p b (own r past) → PutHere start p b past

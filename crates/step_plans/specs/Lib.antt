@@ -1,4 +1,5 @@
 pub mod Anchors
+pub mod Cutting
 pub mod Durable
 pub mod Leaving
 pub mod MailInvariant

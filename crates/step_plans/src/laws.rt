@@ -1,19 +1,22 @@
 // The laws, each the contract of a function that does nothing.
-ghost use Rattle.std.specs.Prelude.{◌≡◌, ℕ, true, List, ◌∷◌};
+ghost use Rattle.std.specs.Prelude.{◌≡◌, ℕ, true, List, ◌∷◌, length, Some};
 ghost use Rattle.mh_base.specs.Entries.{kind_of};
-ghost use Rattle.folder_files.specs.Histories.{IsLegal, AreCareful, own};
+ghost use Rattle.folder_files.specs.Histories.{IsLegal, AreCareful, own, world_after};
 ghost use Rattle.folder_files.specs.Named.{is_number};
 ghost use Rattle.folder_files.specs.Worlds.{IsStart};
 ghost use Rattle.folder_files.specs.declared.event.After.{After};
 ghost use Rattle.folder_files.specs.declared.event.Event.{Event};
 ghost use Rattle.folder_files.specs.declared.event.Event.TheVariants.{Act};
+ghost use Rattle.folder_files.specs.declared.place.FilePath.{FilePath};
 ghost use Rattle.folder_files.specs.declared.place.Place.{Place};
 ghost use Rattle.folder_files.specs.declared.step.Answer.{Answer};
 ghost use Rattle.folder_files.specs.declared.step.Step.{Step};
+ghost use Rattle.folder_files.specs.declared.step.Step.TheVariants.{CutDrop};
 ghost use Rattle.folder_files.specs.declared.world.World.{World};
+ghost use Rattle.step_plans.specs.Cutting.{IsUncut, AreDurable};
 ghost use Rattle.step_plans.specs.Durable.{HasPutAndSynced, IsDurable};
 ghost use Rattle.step_plans.specs.MailInvariant.{MailInvariant};
-ghost use Rattle.step_plans.specs.Moments.{Leads};
+ghost use Rattle.step_plans.specs.Moments.{Leads, IsTriedAt};
 ghost use Rattle.step_plans.specs.NoLoss.{LosesNothing};
 ghost use Rattle.step_plans.specs.Starts.{HasNoneOfTheirs};
 
@@ -33,4 +36,12 @@ pub fn never_taken()
 pub fn durable_by_own_steps()
     ensures { (start : World) (past : List Event) → IsStart start → IsLegal start past → AreCareful past → HasNoneOfTheirs start past
         → (run : ℕ) (p : Place) (bytes : List ℕ) → HasPutAndSynced run p bytes (own run past) → (f : ℕ) × IsDurable start p f bytes past }
+{}
+
+/// Where a cut of a mail drop is tried at the length that the drop then has, each message that it then holds is durable, if no run has
+/// tried to cut it since this run last began to read it.
+pub fn cut_drops_are_stored()
+    ensures { (start : World) (past : List Event) (run : ℕ) (f : FilePath) (n : ℕ) (a : Answer) (m : After) → IsStart start → IsLegal start (Act run (CutDrop f n) a m ∷ past)
+        → AreCareful (Act run (CutDrop f n) a m ∷ past) → HasNoneOfTheirs start (Act run (CutDrop f n) a m ∷ past) → (moment : List Event) (bytes : List ℕ) → IsTriedAt start run moment past
+        → IsUncut run f past → (world_after start moment).outside f ≡ Some bytes → length bytes ≡ n → AreDurable start moment bytes }
 {}

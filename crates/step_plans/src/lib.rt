@@ -3,4 +3,4 @@
 
 mod laws;
 
-pub use laws::{durable_by_own_steps, never_taken, no_loss};
+pub use laws::{cut_drops_are_stored, durable_by_own_steps, never_taken, no_loss};
