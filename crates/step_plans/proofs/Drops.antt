@@ -85,7 +85,7 @@ uncut_case : {r : ℕ} {f : FilePath} {o : ℕ} {s : Step} {a : Answer} {m : Aft
 uncut_case (read {most = most}) = inl (refl, (most, refl))
 uncut_case (on nc u) = inr (nc, u)
 
-own_split : (r q : ℕ) (s : Step) (a : Answer) (m : After) (past : List Event)
+pub own_split : (r q : ℕ) (s : Step) (a : Answer) (m : After) (past : List Event)
     → ((q ≡ r) × (own r (Act q s a m ∷ past) ≡ did s a ∷ own r past)) ⊎ ((q ≡ r → ⊥) × (own r (Act q s a m ∷ past) ≡ own r past))
 unfolding own
 own_split r q s a m past = go (q == r) refl

@@ -93,7 +93,7 @@ create_answers true None a n h = inl h
 create_answers true (Some f) a n h = absurd (cc (n))
 create_answers false u a n h = inr h
 
-read_gives : (w : WorldMap) (p : Place) (x : List ℕ) (limit : ℕ) (b : List ℕ) → Content b ≡ read_answer w limit (now_in (w.directories p) x) → (f : ℕ) × In w p x f × ((w.files f).bytes ≡ b)
+pub read_gives : (w : WorldMap) (p : Place) (x : List ℕ) (limit : ℕ) (b : List ℕ) → Content b ≡ read_answer w limit (now_in (w.directories p) x) → (f : ℕ) × In w p x f × ((w.files f).bytes ≡ b)
 read_gives w p x limit b fits = go (now_in (w.directories p) x) refl fits
   where
     content : (v : Bool) (n : ℕ) (bytes : List ℕ) → Content b ≡ (if v then Long n else Content bytes) → bytes ≡ b

@@ -17,3 +17,7 @@ pub mod Taken
 pub mod Told
 pub mod Tried
 pub mod Drops
+pub mod Locks
+pub mod Committing
+pub mod Bases
+pub mod Settling

@@ -169,7 +169,7 @@ Fixed w f = (f < w.next_file) × ((w.files f).safe ≡ true)
 abbrev SoundAt : WorldMap → Type 0
 SoundAt w = (p : Place) → IsSound (Fixed w) (w.directories p)
 
-torn_careful : (r : ℕ) (deeds : List Deed) (s : Step) (b : List ℕ) → IsCareful r deeds s → MayLeave s (Torn b) → IsCareful r deeds (torn s b)
+pub torn_careful : (r : ℕ) (deeds : List Deed) (s : Step) (b : List ℕ) → IsCareful r deeds s → MayLeave s (Torn b) → IsCareful r deeds (torn s b)
 torn_careful r deeds (step.Create p t c) b careful may = let m = careful_create r deeds p t c careful in changes m.0 Creates (creates p t b m.1)
 torn_careful r deeds s b careful may = absurd may
 

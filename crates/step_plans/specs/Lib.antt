@@ -1,4 +1,5 @@
 pub mod Anchors
+pub mod Commits
 pub mod Cutting
 pub mod Durable
 pub mod Leaving

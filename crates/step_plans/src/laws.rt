@@ -1,8 +1,8 @@
 // The laws, each the contract of a function that does nothing.
 ghost use Rattle.std.specs.Prelude.{◌≡◌, ℕ, true, List, ◌∷◌, length, Some};
 ghost use Rattle.mh_base.specs.Entries.{kind_of};
-ghost use Rattle.folder_files.specs.Histories.{IsLegal, AreCareful, own, world_after};
-ghost use Rattle.folder_files.specs.Named.{is_number};
+ghost use Rattle.folder_files.specs.Histories.{IsLegal, AreCareful, AreHonest, AreOrderly, own, world_after};
+ghost use Rattle.folder_files.specs.Named.{is_committed, is_number};
 ghost use Rattle.folder_files.specs.Worlds.{IsStart};
 ghost use Rattle.folder_files.specs.declared.event.After.{After};
 ghost use Rattle.folder_files.specs.declared.event.Event.{Event};
@@ -11,12 +11,13 @@ ghost use Rattle.folder_files.specs.declared.place.FilePath.{FilePath};
 ghost use Rattle.folder_files.specs.declared.place.Place.{Place};
 ghost use Rattle.folder_files.specs.declared.step.Answer.{Answer};
 ghost use Rattle.folder_files.specs.declared.step.Step.{Step};
-ghost use Rattle.folder_files.specs.declared.step.Step.TheVariants.{CutDrop};
+ghost use Rattle.folder_files.specs.declared.step.Step.TheVariants.{CutDrop, Rename};
 ghost use Rattle.folder_files.specs.declared.world.World.{World};
+ghost use Rattle.step_plans.specs.Commits.{text_at, IsBase, IsNoCommit, IsSettled, HasTextFirmly};
 ghost use Rattle.step_plans.specs.Cutting.{IsUncut, AreDurable};
 ghost use Rattle.step_plans.specs.Durable.{HasPutAndSynced, IsDurable};
 ghost use Rattle.step_plans.specs.MailInvariant.{MailInvariant};
-ghost use Rattle.step_plans.specs.Moments.{Leads, IsTriedAt};
+ghost use Rattle.step_plans.specs.Moments.{Leads, IsNoCrash, IsTriedAt};
 ghost use Rattle.step_plans.specs.NoLoss.{LosesNothing};
 ghost use Rattle.step_plans.specs.Starts.{HasNoneOfTheirs};
 
@@ -44,4 +45,17 @@ pub fn cut_drops_are_stored()
     ensures { (start : World) (past : List Event) (run : ℕ) (f : FilePath) (n : ℕ) (a : Answer) (m : After) → IsStart start → IsLegal start (Act run (CutDrop f n) a m ∷ past)
         → AreCareful (Act run (CutDrop f n) a m ∷ past) → HasNoneOfTheirs start (Act run (CutDrop f n) a m ∷ past) → (moment : List Event) (bytes : List ℕ) → IsTriedAt start run moment past
         → IsUncut run f past → (world_after start moment).outside f ≡ Some bytes → length bytes ≡ n → AreDurable start moment bytes }
+{}
+
+/// Under honest locks and with orderly runs each commit is made from the text that it replaces: the text of a folder's sequences, or of
+/// the context, is the fold of the commits in lock order. Nothing else changes it but a crash, and what was synced stays.
+pub fn lock_order()
+    ensures base { (start : World) (past : List Event) (run : ℕ) (p : Place) (temp name : List ℕ) (a : Answer) (m : After) → IsStart start → IsLegal start (Act run (Rename p temp name) a m ∷ past)
+        → AreCareful (Act run (Rename p temp name) a m ∷ past) → HasNoneOfTheirs start (Act run (Rename p temp name) a m ∷ past) → AreHonest start (Act run (Rename p temp name) a m ∷ past)
+        → AreOrderly (Act run (Rename p temp name) a m ∷ past) → is_committed p name ≡ true → (moment : List Event) → IsTriedAt start run moment past
+        → IsBase run p name (text_at (world_after start moment) p name) (own run past) }
+    ensures only_commits { (start : World) (past : List Event) (e : Event) (p : Place) (name : List ℕ) → IsStart start → IsLegal start (e ∷ past) → AreCareful (e ∷ past) → HasNoneOfTheirs start (e ∷ past)
+        → is_committed p name ≡ true → IsNoCommit p name e → IsNoCrash e → text_at (world_after start (e ∷ past)) p name ≡ text_at (world_after start past) p name }
+    ensures stays { (start : World) (past : List Event) (p : Place) (name text : List ℕ) → IsStart start → IsLegal start past → AreCareful past → HasNoneOfTheirs start past
+        → is_committed p name ≡ true → IsSettled p name text past → HasTextFirmly (world_after start past) p name text }
 {}

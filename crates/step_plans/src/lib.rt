@@ -3,4 +3,4 @@
 
 mod laws;
 
-pub use laws::{cut_drops_are_stored, durable_by_own_steps, never_taken, no_loss};
+pub use laws::{cut_drops_are_stored, durable_by_own_steps, lock_order, never_taken, no_loss};

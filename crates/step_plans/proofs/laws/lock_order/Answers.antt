@@ -1,0 +1,6 @@
+use Rattle.step_plans.proofs.Bases.{base_law, stays_law}
+use Rattle.step_plans.proofs.Settling.{settled_law}
+use Rattle.step_plans.proofs.laws.lock_order.Goals as goal
+
+pub returns : goal.returns
+returns c = record { base = base_law; only_commits = stays_law; stays = settled_law }
