@@ -88,10 +88,10 @@ at_place x p q d e m = go (same_place q p) refl
 apart_standing : (p : Place) (x a : List ℕ) → is_committed p x ≡ true → is_standing a ≡ true → bytes_eq a x ≡ false
 apart_standing p x a c s = bytes_false a x (λ e. not_both (is_standing a) s (subst (λ (z : List ℕ). is_standing z ≡ false) (sym e) (is_committed_quiet p x c)))
 
-apart_own : (p : Place) (x a : List ℕ) → is_committed p x ≡ true → is_own a ≡ true → bytes_eq a x ≡ false
+pub apart_own : (p : Place) (x a : List ℕ) → is_committed p x ≡ true → is_own a ≡ true → bytes_eq a x ≡ false
 apart_own p x a c s = bytes_false a x (λ e. not_both (is_own a) s (subst (λ (z : List ℕ). is_own z ≡ false) (sym e) (is_committed_unown p x c)))
 
-temp_own : (r : ℕ) (a : List ℕ) → is_temp_of r (kind_of a) ≡ true → is_own a ≡ true
+pub temp_own : (r : ℕ) (a : List ℕ) → is_temp_of r (kind_of a) ≡ true → is_own a ≡ true
 temp_own r a h = or_left _ (is_held (kind_of a)) (is_temp_any r a h)
 
 work_uncommitted : (p : Place) (x : List ℕ) → is_work p ≡ true → is_committed p x ≡ true → ⊥
@@ -140,7 +140,7 @@ rename_spares w r deeds q a b p x c (inr (inr (inl m))) = inl (at_place x p q (w
 rename_spares w r deeds q a b p x c (inr (inr (inr m))) = inl (at_place x p q (w.directories p) _ (λ e. absurd (work_uncommitted p x (subst (λ (y : Place). is_work y ≡ true) e m.0) c)))
 
 -- a careful step spares a committed name, or is a commit of it
-step_spares : (w : WorldMap) (r : ℕ) (deeds : List Deed) (s : Step) (p : Place) (x : List ℕ) → is_committed p x ≡ true → IsCareful r deeds s → Spares x (w.directories p) (directory_after w s p) ⊎ IsCommit r s p x
+pub step_spares : (w : WorldMap) (r : ℕ) (deeds : List Deed) (s : Step) (p : Place) (x : List ℕ) → is_committed p x ≡ true → IsCareful r deeds s → Spares x (w.directories p) (directory_after w s p) ⊎ IsCommit r s p x
 step_spares w r deeds (step.MakeFolder q) p x c careful = inl (go (same_place q p || is_parent p q))
   where
     go : (v : Bool) → Spares x (w.directories p) (if v then with_made (w.directories p) else w.directories p)
@@ -166,7 +166,7 @@ step_spares w r deeds (step.Unlink q a) p x c careful = inl (at_place x p q (w.d
     go (inr (inr (inr m))) = apart_standing p x a c (held_stands a (is_held_any r a m.1))
 step_spares w r deeds s p x c careful = inl stays
 
-torn_commit : (w : WorldMap) (r : ℕ) (deeds : List Deed) (s : Step) (b : List ℕ) (p : Place) (x : List ℕ) → is_committed p x ≡ true → IsCareful r deeds s → MayLeave s (Torn b)
+pub torn_commit : (w : WorldMap) (r : ℕ) (deeds : List Deed) (s : Step) (b : List ℕ) (p : Place) (x : List ℕ) → is_committed p x ≡ true → IsCareful r deeds s → MayLeave s (Torn b)
     → Spares x (w.directories p) (directory_after w (torn s b) p)
 torn_commit w r deeds (step.Create q n k) b p x c careful may =
     at_place x p q (w.directories p) _ (λ e. spares_created x (w.directories p) n w.next_file (apart_own p x n c (temp_own r n (careful_create r deeds q n k careful).1.0)))

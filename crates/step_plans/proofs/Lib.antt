@@ -21,3 +21,4 @@ pub mod Locks
 pub mod Committing
 pub mod Bases
 pub mod Settling
+pub mod Crashing

@@ -37,7 +37,7 @@ use Rattle.step_plans.proofs.Beginning.{nothing_pending}
 use Rattle.step_plans.proofs.Crashes.{ended_by}
 use Rattle.step_plans.proofs.Law.{inv, none_now, none_before, may_made, careful_back, image_within, within_ended, heir, heirs}
 
-at_more : (P Q : Option ℕ → Type 0) (s : Slots) (cs : List Change) (x : List ℕ) → ((v : Option ℕ) → P v → Q v) → AtEach P s cs x → AtEach Q s cs x
+pub at_more : (P Q : Option ℕ → Type 0) (s : Slots) (cs : List Change) (x : List ℕ) → ((v : Option ℕ) → P v → Q v) → AtEach P s cs x → AtEach Q s cs x
 at_more P Q s [] x m h = m (s x) h
 at_more P Q s (c ∷ cs) x m h = (m (lead s (c ∷ cs) x) h.0, at_more P Q s cs x m h.1)
 
@@ -46,7 +46,7 @@ at_unseen P s [] x none e u = subst P (sym e) none
 at_unseen P s (c ∷ cs) x none e u = (subst P (sym (unseen_leads (record { there = true; safe = s; pending = c ∷ cs }) x (e, u))) none, at_unseen P s cs x none e u.1)
 
 -- after a step: the new moment, and the old ones
-at_goes : (P : Option ℕ → Type 0) (k j : ℕ) (t : List ℕ → Type 0) (d : DirectoryMap) {e : DirectoryMap} (x : List ℕ) → Goes k j t d e → AtEach P d.safe d.pending x → P (now_in e x) → AtEach P e.safe e.pending x
+pub at_goes : (P : Option ℕ → Type 0) (k j : ℕ) (t : List ℕ → Type 0) (d : DirectoryMap) {e : DirectoryMap} (x : List ℕ) → Goes k j t d e → AtEach P d.safe d.pending x → P (now_in e x) → AtEach P e.safe e.pending x
 at_goes P k j t d x stays h new = h
 at_goes P k j t d x opens h new = h
 at_goes P k j t d x (takes_on c l n b) h new = (new, h)

@@ -171,6 +171,10 @@ settled_so start p x text c st (stops o {past = past} l) careful none (on n h) =
 settled_text : (w : WorldMap) (p : Place) (x text : List ℕ) → SettledAt w p x text → text_at w p x ≡ text
 settled_text w p x text k = ap (text_of w) (untouched_lead (w.directories p).safe (w.directories p).pending x k.untouched ∙ k.leads) ∙ k.is.bytes
 
+pub committed_law : (start : World) (past : List Event) (p : Place) (x text : List ℕ) → IsStart start → IsLegal start past → AreCareful past → HasNoneOfTheirs start past → is_committed p x ≡ true → IsCommitted p x text past
+    → text_at (world_after start past) p x ≡ text
+committed_law start past p x text st l careful none c h = let k = committed_so start p x text c st l careful none h in ap (text_of (world_after start past)) k.leads ∙ k.is.bytes
+
 pub settled_law : (start : World) (past : List Event) (p : Place) (x text : List ℕ) → IsStart start → IsLegal start past → AreCareful past → HasNoneOfTheirs start past → is_committed p x ≡ true → IsSettled p x text past
     → HasTextFirmly (world_after start past) p x text
 settled_law start past p x text st l careful none c h = let k = settled_so start p x text c st l careful none h in record {

@@ -5,15 +5,17 @@ use Rattle.folder_files.specs.Careful.{IsRead, IsKnown, HasLock}
 use Rattle.folder_files.specs.CrashImage.{IsCrashImage}
 use Rattle.folder_files.specs.Deeds.{Deed, did, WasDone}
 use Rattle.folder_files.specs.Directory.{now_in}
-use Rattle.folder_files.specs.Histories.{own}
+use Rattle.folder_files.specs.Histories.{own, world_after}
 use Rattle.folder_files.specs.Named.{is_temp_of}
 use Rattle.folder_files.specs.Worlds.{WorldMap}
 use Rattle.folder_files.specs.declared.event.After.{After}
+use Rattle.folder_files.specs.declared.event.After.TheVariants.{Made}
 use Rattle.folder_files.specs.declared.event.Event.{Event}
 use Rattle.folder_files.specs.declared.event.Event.TheVariants.{Act, Deliver, Crash, End}
 use Rattle.folder_files.specs.declared.place.Place.{Place}
 use Rattle.folder_files.specs.declared.step.Answer.TheVariants.{Done, Gone}
 use Rattle.folder_files.specs.declared.step.Step.TheVariants.{Create, Read, Rename, SyncFolder, Unlock}
+use Rattle.folder_files.specs.declared.world.World.{World}
 use Rattle.step_plans.specs.Moments.{IsNoCrash}
 
 -- the bytes of a file; no bytes where there is none
@@ -55,3 +57,15 @@ pub data IsSettled (p : Place) (name text : List ℕ) : List Event → Type 0 wh
 pub record HasTextFirmly (w : WorldMap) (p : Place) (name text : List ℕ) : Type 0 where
   pub now : text_at w p name ≡ text
   pub later : (v : WorldMap) (acted : ℕ → Bool) → IsCrashImage w v acted → text_at v p name ≡ text
+
+-- an event that is no sync of the directory that was made
+abbrev pub IsNoSync : Place → Event → Type 0
+IsNoSync p (Act r s a m) = s ≡ SyncFolder p → m ≡ Made → ⊥
+IsNoSync p (Deliver path piece) = Unit {0}
+IsNoSync p (Crash v) = Unit {0}
+IsNoSync p (End r) = Unit {0}
+
+-- the file had this text at some moment since its directory was last synced, since the last crash, or since the start
+pub data HadText (start : World) (p : Place) (name text : List ℕ) : List Event → Type 0 where
+  now : {past : List Event} → text_at (world_after start past) p name ≡ text → HadText start p name text past
+  on : {e : Event} {past : List Event} → IsNoSync p e → IsNoCrash e → HadText start p name text past → HadText start p name text (e ∷ past)

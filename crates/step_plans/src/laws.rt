@@ -1,9 +1,10 @@
 // The laws, each the contract of a function that does nothing.
-ghost use Rattle.std.specs.Prelude.{◌≡◌, ℕ, true, List, ◌∷◌, length, Some};
+ghost use Rattle.std.specs.Prelude.{◌≡◌, ℕ, Bool, true, List, ◌∷◌, length, Some};
 ghost use Rattle.mh_base.specs.Entries.{kind_of};
+ghost use Rattle.folder_files.specs.CrashImage.{IsCrashImage};
 ghost use Rattle.folder_files.specs.Histories.{IsLegal, AreCareful, AreHonest, AreOrderly, own, world_after};
 ghost use Rattle.folder_files.specs.Named.{is_committed, is_number};
-ghost use Rattle.folder_files.specs.Worlds.{IsStart};
+ghost use Rattle.folder_files.specs.Worlds.{IsStart, WorldMap};
 ghost use Rattle.folder_files.specs.declared.event.After.{After};
 ghost use Rattle.folder_files.specs.declared.event.Event.{Event};
 ghost use Rattle.folder_files.specs.declared.event.Event.TheVariants.{Act};
@@ -13,7 +14,7 @@ ghost use Rattle.folder_files.specs.declared.step.Answer.{Answer};
 ghost use Rattle.folder_files.specs.declared.step.Step.{Step};
 ghost use Rattle.folder_files.specs.declared.step.Step.TheVariants.{CutDrop, Rename};
 ghost use Rattle.folder_files.specs.declared.world.World.{World};
-ghost use Rattle.step_plans.specs.Commits.{text_at, IsBase, IsNoCommit, IsSettled, HasTextFirmly};
+ghost use Rattle.step_plans.specs.Commits.{text_at, HadText, IsBase, IsCommitted, IsNoCommit, IsSettled, HasTextFirmly};
 ghost use Rattle.step_plans.specs.Cutting.{IsUncut, AreDurable};
 ghost use Rattle.step_plans.specs.Durable.{HasPutAndSynced, IsDurable};
 ghost use Rattle.step_plans.specs.MailInvariant.{MailInvariant};
@@ -47,15 +48,20 @@ pub fn cut_drops_are_stored()
         → IsUncut run f past → (world_after start moment).outside f ≡ Some bytes → length bytes ≡ n → AreDurable start moment bytes }
 {}
 
-/// Under honest locks and with orderly runs each commit is made from the text that it replaces: the text of a folder's sequences, or of
-/// the context, is the fold of the commits in lock order. Nothing else changes it but a crash, and what was synced stays.
+/// Under honest locks and with orderly runs each commit is made from the text that it replaces, and nothing else changes that text but a
+/// crash: a folder's sequences, and the context, are the fold of the commits in lock order. A commit that was synced stays until another;
+/// after a crash the text is one that the file had since the last sync.
 pub fn lock_order()
     ensures base { (start : World) (past : List Event) (run : ℕ) (p : Place) (temp name : List ℕ) (a : Answer) (m : After) → IsStart start → IsLegal start (Act run (Rename p temp name) a m ∷ past)
         → AreCareful (Act run (Rename p temp name) a m ∷ past) → HasNoneOfTheirs start (Act run (Rename p temp name) a m ∷ past) → AreHonest start (Act run (Rename p temp name) a m ∷ past)
         → AreOrderly (Act run (Rename p temp name) a m ∷ past) → is_committed p name ≡ true → (moment : List Event) → IsTriedAt start run moment past
         → IsBase run p name (text_at (world_after start moment) p name) (own run past) }
+    ensures committed { (start : World) (past : List Event) (p : Place) (name text : List ℕ) → IsStart start → IsLegal start past → AreCareful past → HasNoneOfTheirs start past
+        → is_committed p name ≡ true → IsCommitted p name text past → text_at (world_after start past) p name ≡ text }
     ensures only_commits { (start : World) (past : List Event) (e : Event) (p : Place) (name : List ℕ) → IsStart start → IsLegal start (e ∷ past) → AreCareful (e ∷ past) → HasNoneOfTheirs start (e ∷ past)
         → is_committed p name ≡ true → IsNoCommit p name e → IsNoCrash e → text_at (world_after start (e ∷ past)) p name ≡ text_at (world_after start past) p name }
     ensures stays { (start : World) (past : List Event) (p : Place) (name text : List ℕ) → IsStart start → IsLegal start past → AreCareful past → HasNoneOfTheirs start past
         → is_committed p name ≡ true → IsSettled p name text past → HasTextFirmly (world_after start past) p name text }
+    ensures crash { (start : World) (past : List Event) (p : Place) (name : List ℕ) (v : WorldMap) (acted : ℕ → Bool) → IsStart start → IsLegal start past → AreCareful past → HasNoneOfTheirs start past
+        → is_committed p name ≡ true → IsCrashImage (world_after start past) v acted → HadText start p name (text_at v p name) past }
 {}
