@@ -22,3 +22,7 @@ pub mod Committing
 pub mod Bases
 pub mod Settling
 pub mod Crashing
+pub mod Stage
+pub mod LostByDrop
+pub mod LostByDiscard
+pub mod LostByCut
