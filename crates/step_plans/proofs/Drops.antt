@@ -1,5 +1,5 @@
 -- The messages of a drop that is cut are durable.
-use Rattle.std.proofs.Common.{◌≡◌, ◌≢◌, ℕ, zero, suc, Bool, true, false, ◌==◌, ◌||◌, ◌⊎◌, inl, inr, List, [], ◌∷◌, ◌++◌, length, take, drop, reverse, All, Option, Some, None, refl, sym, ◌∙◌, ap, subst, arith, append_assoc, append-nil, length-append, if◌then◌else◌}
+use Rattle.std.proofs.Common.{◌≡◌, ℕ, zero, suc, Bool, true, false, ◌==◌, ◌||◌, ◌⊎◌, inl, inr, List, [], ◌∷◌, ◌++◌, length, take, drop, reverse, All, Option, Some, None, refl, sym, ◌∙◌, ap, subst, arith, append_assoc, append-nil, length-append, if◌then◌else◌}
 use Rattle.std.proofs.lemmas.List.{take-append-drop, reverse-append}
 use Rattle.std.proofs.Math.Seq.{drop-append_seam}
 use Rattle.mbox_drop.specs.Drops.{messages}
@@ -7,7 +7,7 @@ use Rattle.folder_files.specs.Careful.{HasPieces, first, more, on, HasStored, al
 use Rattle.folder_files.specs.Deeds.{Deed, did, Once, WasDone, now, on}
 use Rattle.folder_files.specs.Histories.{world_after, own, has_acted, IsLive, IsLegal, begins, answers, fails, is_dead, delivers, crashes, crashes_within, stops, AreCareful, delivered}
 use Rattle.folder_files.specs.Places.{same_path}
-use Rattle.folder_files.specs.Steps.{made, made_by, left_by, torn, piece_answer, cut_at}
+use Rattle.folder_files.specs.Steps.{made, made_by, unmade, left_by, torn, MayLeave, piece_answer, cut_at, cut_answer}
 use Rattle.folder_files.specs.Worlds.{WorldMap, shown, IsStart}
 use Rattle.folder_files.specs.declared.event.After.{After}
 use Rattle.folder_files.specs.declared.event.After.TheVariants.{Before, Made, Torn}
@@ -16,12 +16,12 @@ use Rattle.folder_files.specs.declared.event.Event.TheVariants.{Act, Crash}
 use Rattle.folder_files.specs.declared.place.Place.{Place}
 use Rattle.folder_files.specs.declared.place.FilePath.{FilePath}
 use Rattle.folder_files.specs.declared.step.Answer.{Answer}
-use Rattle.folder_files.specs.declared.step.Answer.TheVariants.{Piece, Busy, Failed}
+use Rattle.folder_files.specs.declared.step.Answer.TheVariants.{Done, Piece, Busy, Grown, Failed}
 use Rattle.folder_files.specs.declared.step.Step.{Step}
 use Rattle.folder_files.specs.declared.step.Step.TheVariants as step
 use Rattle.folder_files.specs.declared.world.World.{World}
 use Rattle.folder_files.proofs.Outsides.{path_same}
-use Rattle.step_plans.specs.Cutting.{IsUncut, read, on, AreDurable}
+use Rattle.step_plans.specs.Cutting.{IsCut, IsUncut, read, on, AreDurable}
 use Rattle.step_plans.specs.Durable.{IsDurable, HasPut, HasPutAndSynced}
 use Rattle.step_plans.specs.Moments.{IsTriedAt, live, cut}
 use Rattle.step_plans.specs.Starts.{HasNoneOfTheirs}
@@ -35,28 +35,43 @@ use Rattle.step_plans.proofs.Tried.{tried, careful_then, none_then}
 use Rattle.step_plans.proofs.Told.{lives_before, durable_told}
 
 -- an outside file stays as it is at a step that doesn't cut it
-made_outside : (w : WorldMap) (r : ℕ) (s : Step) (f : FilePath) → ((n : ℕ) → s ≢ step.CutDrop f n) → (made w r s).outside f ≡ w.outside f
+cut_misses : (n : ℕ) (o : Option (List ℕ)) → (cut_answer n o ≡ Done → ⊥) → cut_at n o ≡ o
+cut_misses n None never = refl
+cut_misses n (Some bytes) never = go (length bytes == n) never
+  where
+    go : (v : Bool) → ((if v then Done else Grown) ≡ Done → ⊥) → (if v then Some [] else Some bytes) ≡ Some bytes
+    go true never = absurd (never refl)
+    go false never = refl
+
+made_outside : (w : WorldMap) (r : ℕ) (s : Step) (f : FilePath) → ((n : ℕ) → s ≡ step.CutDrop f n → cut_answer n (w.outside f) ≡ Done → ⊥) → (made w r s).outside f ≡ w.outside f
 unfolding made
 made_outside w r (step.CutDrop path n) f never = go (same_path path f) refl
   where
     go : (v : Bool) → same_path path f ≡ v → (if v then cut_at n (w.outside f) else w.outside f) ≡ w.outside f
-    go true e = absurd (never n (ap (λ q. step.CutDrop q n) (path_same path f e)))
+    go true e = cut_misses n (w.outside f) (never n (ap (λ q. step.CutDrop q n) (path_same path f e)))
     go false e = refl
 made_outside w r _ f never = refl
 
-left_outside : (w : WorldMap) (r : ℕ) (s : Step) (a : Answer) (m : After) (f : FilePath) → ((n : ℕ) → s ≢ step.CutDrop f n) → (left_by w r s a m).outside f ≡ w.outside f
-left_outside w r s a Made f never = by a
+unmade_outside : (w : WorldMap) (r : ℕ) (s : Step) (f : FilePath) → (unmade w r s).outside f ≡ w.outside f
+unfolding made
+unmade_outside w r (step.Unlock p) f = refl
+unmade_outside w r _ f = refl
+
+torn_outside : (w : WorldMap) (r : ℕ) (s : Step) (b : List ℕ) (f : FilePath) → MayLeave s (Torn b) → (made w r (torn s b)).outside f ≡ w.outside f
+unfolding made
+torn_outside w r (step.Create p n c) b f may = refl
+torn_outside w r s b f may = absurd may
+
+left_outside : (w : WorldMap) (r : ℕ) (s : Step) (a : Answer) (m : After) (f : FilePath) → IsNext w r s a m → ((n : ℕ) → s ≡ step.CutDrop f n → m ≡ Made → cut_answer n (w.outside f) ≡ Done → ⊥) → (left_by w r s a m).outside f ≡ w.outside f
+left_outside w r s a m f (answered _ lv fits) never = by a
   where
     by : (a : Answer) → (made_by w r s a).outside f ≡ w.outside f
     by Busy = refl
-    by _ = made_outside w r s f never
-left_outside w r s a (Torn b) f never = by s never
-  where
-    by : (s : Step) → ((n : ℕ) → s ≢ step.CutDrop f n) → (made w r (torn s b)).outside f ≡ w.outside f
-    by (step.Create p n c) never = made_outside w r (step.Create p n b) f (λ k e. cc (e))
-    by s never = made_outside w r s f never
-left_outside w r (step.Unlock p) a Before f never = made_outside w r (step.Unlock p) f never
-left_outside w r _ a Before f never = refl
+    by _ = made_outside w r s f (λ n e k. never n e refl k)
+left_outside w r s a m f (failed Before lv may) never = unmade_outside w r s f
+left_outside w r s a m f (failed Made lv may) never = made_outside w r s f (λ n e k. never n e refl k)
+left_outside w r s a m f (failed (Torn b) lv may) never = torn_outside w r s b f may
+left_outside w r s a m f (refused d) never = unmade_outside w r s f
 
 -- the file has these bytes and maybe more
 abbrev Begins : Option (List ℕ) → List ℕ → Type 0
@@ -80,8 +95,8 @@ more_begins most n o b piece s e =
     some : {x y : List ℕ} → Some x ≡ Some y → x ≡ y
     some e = cc (e)
 
-uncut_case : {r : ℕ} {f : FilePath} {o : ℕ} {s : Step} {a : Answer} {m : After} {past : List Event} → IsUncut r f (Act o s a m ∷ past)
-    → ((o ≡ r) × ((most : ℕ) × (s ≡ step.ReadDrop f 0 most))) ⊎ (((n : ℕ) → s ≢ step.CutDrop f n) × IsUncut r f past)
+uncut_case : {start : World} {r : ℕ} {f : FilePath} {o : ℕ} {s : Step} {a : Answer} {m : After} {past : List Event} → IsUncut start r f (Act o s a m ∷ past)
+    → ((o ≡ r) × ((most : ℕ) × (s ≡ step.ReadDrop f 0 most))) ⊎ ((IsCut start f (Act o s a m) past → ⊥) × IsUncut start r f past)
 uncut_case (read {most = most}) = inl (refl, (most, refl))
 uncut_case (on nc u) = inr (nc, u)
 
@@ -102,19 +117,19 @@ pieces_once (on n h) = on (pieces_once h)
 pieces_none : {f : FilePath} {b : List ℕ} → HasPieces f b [] → ⊥
 pieces_none h = elim h [ ]
 
-act_begins : (start : World) (past : List Event) (r : ℕ) (f : FilePath) (o : ℕ) (s : Step) (a : Answer) (m : After) → IsNext (world_after start past) o s a m → IsUncut r f (Act o s a m ∷ past)
-    → (IsUncut r f past → (c : List ℕ) → HasPieces f c (own r past) → Begins ((world_after start past).outside f) c)
+act_begins : (start : World) (past : List Event) (r : ℕ) (f : FilePath) (o : ℕ) (s : Step) (a : Answer) (m : After) → IsNext (world_after start past) o s a m → IsUncut start r f (Act o s a m ∷ past)
+    → (IsUncut start r f past → (c : List ℕ) → HasPieces f c (own r past) → Begins ((world_after start past).outside f) c)
     → (b : List ℕ) → HasPieces f b (own r (Act o s a m ∷ past)) → Begins ((world_after start (Act o s a m ∷ past)).outside f) b
 act_begins start past r f o s a m nx u rest b h = elim (own_split r o s a m past) [
   | inl e ↦ mine b (subst (λ (ds : List Deed). HasPieces f b ds) e.1 h)
   | inr e ↦ theirs e.0 (subst (λ (ds : List Deed). HasPieces f b ds) e.1 h)
 ]
   where
-    stays : (c : List ℕ) → ((n : ℕ) → s ≢ step.CutDrop f n) → Begins ((world_after start past).outside f) c → Begins ((world_after start (Act o s a m ∷ past)).outside f) c
-    stays c never z = (z.0, ap (λ w. w.outside f) (world_act start o s a m past) ∙ left_outside (world_after start past) o s a m f never ∙ z.1)
+    stays : (c : List ℕ) → (IsCut start f (Act o s a m) past → ⊥) → Begins ((world_after start past).outside f) c → Begins ((world_after start (Act o s a m ∷ past)).outside f) c
+    stays c never z = (z.0, ap (λ w. w.outside f) (world_act start o s a m past) ∙ left_outside (world_after start past) o s a m f nx (λ n e k h. never (n, e, k, h)) ∙ z.1)
 
-    reads : (from most : ℕ) → s ≡ step.ReadDrop f from most → (n : ℕ) → s ≢ step.CutDrop f n
-    reads from most e n k = let z = sym e ∙ k in cc (z)
+    reads : (from most : ℕ) → s ≡ step.ReadDrop f from most → IsCut start f (Act o s a m) past → ⊥
+    reads from most e k = let z = sym e ∙ k.1 in cc (z)
 
     told : (from most n : ℕ) (c : List ℕ) → did s a ≡ did (step.ReadDrop f from most) (Piece c n) → Piece c n ≡ piece_answer from most ((world_after start past).outside f)
     told from most n c e = let es = did_step e in let ea = did_answer e in
@@ -147,7 +162,7 @@ deliver_begins path f piece o b z = go (same_path path f)
     go true = (z.0 ++ piece, ap (λ y. delivered y piece) z.1 ∙ ap Some (append_assoc b z.0 piece))
     go false = z
 
-begins_so : (start : World) (r : ℕ) (f : FilePath) {past : List Event} → IsLegal start past → IsLive r (world_after start past) → IsUncut r f past → (b : List ℕ) → HasPieces f b (own r past) → Begins ((world_after start past).outside f) b
+begins_so : (start : World) (r : ℕ) (f : FilePath) {past : List Event} → IsLegal start past → IsLive r (world_after start past) → IsUncut start r f past → (b : List ℕ) → HasPieces f b (own r past) → Begins ((world_after start past).outside f) b
 unfolding own
 begins_so start r f begins lv u b h = absurd (pieces_none h)
 begins_so start r f (answers o s a {past = past} l alive fits) lv u b h = let nx : IsNext (world_after start past) o s a Made = answered a alive fits in
@@ -226,7 +241,7 @@ stored_each r f (on {newer = newer} {own = older} {d = d} {messages = ms} n h) =
     subst (λ (ds : List Deed). Each (IsStoredBy r ds) ms) (append_assoc newer (d ∷ []) older) (stored_each r f h)
 
 cut_at_moment : (start : World) (r : ℕ) (f : FilePath) (n : ℕ) (bytes : List ℕ) {past : List Event} → IsStart start → IsLegal start past → AreCareful past → HasNoneOfTheirs start past → IsLive r (world_after start past)
-    → MayCut r f n (own r past) → IsUncut r f past → (world_after start past).outside f ≡ Some bytes → length bytes ≡ n → AreDurable start past bytes
+    → MayCut r f n (own r past) → IsUncut start r f past → (world_after start past).outside f ≡ Some bytes → length bytes ≡ n → AreDurable start past bytes
 cut_at_moment start r f n bytes {past = past} st l careful none lv may u has long =
     let z = begins_so start r f l lv u may.drop may.pieces in
     let same : bytes ≡ may.drop = whole_of may.drop bytes (z.0, sym has ∙ z.1) (may.whole ∙ sym long) in
@@ -236,12 +251,12 @@ cut_at_moment start r f n bytes {past = past} st l careful none lv may u has lon
     (each_map (IsStoredBy r (own r past)) (λ m. (p : Place) × (g : ℕ) × IsDurable start p g m past) (messages may.drop)
     (λ m k. let d = durable_told start r k.0 m st l careful none k.1 in (k.0, d.0, d.1)) stored))
 
-uncut_then : {start : World} {r : ℕ} {f : FilePath} {moment past : List Event} → IsTriedAt start r moment past → IsUncut r f past → IsUncut r f moment
+uncut_then : {start : World} {r : ℕ} {f : FilePath} {moment past : List Event} → IsTriedAt start r moment past → IsUncut start r f past → IsUncut start r f moment
 uncut_then (live lv) u = u
 uncut_then (cut o lv) (on nc u) = u
 
 pub cut_law : (start : World) (past : List Event) (r : ℕ) (f : FilePath) (n : ℕ) (a : Answer) (m : After) → IsStart start → IsLegal start (Act r (step.CutDrop f n) a m ∷ past) → AreCareful (Act r (step.CutDrop f n) a m ∷ past)
-    → HasNoneOfTheirs start (Act r (step.CutDrop f n) a m ∷ past) → (moment : List Event) (bytes : List ℕ) → IsTriedAt start r moment past → IsUncut r f past → (world_after start moment).outside f ≡ Some bytes → length bytes ≡ n
+    → HasNoneOfTheirs start (Act r (step.CutDrop f n) a m ∷ past) → (moment : List Event) (bytes : List ℕ) → IsTriedAt start r moment past → IsUncut start r f past → (world_after start moment).outside f ≡ Some bytes → length bytes ≡ n
     → AreDurable start moment bytes
 cut_law start past r f n a m st l careful none moment bytes t u has long =
     let k = tried start r (step.CutDrop f n) l t in

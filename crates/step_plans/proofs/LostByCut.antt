@@ -88,4 +88,4 @@ none_of_theirs r acted p x o = refl
 -- so the cut is not careful
 cut_is_careless : IsCareful 5 (own 5 delivered) (CutDrop mailbox 10) → ⊥
 unfolding world_after made shown
-cut_is_careless c = message_is_lost (cut_law begun delivered 5 mailbox 10 Done Made begun_starts lost_is_legal (c, delivered_is_careful) none_of_theirs delivered mail (live refl) (on tt read) drop_holds refl)
+cut_is_careless c = message_is_lost (cut_law begun delivered 5 mailbox 10 Done Made begun_starts lost_is_legal (c, delivered_is_careful) none_of_theirs delivered mail (live refl) (on (λ z. z) read) drop_holds refl)

@@ -22,7 +22,7 @@ ghost use Rattle.step_plans.specs.Moments.{Leads, IsNoCrash, IsTriedAt};
 ghost use Rattle.step_plans.specs.NoLoss.{LosesNothing};
 ghost use Rattle.step_plans.specs.Starts.{HasNoneOfTheirs};
 
-/// Whatever careful runs do, in whatever order, with crashes before, after and within any step.
+/// Whatever careful runs do, in whatever order, with crashes before, after and within any step: the invariant holds, and no message is lost.
 pub fn no_loss()
     ensures invariant { (start : World) (past : List Event) → IsStart start → IsLegal start past → AreCareful past → HasNoneOfTheirs start past → MailInvariant start past }
     ensures kept { (start : World) (past : List Event) → IsStart start → IsLegal start past → AreCareful past → HasNoneOfTheirs start past → LosesNothing start past }
@@ -41,11 +41,11 @@ pub fn durable_by_own_steps()
 {}
 
 /// Where a cut of a mail drop is tried at the length that the drop then has, each message that it then holds is durable, if no run has
-/// tried to cut it since this run last began to read it.
+/// cut it since this run last began to read it.
 pub fn cut_drops_are_stored()
     ensures { (start : World) (past : List Event) (run : ℕ) (f : FilePath) (n : ℕ) (a : Answer) (m : After) → IsStart start → IsLegal start (Act run (CutDrop f n) a m ∷ past)
         → AreCareful (Act run (CutDrop f n) a m ∷ past) → HasNoneOfTheirs start (Act run (CutDrop f n) a m ∷ past) → (moment : List Event) (bytes : List ℕ) → IsTriedAt start run moment past
-        → IsUncut run f past → (world_after start moment).outside f ≡ Some bytes → length bytes ≡ n → AreDurable start moment bytes }
+        → IsUncut start run f past → (world_after start moment).outside f ≡ Some bytes → length bytes ≡ n → AreDurable start moment bytes }
 {}
 
 /// Under honest locks and with orderly runs each commit is made from the text that it replaces, and nothing else changes that text but a
