@@ -1,5 +1,5 @@
 -- The base of a commit is the text that the file has.
-use Rattle.std.proofs.Common.{◌≡◌, ◌≢◌, ℕ, Bool, true, false, ◌⊎◌, inl, inr, List, [], ◌∷◌, length, nat_lt, Option, Some, None, refl, sym, ◌∙◌, ap, subst, bytes_eq, if◌then◌else◌}
+use Rattle.std.proofs.Common.{◌≡◌, ℕ, Bool, true, false, ◌⊎◌, inl, inr, List, [], ◌∷◌, length, nat_lt, Option, Some, None, refl, sym, ◌∙◌, ap, subst, bytes_eq, if◌then◌else◌}
 use Rattle.mh_base.specs.Entries.{kind_of}
 use Rattle.folder_files.specs.Careful.{IsCareful, IsKnown, HasBase, HasLock, WasMade, WasSynced}
 use Rattle.folder_files.specs.Deeds.{Deed, did, Once, last, still, WasDone, HasFailed, now, on}
@@ -21,7 +21,7 @@ use Rattle.folder_files.specs.declared.step.Step.{Step}
 use Rattle.folder_files.specs.declared.step.Step.TheVariants as step
 use Rattle.folder_files.specs.declared.world.World.{World}
 use Rattle.folder_files.proofs.Placing.{place_same, place_is}
-use Rattle.step_plans.specs.Commits.{IsNoCommit, text_of, text_at, IsBase, found, missing, committed, on}
+use Rattle.step_plans.specs.Commits.{TriesCommit, text_of, text_at, IsBase, found, missing, committed, on}
 use Rattle.step_plans.specs.Moments.{IsTriedAt, live, cut, IsNoCrash}
 use Rattle.step_plans.specs.Starts.{HasNoneOfTheirs}
 use Rattle.step_plans.proofs.Names.{not_both, bytes_true, bytes_self}
@@ -315,14 +315,14 @@ base_law start past r p t x a m st l careful none honest orderly c moment tr =
 
 -- nothing but a commit changes the text, and a crash
 act_stays : (start : World) (past : List Event) (o : ℕ) (s : Step) (a : Answer) (m : After) (p : Place) (x : List ℕ) → is_committed p x ≡ true → IsCareful o (own o past) s → IsNext (world_after start past) o s a m → IsBelow (world_after start past).next_file ((world_after start past).directories p)
-    → ((t : List ℕ) → s ≢ step.Rename p t x) → text_at (world_after start (Act o s a m ∷ past)) p x ≡ text_at (world_after start past) p x
+    → (TriesCommit start p x (Act o s a m) past → ⊥) → text_at (world_after start (Act o s a m ∷ past)) p x ≡ text_at (world_after start past) p x
 act_stays start past o s a m p x c careful nx below never = ap (λ z. text_at z p x) (world_next start o s a m past nx) ∙ (elim (left_spares (world_after start past) o (own o past) s a m p x c careful nx) [
   | inl z ↦ text_spared (world_after start past) o s a m p x below z
-  | inr z ↦ absurd (never z.0.0 z.0.1)
+  | inr z ↦ absurd (never (z.0.0, z.0.3.0, z.0.1, (past, live z.1, z.0.3.1)))
 ])
 
 pub stays_law : (start : World) (past : List Event) (e : Event) (p : Place) (x : List ℕ) → IsStart start → IsLegal start (e ∷ past) → AreCareful (e ∷ past) → HasNoneOfTheirs start (e ∷ past) → is_committed p x ≡ true
-    → IsNoCommit p x e → IsNoCrash e → text_at (world_after start (e ∷ past)) p x ≡ text_at (world_after start past) p x
+    → (TriesCommit start p x e past → ⊥) → IsNoCrash e → text_at (world_after start (e ∷ past)) p x ≡ text_at (world_after start past) p x
 stays_law start past _ p x st (answers o s a l lv fits) careful none c never nc =
     act_stays start past o s a Made p x c careful.0 (answered a lv fits) ((inv start st l careful.1 (none_before start o s a Made past none)).below p) never
 stays_law start past _ p x st (fails o s m l lv may) careful none c never nc =

@@ -119,12 +119,16 @@ commit_of r deeds p a x c (inr (inl m)) = m
 commit_of r deeds p a x c (inr (inr (inl m))) = absurd (work_uncommitted p x m.0 c)
 commit_of r deeds p a x c (inr (inr (inr m))) = absurd (work_uncommitted p x m.0 c)
 
--- the step is a commit of the name
-abbrev pub IsCommit : ℕ → Step → Place → List ℕ → Type 0
-IsCommit r s p x = (t : List ℕ) × (s ≡ step.Rename p t x) × (is_temp_of r (kind_of t) ≡ true)
+-- the step is a rename of a run's own temporary name to the name
+abbrev pub IsRename : ℕ → Step → Place → List ℕ → Type 0
+IsRename r s p x = (t : List ℕ) × (s ≡ step.Rename p t x) × (is_temp_of r (kind_of t) ≡ true)
+
+-- and that name leads to a file
+abbrev pub IsCommit : WorldMap → ℕ → Step → Place → List ℕ → Type 0
+IsCommit w r s p x = (t : List ℕ) × (s ≡ step.Rename p t x) × (is_temp_of r (kind_of t) ≡ true) × ((f : ℕ) × (now_in (w.directories p) t ≡ Some f))
 
 rename_spares : (w : WorldMap) (r : ℕ) (deeds : List Deed) (q : Place) (a b : List ℕ) (p : Place) (x : List ℕ) → is_committed p x ≡ true → MayRename r q a b deeds
-    → Spares x (w.directories p) (directory_after w (step.Rename q a b) p) ⊎ IsCommit r (step.Rename q a b) p x
+    → Spares x (w.directories p) (directory_after w (step.Rename q a b) p) ⊎ IsRename r (step.Rename q a b) p x
 rename_spares w r deeds q a b p x c (inl (inl m)) = inl (at_place x p q (w.directories p) _
     (λ e. spares_renamed x (w.directories p) a b (apart_standing p x a c (number_stands a (is_taking_number r a b m.1))) (apart_standing p x b c (held_stands b (is_held_any r b (is_taking_held r a b m.1))))))
 rename_spares w r deeds q a b p x c (inl (inr m)) = inl (at_place x p q (w.directories p) _
@@ -132,7 +136,7 @@ rename_spares w r deeds q a b p x c (inl (inr m)) = inl (at_place x p q (w.direc
     (bytes_false b x (λ z. backup_uncommitted p a x (subst (λ (y : Place). is_folder y ≡ true) e m.0) c (subst (λ (y : List ℕ). is_backing_up (kind_of a) (kind_of y) ≡ true) z m.1)))))
 rename_spares w r deeds q a b p x c (inr (inl m)) = go (same_place q p) refl (bytes_eq b x) refl
   where
-    go : (v : Bool) → same_place q p ≡ v → (u : Bool) → bytes_eq b x ≡ u → Spares x (w.directories p) (if v then with_renamed (w.directories p) a b else w.directories p) ⊎ IsCommit r (step.Rename q a b) p x
+    go : (v : Bool) → same_place q p ≡ v → (u : Bool) → bytes_eq b x ≡ u → Spares x (w.directories p) (if v then with_renamed (w.directories p) a b else w.directories p) ⊎ IsRename r (step.Rename q a b) p x
     go true e true z = inr (a, (λ i. step.Rename (place_same q p e i) a (bytes_true b x z i)), m.1.0)
     go true e false z = inl (spares_renamed x (w.directories p) a b (apart_own p x a c (temp_own r a m.1.0)) z)
     go false e u z = inl stays
@@ -140,7 +144,7 @@ rename_spares w r deeds q a b p x c (inr (inr (inl m))) = inl (at_place x p q (w
 rename_spares w r deeds q a b p x c (inr (inr (inr m))) = inl (at_place x p q (w.directories p) _ (λ e. absurd (work_uncommitted p x (subst (λ (y : Place). is_work y ≡ true) e m.0) c)))
 
 -- a careful step spares a committed name, or is a commit of it
-pub step_spares : (w : WorldMap) (r : ℕ) (deeds : List Deed) (s : Step) (p : Place) (x : List ℕ) → is_committed p x ≡ true → IsCareful r deeds s → Spares x (w.directories p) (directory_after w s p) ⊎ IsCommit r s p x
+pub step_spares : (w : WorldMap) (r : ℕ) (deeds : List Deed) (s : Step) (p : Place) (x : List ℕ) → is_committed p x ≡ true → IsCareful r deeds s → Spares x (w.directories p) (directory_after w s p) ⊎ IsRename r s p x
 step_spares w r deeds (step.MakeFolder q) p x c careful = inl (go (same_place q p || is_parent p q))
   where
     go : (v : Bool) → Spares x (w.directories p) (if v then with_made (w.directories p) else w.directories p)
@@ -172,15 +176,6 @@ torn_commit w r deeds (step.Create q n k) b p x c careful may =
     at_place x p q (w.directories p) _ (λ e. spares_created x (w.directories p) n w.next_file (apart_own p x n c (temp_own r n (careful_create r deeds q n k careful).1.0)))
 torn_commit w r deeds s b p x c careful may = absurd may
 
--- what such an act leaves of the name
-pub left_spares : (w : WorldMap) (r : ℕ) (deeds : List Deed) (s : Step) (a : Answer) (m : After) (p : Place) (x : List ℕ) → is_committed p x ≡ true → IsCareful r deeds s → IsNext w r s a m
-    → Spares x (w.directories p) (left_directory w s m p) ⊎ (IsCommit r s p x × IsLive r w)
-left_spares w r deeds s a m p x c careful (answered _ lv fits) = elim (step_spares w r deeds s p x c careful) [ inl z ↦ inl z | inr z ↦ inr (z, lv) ]
-left_spares w r deeds s a m p x c careful (failed Before lv may) = inl stays
-left_spares w r deeds s a m p x c careful (failed Made lv may) = elim (step_spares w r deeds s p x c careful) [ inl z ↦ inl z | inr z ↦ inr (z, lv) ]
-left_spares w r deeds s a m p x c careful (failed (Torn b) lv may) = inl (torn_commit w r deeds s b p x c careful may)
-left_spares w r deeds s a m p x c careful (refused d) = inl stays
-
 -- a commit whose temporary name is not there does nothing
 pub gone_spares : (w : WorldMap) (p : Place) (t x : List ℕ) → now_in (w.directories p) t ≡ None → Spares x (w.directories p) (directory_after w (step.Rename p t x) p)
 gone_spares w p t x none = at_place x p p (w.directories p) _ (λ e. go (bytes_eq t x) (now_in (w.directories p) t) none)
@@ -189,6 +184,22 @@ gone_spares w p t x none = at_place x p p (w.directories p) _ (λ e. go (bytes_e
     go true u e = stays
     go false None e = stays
     go false (Some f) e = absurd (cc (e))
+
+made_spares : (w : WorldMap) (r : ℕ) (deeds : List Deed) (s : Step) (p : Place) (x : List ℕ) → is_committed p x ≡ true → IsCareful r deeds s → Spares x (w.directories p) (directory_after w s p) ⊎ IsCommit w r s p x
+made_spares w r deeds s p x c careful = elim (step_spares w r deeds s p x c careful) [ inl z ↦ inl z | inr z ↦ go z.0 z.1 z.2 (now_in (w.directories p) z.0) refl ]
+  where
+    go : (t : List ℕ) → s ≡ step.Rename p t x → is_temp_of r (kind_of t) ≡ true → (u : Option ℕ) → now_in (w.directories p) t ≡ u → Spares x (w.directories p) (directory_after w s p) ⊎ IsCommit w r s p x
+    go t es temp None e = inl (subst (λ (k : Step). Spares x (w.directories p) (directory_after w k p)) (sym es) (gone_spares w p t x e))
+    go t es temp (Some f) e = inr (t, es, temp, (f, e))
+
+-- what such an act leaves of the name
+pub left_spares : (w : WorldMap) (r : ℕ) (deeds : List Deed) (s : Step) (a : Answer) (m : After) (p : Place) (x : List ℕ) → is_committed p x ≡ true → IsCareful r deeds s → IsNext w r s a m
+    → Spares x (w.directories p) (left_directory w s m p) ⊎ (IsCommit w r s p x × IsLive r w)
+left_spares w r deeds s a m p x c careful (answered _ lv fits) = elim (made_spares w r deeds s p x c careful) [ inl z ↦ inl z | inr z ↦ inr (z, lv) ]
+left_spares w r deeds s a m p x c careful (failed Before lv may) = inl stays
+left_spares w r deeds s a m p x c careful (failed Made lv may) = elim (made_spares w r deeds s p x c careful) [ inl z ↦ inl z | inr z ↦ inr (z, lv) ]
+left_spares w r deeds s a m p x c careful (failed (Torn b) lv may) = inl (torn_commit w r deeds s b p x c careful may)
+left_spares w r deeds s a m p x c careful (refused d) = inl stays
 
 -- a commit that is done makes the name lead to the file
 pub commit_leads : (w : WorldMap) (p : Place) (t x : List ℕ) (r : ℕ) → is_temp_of r (kind_of t) ≡ true → is_committed p x ≡ true → Done ≡ name_answer (now_in (w.directories p) t)

@@ -86,7 +86,7 @@ pub ended_by : (start v : World) (past : List Event) (r : ℕ) → (shown v).end
 unfolding world_after
 ended_by start v past r e = e
 
-tries_cut : (start : World) (r : ℕ) (p : Place) (x : List ℕ) (f : ℕ) (v : World) (past : List Event) → IsLive r (world_after start past) → (shown v).ended r ≡ true → Tries start r p x f past → Tries start r p x f (Crash v ∷ past)
+pub tries_cut : (start : World) (r : ℕ) (p : Place) (x : List ℕ) (f : ℕ) (v : World) (past : List Event) → IsLive r (world_after start past) → (shown v).ended r ≡ true → Tries start r p x f past → Tries start r p x f (Crash v ∷ past)
 tries_cut start r p x f v past lv over t = (past, cut over lv, was_at lv t.1 t.2)
   where
     was_at : {moment past : List Event} → IsLive r (world_after start past) → IsTriedAt start r moment past → Leads start moment p x f → Leads start past p x f

@@ -16,7 +16,7 @@ use Rattle.folder_files.specs.declared.place.Place.{Place}
 use Rattle.folder_files.specs.declared.step.Answer.TheVariants.{Done, Gone}
 use Rattle.folder_files.specs.declared.step.Step.TheVariants.{Create, Read, Rename, SyncFolder, Unlock}
 use Rattle.folder_files.specs.declared.world.World.{World}
-use Rattle.step_plans.specs.Moments.{IsNoCrash}
+use Rattle.step_plans.specs.Moments.{IsNoCrash, Tries}
 
 -- the bytes of a file; no bytes where there is none
 abbrev pub text_of : WorldMap → Option ℕ → List ℕ
@@ -35,23 +35,23 @@ pub data IsBase (run : ℕ) (p : Place) (name : List ℕ) : List ℕ → List De
       → WasDone (Create p temp text) older → HasLock p older → IsBase run p name text (d ∷ older)
   on : {d : Deed} {older : List Deed} {text : List ℕ} → d.step ≢ Unlock p → (IsKnown run p name d → ⊥) → IsBase run p name text older → IsBase run p name text (d ∷ older)
 
--- an event that is no commit of this name, tried by whatever run
-abbrev pub IsNoCommit : Place → List ℕ → Event → Type 0
-IsNoCommit p name (Act r s a m) = (temp : List ℕ) → s ≢ Rename p temp name
-IsNoCommit p name (Deliver path piece) = Unit {0}
-IsNoCommit p name (Crash v) = Unit {0}
-IsNoCommit p name (End r) = Unit {0}
+-- the event is a commit of this name, tried by whatever run: a rename to it of a name that led to a file
+abbrev pub TriesCommit : World → Place → List ℕ → Event → List Event → Type 0
+TriesCommit start p name (Act r s a m) past = (temp : List ℕ) × (f : ℕ) × (s ≡ Rename p temp name) × Tries start r p temp f past
+TriesCommit start p name (Deliver path piece) past = ⊥
+TriesCommit start p name (Crash v) past = ⊥
+TriesCommit start p name (End r) past = ⊥
 
 -- a commit of this text was answered Done, and neither a crash nor another commit of the name has come since
-pub data IsCommitted (p : Place) (name text : List ℕ) : List Event → Type 0 where
+pub data IsCommitted (start : World) (p : Place) (name text : List ℕ) : List Event → Type 0 where
   now : {run : ℕ} {temp : List ℕ} {m : After} {past : List Event} → is_temp_of run (kind_of temp) ≡ true → WasDone (Create p temp text) (own run past)
-      → IsCommitted p name text (Act run (Rename p temp name) Done m ∷ past)
-  on : {e : Event} {past : List Event} → IsNoCrash e → IsNoCommit p name e → IsCommitted p name text past → IsCommitted p name text (e ∷ past)
+      → IsCommitted start p name text (Act run (Rename p temp name) Done m ∷ past)
+  on : {e : Event} {past : List Event} → IsNoCrash e → (TriesCommit start p name e past → ⊥) → IsCommitted start p name text past → IsCommitted start p name text (e ∷ past)
 
 -- and then its directory was synced, with the answer Done; no other commit of the name has come since
-pub data IsSettled (p : Place) (name text : List ℕ) : List Event → Type 0 where
-  now : {run : ℕ} {m : After} {past : List Event} → IsCommitted p name text past → IsSettled p name text (Act run (SyncFolder p) Done m ∷ past)
-  on : {e : Event} {past : List Event} → IsNoCommit p name e → IsSettled p name text past → IsSettled p name text (e ∷ past)
+pub data IsSettled (start : World) (p : Place) (name text : List ℕ) : List Event → Type 0 where
+  now : {run : ℕ} {m : After} {past : List Event} → IsCommitted start p name text past → IsSettled start p name text (Act run (SyncFolder p) Done m ∷ past)
+  on : {e : Event} {past : List Event} → (TriesCommit start p name e past → ⊥) → IsSettled start p name text past → IsSettled start p name text (e ∷ past)
 
 -- the file has this text in the world, and in each world that a crash may leave of it
 pub record HasTextFirmly (w : WorldMap) (p : Place) (name text : List ℕ) : Type 0 where

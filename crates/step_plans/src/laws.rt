@@ -14,7 +14,7 @@ ghost use Rattle.folder_files.specs.declared.step.Answer.{Answer};
 ghost use Rattle.folder_files.specs.declared.step.Step.{Step};
 ghost use Rattle.folder_files.specs.declared.step.Step.TheVariants.{CutDrop, Rename};
 ghost use Rattle.folder_files.specs.declared.world.World.{World};
-ghost use Rattle.step_plans.specs.Commits.{text_at, HadText, IsBase, IsCommitted, IsNoCommit, IsSettled, HasTextFirmly};
+ghost use Rattle.step_plans.specs.Commits.{text_at, HadText, IsBase, IsCommitted, IsSettled, HasTextFirmly, TriesCommit};
 ghost use Rattle.step_plans.specs.Cutting.{IsUncut, AreDurable};
 ghost use Rattle.step_plans.specs.Durable.{HasPutAndSynced, IsDurable};
 ghost use Rattle.step_plans.specs.MailInvariant.{MailInvariant};
@@ -57,11 +57,11 @@ pub fn lock_order()
         → AreOrderly (Act run (Rename p temp name) a m ∷ past) → is_committed p name ≡ true → (moment : List Event) → IsTriedAt start run moment past
         → IsBase run p name (text_at (world_after start moment) p name) (own run past) }
     ensures committed { (start : World) (past : List Event) (p : Place) (name text : List ℕ) → IsStart start → IsLegal start past → AreCareful past → HasNoneOfTheirs start past
-        → is_committed p name ≡ true → IsCommitted p name text past → text_at (world_after start past) p name ≡ text }
+        → is_committed p name ≡ true → IsCommitted start p name text past → text_at (world_after start past) p name ≡ text }
     ensures only_commits { (start : World) (past : List Event) (e : Event) (p : Place) (name : List ℕ) → IsStart start → IsLegal start (e ∷ past) → AreCareful (e ∷ past) → HasNoneOfTheirs start (e ∷ past)
-        → is_committed p name ≡ true → IsNoCommit p name e → IsNoCrash e → text_at (world_after start (e ∷ past)) p name ≡ text_at (world_after start past) p name }
+        → is_committed p name ≡ true → (TriesCommit start p name e past → ⊥) → IsNoCrash e → text_at (world_after start (e ∷ past)) p name ≡ text_at (world_after start past) p name }
     ensures stays { (start : World) (past : List Event) (p : Place) (name text : List ℕ) → IsStart start → IsLegal start past → AreCareful past → HasNoneOfTheirs start past
-        → is_committed p name ≡ true → IsSettled p name text past → HasTextFirmly (world_after start past) p name text }
+        → is_committed p name ≡ true → IsSettled start p name text past → HasTextFirmly (world_after start past) p name text }
     ensures crash { (start : World) (past : List Event) (p : Place) (name : List ℕ) (v : WorldMap) (acted : ℕ → Bool) → IsStart start → IsLegal start past → AreCareful past → HasNoneOfTheirs start past
         → is_committed p name ≡ true → IsCrashImage (world_after start past) v acted → HadText start p name (text_at v p name) past }
 {}
