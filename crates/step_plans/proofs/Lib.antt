@@ -26,3 +26,4 @@ pub mod Stage
 pub mod LostByDrop
 pub mod LostByDiscard
 pub mod LostByCut
+pub mod WorkedCommit
