@@ -27,3 +27,4 @@ pub mod LostByDrop
 pub mod LostByDiscard
 pub mod LostByCut
 pub mod WorkedCommit
+pub mod WorkedDiscard

@@ -76,11 +76,15 @@ lost = Crash left ∷ gone
 begun_starts : IsStart begun
 begun_starts = record { directories = (refl, refl, (refl, refl, tt), (refl, refl, tt, tt)); files = (refl, refl, tt); outside = tt; no_lock = refl }
 
+pub put_is_legal : IsLegal begun put
+unfolding world_after made shown
+put_is_legal =
+    answers 5 (Link out temp one) Done (answers 5 (SyncFile out temp) Done (answers 5 (Create out temp (codes "x")) Done
+    (answers 5 (Read inbox held 10) (Content (codes "x")) (answers 5 (Rename inbox two held) Done begins refl refl) refl refl) refl refl) refl refl) refl refl
+
 gone_is_legal : IsLegal begun gone
 unfolding world_after made shown
-gone_is_legal =
-    answers 5 (Unlink inbox held) Done (answers 5 (Link out temp one) Done (answers 5 (SyncFile out temp) Done (answers 5 (Create out temp (codes "x")) Done
-    (answers 5 (Read inbox held 10) (Content (codes "x")) (answers 5 (Rename inbox two held) Done begins refl refl) refl refl) refl refl) refl refl) refl refl) refl refl
+gone_is_legal = answers 5 (Unlink inbox held) Done put_is_legal refl refl
 
 -- of `inbox` all is kept
 inbox_image : IsDirectoryImage ((world_after begun gone).directories inbox) ((shown left).directories inbox)
@@ -170,7 +174,7 @@ lost_is_legal : IsLegal begun lost
 lost_is_legal = crashes left gone_is_legal left_is_image
 
 -- all that came before the discard was careful
-put_is_careful : AreCareful put
+pub put_is_careful : AreCareful put
 unfolding own
 put_is_careful = (
   changes (unfailed (own 5 synced) (done_is_no_failure, (done_is_no_failure, (no_failure, (done_is_no_failure, tt))))) Puts (puts out temp one (refl, ap (λ k. is_number k) one_is, (ap (λ k. is_temp_of 5 k) temp_is, now (refl, now (codes "x", refl))))),

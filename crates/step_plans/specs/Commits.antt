@@ -58,7 +58,7 @@ pub record HasTextFirmly (w : WorldMap) (p : Place) (name text : List ℕ) : Typ
   pub now : text_at w p name ≡ text
   pub later : (v : WorldMap) (acted : ℕ → Bool) → IsCrashImage w v acted → text_at v p name ≡ text
 
--- an event that is no sync of the directory that was made
+-- an event that does not make the directory's changes safe: no sync of it, or one that was not made
 abbrev pub IsNoSync : Place → Event → Type 0
 IsNoSync p (Act r s a m) = s ≡ SyncFolder p → m ≡ Made → ⊥
 IsNoSync p (Deliver path piece) = Unit {0}
