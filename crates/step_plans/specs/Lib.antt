@@ -1,0 +1,12 @@
+pub mod Anchors
+pub mod Commits
+pub mod Cutting
+pub mod Durable
+pub mod Leaving
+pub mod MailInvariant
+pub mod Moments
+pub mod NoLoss
+pub mod Spending
+pub mod Standing
+pub mod Starts
+pub mod Successors
