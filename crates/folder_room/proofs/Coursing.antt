@@ -1,7 +1,7 @@
 -- Courses go on by events, and stay possible.
 use Rattle.std.specs.Prelude.{not, IsTrue, OnOk, OnErr, Result, Ok, Err}
 use Rattle.folder_room.specs.declared.course.Course.{Course}
-use Rattle.std.proofs.Common.{◌≡◌, ◌==◌, ◌||◌, ◌&&◌, ◌≢◌, ◌++◌, ◌∷◌, [], ℕ, Bool, true, false, List, Option, Some, None, refl, sym, ◌∙◌, ap, subst}
+use Rattle.std.proofs.Common.{◌≡◌, ◌==◌, ◌||◌, ◌&&◌, ◌++◌, ◌∷◌, [], ℕ, Bool, true, false, List, refl, sym, ◌∙◌, ap, subst}
 use Rattle.std.proofs.lemmas.List.{reverse-append}
 use Rattle.folder_files.specs.Histories.{IsLegal, begins, answers, fails, is_dead, delivers, crashes, crashes_within, stops, IsLive, past_of, world_after, after_event, after_end, after_delivery, has_acted}
 use Rattle.folder_files.specs.Steps.{Fits, made, made_by, left_by, MayLeave}

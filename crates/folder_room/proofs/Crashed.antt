@@ -2,7 +2,7 @@
 use Rattle.std.proofs.Common.{◌≡◌, ◌++◌, ◌==◌, ◌||◌, ◌+◌, ℕ, max, Bool, true, false, List, [], ◌∷◌, map, reverse, refl, sym, ◌∙◌, ap}
 use Rattle.std.specs.Prelude.{if◌then◌else◌}
 use Rattle.std.proofs.lemmas.Bool.Decides.{Decides-eqb}
-use Rattle.folder_files.specs.CrashImage.{IsCrashImage, IsDirectoryImage}
+use Rattle.folder_files.specs.CrashImage.{IsCrashImage}
 use Rattle.folder_files.specs.Directory.{DirectoryMap, kept_lead}
 use Rattle.folder_files.specs.Histories.{has_acted}
 use Rattle.folder_files.specs.Places.{same_place}
@@ -13,10 +13,8 @@ use Rattle.folder_files.specs.declared.event.Event.TheVariants as event
 use Rattle.folder_files.specs.declared.world.Directory.{Directory}
 use Rattle.folder_files.specs.declared.world.File.{File}
 use Rattle.folder_files.specs.declared.world.World.{World}
-use Rattle.folder_room.specs.Closing.{asked_of, filled_file, kept_set}
+use Rattle.folder_room.specs.Closing.{filled_file, kept_set}
 use Rattle.folder_room.specs.Crashing.{asked_at, IsCutDirectory, IsCrashBy, filled}
-use Rattle.folder_room.specs.Played.{has_acted_or_is}
-use Rattle.folder_room.specs.declared.images.Asked.{Asked}
 use Rattle.folder_room.specs.declared.script.Keep.{Keep}
 use Rattle.folder_room.proofs.Closed.{least_set}
 use Rattle.folder_room.proofs.Placing.{place_same}

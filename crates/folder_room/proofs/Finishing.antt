@@ -2,9 +2,9 @@
 use Rattle.std.proofs.lemmas.List.{length-reverse}
 use Rattle.std.proofs.Common.{◌≡◌, ◌+◌, length, arith, ◌++◌, ◌∷◌, [], ℕ, true, false, List, Option, Some, None, refl, sym, subst, ap}
 use Rattle.std.specs.Prelude.{Result, Ok, Err, IfOk, OnErr}
-use Rattle.folder_files.specs.Histories.{past_of, world_after}
+use Rattle.folder_files.specs.Histories.{past_of}
 use Rattle.folder_files.specs.Steps.{Fits, made, made_by}
-use Rattle.folder_files.specs.Worlds.{WorldMap, shown}
+use Rattle.folder_files.specs.Worlds.{shown}
 use Rattle.folder_files.specs.declared.step.Step.{Step}
 use Rattle.folder_files.specs.declared.step.Answer.{Answer}
 use Rattle.folder_files.specs.declared.step.Answer.TheVariants.{Failed}

@@ -1,5 +1,5 @@
 -- An answer that fits is one of its step's row.
-use Rattle.std.proofs.Common.{◌≡◌, ◌==◌, ◌≤◌, ℕ, Bool, true, false, List, Option, Some, None, length, take, drop, sym, subst, arith}
+use Rattle.std.proofs.Common.{◌==◌, ℕ, Bool, true, false, List, Option, Some, None, length, drop, sym, subst, arith}
 use Rattle.std.specs.Prelude.{if◌then◌else◌, is_none, nat_lt}
 use Rattle.std.proofs.lemmas.List.{length-take}
 use Rattle.folder_files.specs.Rows.{IsAnswerOf, IsReadRow, IsNewRow, IsOldRow, IsMakeRow, IsCutRow, IsPieceRow, IsNamesRow, IsLockRow}

@@ -1,7 +1,7 @@
 -- An answer that fits is no failure.
-use Rattle.std.proofs.Common.{◌≡◌, ◌==◌, ℕ, Bool, true, false, List, Option, Some, None, length, sym, subst}
+use Rattle.std.proofs.Common.{◌≡◌, ◌==◌, ℕ, Bool, true, false, List, Option, Some, None, length, subst}
 use Rattle.std.specs.Prelude.{if◌then◌else◌, is_none, nat_lt}
-use Rattle.folder_files.specs.Steps.{Fits, IsListed, IsLocked, reading_of, read_answer, read_file_answer, piece_answer, cut_answer, create_answer, link_answer, there_answer, name_answer}
+use Rattle.folder_files.specs.Steps.{Fits, reading_of, read_answer, read_file_answer, piece_answer, cut_answer, create_answer, link_answer, there_answer, name_answer}
 use Rattle.folder_files.specs.Directory.{DirectoryMap, now_in}
 use Rattle.folder_files.specs.Worlds.{WorldMap}
 use Rattle.folder_files.specs.declared.step.Step.{Step}

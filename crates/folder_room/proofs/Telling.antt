@@ -1,21 +1,21 @@
 -- What a mailbox in memory tells, call by call.
-use Rattle.std.proofs.Common.{◌≡◌, ◌≢◌, ◌+◌, ◌++◌, ◌∷◌, [], ℕ, List, Option, Some, None, map, reverse, length, refl, sym, ◌∙◌, ap, subst, arith, append_assoc, append-nil, length-append}
+use Rattle.std.proofs.Common.{◌≡◌, ◌+◌, ◌++◌, ◌∷◌, [], ℕ, List, Option, Some, map, reverse, length, refl, sym, ◌∙◌, ap, subst, arith, append_assoc, append-nil, length-append}
 use Rattle.std.proofs.lemmas.List.{reverse-append, reverse-reverse, map-append}
 use Rattle.std.specs.Prelude.{Result, Ok, Err, MatchResult, IfOk}
 use Rattle.std.specs.declared.alloc.AllocError.{AllocError}
 use Rattle.folder_files.specs.Histories.{past_of, IsLegal, world_after}
 use Rattle.folder_files.specs.Rows.{IsAnswerOf}
-use Rattle.folder_files.specs.Story.{Story, Moment, Mine, Theirs, Grows, GrowsBy, Asks, Waits, AreOthers, IsOther, places, event_of, Counts}
+use Rattle.folder_files.specs.Story.{Moment, Mine, Theirs, Asks, Waits, AreOthers, IsOther, places, event_of, Counts}
 use Rattle.folder_files.specs.declared.step.Step.{Step}
 use Rattle.folder_files.specs.declared.step.Answer.{Answer}
-use Rattle.folder_files.specs.declared.step.Answer.TheVariants.{Done, Names, Content, Piece, Long, Gone, Exists, Busy, Grown, Failed}
+use Rattle.folder_files.specs.declared.step.Answer.TheVariants.{Failed}
 use Rattle.folder_files.specs.declared.event.After.{After}
 use Rattle.folder_files.specs.declared.event.After.TheVariants.{Before, Made}
 use Rattle.folder_files.specs.declared.event.Event.{Event}
 use Rattle.folder_files.specs.declared.event.Event.TheVariants as event
 use Rattle.folder_files.specs.declared.world.World.{World}
 use Rattle.folder_room.specs.Played.{Plays, PlaysOne, stops, plays, skips, acts, delivers, fails, crashes, IsAnswered, is_dead, fails_by, answers, crashes_within, IsPlayed, failing, fail_of}
-use Rattle.folder_room.specs.Seen.{Seen, story_of, faults_after}
+use Rattle.folder_room.specs.Seen.{Seen, story_of}
 use Rattle.folder_room.specs.declared.script.Happening.{Happening}
 use Rattle.folder_room.proofs.Fitted.{fits_row, failed_row}
 

@@ -1,5 +1,5 @@
 -- What the code keeps of a turn.
-use Rattle.std.specs.Prelude.{true, List, [], ◌∷◌, Option, Some, None, map}
+use Rattle.std.specs.Prelude.{true, List, [], ◌∷◌, Option, Some, None}
 use denote.Ref.{Bor}
 use Rattle.folder_files.specs.declared.event.After.{After}
 use Rattle.folder_room.specs.declared.playing.Within.{Within}

@@ -1,7 +1,7 @@
 -- What contracts see of a mailbox in memory.
-use Rattle.std.specs.Prelude.{◌≡◌, ◌+◌, ◌-◌, ◌^◌, ℕ, min, List, Some}
+use Rattle.std.specs.Prelude.{◌≡◌, ◌+◌, ◌-◌, ◌^◌, ℕ, min, List}
 use Rattle.folder_files.specs.Histories.{world_after, IsLegal, past_of}
-use Rattle.folder_files.specs.Story.{Story, FilesState}
+use Rattle.folder_files.specs.Story.{Story}
 use Rattle.folder_files.specs.Worlds.{shown}
 use Rattle.folder_files.specs.declared.event.Event.{Event}
 use Rattle.folder_files.specs.declared.step.Answer.{Answer}

@@ -1,4 +1,4 @@
-use Rattle.std.proofs.Common.{rules, true, false, ◌≡◌, subst, ap, ◌∙◌}
+use Rattle.std.proofs.Common.{rules, true, false, ◌≡◌, subst}
 use Rattle.folder_files.specs.Worlds.{shown, holds_of}
 use Rattle.folder_room.proofs.answers.lock.Goals as goal
 

@@ -1,4 +1,4 @@
-use Rattle.std.proofs.Common.{◌≡◌, rules, ap, sym, subst, ◌∷◌, [], List, ◌∙◌}
+use Rattle.std.proofs.Common.{sym, subst, ◌∷◌, [], List}
 use Rattle.std.proofs.lemmas.List.{nil_from_length}
 use Rattle.folder_files.specs.Worlds.{directory_of, shown_directory}
 use Rattle.folder_files.specs.declared.world.Directory.{Directory}

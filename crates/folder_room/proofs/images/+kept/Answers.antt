@@ -1,4 +1,4 @@
-use Rattle.std.proofs.Common.{◌≡◌, rules, ap, map}
+use Rattle.std.proofs.Common.{ap, map}
 use Rattle.std.proofs.lemmas.Result.{IfOk-weaker}
 use Rattle.folder_files.specs.Worlds.{slot_of}
 use Rattle.folder_room.specs.Closing.{asked_of}

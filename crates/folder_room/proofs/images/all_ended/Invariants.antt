@@ -1,4 +1,4 @@
-use Rattle.std.proofs.Common.{◌≡◌, ◌||◌, ℕ, take, reverse}
+use Rattle.std.proofs.Common.{◌≡◌, ◌||◌, ℕ, take}
 use Rattle.folder_files.specs.Histories.{has_acted, past_of}
 use Rattle.folder_files.specs.Worlds.{has_run}
 use Rattle.folder_room.proofs.images.all_ended.Given as goal

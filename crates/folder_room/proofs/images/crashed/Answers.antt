@@ -1,4 +1,4 @@
-use Rattle.std.proofs.Common.{◌≡◌, List, rules, ◌∙◌, ap, subst, sym}
+use Rattle.std.proofs.Common.{◌≡◌, List, rules, subst}
 use Rattle.folder_room.specs.Crashing.{IsCutDirectory, asked_at}
 use Rattle.folder_room.specs.Played.{has_acted_or_is}
 use Rattle.folder_files.specs.Histories.{past_of}

@@ -1,8 +1,6 @@
-use Rattle.std.proofs.Common.{◌≡◌, List, ℕ, [], map, rules, ◌∙◌, ap, reverse, sym}
+use Rattle.std.proofs.Common.{◌≡◌, [], map, rules, ◌∙◌, ap, reverse}
 use Rattle.folder_files.specs.Directory.{kept_lead}
 use Rattle.folder_files.specs.Worlds.{slot_of}
-use Rattle.folder_files.specs.declared.world.Slot.{Slot}
-use Rattle.folder_files.specs.declared.world.Change.{Change}
 use Rattle.folder_room.specs.Closing.{asked_of, kept_set}
 use Rattle.folder_room.proofs.Crashed.{directory_cut}
 use Rattle.folder_room.proofs.images.cut_directory.Goals as goal

@@ -1,4 +1,4 @@
-use Rattle.std.proofs.Common.{◌∙◌, ap, List, ℕ}
+use Rattle.std.proofs.Common.{◌∙◌, ap}
 use Rattle.mh_base.specs.Names.{IsName}
 use Rattle.folder_files.specs.Steps.{has_text}
 use Rattle.folder_room.proofs.Ordered.{dedup_ascending, dedup_same, dedup_all, slot_texts}

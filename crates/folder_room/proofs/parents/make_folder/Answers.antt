@@ -1,6 +1,6 @@
-use Rattle.std.proofs.Common.{◌≡◌, rules, ◌∙◌, ap, ◌∷◌, ◌||◌}
+use Rattle.std.proofs.Common.{rules, ◌∙◌, ap, ◌∷◌, ◌||◌}
 use Rattle.std.proofs.lemmas.Result.{on_ok_weaker}
-use Rattle.folder_files.specs.Places.{same_place, is_parent}
+use Rattle.folder_files.specs.Places.{same_place}
 use Rattle.folder_files.specs.Worlds.{shown}
 use Rattle.folder_room.specs.Parents.{is_among}
 use Rattle.folder_room.proofs.Folders.{folder_made}

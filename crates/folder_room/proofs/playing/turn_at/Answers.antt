@@ -1,5 +1,5 @@
-use Rattle.std.proofs.Common.{◌≡◌, ◌++◌, ◌∷◌, [], rules, map, true, false, ◌∙◌, ap, refl}
-use Rattle.folder_room.proofs.Turns.{turn_more, turn_kept, turn_left}
+use Rattle.std.proofs.Common.{map, ◌∙◌, ap, refl}
+use Rattle.folder_room.proofs.Turns.{turn_kept, turn_left}
 use Rattle.folder_room.proofs.playing.turn_at.Goals as goal
 use Rattle.folder_room.proofs.playing.turn_at.Goals.{then-prompt-call+in_ok-push, else-prompt-call}
 

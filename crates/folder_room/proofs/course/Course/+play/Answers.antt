@@ -1,4 +1,4 @@
-use Rattle.std.proofs.Common.{ap, rules, ◌∙◌}
+use Rattle.std.proofs.Common.{ap}
 use Rattle.folder_files.specs.Histories.{past_of}
 use Rattle.folder_room.specs.declared.course.Course.{Course}
 use Rattle.folder_room.proofs.Coursing.{dead_now}

@@ -1,4 +1,4 @@
-use Rattle.std.proofs.Common.{rules, ap}
+use Rattle.std.proofs.Common.{ap}
 use Rattle.folder_room.specs.Left.{failed_of}
 use Rattle.folder_room.proofs.Coursing.{failed_now}
 use Rattle.folder_room.proofs.Finishing.{live_goes, live_ends, fail_ends}

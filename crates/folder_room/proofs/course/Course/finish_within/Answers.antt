@@ -1,4 +1,3 @@
-use Rattle.std.proofs.Common.{rules}
 use Rattle.folder_room.proofs.Coursing.{within_now}
 use Rattle.folder_room.proofs.Finishing.{within_ends}
 use Rattle.folder_room.proofs.course.Course.finish_within.Goals as goal

@@ -1,4 +1,4 @@
-use Rattle.std.proofs.Common.{rules, inl, inr, sym, ap, ◌∙◌, subst, List}
+use Rattle.std.proofs.Common.{sym, subst, List}
 use Rattle.std.proofs.lemmas.Result.{on_ok_weaker}
 use Rattle.folder_files.specs.Histories.{past_of}
 use Rattle.folder_files.specs.declared.event.Event.{Event}

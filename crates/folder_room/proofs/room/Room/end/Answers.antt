@@ -1,4 +1,3 @@
-use Rattle.std.proofs.Common.{rules}
 use Rattle.folder_room.proofs.Coursing.{either_way, both_same, ended_now}
 use Rattle.folder_room.proofs.room.Room.end.Goals as goal
 

@@ -1,4 +1,4 @@
-use Rattle.std.proofs.Common.{rules, sym, ap}
+use Rattle.std.proofs.Common.{rules}
 use Rattle.folder_room.proofs.Coursing.{first_now}
 use Rattle.folder_room.proofs.room.Room.new.Goals as goal
 

@@ -1,4 +1,4 @@
-use Rattle.std.proofs.Common.{◌≡◌, rules, sym, subst, List}
+use Rattle.std.proofs.Common.{◌≡◌, rules, subst, List}
 use Rattle.folder_files.specs.Histories.{past_of}
 use Rattle.folder_files.specs.declared.event.Event.{Event}
 use Rattle.folder_room.specs.Played.{Plays, turn_of, stops}

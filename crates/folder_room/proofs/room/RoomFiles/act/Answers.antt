@@ -1,4 +1,3 @@
-use Rattle.std.proofs.Common.{rules}
 use Rattle.folder_files.specs.Histories.{past_of}
 use Rattle.folder_room.specs.Played.{turn_of}
 use Rattle.folder_room.specs.Seen.{faults_after}
