@@ -1,3 +1,4 @@
 pub mod Following
 pub mod Keeping
 pub mod Telling
+pub mod Looking

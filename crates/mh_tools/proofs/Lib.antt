@@ -2,3 +2,4 @@ mod Causes
 mod Numbers
 mod Texts
 mod Showing
+mod Looks

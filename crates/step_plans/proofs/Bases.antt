@@ -20,7 +20,7 @@ use Rattle.folder_files.specs.declared.step.Answer.TheVariants.{Done, Content, G
 use Rattle.folder_files.specs.declared.step.Step.{Step}
 use Rattle.folder_files.specs.declared.step.Step.TheVariants as step
 use Rattle.folder_files.specs.declared.world.World.{World}
-use Rattle.folder_files.proofs.Placing.{place_same, place_is}
+use Rattle.step_plans.proofs.Sameness.{place_same, place_is}
 use Rattle.step_plans.specs.Commits.{TriesCommit, text_of, text_at, IsBase, found, missing, committed, on}
 use Rattle.step_plans.specs.Moments.{IsTriedAt, live, cut, IsNoCrash}
 use Rattle.step_plans.specs.Starts.{HasNoneOfTheirs}

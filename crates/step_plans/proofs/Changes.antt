@@ -9,7 +9,7 @@ use Rattle.folder_files.specs.declared.step.Step.{Step}
 use Rattle.folder_files.specs.declared.step.Step.TheVariants as step
 use Rattle.folder_files.specs.declared.world.Change.{Change}
 use Rattle.folder_files.specs.declared.world.Change.TheVariants.{Set, Gone, Moved}
-use Rattle.folder_files.proofs.Placing.{place_same}
+use Rattle.step_plans.proofs.Sameness.{place_same}
 use Rattle.step_plans.specs.Anchors.{IsUntouched}
 use Rattle.step_plans.proofs.Names.{num_same, both, bytes_true}
 use Rattle.step_plans.proofs.Closing.{untouched_lead}

@@ -22,7 +22,7 @@ use Rattle.folder_files.specs.declared.step.Step.TheVariants as step
 use Rattle.folder_files.specs.declared.world.Change.{Change}
 use Rattle.folder_files.specs.declared.world.Change.TheVariants as change
 use Rattle.folder_files.proofs.Kinding.{MayLink, MayRename, MayUnlink}
-use Rattle.folder_files.proofs.Placing.{place_same, place_is}
+use Rattle.step_plans.proofs.Sameness.{place_same, place_is}
 use Rattle.step_plans.specs.Anchors.{IsUntouched}
 use Rattle.step_plans.specs.Commits.{text_of, text_at}
 use Rattle.step_plans.specs.Standing.{is_standing, is_own}

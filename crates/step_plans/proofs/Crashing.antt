@@ -21,7 +21,7 @@ use Rattle.folder_files.specs.declared.step.Step.TheVariants as step
 use Rattle.folder_files.specs.declared.world.Change.{Change}
 use Rattle.folder_files.specs.declared.world.Change.TheVariants.{Moved}
 use Rattle.folder_files.specs.declared.world.World.{World}
-use Rattle.folder_files.proofs.Placing.{place_same, place_is}
+use Rattle.step_plans.proofs.Sameness.{place_same, place_is}
 use Rattle.step_plans.specs.Commits.{text_of, text_at, IsNoSync, HadText, now, on}
 use Rattle.step_plans.specs.Starts.{HasNoneOfTheirs}
 use Rattle.step_plans.proofs.Names.{not_both, bytes_self}

@@ -20,7 +20,7 @@ use Rattle.folder_files.specs.declared.step.Answer.TheVariants.{Done, Piece, Bus
 use Rattle.folder_files.specs.declared.step.Step.{Step}
 use Rattle.folder_files.specs.declared.step.Step.TheVariants as step
 use Rattle.folder_files.specs.declared.world.World.{World}
-use Rattle.folder_files.proofs.Outsides.{path_same}
+use Rattle.step_plans.proofs.Sameness.{path_same}
 use Rattle.step_plans.specs.Cutting.{IsCut, IsUncut, read, on, AreDurable}
 use Rattle.step_plans.specs.Durable.{IsDurable, HasPut, HasPutAndSynced}
 use Rattle.step_plans.specs.Moments.{IsTriedAt, live, cut}

@@ -17,7 +17,7 @@ use Rattle.folder_files.specs.declared.step.Step.{Step}
 use Rattle.folder_files.specs.declared.step.Step.TheVariants as step
 use Rattle.folder_files.specs.declared.world.Change.TheVariants.{Set}
 use Rattle.folder_files.specs.declared.world.World.{World}
-use Rattle.folder_files.proofs.Placing.{place_same, place_is}
+use Rattle.step_plans.proofs.Sameness.{place_same, place_is}
 use Rattle.step_plans.proofs.Names.{num_itself, bytes_self}
 use Rattle.step_plans.proofs.Changes.{IsTarget, Goes, stays, weaken, step_goes, file_keeps, next_grows}
 

@@ -20,7 +20,7 @@ use Rattle.folder_files.specs.declared.step.Answer.TheVariants.{Done, Content, L
 use Rattle.folder_files.specs.declared.step.Step.{Step}
 use Rattle.folder_files.specs.declared.step.Step.TheVariants as step
 use Rattle.folder_files.specs.declared.world.World.{World}
-use Rattle.folder_files.proofs.Placing.{place_same, place_is}
+use Rattle.step_plans.proofs.Sameness.{place_same, place_is}
 use Rattle.step_plans.specs.Durable.{WasPut, IsDurable, now, on}
 use Rattle.step_plans.specs.Spending.{IsSpent, IsClear, now, on}
 use Rattle.step_plans.specs.Starts.{HasNoneOf}

@@ -28,3 +28,4 @@ pub mod LostByDiscard
 pub mod LostByCut
 pub mod WorkedCommit
 pub mod WorkedDiscard
+mod Sameness

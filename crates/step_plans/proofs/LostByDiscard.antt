@@ -17,7 +17,7 @@ use Rattle.folder_files.specs.declared.place.Place.{Place}
 use Rattle.folder_files.specs.declared.step.Answer.TheVariants.{Done, Content, Failed}
 use Rattle.folder_files.specs.declared.step.Step.TheVariants.{Read, Create, SyncFile, Rename, Link, Unlink}
 use Rattle.folder_files.specs.declared.world.World.{World}
-use Rattle.folder_files.proofs.Placing.{place_same}
+use Rattle.step_plans.proofs.Sameness.{place_same}
 use Rattle.step_plans.specs.Durable.{IsDurable, stood, on}
 use Rattle.step_plans.specs.Leaving.{IsRemoved, on}
 use Rattle.step_plans.specs.NoLoss.{IsKept, removed, stands, discarded, LosesNothing}

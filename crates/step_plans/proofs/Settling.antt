@@ -19,7 +19,7 @@ use Rattle.folder_files.specs.declared.step.Answer.TheVariants.{Done, Failed}
 use Rattle.folder_files.specs.declared.step.Step.{Step}
 use Rattle.folder_files.specs.declared.step.Step.TheVariants as step
 use Rattle.folder_files.specs.declared.world.World.{World}
-use Rattle.folder_files.proofs.Placing.{place_is}
+use Rattle.step_plans.proofs.Sameness.{place_is}
 use Rattle.step_plans.specs.Anchors.{IsUntouched}
 use Rattle.step_plans.specs.Commits.{TriesCommit, text_of, text_at, IsCommitted, IsSettled, HasTextFirmly, now, on}
 use Rattle.step_plans.specs.Moments.{live}

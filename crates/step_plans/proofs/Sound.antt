@@ -23,7 +23,7 @@ use Rattle.folder_files.specs.declared.world.Change.{Change}
 use Rattle.folder_files.specs.declared.world.Change.TheVariants.{Set, Gone, Moved}
 use Rattle.folder_files.specs.declared.world.World.{World}
 use Rattle.folder_files.proofs.Kinding.{MayLink, MayRename}
-use Rattle.folder_files.proofs.Placing.{place_same}
+use Rattle.step_plans.proofs.Sameness.{place_same}
 use Rattle.step_plans.specs.Moments.{Leads, IsTriedAt, live, cut}
 use Rattle.step_plans.specs.Standing.{is_standing}
 use Rattle.step_plans.specs.Starts.{HasNoneOf, HasNoneOfTheirs}

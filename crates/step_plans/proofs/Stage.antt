@@ -17,7 +17,7 @@ use Rattle.folder_files.specs.declared.step.Answer.TheVariants.{Done, Failed}
 use Rattle.folder_files.specs.declared.step.Step.{Step}
 use Rattle.folder_files.specs.declared.step.Step.TheVariants.{Rename, Unlink}
 use Rattle.folder_files.specs.declared.world.World.{World}
-use Rattle.folder_files.proofs.Placing.{place_same}
+use Rattle.step_plans.proofs.Sameness.{place_same}
 use Rattle.step_plans.proofs.Past.{once_head, once_none}
 use Rattle.step_plans.specs.Leaving.{IsRemoved, backed_up, unlinked, on}
 

@@ -19,7 +19,7 @@ use Rattle.folder_files.specs.declared.world.Change.{Change}
 use Rattle.folder_files.specs.declared.world.Change.TheVariants.{Set, Gone, Moved}
 use Rattle.folder_files.specs.declared.world.World.{World}
 use Rattle.folder_files.proofs.Kinding.{MayLink, MayRename, MayUnlink}
-use Rattle.folder_files.proofs.Placing.{place_same, place_is}
+use Rattle.step_plans.proofs.Sameness.{place_same, place_is}
 use Rattle.step_plans.specs.Leaving.{backed_up, unlinked, now}
 use Rattle.step_plans.specs.Moments.{live}
 use Rattle.step_plans.specs.Spending.{IsSpent, IsClear}

@@ -17,7 +17,7 @@ use Rattle.folder_files.specs.declared.step.Answer.TheVariants.{Failed}
 use Rattle.folder_files.specs.declared.step.Step.{Step}
 use Rattle.folder_files.specs.declared.step.Step.TheVariants.{Link}
 use Rattle.folder_files.specs.declared.world.World.{World}
-use Rattle.folder_files.proofs.Placing.{place_is}
+use Rattle.step_plans.proofs.Sameness.{place_is}
 use Rattle.step_plans.specs.Moments.{Leads}
 use Rattle.step_plans.proofs.Changes.{arrives}
 use Rattle.step_plans.proofs.Effects.{IsNext, answered, failed, refused, left_directory, left_next, ComesTo, next_goes, world_next}
