@@ -1,0 +1,129 @@
+//! Prints how fast ten thousand values of From fields and of Date fields are read, and as many subjects with encoded words. It
+//! does so only where it is given an argument, since times differ from run to run.
+#![tactic(auto)]
+
+use mail_dates::MailDate;
+use mail_text::{Shown, decode_words};
+use mh_base::Text;
+use std::alloc::{AllocError, Global};
+use std::env;
+use std::rt::Clock;
+use std::test::Fail;
+use std::time::Instant;
+
+const COUNT: u64 = 10_000;
+
+/// Values of a From field, each with a number of its own.
+fn address(alloc: Global, number: u64) -> Result<String, AllocError> {
+    match number % 4 {
+        0 => format!(in alloc; "Ada Lovelace <ada{number}@example.org>"),
+        1 => format!(in alloc; "\"Byron, Ada (London)\" <ada.byron{number}@mail.example.org>"),
+        2 => format!(in alloc; "ada{number}@example.org (Ada, of the (first) engine)"),
+        _ => format!(in alloc; "list-owner+{number}@lists.example.org, bob@example.org"),
+    }
+}
+
+/// Values of a Date field.
+fn date(alloc: Global, number: u64) -> Result<String, AllocError> {
+    let day = number % 28 + 1;
+    let minute = number % 50 + 10;
+    match number % 3 {
+        0 => format!(in alloc; "Tue, {day} Jun 2026 10:{minute}:12 +0200"),
+        1 => format!(in alloc; "{day} Nov 97 09:{minute} GMT"),
+        _ => format!(in alloc; "Thu, {day} Feb 2024 23:{minute}:00 -0330 (Newfoundland Time)"),
+    }
+}
+
+/// Values of a Subject field.
+fn subject(alloc: Global, number: u64) -> Result<String, AllocError> {
+    match number % 3 {
+        0 => format!(in alloc; "Re: lunch on day {number}, at the place behind the station"),
+        1 => format!(in alloc;
+            "=?UTF-8?Q?Caf=C3=A9_am_Bahnhof?= =?UTF-8?Q?_um_zw=C3=B6lf?= ({number})"
+        ),
+        _ => format!(in alloc; "=?ISO-8859-1?B?SWYgeW91IGNhbiByZWFkIHRoaXMgeW8=?= {number}"),
+    }
+}
+
+fn rate(micros: u128) -> u64 {
+    let micros = u64::try_from(micros).unwrap_or(u64::MAX).max(1);
+    COUNT * 1_000_000 / micros
+}
+
+fn measure_addresses(rt: &(impl Print + Clock), alloc: Global) -> Result<(), Fail> {
+    let mut values = Vec::new(alloc);
+    for number in 0..COUNT {
+        values.push(Text::from_str(alloc, address(alloc, number)?.as_str())?)?;
+    }
+    let start = Instant::now(rt)?;
+    let mut named: u64 = 0;
+    for value in &values {
+        let shown = Shown::of_address(alloc, value)?;
+        if !shown.friendly(alloc)?.as_str().is_empty() {
+            named = named.wrapping_add(1);
+        }
+    }
+    let taken = start.elapsed(rt)?.as_micros();
+    println!(rt; "addresses: {} a second ({named})", rate(taken))?;
+    Ok(())
+}
+
+fn measure_dates(rt: &(impl Print + Clock), alloc: Global) -> Result<(), Fail> {
+    let mut values = Vec::new(alloc);
+    for number in 0..COUNT {
+        values.push(date(alloc, number)?)?;
+    }
+    let start = Instant::now(rt)?;
+    let mut read: u64 = 0;
+    for value in &values {
+        if MailDate::read(value.as_bytes()).is_some() {
+            read = read.wrapping_add(1);
+        }
+    }
+    let taken = start.elapsed(rt)?.as_micros();
+    println!(rt; "dates: {} a second ({read})", rate(taken))?;
+    Ok(())
+}
+
+fn measure_subjects(rt: &(impl Print + Clock), alloc: Global) -> Result<(), Fail> {
+    let mut values = Vec::new(alloc);
+    for number in 0..COUNT {
+        values.push(Text::from_str(alloc, subject(alloc, number)?.as_str())?)?;
+    }
+    let start = Instant::now(rt)?;
+    let mut bytes: usize = 0;
+    for value in &values {
+        bytes = bytes.wrapping_add(decode_words(alloc, value)?.as_str().len());
+    }
+    let taken = start.elapsed(rt)?.as_micros();
+    println!(rt; "subjects: {} a second ({bytes} bytes)", rate(taken))?;
+    Ok(())
+}
+
+/// A long run of beginnings of words, none of which ends, of so many characters.
+fn measure_beginnings(rt: &(impl Print + Clock), alloc: Global, count: usize) -> Result<(), Fail> {
+    let mut text = String::new(alloc);
+    for _ in 0..count / 10 {
+        text.push_str("=?UTF-8?Q?")?;
+    }
+    let text = Text::from_str(alloc, text.as_str())?;
+    let start = Instant::now(rt)?;
+    let line = decode_words(alloc, &text)?;
+    let taken = start.elapsed(rt)?.as_micros();
+    println!(rt;
+        "{} characters of beginnings without an end: {taken} microseconds",
+        line.as_str().len()
+    )?;
+    Ok(())
+}
+
+fn main(rt: HostRuntime) -> Result<(), Fail> {
+    if env::args(&rt)?.count() < 2 {
+        return Ok(());
+    }
+    measure_addresses(&rt, rt.alloc())?;
+    measure_dates(&rt, rt.alloc())?;
+    measure_subjects(&rt, rt.alloc())?;
+    measure_beginnings(&rt, rt.alloc(), 100_000)?;
+    measure_beginnings(&rt, rt.alloc(), 1_000_000)
+}

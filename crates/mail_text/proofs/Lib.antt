@@ -1,0 +1,6 @@
+mod Emptiness
+mod Fronts
+mod Marking
+mod Parting
+mod Quoted
+mod Wording

@@ -1,0 +1,9 @@
+pub mod Addresses
+pub mod Charsets
+pub mod EncodedWords
+pub mod Encodings
+pub mod Marks
+pub mod ShownAddress
+pub mod ShownBytes
+pub mod Stripping
+pub mod WordView

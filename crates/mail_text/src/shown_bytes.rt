@@ -1,0 +1,39 @@
+// Bytes as a reader sees them.
+ghost use Rattle.std.specs.Prelude.{◌≡◌, ◌++◌, IfOk, OnOk};
+ghost use Rattle.std.specs.Str.{chars, IsUtf8};
+ghost use Rattle.mail_text.specs.ShownBytes.{shown};
+
+use mh_base::Text;
+use std::alloc::{AllocError, Global};
+use std::str::from_utf8;
+
+/// Adds the characters of bytes that are UTF-8.
+fn put_valid(text: &mut Text, bytes: &[u8]) -> Result<(), AllocError>
+    requires { IsUtf8 bytes.now }
+    ensures { OnOk result (text.new ≡ text.old ++ chars bytes.now) }
+{
+    let Ok(more) = from_utf8(bytes) else {
+        unreachable!();
+    };
+    for c in more.chars() {
+        text.push(c)?;
+    }
+    Ok(())
+}
+
+/// The characters of UTF-8 (RFC 3629, section 4). Each byte that is part of no character, looked at from the left, is a question
+/// mark.
+pub fn show_bytes(alloc: Global, bytes: &[u8]) -> Result<Text, AllocError>
+    ensures { IfOk result (λ text. text ≡ shown bytes.now) }
+{
+    let mut text = Text::new(alloc);
+    let mut rest = bytes;
+    while let Err(fault) = from_utf8(rest) {
+        let (valid, behind) = rest.split_at(fault.valid_up_to());
+        put_valid(&mut text, valid)?;
+        text.push('?')?;
+        (_, rest) = behind.split_at(1);
+    }
+    put_valid(&mut text, rest)?;
+    Ok(text)
+}
