@@ -10,10 +10,4 @@ mod given;
 #[cfg(test)]
 mod mail;
 #[cfg(test)]
-mod room;
-#[cfg(test)]
-mod scan;
-#[cfg(test)]
-mod script;
-#[cfg(test)]
 mod values;

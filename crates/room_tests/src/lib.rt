@@ -1,0 +1,11 @@
+//! Tests over a mailbox in memory. There is nothing here but tests.
+#![tactic(auto)]
+
+#[cfg(test)]
+mod given;
+#[cfg(test)]
+mod room;
+#[cfg(test)]
+mod scan;
+#[cfg(test)]
+mod script;
