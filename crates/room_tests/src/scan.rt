@@ -116,60 +116,60 @@ fn a_line_fails(rt: HostRuntime) -> Result<(), Fail> {
 }
 
 #[test]
-fn wrong_words(rt: HostRuntime) -> Result<(), Fail> {
+fn no_words(rt: HostRuntime) -> Result<(), Fail> {
     let mut files = three(rt.alloc(), "")?;
-    let none = row(&rt, &mut files, &[], 1, b"", b"mh: no command\n")?;
+    let status = row(&rt, &mut files, &[], 1, b"", b"mh: no command\n")?;
     assert!(rt;
         matches!(
-            none,
+            status,
             Status::Refused(Refusal::BadSwitch {
                 place: 0,
                 why: WordWhy::NoCommand
             })
         )
     );
-    let _ = row(
-        &rt,
-        &mut files,
-        &["scan", "inbox"],
-        1,
-        b"",
-        b"mh: unknown command: scan\n",
-    )?;
-    let _ = row(
-        &rt,
-        &mut files,
-        &["glue"],
-        1,
-        b"",
-        b"mh: unknown command: glue\n",
-    )?;
-    let _ = row(
-        &rt,
-        &mut files,
-        &["scan", "+inbox", "1"],
-        1,
-        b"",
-        b"mh: unknown command: scan\n",
-    )?;
-    let bad = row(
-        &rt,
-        &mut files,
-        &["scan", "+a//b"],
-        1,
-        b"",
-        b"mh: bad folder name: +a//b\n",
-    )?;
-    assert!(rt; matches!(bad, Status::Refused(Refusal::BadFolder(_))));
-    let gone = row(
-        &rt,
-        &mut files,
-        &["scan", "+none"],
-        1,
-        b"",
-        b"mh: no such folder: +none\n",
-    )?;
-    assert!(rt; matches!(gone, Status::Refused(Refusal::NoFolder(_))));
+    Ok(())
+}
+
+#[test]
+fn a_folder_without_its_sign(rt: HostRuntime) -> Result<(), Fail> {
+    let mut files = three(rt.alloc(), "")?;
+    let line = b"mh: unknown command: scan\n";
+    let _ = row(&rt, &mut files, &["scan", "inbox"], 1, b"", line)?;
+    Ok(())
+}
+
+#[test]
+fn an_unknown_command(rt: HostRuntime) -> Result<(), Fail> {
+    let mut files = three(rt.alloc(), "")?;
+    let line = b"mh: unknown command: glue\n";
+    let _ = row(&rt, &mut files, &["glue"], 1, b"", line)?;
+    Ok(())
+}
+
+#[test]
+fn one_word_too_many(rt: HostRuntime) -> Result<(), Fail> {
+    let mut files = three(rt.alloc(), "")?;
+    let line = b"mh: unknown command: scan\n";
+    let _ = row(&rt, &mut files, &["scan", "+inbox", "1"], 1, b"", line)?;
+    Ok(())
+}
+
+#[test]
+fn no_folder_name(rt: HostRuntime) -> Result<(), Fail> {
+    let mut files = three(rt.alloc(), "")?;
+    let line = b"mh: bad folder name: +a//b\n";
+    let status = row(&rt, &mut files, &["scan", "+a//b"], 1, b"", line)?;
+    assert!(rt; matches!(status, Status::Refused(Refusal::BadFolder(_))));
+    Ok(())
+}
+
+#[test]
+fn no_such_folder(rt: HostRuntime) -> Result<(), Fail> {
+    let mut files = three(rt.alloc(), "")?;
+    let line = b"mh: no such folder: +none\n";
+    let status = row(&rt, &mut files, &["scan", "+none"], 1, b"", line)?;
+    assert!(rt; matches!(status, Status::Refused(Refusal::NoFolder(_))));
     Ok(())
 }
 
