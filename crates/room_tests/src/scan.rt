@@ -234,15 +234,16 @@ fn odd_messages(rt: HostRuntime) -> Result<(), Fail> {
     Ok(())
 }
 
+/// So many zero bytes.
+fn zeros(alloc: Global, count: usize) -> Result<Bytes, Fail> {
+    Ok(Bytes::from_vec(vec![in alloc; 0u8; count]?))
+}
+
 #[test]
 fn too_large(rt: HostRuntime) -> Result<(), Fail> {
     let alloc = rt.alloc();
     let mut mailbox = Mailbox::new(alloc);
-    mailbox.add(
-        alloc,
-        b"1",
-        Bytes::from_vec(vec![in alloc; 0u8; 67_108_865]?),
-    )?;
+    mailbox.add(alloc, b"1", zeros(alloc, 67_108_865)?)?;
     let mut files = room(alloc, mailbox, "")?;
     let line = b"mh: too large: 67108865 bytes, limit 67108864\n";
     let _ = row(&rt, &mut files, &["scan", "+inbox"], 1, b"", line)?;
