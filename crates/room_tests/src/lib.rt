@@ -6,6 +6,4 @@ mod given;
 #[cfg(test)]
 mod room;
 #[cfg(test)]
-mod scan;
-#[cfg(test)]
 mod script;
