@@ -1,7 +1,10 @@
 pub mod Asking
 pub mod Follows
+pub mod Giving
+pub mod Mailboxes
 pub mod Plan
 pub mod Rules
 pub mod Runs
+pub mod Sightings
 pub mod StaysCareful
 pub mod Text

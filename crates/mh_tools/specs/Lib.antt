@@ -1,8 +1,12 @@
+pub mod AnswersAlone
 pub mod Command
 pub mod Faults
+pub mod IsCaused
 pub mod Lines
 pub mod MessageLine
+pub mod Outcome
 pub mod Scan
 pub mod Setting
 pub mod Status
+pub mod TellsWhatItSaw
 pub mod Top

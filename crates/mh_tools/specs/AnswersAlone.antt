@@ -1,0 +1,51 @@
+-- What a call answers that runs alone.
+use Rattle.std.specs.Prelude.{◌≡◌, ◌⊎◌, ◌++◌, ℕ, ◌+◌, List, [], ◌∷◌, length, take, Option, Some, None}
+use Rattle.mh_base.specs.Counts.{Rose}
+use Rattle.mh_base.specs.Streams.{SourceState, SinkState, Adds}
+use Rattle.folder_files.specs.Histories.{IsAlone, past_of, world_after}
+use Rattle.folder_files.specs.Story.{Story, FilesState, IsPossible}
+use Rattle.folder_files.specs.Worlds.{WorldMap}
+use Rattle.file_plans.specs.Mailboxes.{Mailbox, mailbox_of}
+use Rattle.mh_tools.specs.Outcome.{Outcome, outcome_of}
+use Rattle.mh_tools.specs.Setting.{SettingParts}
+use Rattle.mh_tools.specs.declared.status.Status.{Status}
+use Rattle.mh_tools.specs.declared.status.Status.TheVariants.{NoMemory}
+
+-- the mailbox after so many events of a story
+abbrev pub mailbox_at : Story → ℕ → Mailbox
+mailbox_at s k = mailbox_of (world_after s.start (past_of (take k s.history)))
+
+-- the first of these places, or this one where there is none
+abbrev pub first_of : ℕ → List ℕ → ℕ
+first_of n [] = n
+first_of n (p ∷ ps) = p
+
+-- the call ended so, wrote this, and left this mailbox; the error text where the error output did not fail
+pub record HasOutcome (outcome : Outcome) (after : Mailbox) (o u e d : SinkState) (status : Status) : Type 0 where
+  pub status : status ≡ outcome.status
+  pub output : Adds o.told u.told outcome.output
+  pub mailbox : after ≡ outcome.mailbox
+  pub error : (Rose e.faults d.faults → ⊥) → Adds e.told d.told outcome.error
+
+-- the counts of the files, the input and the output did not rise
+pub record IsUnfaulted (f g : FilesState) (n m : SourceState) (o u : SinkState) : Type 0 where
+  pub files : Rose f.faults g.faults → ⊥
+  pub source : Rose n.faults m.faults → ⊥
+  pub out : Rose o.faults u.faults → ⊥
+
+-- Where nothing else happened between the call's first step and its last, no other run had a lock at the first, the story was a possible one, and
+-- no count rose: the call has the outcome of its words on the mailbox at its first step, or wants memory. Nothing else is answered then.
+abbrev pub HasOutcomeAlone : ℕ → List (List ℕ) → SettingParts → SourceState → SinkState → SinkState → SinkState → SinkState → Status → Story → Story → Type 0
+HasOutcomeAlone run words setting n o u e d status old new =
+    (added : List ℕ) → new.asked ≡ old.asked ++ added → IsPossible old → IsAlone run new.start new.history added →
+    let first = first_of (length old.history) added in
+    (status ≡ NoMemory) ⊎ HasOutcome (outcome_of words (mailbox_at new first) setting n.left) (mailbox_at new (first + length added)) o u e d status
+
+abbrev pub AloneIfTold : ℕ → List (List ℕ) → SettingParts → SourceState → SinkState → SinkState → SinkState → SinkState → Status → Option Story → Option Story → Type 0
+AloneIfTold run words setting n o u e d status None None = Unit {0}
+AloneIfTold run words setting n o u e d status (Some old) (Some new) = HasOutcomeAlone run words setting n o u e d status old new
+AloneIfTold run words setting n o u e d status None (Some new) = ⊥
+AloneIfTold run words setting n o u e d status (Some old) None = ⊥
+
+abbrev pub AnswersAlone : ℕ → List (List ℕ) → SettingParts → FilesState → FilesState → SourceState → SourceState → SinkState → SinkState → SinkState → SinkState → Status → Type 0
+AnswersAlone run words setting f g n m o u e d status = IsUnfaulted f g n m o u → AloneIfTold run words setting n o u e d status f.story g.story
