@@ -1,4 +1,11 @@
+pub mod Acting
+pub mod Consecutive
+pub mod Finding
 pub mod Following
+pub mod Giving
 pub mod Keeping
-pub mod Telling
+pub mod Lone
 pub mod Looking
+pub mod Rising
+pub mod Standing
+pub mod Telling
