@@ -1,10 +1,15 @@
 -- What plans give, one after another, and what every run of a plan says and returns then.
 use Rattle.std.proofs.Common.{◌≡◌, ◌≢◌, ◌⊎◌, inl, inr, ◌++◌, ◌∷◌, [], List, ℕ, Result, Ok, Err, refl, sym, ◌∙◌, ap, append_assoc, append-nil}
+use Rattle.folder_files.specs.Deeds as deeds
+use Rattle.folder_files.specs.Deeds.{did}
 use Rattle.folder_files.specs.declared.step.Step.{Step}
 use Rattle.folder_files.specs.declared.step.Answer.{Answer}
 use Rattle.folder_files.specs.declared.step.Answer.TheVariants.{Failed}
 use Rattle.folder_files.specs.Rows.{IsAnswerOf}
 use Rattle.file_plans.specs.Giving.{Table, Gives, FitAll, Gave}
+use Rattle.file_plans.specs.Mailboxes.{Mailbox}
+use Rattle.file_plans.specs.Sightings.{Shows, Agrees}
+use Rattle.file_plans.proofs.Acting.{acts, acts_over}
 use Rattle.file_plans.specs.Plan.{Hand, Plan, Return, Ask, Try, Say, Hear, Recall, Note, bind, after, ◌>>=◌, converted, lifted}
 use Rattle.file_plans.specs.Runs.{Exit, Returned, FilesFailed, InFailed, OutFailed, NoMemory, Deed, Did, Said, Heard, Runs}
 use Rattle.file_plans.specs.Text.{said_of}
@@ -129,3 +134,23 @@ run_gives t s z h k text (Hear most next) (Heard piece ∷ ds) exit Q g fit (sho
 run_gives t s z h k text (Recall next) ds exit Q g fit f = run_gives t s z h k text (next h) ds exit Q g fit f
 run_gives t s z h k text (Note hand next) ds exit Q g fit (inl e) = rw e.0 (stopped z k text exit NoMemory Q e.2 no_memory memory_out)
 run_gives t s z h k text (Note hand next) ds exit Q g fit (inr f) = run_gives t s z hand k text next ds exit Q g fit f
+
+-- the answers that one mailbox shows
+abbrev pub by_mailbox : Table Mailbox
+by_mailbox = record { fits = Shows; after = λ m s a. m }
+
+agrees_past : (m : Mailbox) (past : List deeds.Deed) (ds : List Deed) → Agrees m (acts_over past ds) → Agrees m past
+agrees_past m past [] f = f
+agrees_past m past (Did s a ∷ ds) f = (agrees_past m (did s a ∷ past) ds f).1
+agrees_past m past (Said piece ∷ ds) f = agrees_past m past ds f
+agrees_past m past (Heard piece ∷ ds) f = agrees_past m past ds f
+
+agrees_over : (m : Mailbox) (past : List deeds.Deed) (ds : List Deed) → Agrees m (acts_over past ds) → FitAll by_mailbox m ds m
+agrees_over m past [] f = refl
+agrees_over m past (Did s a ∷ ds) f = ((λ live. (agrees_past m (did s a ∷ past) ds f).0), agrees_over m (did s a ∷ past) ds f)
+agrees_over m past (Said piece ∷ ds) f = agrees_over m past ds f
+agrees_over m past (Heard piece ∷ ds) f = agrees_over m past ds f
+
+-- where a mailbox agrees with the steps of deeds, their answers fit it
+pub agrees_fit : (m : Mailbox) (ds : List Deed) → Agrees m (acts ds) → FitAll by_mailbox m ds m
+agrees_fit m ds f = agrees_over m [] ds f

@@ -15,36 +15,36 @@ keeps_bind u past h (Return r) k P Q f g = g past h r f.1
 keeps_bind u past h (Ask step next) k P Q f g = (f.0, f.1, f.2, λ a row live. keeps_bind u (past ++ Did step a ∷ []) h (next a) k P Q (f.3 a row live) g)
 keeps_bind u past h (Try step next) k P Q f g = (f.0, f.1, λ a row. keeps_bind u (past ++ Did step a ∷ []) h (next a) k P Q (f.2 a row) g)
 keeps_bind u past h (Say piece next) k P Q f g = (f.0, f.1, f.2, keeps_bind u (past ++ Said piece ∷ []) h next k P Q f.3 g)
-keeps_bind u past h (Hear most next) k P Q f g = (f.0, λ piece short. keeps_bind u (past ++ Heard piece ∷ []) h (next piece) k P Q (f.1 piece short) g)
+keeps_bind u past h (Hear most next) k P Q f g = (f.0, f.1, λ piece short. keeps_bind u (past ++ Heard piece ∷ []) h (next piece) k P Q (f.2 piece short) g)
 keeps_bind u past h (Recall next) k P Q f g = keeps_bind u past h (next h) k P Q f g
 keeps_bind u past h (Note hand next) k P Q f g = (f.0, keeps_bind u past hand next k P Q f.1 g)
 
-kept_none : {R : Type 0} (u : Rules) (past : List Deed) (h j : Hand) (exit : Exit R) (Q : List Deed → Hand → R → Type 0) → j ≡ h → u.holds past h → Gave Q past j exit → Kept u past [] j exit Q
+kept_none : {R : Type 0} (u : Rules) (past : List Deed) (h j : Hand) (exit : Exit R) (Q : List Deed → Hand → R → Type 0) → j ≡ h → u.holds past h → Gave u Q past j exit → Kept u past [] j exit Q
 kept_none u past h j exit Q same holds gave = record { kept = tt; holds = rw (append-nil, same) holds; gave = rw append-nil gave }
 
-gave_memory : {R : Type 0} (past : List Deed) (h : Hand) (exit : Exit R) (Q : List Deed → Hand → R → Type 0) → exit ≡ NoMemory → Gave Q past h exit
-gave_memory past h exit Q e = rw e tt
+gave_memory : {R : Type 0} (u : Rules) (past : List Deed) (h : Hand) (exit : Exit R) (Q : List Deed → Hand → R → Type 0) → exit ≡ NoMemory → Gave u Q past h exit
+gave_memory u past h exit Q e = rw e tt
 
-gave_files : {R : Type 0} (past : List Deed) (h : Hand) (exit : Exit R) (Q : List Deed → Hand → R → Type 0) → exit ≡ FilesFailed → Gave Q past h exit
-gave_files past h exit Q e = rw e tt
+gave_files : {R : Type 0} (u : Rules) (past : List Deed) (h : Hand) (exit : Exit R) (Q : List Deed → Hand → R → Type 0) → exit ≡ FilesFailed → Gave u Q past h exit
+gave_files u past h exit Q e = rw e tt
 
-gave_out : {R : Type 0} (past : List Deed) (h : Hand) (exit : Exit R) (Q : List Deed → Hand → R → Type 0) → exit ≡ OutFailed → Gave Q past h exit
-gave_out past h exit Q e = rw e tt
+gave_out : {R : Type 0} (u : Rules) (past : List Deed) (h : Hand) (exit : Exit R) (Q : List Deed → Hand → R → Type 0) → exit ≡ OutFailed → Gave u Q past h exit
+gave_out u past h exit Q e = rw e tt
 
-gave_in : {R : Type 0} (past : List Deed) (h : Hand) (exit : Exit R) (Q : List Deed → Hand → R → Type 0) → (exit ≡ InFailed) ⊎ (exit ≡ NoMemory) → Gave Q past h exit
-gave_in past h exit Q (inl e) = rw e tt
-gave_in past h exit Q (inr e) = rw e tt
+gave_in : {R : Type 0} (u : Rules) (past : List Deed) (h : Hand) (exit : Exit R) (Q : List Deed → Hand → R → Type 0) → u.may_hear past → (exit ≡ InFailed) ⊎ (exit ≡ NoMemory) → Gave u Q past h exit
+gave_in u past h exit Q may (inl e) = rw e may
+gave_in u past h exit Q may (inr e) = rw e tt
 
-gave_return : {R : Type 0} (past : List Deed) (h j : Hand) (r : R) (exit : Exit R) (Q : List Deed → Hand → R → Type 0) → j ≡ h → (exit ≡ Returned r) ⊎ (exit ≡ NoMemory) → Q past h r → Gave Q past j exit
-gave_return past h j r exit Q same (inl e) q = rw (e, same) q
-gave_return past h j r exit Q same (inr e) q = rw e tt
+gave_return : {R : Type 0} (u : Rules) (past : List Deed) (h j : Hand) (r : R) (exit : Exit R) (Q : List Deed → Hand → R → Type 0) → j ≡ h → (exit ≡ Returned r) ⊎ (exit ≡ NoMemory) → Q past h r → Gave u Q past j exit
+gave_return u past h j r exit Q same (inl e) q = rw (e, same) q
+gave_return u past h j r exit Q same (inr e) q = rw e tt
 
 kept_more : {R : Type 0} (u : Rules) (past : List Deed) (d : Deed) (ds : List Deed) (j : Hand) (exit : Exit R) (Q : List Deed → Hand → R → Type 0) →
     IsKept u past d → Kept u (past ++ d ∷ []) ds j exit Q → Kept u past (d ∷ ds) j exit Q
 kept_more u past d ds j exit Q one k = record { kept = (one, k.kept); holds = rw append_assoc at k.holds; gave = rw append_assoc at k.gave }
 
 kept_last : {R : Type 0} (u : Rules) (past : List Deed) (h j : Hand) (d : Deed) (ds : List Deed) (exit : Exit R) (Q : List Deed → Hand → R → Type 0) →
-    ds ≡ [] → j ≡ h → IsKept u past d → u.holds (past ++ d ∷ []) h → Gave Q (past ++ d ∷ []) j exit → Kept u past (d ∷ ds) j exit Q
+    ds ≡ [] → j ≡ h → IsKept u past d → u.holds (past ++ d ∷ []) h → Gave u Q (past ++ d ∷ []) j exit → Kept u past (d ∷ ds) j exit Q
 kept_last u past h j d ds exit Q none same one holds gave = rw none (record { kept = (one, tt); holds = rw same holds; gave = gave })
 
 may_same : (u : Rules) (past : List Deed) (s t : Step) → s ≡ t → u.may_ask past t → u.may_ask past s
@@ -76,37 +76,37 @@ holds_of u past h (Note hand next) Q k = k.0
 pub run_keeps : {R : Type 0} (u : Rules) (past : List Deed) (h : Hand) (p : Plan R) (ds : List Deed) (j : Hand) (exit : Exit R) (Q : List Deed → Hand → R → Type 0) →
     Keeps u past h p Q → Runs p h ds j exit → Kept u past ds j exit Q
 unfolding Keeps Runs
-run_keeps u past h (Return r) [] j exit Q k f = kept_none u past h j exit Q f.0 k.0 (gave_return past h j r exit Q f.0 f.1 k.1)
+run_keeps u past h (Return r) [] j exit Q k f = kept_none u past h j exit Q f.0 k.0 (gave_return u past h j r exit Q f.0 f.1 k.1)
 run_keeps u past h (Return r) (d ∷ ds) j exit Q k f = absurd f
-run_keeps u past h (Ask step next) [] j exit Q k f = kept_none u past h j exit Q f.0 k.0 (gave_memory past j exit Q f.1)
+run_keeps u past h (Ask step next) [] j exit Q k f = kept_none u past h j exit Q f.0 k.0 (gave_memory u past j exit Q f.1)
 run_keeps u past h (Ask step next) (Did s a ∷ ds) j exit Q k (is, row, inl e) =
-    kept_last u past h j (Did s a) ds exit Q e.1 e.2 (may_same u past s step is k.1) (holds_same u past h (Did s a) (Did step Failed) (ap (λ t. Did t a) is ∙ ap (λ b. Did step b) e.0) k.2) (gave_files (past ++ Did s a ∷ []) j exit Q e.3)
+    kept_last u past h j (Did s a) ds exit Q e.1 e.2 (may_same u past s step is k.1) (holds_same u past h (Did s a) (Did step Failed) (ap (λ t. Did t a) is ∙ ap (λ b. Did step b) e.0) k.2) (gave_files u (past ++ Did s a ∷ []) j exit Q e.3)
 run_keeps u past h (Ask step next) (Did s a ∷ ds) j exit Q k (is, row, inr (live, f)) =
     kept_more u past (Did s a) ds j exit Q (may_same u past s step is k.1)
     (run_keeps u (past ++ Did s a ∷ []) h (next a) ds j exit Q (keeps_same u past h (Did s a) (Did step a) (next a) Q (ap (λ t. Did t a) is) (k.3 a (row_same s step a is row) live)) f)
 run_keeps u past h (Ask step next) (Said piece ∷ ds) j exit Q k f = absurd f
 run_keeps u past h (Ask step next) (Heard piece ∷ ds) j exit Q k f = absurd f
-run_keeps u past h (Try step next) [] j exit Q k f = kept_none u past h j exit Q f.0 k.0 (gave_memory past j exit Q f.1)
+run_keeps u past h (Try step next) [] j exit Q k f = kept_none u past h j exit Q f.0 k.0 (gave_memory u past j exit Q f.1)
 run_keeps u past h (Try step next) (Did s a ∷ ds) j exit Q k (is, row, f) =
     kept_more u past (Did s a) ds j exit Q (may_same u past s step is k.1)
     (run_keeps u (past ++ Did s a ∷ []) h (next a) ds j exit Q (keeps_same u past h (Did s a) (Did step a) (next a) Q (ap (λ t. Did t a) is) (k.2 a (row_same s step a is row))) f)
 run_keeps u past h (Try step next) (Said piece ∷ ds) j exit Q k f = absurd f
 run_keeps u past h (Try step next) (Heard piece ∷ ds) j exit Q k f = absurd f
-run_keeps u past h (Say piece next) [] j exit Q k f = kept_none u past h j exit Q f.0 k.0 (gave_memory past j exit Q f.1)
+run_keeps u past h (Say piece next) [] j exit Q k f = kept_none u past h j exit Q f.0 k.0 (gave_memory u past j exit Q f.1)
 run_keeps u past h (Say piece next) (Did s a ∷ ds) j exit Q k f = absurd f
 run_keeps u past h (Say piece next) (Said part ∷ ds) j exit Q k (inl e) =
-    kept_last u past h j (Said part) ds exit Q e.1 e.2 (e.0.0, said_same u past (part ++ e.0.0) piece e.0.1 k.1) (k.2 part e.0.0 e.0.1) (gave_out (past ++ Said part ∷ []) j exit Q e.3)
+    kept_last u past h j (Said part) ds exit Q e.1 e.2 (e.0.0, said_same u past (part ++ e.0.0) piece e.0.1 k.1) (k.2 part e.0.0 e.0.1) (gave_out u (past ++ Said part ∷ []) j exit Q e.3)
 run_keeps u past h (Say piece next) (Said part ∷ ds) j exit Q k (inr (is, f)) =
     kept_more u past (Said part) ds j exit Q ([], said_same u past (part ++ []) piece (append-nil part ∙ is) k.1)
     (run_keeps u (past ++ Said part ∷ []) h next ds j exit Q (keeps_same u past h (Said part) (Said piece) next Q (ap (λ t. Said t) is) k.3) f)
 run_keeps u past h (Say piece next) (Heard part ∷ ds) j exit Q k f = absurd f
-run_keeps u past h (Hear most next) [] j exit Q k f = kept_none u past h j exit Q f.0 k.0 (gave_in past j exit Q f.1)
+run_keeps u past h (Hear most next) [] j exit Q k f = kept_none u past h j exit Q f.0 k.0 (gave_in u past j exit Q k.1 f.1)
 run_keeps u past h (Hear most next) (Did s a ∷ ds) j exit Q k f = absurd f
 run_keeps u past h (Hear most next) (Said part ∷ ds) j exit Q k f = absurd f
 run_keeps u past h (Hear most next) (Heard piece ∷ ds) j exit Q k (short, f) =
-    kept_more u past (Heard piece) ds j exit Q tt (run_keeps u (past ++ Heard piece ∷ []) h (next piece) ds j exit Q (k.1 piece short) f)
+    kept_more u past (Heard piece) ds j exit Q k.1 (run_keeps u (past ++ Heard piece ∷ []) h (next piece) ds j exit Q (k.2 piece short) f)
 run_keeps u past h (Recall next) ds j exit Q k f = run_keeps u past h (next h) ds j exit Q k f
-run_keeps u past h (Note hand next) ds j exit Q k (inl e) = rw e.0 (kept_none u past h j exit Q e.1 k.0 (gave_memory past j exit Q e.2))
+run_keeps u past h (Note hand next) ds j exit Q k (inl e) = rw e.0 (kept_none u past h j exit Q e.1 k.0 (gave_memory u past j exit Q e.2))
 run_keeps u past h (Note hand next) ds j exit Q k (inr f) = run_keeps u past hand next ds j exit Q k.1 f
 
 keeps_after : {A B E : Type 0} (u : Rules) (past : List Deed) (h : Hand) (r : Result A E) (k : A → Plan (Result B E)) (P : List Deed → Hand → A → Type 0) (Q : List Deed → Hand → B → Type 0) →
@@ -125,7 +125,7 @@ strong u past h (Return r) Q k = (k.0, k)
 strong u past h (Ask step next) Q k = (k.0, k.1, k.2, λ a row live. strong u (past ++ Did step a ∷ []) h (next a) Q (k.3 a row live))
 strong u past h (Try step next) Q k = (k.0, k.1, λ a row. strong u (past ++ Did step a ∷ []) h (next a) Q (k.2 a row))
 strong u past h (Say piece next) Q k = (k.0, k.1, k.2, strong u (past ++ Said piece ∷ []) h next Q k.3)
-strong u past h (Hear most next) Q k = (k.0, λ piece short. strong u (past ++ Heard piece ∷ []) h (next piece) Q (k.1 piece short))
+strong u past h (Hear most next) Q k = (k.0, k.1, λ piece short. strong u (past ++ Heard piece ∷ []) h (next piece) Q (k.2 piece short))
 strong u past h (Recall next) Q k = strong u past h (next h) Q k
 strong u past h (Note hand next) Q k = (k.0, strong u past hand next Q k.1)
 

@@ -1,5 +1,6 @@
 pub mod Acting
 pub mod Consecutive
+pub mod Failing
 pub mod Finding
 pub mod Following
 pub mod Giving

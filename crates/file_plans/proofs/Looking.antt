@@ -22,7 +22,7 @@ use Rattle.file_plans.proofs.Keeping.{run_keeps, keeps_then}
 
 -- the rule: a step looks
 abbrev pub only_look : Rules
-only_look = record { may_ask = λ past step. IsLook step; may_say = λ past piece. Unit {0}; holds = λ past hand. Unit {0} }
+only_look = record { may_ask = λ past step. IsLook step; may_say = λ past piece. Unit {0}; may_hear = λ past. Unit {0}; holds = λ past hand. Unit {0} }
 
 -- nothing more is said of what is returned
 abbrev pub anything : {R : Type 0} → List Deed → Hand → R → Type 0

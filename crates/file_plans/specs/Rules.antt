@@ -7,10 +7,11 @@ use Rattle.folder_files.specs.Rows.{IsAnswerOf}
 use Rattle.file_plans.specs.Plan.{Hand, Plan, Return, Ask, Try, Say, Hear, Recall, Note}
 use Rattle.file_plans.specs.Runs.{Exit, Returned, FilesFailed, InFailed, OutFailed, NoMemory, Deed, Did, Said, Heard}
 
--- what may be asked and said after these deeds, and what holds of the deeds and the hand at each point
+-- what may be asked and said after these deeds, whether the input may be read, and what holds of the deeds and the hand at each point
 pub record Rules : Type 1 where
   pub may_ask : List Deed → Step → Type 0
   pub may_say : List Deed → List ℕ → Type 0
+  pub may_hear : List Deed → Type 0
   pub holds : List Deed → Hand → Type 0
 
 -- the plan keeps the rules at each touch, whatever the answers, and where it returns this holds
@@ -23,7 +24,7 @@ Keeps u past h (Try step next) Q = u.holds past h × u.may_ask past step × ((a 
 Keeps u past h (Say piece next) Q =
     u.holds past h × u.may_say past piece × ((part rest : List ℕ) → part ++ rest ≡ piece → u.holds (past ++ Said part ∷ []) h)
     × Keeps u (past ++ Said piece ∷ []) h next Q
-Keeps u past h (Hear most next) Q = u.holds past h × ((piece : List ℕ) → length piece ≤ most → Keeps u (past ++ Heard piece ∷ []) h (next piece) Q)
+Keeps u past h (Hear most next) Q = u.holds past h × u.may_hear past × ((piece : List ℕ) → length piece ≤ most → Keeps u (past ++ Heard piece ∷ []) h (next piece) Q)
 Keeps u past h (Recall next) Q = Keeps u past h (next h) Q
 Keeps u past h (Note hand next) Q = u.holds past h × Keeps u past hand next Q
 
@@ -31,26 +32,26 @@ Keeps u past h (Note hand next) Q = u.holds past h × Keeps u past hand next Q
 abbrev pub IsKept : Rules → List Deed → Deed → Type 0
 IsKept u past (Did step a) = u.may_ask past step
 IsKept u past (Said part) = (rest : List ℕ) × u.may_say past (part ++ rest)
-IsKept u past (Heard piece) = Unit {0}
+IsKept u past (Heard piece) = u.may_hear past
 
 -- each deed does, after those before it
 abbrev pub AreKept : Rules → List Deed → List Deed → Type 0
 AreKept u past [] = Unit {0}
 AreKept u past (d ∷ ds) = IsKept u past d × AreKept u (past ++ d ∷ []) ds
 
--- what holds where a plan returned
-abbrev pub Gave : {R : Type 0} → (List Deed → Hand → R → Type 0) → List Deed → Hand → Exit R → Type 0
-Gave Q past h (Returned r) = Q past h r
-Gave Q past h FilesFailed = Unit {0}
-Gave Q past h InFailed = Unit {0}
-Gave Q past h OutFailed = Unit {0}
-Gave Q past h NoMemory = Unit {0}
+-- what holds where a plan returned; and the input fails only where it may be read
+abbrev pub Gave : {R : Type 0} → Rules → (List Deed → Hand → R → Type 0) → List Deed → Hand → Exit R → Type 0
+Gave u Q past h (Returned r) = Q past h r
+Gave u Q past h FilesFailed = Unit {0}
+Gave u Q past h InFailed = u.may_hear past
+Gave u Q past h OutFailed = Unit {0}
+Gave u Q past h NoMemory = Unit {0}
 
 -- what a run of the plan keeps, at every exit
 pub record Kept {R : Type 0} (u : Rules) (past ds : List Deed) (h : Hand) (exit : Exit R) (Q : List Deed → Hand → R → Type 0) : Type 0 where
   pub kept : AreKept u past ds
   pub holds : u.holds (past ++ ds) h
-  pub gave : Gave Q (past ++ ds) h exit
+  pub gave : Gave u Q (past ++ ds) h exit
 
 -- what holds where a call is Ok
 abbrev pub IfOkay : {A E : Type 0} → (List Deed → Hand → A → Type 0) → List Deed → Hand → Result A E → Type 0

@@ -1,28 +1,19 @@
 -- What a call answers that runs alone.
-use Rattle.std.specs.Prelude.{◌≡◌, ◌⊎◌, ◌++◌, ℕ, ◌+◌, List, [], ◌∷◌, length, take, Option, Some, None}
+use Rattle.std.specs.Prelude.{◌≡◌, ◌⊎◌, ◌++◌, ℕ, ◌+◌, List, length, Option, Some, None}
 use Rattle.mh_base.specs.Counts.{Rose}
 use Rattle.mh_base.specs.Streams.{SourceState, SinkState, Adds}
-use Rattle.folder_files.specs.Histories.{IsAlone, past_of, world_after}
+use Rattle.folder_files.specs.Histories.{IsAlone}
 use Rattle.folder_files.specs.Story.{Story, FilesState, IsPossible}
-use Rattle.folder_files.specs.Worlds.{WorldMap}
-use Rattle.file_plans.specs.Mailboxes.{Mailbox, mailbox_of}
+use Rattle.file_plans.specs.Alone.{first_of, mailbox_at}
+use Rattle.file_plans.specs.Mailboxes.{Mailbox}
 use Rattle.mh_tools.specs.Outcome.{Outcome, outcome_of}
 use Rattle.mh_tools.specs.Setting.{SettingParts}
 use Rattle.mh_tools.specs.declared.status.Status.{Status}
 use Rattle.mh_tools.specs.declared.status.Status.TheVariants.{NoMemory}
 
--- the mailbox after so many events of a story
-abbrev pub mailbox_at : Story → ℕ → Mailbox
-mailbox_at s k = mailbox_of (world_after s.start (past_of (take k s.history)))
-
--- the first of these places, or this one where there is none
-abbrev pub first_of : ℕ → List ℕ → ℕ
-first_of n [] = n
-first_of n (p ∷ ps) = p
-
 -- the call ended so, wrote this, and left this mailbox; the error text where the error output did not fail
 pub record HasOutcome (outcome : Outcome) (after : Mailbox) (o u e d : SinkState) (status : Status) : Type 0 where
-  pub status : status ≡ outcome.status
+  pub ends : status ≡ outcome.status
   pub output : Adds o.told u.told outcome.output
   pub mailbox : after ≡ outcome.mailbox
   pub error : (Rose e.faults d.faults → ⊥) → Adds e.told d.told outcome.error

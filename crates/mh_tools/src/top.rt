@@ -3,7 +3,10 @@ ghost use Rattle.std.specs.Prelude.{◌≡◌, ◌⊎◌, map, option_map};
 ghost use Rattle.std.specs.String.{string_bytes};
 ghost use Rattle.file_plans.specs.StaysCareful.{StaysCareful};
 ghost use Rattle.folder_files.specs.Commands.{Looking};
-ghost use Rattle.mh_tools.specs.Top.{FollowsItsPlan, IsCounted, TellsStatus, told_status, first_word as first_word_of};
+ghost use Rattle.mh_tools.specs.AnswersAlone.{AnswersAlone};
+ghost use Rattle.mh_tools.specs.IsCaused.{IsCaused};
+ghost use Rattle.mh_tools.specs.TellsWhatItSaw.{TellsWhatItSaw};
+ghost use Rattle.mh_tools.specs.Top.{FollowsItsPlan, TellsStatus, told_status, first_word as first_word_of};
 
 use crate::command::run_command;
 use crate::lines::error_line;
@@ -59,7 +62,9 @@ pub fn mh<F: Files, I: Source, O: Sink, E: Sink>(
     err: &mut E,
 ) -> Status
     ensures plan { FollowsItsPlan setting.now.run (map string_bytes words.now.items) (F.state files.old) (F.state files.new) (I.state input.old) (O.state out.old) (O.state out.new) result }
-    ensures counted { IsCounted (F.state files.old) (F.state files.new) (I.state input.old) (I.state input.new) (O.state out.old) (O.state out.new) result }
+    ensures caused { IsCaused setting.now.run (map string_bytes words.now.items) setting.now (F.state files.old) (F.state files.new) (I.state input.old) (O.state out.old) (O.state out.new) result }
+    ensures seen { TellsWhatItSaw setting.now.run (map string_bytes words.now.items) setting.now (F.state files.old) (F.state files.new) (I.state input.old) (O.state out.old) (O.state out.new) result }
+    ensures alone { AnswersAlone setting.now.run (map string_bytes words.now.items) setting.now (F.state files.old) (F.state files.new) (I.state input.old) (I.state input.new) (O.state out.old) (O.state out.new) (E.state err.old) (E.state err.new) result }
     ensures careful { StaysCareful setting.now.run Looking (F.state files.old) (F.state files.new) }
     ensures input { I.state input.new ≡ I.state input.old }
     ensures told { TellsStatus (map string_bytes words.now.items) (E.state err.old) (E.state err.new) result }
