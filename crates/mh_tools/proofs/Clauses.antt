@@ -3,6 +3,7 @@ use Rattle.std.proofs.Common.{◌≡◌, ◌≢◌, ◌⊎◌, inl, inr, ◌++�
 use Rattle.mh_base.specs.Counts.{Rose}
 use Rattle.mh_base.specs.Streams.{SourceState, SinkState, Adds, AddsPart}
 use Rattle.folder_files.specs.Deeds as deeds
+use Rattle.folder_files.specs.Deeds.{did}
 use Rattle.folder_files.specs.Histories.{IsAlone, own, past_of}
 use Rattle.folder_files.specs.Story.{Story, FilesState, Grows, GrowsBy, IsPossible}
 use Rattle.folder_files.specs.Steps.{Fits}
@@ -33,7 +34,7 @@ use Rattle.file_plans.proofs.Standing.{AllFit, world_agrees, made_fits, listed_n
 use Rattle.mh_tools.specs.AnswersAlone.{HasOutcome, IsUnfaulted, HasOutcomeAlone, AloneIfTold, AnswersAlone}
 use Rattle.mh_tools.specs.Command.{command}
 use Rattle.mh_tools.specs.Faults.{command_cause}
-use Rattle.mh_tools.specs.IsCaused.{IsCaused, IsListing, IsLost, IsFailed, IsDecided, Yields}
+use Rattle.mh_tools.specs.IsCaused.{IsCaused, IsListing, IsMeddled, IsFailed, IsDecided, ShowsRefusal, Yields}
 use Rattle.mh_tools.specs.Outcome.{outcome_of, output_of, verdict_of, error_of}
 use Rattle.mh_tools.specs.Setting.{SettingParts}
 use Rattle.mh_tools.specs.Status.{status_of}
@@ -66,7 +67,7 @@ module _ (run : ℕ) (words : List (List ℕ)) (setting : SettingParts) (f g : F
 
   no_failure : (outcome : Result Unit CommandFault) (w : Ran (exit_of command_cause outcome)) → IsVerdict (status_of outcome) → NoFailure (steps (exit_of command_cause outcome) w)
   no_failure (Ok t) w v = (kept (Returned (Ok t)) w).gave
-  no_failure (Err (fault.Refused r)) w v = (kept (Returned (Err (fault.Refused r))) w).gave
+  no_failure (Err (fault.Refused r)) w v = (kept (Returned (Err (fault.Refused r))) w).gave.1
   no_failure (Err (fault.Faulted which)) w v = absurd v
   no_failure (Err (fault.Locked p)) w v = absurd v
   no_failure (Err (fault.Meddled p x)) w v = absurd v
@@ -136,8 +137,7 @@ module _ (run : ℕ) (words : List (List ℕ)) (setting : SettingParts) (f g : F
   no_lock (Err (fault.Meddled p x)) w place e = absurd (cc (e))
   no_lock (Err fault.Memory) w place e = absurd (cc (e))
 
-  meddled_at : (outcome : Result Unit CommandFault) (w : Ran (exit_of command_cause outcome)) (place : Place) (name : List ℕ) → status_of outcome ≡ Meddled place name →
-      Made (IsListing place name) (steps (exit_of command_cause outcome) w) × Made (IsLost place name) (steps (exit_of command_cause outcome) w)
+  meddled_at : (outcome : Result Unit CommandFault) (w : Ran (exit_of command_cause outcome)) (place : Place) (name : List ℕ) → status_of outcome ≡ Meddled place name → IsMeddled place name (steps (exit_of command_cause outcome) w)
   meddled_at (Ok t) w place name e = absurd (cc (e))
   meddled_at (Err (fault.Refused r)) w place name e = absurd (cc (e))
   meddled_at (Err (fault.Faulted which)) w place name e = absurd (cc (e))
@@ -147,6 +147,14 @@ module _ (run : ℕ) (words : List (List ℕ)) (setting : SettingParts) (f g : F
       let what : x ≡ name = cc in
       rw (← where_, ← what) (kept (Returned (Err (fault.Meddled p x))) w).gave
   meddled_at (Err fault.Memory) w place name e = absurd (cc (e))
+
+  refused_at : (outcome : Result Unit CommandFault) (w : Ran (exit_of command_cause outcome)) (r : Refusal) → status_of outcome ≡ Refused r → ShowsRefusal r (steps (exit_of command_cause outcome) w)
+  refused_at (Ok t) w r e = absurd (cc (e))
+  refused_at (Err (fault.Refused q)) w r e = let same : q ≡ r = cc in rw (← same) (kept (Returned (Err (fault.Refused q))) w).gave.0
+  refused_at (Err (fault.Faulted which)) w r e = absurd (cc (e))
+  refused_at (Err (fault.Locked p)) w r e = absurd (cc (e))
+  refused_at (Err (fault.Meddled p x)) w r e = absurd (cc (e))
+  refused_at (Err fault.Memory) w r e = absurd (cc (e))
 
   memory_not : (x : Status) → IsVerdict x → NoMemory ≡ x → ⊥
   memory_not x v e = verdict_at NoMemory x e v
@@ -161,7 +169,7 @@ module _ (run : ℕ) (words : List (List ℕ)) (setting : SettingParts) (f g : F
         refused = λ r q.
         let is : status_of outcome ≡ Refused r = settle outcome status (Refused r) ends q (λ e. cc (e)) in
         let v : IsVerdict (status_of outcome) = verdict_at (status_of outcome) (Refused r) is tt in
-        ((λ m agrees. sym (is_there outcome w v m agrees).verdict ∙ is), no_failure outcome w v);
+        ((λ m agrees. sym (is_there outcome w v m agrees).verdict ∙ is), refused_at outcome w r is, no_failure outcome w v);
         files = λ q. files_at outcome w (settle outcome status (Faulted Files) ends q (λ e. cc (e)));
         source = λ q. no_source outcome w (settle outcome status (Faulted Source) ends q (λ e. cc (e)));
         out = λ q. out_at outcome w (settle outcome status (Faulted Out) ends q (λ e. cc (e)));
@@ -226,11 +234,11 @@ module _ (run : ℕ) (words : List (List ℕ)) (setting : SettingParts) (f g : F
   error_told e d NoMemory v t never = absurd v
 
   -- what a listed message is in the same world
-  never_lost : (w : WorldMap) (place : Place) (name : List ℕ) (ds : List deeds.Deed) → AllFit w run ds → Made (IsListing place name) ds → Made (IsLost place name) ds → ⊥
-  never_lost w place name ds fits listed lost =
-      let l = made_fits (IsListing place name) w run ds listed fits in
-      let k = made_fits (IsLost place name) w run ds lost fits in
-      listed_not_gone w run place l.2.0 name l.2.1 k.2.0 (as_fits l.0 (step.List place) l.1 (answer.Names l.2.0) l.2.2 l.2.3 l.3) l.2.4 l.2.5 (as_fits k.0 (step.Read place name k.2.0) k.1 answer.Gone k.2.1 k.2.2 k.3)
+  never_lost : (w : WorldMap) (place : Place) (name : List ℕ) (ds : List deeds.Deed) → AllFit w run ds → IsMeddled place name ds → ⊥
+  never_lost w place name ds fits k =
+      let both : AllFit w run (did (step.Read place name k.limit) answer.Gone ∷ k.before) = rw k.read at fits in
+      let l = made_fits (IsListing place name) w run k.before k.listed both.1 in
+      listed_not_gone w run place l.2.0 name l.2.1 k.limit (as_fits l.0 (step.List place) l.1 (answer.Names l.2.0) l.2.2 l.2.3 l.3) l.2.4 l.2.5 both.0
     where
       as_fits : (s t : Step) (a b : Answer) → s ≡ t → a ≡ b → Fits w run s a → Fits w run t b
       as_fits s t a b p q fit = rw (p, q) at fit
@@ -264,8 +272,7 @@ module _ (run : ℕ) (words : List (List ℕ)) (setting : SettingParts) (f g : F
       by_outcome (Err (fault.Faulted Out)) w status is told world fits agrees first after same kept_ = absurd (unfaulted.out (w.out_cause refl))
       by_outcome (Err (fault.Locked p)) w status is told world fits agrees first after same kept_ = absurd (no_lock (Err (fault.Locked p)) w p refl)
       by_outcome (Err (fault.Meddled p x)) w status is told world fits agrees first after same kept_ =
-          let both = meddled_at (Err (fault.Meddled p x)) w p x refl in
-          absurd (never_lost world p x (steps (exit_of command_cause (Err (fault.Meddled p x))) w) fits both.0 both.1)
+          absurd (never_lost world p x (steps (exit_of command_cause (Err (fault.Meddled p x))) w) fits (meddled_at (Err (fault.Meddled p x)) w p x refl))
       by_outcome (Err fault.Memory) w status is told world fits agrees first after same kept_ = inl is
 
   pub answers_alone : (outcome : Result Unit CommandFault) (w : Ran (exit_of command_cause outcome)) (m : SourceState) (e d : SinkState) (status : Status) → (status ≡ status_of outcome) ⊎ (status ≡ NoMemory) → TellsStatus words e d status → AnswersAlone run words setting f g n m o u e d status

@@ -28,12 +28,12 @@ use Rattle.file_plans.proofs.Keeping.{keeps_bind}
 use Rattle.file_plans.proofs.Rising.{Rises}
 use Rattle.mh_tools.specs.Command.{command, no_command}
 use Rattle.mh_tools.specs.Faults.{of_stop, of_sink}
-use Rattle.mh_tools.specs.IsCaused.{IsListing, IsLost, IsFailed}
+use Rattle.mh_tools.specs.IsCaused.{IsListing, IsMeddled, IsEmpty, IsFailed, ShowsRefusal}
 use Rattle.mh_tools.specs.MessageLine.{line_of}
 use Rattle.mh_tools.specs.Scan.{show, show_one, show_all, show_some, show_listed, scan_folder, scan, place_of, numbers_in, LIMIT_BYTES}
 use Rattle.mh_tools.specs.declared.fault.CommandFault.{CommandFault}
 use Rattle.mh_tools.specs.declared.fault.CommandFault.TheVariants as fault
-use Rattle.mh_tools.proofs.Sorted.{AreListed, all_listed, all_rise}
+use Rattle.mh_tools.proofs.Sorted.{AreListed, all_listed, all_rise, none_listed}
 
 -- the rule: so far the call looked so, and it reads no input
 abbrev pub once : Rules
@@ -45,10 +45,10 @@ NoFailure ds = Made IsFailed ds → ⊥
 -- where a command ends: Done and refusals where no step failed, Meddled where a listed name was gone
 abbrev pub EndsAs : List Deed → Hand → Result Unit CommandFault → Type 0
 EndsAs past h (Ok u) = NoFailure (acts past)
-EndsAs past h (Err (fault.Refused r)) = NoFailure (acts past)
+EndsAs past h (Err (fault.Refused r)) = ShowsRefusal r (acts past) × NoFailure (acts past)
 EndsAs past h (Err (fault.Faulted w)) = ⊥
 EndsAs past h (Err (fault.Locked p)) = ⊥
-EndsAs past h (Err (fault.Meddled p x)) = Made (IsListing p x) (acts past) × Made (IsLost p x) (acts past)
+EndsAs past h (Err (fault.Meddled p x)) = IsMeddled p x (acts past)
 EndsAs past h (Err fault.Memory) = ⊥
 
 abbrev OneEnds : Place → List (List ℕ) → ℕ → List Deed → Hand → Result Unit CommandFault → Type 0
@@ -101,13 +101,16 @@ shown_keeps p names n bytes past h r =
     let look = look_of p names (n + 1) (acts past) all.0 in
     (look, tt, (λ part rest e. rw (said_same past part) look), (rw (said_same past (line_of n bytes)) look, rw (said_same past (line_of n bytes)) all))
 
-meddled : (p : Place) (names : List (List ℕ)) (n : ℕ) (past : List Deed) → IsRead p names n answer.Gone past → Made (IsListing p (name_of n)) (acts past) × Made (IsLost p (name_of n)) (acts past)
-meddled p names n past r = rw r.is (inr (was_listed p names n n (name_of n) r.before r.so_far r.named r.has_it), inl (LIMIT_BYTES, refl, refl))
+meddled : (p : Place) (names : List (List ℕ)) (n : ℕ) (past : List Deed) → IsRead p names n answer.Gone past → IsMeddled p (name_of n) (acts past)
+meddled p names n past r = record { limit = LIMIT_BYTES; before = r.before; read = r.is; listed = was_listed p names n n (name_of n) r.before r.so_far r.named r.has_it }
+
+too_large : (p : Place) (names : List (List ℕ)) (n l : ℕ) (past : List Deed) → IsRead p names n (answer.Long l) past → ShowsRefusal (refusal.TooLarge l LIMIT_BYTES) (acts past)
+too_large p names n l past r = rw r.is (inl (p, name_of n, refl, refl))
 
 show_keeps : (p : Place) (names : List (List ℕ)) (n : ℕ) (a : Answer) (past : List Deed) (h : Hand) → IsReadRow a → IsRead p names n a past → Keeps once past h (show p n (reading_of a)) (OneEnds p names n)
 unfolding Keeps
 show_keeps p names n (answer.Content bytes) past h row r = shown_keeps p names n bytes past h r
-show_keeps p names n (answer.Long l) past h row r = let all = all_reads p names n (answer.Long l) past r in let look = look_of p names (n + 1) (acts past) all.0 in (look, (look, all.1))
+show_keeps p names n (answer.Long l) past h row r = let all = all_reads p names n (answer.Long l) past r in let look = look_of p names (n + 1) (acts past) all.0 in (look, (look, (too_large p names n l past r, all.1)))
 show_keeps p names n answer.Gone past h row r = let all = all_reads p names n answer.Gone past r in let look = look_of p names (n + 1) (acts past) all.0 in (look, (look, meddled p names n past r))
 show_keeps p names n answer.Failed past h row r = absurd (r.live refl)
 show_keeps p names n answer.Done past h row r = absurd row
@@ -140,25 +143,25 @@ all_keeps p names (n ∷ ns) hi past h r clean up there =
     go later j (Ok u) q next = next q.0 q.1
     go later j (Err e) q next = q
 
-some_keeps : (p : Place) (names : List (List ℕ)) (ns : List ℕ) (past : List Deed) (h : Hand) → Reads p names 1 (acts past) → NoFailure (acts past) → Rises 1 ns → AreListed names ns → Keeps once past h (show_some p ns) EndsAs
+some_keeps : (p : Place) (names : List (List ℕ)) (ns : List ℕ) (past : List Deed) (h : Hand) → Reads p names 1 (acts past) → NoFailure (acts past) → Rises 1 ns → AreListed names ns → (ns ≡ [] → Made IsEmpty (acts past)) → Keeps once past h (show_some p ns) EndsAs
 unfolding Keeps
-some_keeps p names [] past h r clean up there = (look_of p names 1 (acts past) r, clean)
-some_keeps p names (n ∷ ns) past h r clean up there = all_keeps p names (n ∷ ns) 1 past h r clean up there
+some_keeps p names [] past h r clean up there empty = (look_of p names 1 (acts past) r, (empty refl, clean))
+some_keeps p names (n ∷ ns) past h r clean up there empty = all_keeps p names (n ∷ ns) 1 past h r clean up there
 
 -- the folder was listed, and that was all so far
-listed_keeps : (name : List ℕ) (p : Place) (a : Answer) (past : List Deed) (h : Hand) → IsNamesRow a → a ≢ answer.Failed → acts past ≡ did (step.List p) a ∷ [] → Keeps once past h (show_listed name p (listing_of a)) EndsAs
+listed_keeps : (name : List ℕ) (p : Place) (a : Answer) (past : List Deed) (h : Hand) → p ≡ place_of name → IsNamesRow a → a ≢ answer.Failed → acts past ≡ did (step.List p) a ∷ [] → Keeps once past h (show_listed name p (listing_of a)) EndsAs
 unfolding Keeps
-listed_keeps name p (answer.Names names) past h row live is =
-    some_keeps p names (numbers_in names) past h (rw is listed) (rw is (no_failure_more (step.List p) (answer.Names names) [] live (λ m. m))) (all_rise names) (all_listed names)
-listed_keeps name p answer.Gone past h row live is = (rw is (asked p answer.Gone), rw is (no_failure_more (step.List p) answer.Gone [] live (λ m. m)))
-listed_keeps name p answer.Failed past h row live is = absurd (live refl)
-listed_keeps name p answer.Done past h row live is = absurd row
-listed_keeps name p (answer.Content b) past h row live is = absurd row
-listed_keeps name p (answer.Piece b l) past h row live is = absurd row
-listed_keeps name p (answer.Long l) past h row live is = absurd row
-listed_keeps name p answer.Exists past h row live is = absurd row
-listed_keeps name p answer.Busy past h row live is = absurd row
-listed_keeps name p answer.Grown past h row live is = absurd row
+listed_keeps name p (answer.Names names) past h at row live is =
+    some_keeps p names (numbers_in names) past h (rw is listed) (rw is (no_failure_more (step.List p) (answer.Names names) [] live (λ m. m))) (all_rise names) (all_listed names) (λ none. rw is (inl (p, names, refl, refl, none_listed names none)))
+listed_keeps name p answer.Gone past h at row live is = (rw is (asked p answer.Gone), (rw is (inl (ap step.List at, refl)), rw is (no_failure_more (step.List p) answer.Gone [] live (λ m. m))))
+listed_keeps name p answer.Failed past h at row live is = absurd (live refl)
+listed_keeps name p answer.Done past h at row live is = absurd row
+listed_keeps name p (answer.Content b) past h at row live is = absurd row
+listed_keeps name p (answer.Piece b l) past h at row live is = absurd row
+listed_keeps name p (answer.Long l) past h at row live is = absurd row
+listed_keeps name p answer.Exists past h at row live is = absurd row
+listed_keeps name p answer.Busy past h at row live is = absurd row
+listed_keeps name p answer.Grown past h at row live is = absurd row
 
 folder_keeps : (name : List ℕ) (h : Hand) → Keeps once [] h (scan_folder name) EndsAs
 unfolding Keeps scan_folder list lifted bind ask ◌>>=◌
@@ -166,7 +169,7 @@ folder_keeps name h = (
   nothing,
   tt,
   asked (place_of name) answer.Failed,
-  λ a row live. listed_keeps name (place_of name) a (Did (step.List (place_of name)) a ∷ []) h row live refl,
+  λ a row live. listed_keeps name (place_of name) a (Did (step.List (place_of name)) a ∷ []) h refl row live refl,
 )
 
 refused_keeps : (r : Result Unit CommandFault) (h : Hand) → EndsAs [] h r → Keeps once [] h (Return r) EndsAs
@@ -179,15 +182,15 @@ scan_keeps word h = go (is_folder_name (without_plus word))
   where
     go : (b : Bool) → Keeps once [] h (if b then scan_folder (without_plus word) else Return (Err (fault.Refused (refusal.BadFolder word)))) EndsAs
     go true = folder_keeps (without_plus word) h
-    go false = refused_keeps (Err (fault.Refused (refusal.BadFolder word))) h (λ m. m)
+    go false = refused_keeps (Err (fault.Refused (refusal.BadFolder word))) h (refl, λ m. m)
 
 -- every command that there is
 pub command_keeps : (words : List (List ℕ)) (h : Hand) → Keeps once [] h (command words) EndsAs
-command_keeps [] h = refused_keeps _ h (λ m. m)
-command_keeps (name ∷ []) h = refused_keeps _ h (λ m. m)
+command_keeps [] h = refused_keeps _ h (refl, λ m. m)
+command_keeps (name ∷ []) h = refused_keeps _ h (refl, λ m. m)
 command_keeps (name ∷ (word ∷ [])) h = go (bytes_eq name (codes "scan") && slice_index word 0 == 43)
   where
     go : (b : Bool) → Keeps once [] h (if b then scan (chars word) else no_command) EndsAs
     go true = scan_keeps (chars word) h
-    go false = refused_keeps _ h (λ m. m)
-command_keeps (name ∷ (word ∷ (next ∷ rest))) h = refused_keeps _ h (λ m. m)
+    go false = refused_keeps _ h (refl, λ m. m)
+command_keeps (name ∷ (word ∷ (next ∷ rest))) h = refused_keeps _ h (refl, λ m. m)

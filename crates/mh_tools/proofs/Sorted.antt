@@ -131,3 +131,6 @@ all_listed names = let c = all_numbers names in each_listed names 1 (numbers_in 
 
 pub all_rise : (names : List (List ℕ)) → Rises 1 (numbers_in names)
 all_rise names = (all_numbers names).rises
+
+pub none_listed : (names : List (List ℕ)) → numbers_in names ≡ [] → (n : ℕ) → has_number n names ≡ false
+none_listed names none n = sym (sym (ap (has n) none) ∙ (all_numbers names).has_it n)
