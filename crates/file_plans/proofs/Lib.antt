@@ -6,6 +6,7 @@ pub mod Following
 pub mod Giving
 pub mod Keeping
 pub mod Lone
+pub mod Messages
 pub mod Looking
 pub mod Rising
 pub mod Standing

@@ -20,25 +20,17 @@ use Rattle.file_plans.specs.declared.asking.Stop.{Stop}
 use Rattle.file_plans.specs.Asking.{list, read, listing_of, reading_of}
 use Rattle.file_plans.proofs.Keeping.{run_keeps, keeps_then}
 
--- the rule: a step looks
-abbrev pub only_look : Rules
-only_look = record { may_ask = λ past step. IsLook step; may_say = λ past piece. Unit {0}; may_hear = λ past. Unit {0}; holds = λ past hand. Unit {0} }
-
--- nothing more is said of what is returned
-abbrev pub anything : {R : Type 0} → List Deed → Hand → R → Type 0
-anything past hand r = Unit {0}
-
 abbrev LookAll : List Moment → Type 0
 LookAll [] = Unit {0}
 LookAll (Mine s a f ∷ ms) = IsLook s × LookAll ms
 LookAll (Theirs e ∷ ms) = LookAll ms
 
-kept_look : (ts : List Turn) (past : List Deed) → AreKept only_look past (deeds_in ts) → LookAll (filed_in ts)
-kept_look [] past k = tt
-kept_look (Filed (Mine s a f) ∷ ts) past k = (k.0, kept_look ts (past ++ Did s a ∷ []) k.1)
-kept_look (Filed (Theirs e) ∷ ts) past k = kept_look ts past k
-kept_look (Spoke piece ∷ ts) past k = kept_look ts (past ++ Said piece ∷ []) k.1
-kept_look (Took piece ∷ ts) past k = kept_look ts (past ++ Heard piece ∷ []) k.1
+kept_look : (u : Rules) (only : (past : List Deed) (s : Step) → u.may_ask past s → IsLook s) (ts : List Turn) (past : List Deed) → AreKept u past (deeds_in ts) → LookAll (filed_in ts)
+kept_look u only [] past k = tt
+kept_look u only (Filed (Mine s a f) ∷ ts) past k = (only past s k.0, kept_look u only ts (past ++ Did s a ∷ []) k.1)
+kept_look u only (Filed (Theirs e) ∷ ts) past k = kept_look u only ts past k
+kept_look u only (Spoke piece ∷ ts) past k = kept_look u only ts (past ++ Said piece ∷ []) k.1
+kept_look u only (Took piece ∷ ts) past k = kept_look u only ts (past ++ Heard piece ∷ []) k.1
 
 hold_looks : (run : ℕ) (manner : Manner) (before history : List Event) (ms : List Moment) (n : ℕ) → history ≡ before ++ map (event_of run) ms → length before ≡ n → LookAll ms → HoldOwnSteps run manner history (places n ms)
 hold_looks run manner before history [] n e l k = tt
@@ -60,45 +52,15 @@ story_looks run manner old new ms g k = record {
   own_steps = hold_looks run manner old.history new.history ms (length old.history) g.history refl k;
 }
 
--- a call whose plan keeps the rule stays careful, in whatever manner
-pub follows_looks : {T E : Type 0} (run : ℕ) (manner : Manner) (cause : E → Cause) (plan : Plan (Result T E)) (x y : State) (result : Result T E) → Keeps only_look [] x.hand plan (IfOkay anything) → Follows run cause plan x y result → StaysCareful run manner x.files y.files
-follows_looks run manner cause plan x y result k f =
-    let kept = run_keeps only_look [] x.hand plan (deeds_in f.went.log) y.hand _ (IfOkay anything) k f.went.runs in
-    told x.files.story y.files.story f.went.grows (kept_look f.went.log [] kept.kept)
+-- a call stays careful, in whatever manner, whose plan keeps rules under which it only looks
+pub follows_looks : {T E : Type 0} (run : ℕ) (manner : Manner) (cause : E → Cause) (plan : Plan (Result T E)) (x y : State) (result : Result T E) (u : Rules) (Q : List Deed → Hand → Result T E → Type 0) →
+    ((past : List Deed) (s : Step) → u.may_ask past s → IsLook s) → Keeps u [] x.hand plan Q → Follows run cause plan x y result → StaysCareful run manner x.files y.files
+follows_looks run manner cause plan x y result u Q only k f =
+    let kept = run_keeps u [] x.hand plan (deeds_in f.went.log) y.hand _ Q k f.went.runs in
+    told x.files.story y.files.story f.went.grows (kept_look u only f.went.log [] kept.kept)
   where
     told : (old new : Option Story) → GrowsBy run old new (filed_in f.went.log) → LookAll (filed_in f.went.log) → IsTold run manner old new
     told None None g l = tt
     told (Some old) (Some new) g l = story_looks run manner old new (filed_in f.went.log) g l
     told None (Some new) g l = absurd g
     told (Some old) None g l = absurd g
-
--- one step that looks
-pub look_keeps : (E : Type 0) (s : Step) (past : List Deed) (h : Hand) → IsLook s → Keeps only_look past h (ask {E = E} s) (IfOkay anything)
-unfolding Keeps ask
-look_keeps E s past h l = (tt, l, tt, λ a row live. (tt, tt))
-
--- a step that looks, and then what its answer gives
-pub looked_keeps : {A : Type 0} (E : Type 0) (s : Step) (of : Answer → A) (past : List Deed) (h : Hand) → IsLook s → Keeps only_look past h (ask {E = E} s >>= (λ a. Return (Ok (of a)))) (IfOkay anything)
-unfolding Keeps
-looked_keeps E s of past h l = keeps_then only_look past h (ask s) (λ a. Return (Ok (of a))) anything anything (look_keeps E s past h l) (λ later j a q. (tt, tt))
-
--- a piece of output
-pub say_keeps : (E : Type 0) (piece : List ℕ) (past : List Deed) (h : Hand) → Keeps only_look past h (say {E = E} piece) (IfOkay anything)
-unfolding Keeps say
-say_keeps E piece past h = (tt, tt, λ part rest e. tt, (tt, tt))
-
--- the end of a plan
-pub return_keeps : {A E : Type 0} (r : Result A E) (past : List Deed) (h : Hand) → Keeps only_look past h (Return r) (IfOkay anything)
-unfolding Keeps
-return_keeps (Ok a) past h = (tt, tt)
-return_keeps (Err e) past h = (tt, tt)
-
--- a folder is listed
-pub list_keeps : (p : Place) (past : List Deed) (h : Hand) → Keeps only_look past h (list p) (IfOkay anything)
-unfolding list
-list_keeps p past h = looked_keeps Stop (step.List p) listing_of past h tt
-
--- a file is read
-pub read_keeps : (p : Place) (name : List ℕ) (limit : ℕ) (past : List Deed) (h : Hand) → Keeps only_look past h (read p name limit) (IfOkay anything)
-unfolding read
-read_keeps p name limit past h = looked_keeps Stop (step.Read p name limit) reading_of past h tt

@@ -2,6 +2,7 @@
 use Rattle.std.proofs.Common.{◌≡◌, ◌≢◌, ◌⊎◌, inl, inr, ◌++◌, ℕ, ◌+◌, List, [], ◌∷◌, Option, Some, None, Result, Ok, Err, length, refl, sym, ◌∙◌, ap, subst, append-nil}
 use Rattle.mh_base.specs.Counts.{Rose}
 use Rattle.mh_base.specs.Streams.{SourceState, SinkState, Adds, AddsPart}
+use Rattle.folder_files.specs.Commands.{Looking}
 use Rattle.folder_files.specs.Deeds as deeds
 use Rattle.folder_files.specs.Deeds.{did}
 use Rattle.folder_files.specs.Histories.{IsAlone, own, past_of}
@@ -23,6 +24,7 @@ use Rattle.file_plans.specs.Plan.{fresh}
 use Rattle.file_plans.specs.Rules.{Kept}
 use Rattle.file_plans.specs.Runs.{Exit, Returned, FilesFailed, InFailed, OutFailed, NoMemory as no_memory, exit_of, AnyFailed}
 use Rattle.file_plans.specs.Sightings.{AreMade, Agrees, Made, events_since}
+use Rattle.file_plans.specs.StaysCareful.{StaysCareful}
 use Rattle.file_plans.specs.Text.{said_of}
 use Rattle.file_plans.proofs.Acting.{acts, acts_made}
 use Rattle.file_plans.proofs.Consecutive.{lone, IsLone}
@@ -44,7 +46,9 @@ use Rattle.mh_tools.specs.declared.fault.CommandFault.{CommandFault}
 use Rattle.mh_tools.specs.declared.fault.CommandFault.TheVariants as fault
 use Rattle.mh_tools.specs.declared.status.Status.{Status}
 use Rattle.mh_tools.specs.declared.status.Status.TheVariants.{Done, Refused, Faulted, Locked, Meddled, NoMemory}
-use Rattle.mh_tools.proofs.Once.{once, NoFailure, EndsAs, command_keeps}
+use Rattle.file_plans.proofs.Looking.{follows_looks}
+use Rattle.file_plans.proofs.Messages.{once, NoFailure}
+use Rattle.mh_tools.proofs.Once.{EndsAs, command_keeps}
 use Rattle.mh_tools.proofs.Shown.{Ends, command_gives}
 
 -- the outcome's status, where the call didn't want memory for its line
@@ -286,6 +290,9 @@ module _ (run : ℕ) (words : List (List ℕ)) (setting : SettingParts) (f g : F
       by_story (Some old) (Some new) grows made unfaulted (inr is) = λ added asked possible alone. inl is
 
 -- each promise, by the plan that the call followed
+pub careful_by : {run : ℕ} {words : List (List ℕ)} {f g : FilesState} {n : SourceState} {o u : SinkState} {status : Status} → FollowsItsPlan run words f g n o u status → StaysCareful run Looking f g
+careful_by {run = run} {words = words} {f = f} {g = g} {n = n} {o = o} {u = u} p = follows_looks run Looking command_cause (command words) (all fresh f n o) (all fresh g n u) p.outcome once EndsAs (λ past s look. look) (command_keeps words fresh) p.follows
+
 pub caused_by : {run : ℕ} {words : List (List ℕ)} {setting : SettingParts} {f g : FilesState} {n : SourceState} {o u : SinkState} {status : Status} → FollowsItsPlan run words f g n o u status → IsCaused run words setting f g n o u status
 caused_by {run = run} {words = words} {setting = setting} {f = f} {g = g} {n = n} {o = o} {u = u} {status = status} p = caused run words setting f g n o u p.outcome p.follows.went status p.ends
 

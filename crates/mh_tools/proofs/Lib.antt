@@ -6,4 +6,3 @@ mod Texts
 mod Showing
 mod Shown
 mod Sorted
-mod Looks

@@ -19,6 +19,7 @@ use Rattle.file_plans.specs.Mailboxes.{Folder, Mailbox, numbers_of}
 use Rattle.file_plans.specs.Plan.{Plan, Return, Hand, bind, after, ◌>>=◌, lifted, say, ask}
 use Rattle.file_plans.specs.Sightings.{Lists, ListShows, ReadShows, MessageShows, IsLong, message_of, has_number}
 use Rattle.file_plans.proofs.Giving.{gives_bind, by_mailbox}
+use Rattle.file_plans.proofs.Messages.{name_of, list_gives, read_gives, say_gives}
 use Rattle.mh_tools.specs.Command.{command, no_command}
 use Rattle.mh_tools.specs.Faults.{of_stop, of_sink}
 use Rattle.mh_tools.specs.MessageLine.{line_of, number_column, subject_of}
@@ -38,9 +39,6 @@ Ends status m h left (Err (fault.Faulted w)) = ⊥
 Ends status m h left (Err (fault.Locked p)) = ⊥
 Ends status m h left (Err (fault.Meddled p x)) = Unit {0}
 Ends status m h left (Err fault.Memory) = ⊥
-
-abbrev name_of : ℕ → List ℕ
-name_of n = entry_text (Number n)
 
 -- after one message the rest is to come
 abbrev OneEnds : Mailbox → (ℕ → Option (List ℕ)) → ℕ → List ℕ → Mailbox → Hand → List ℕ → Result Unit CommandFault → Type 0
@@ -76,8 +74,9 @@ long_end messages n ns b e long = rw (text_there messages n b e, long) refl
 
 shown_gives : (m : Mailbox) (p : Place) (messages : ℕ → Option (List ℕ)) (n : ℕ) (ns bytes : List ℕ) (h : Hand) → messages n ≡ Some bytes → nat_lt LIMIT_BYTES (length bytes) ≡ false →
     Gives by_mailbox m h (scan_lines messages (n ∷ ns)) (show p n (reading_of (answer.Content bytes))) (OneEnds m messages n ns)
-unfolding Gives lifted bind say ◌>>=◌
-shown_gives m p messages n ns bytes h e short = (line_some n bytes, (scan_lines messages ns, short_lines messages n ns bytes e short, (refl, refl, short_end messages n ns bytes e short)))
+unfolding Gives
+shown_gives m p messages n ns bytes h e short =
+    say_gives m of_sink (line_of n bytes) (scan_lines messages ns) (scan_lines messages (n ∷ ns)) h (λ told. Return (Ok tt)) (OneEnds m messages n ns) (line_some n bytes) (short_lines messages n ns bytes e short) (refl, refl, short_end messages n ns bytes e short)
 
 long_gives : (m : Mailbox) (p : Place) (messages : ℕ → Option (List ℕ)) (n l : ℕ) (ns : List ℕ) (h : Hand) → IsLong (messages n) LIMIT_BYTES l →
     Gives by_mailbox m h (scan_lines messages (n ∷ ns)) (show p n (reading_of (answer.Long l))) (OneEnds m messages n ns)
@@ -100,13 +99,10 @@ show_gives m p messages n ns h answer.Exists row live s = absurd row
 show_gives m p messages n ns h answer.Busy row live s = absurd row
 show_gives m p messages n ns h answer.Grown row live s = absurd row
 
-message_shown : (o : Option Folder) (f : Folder) (x : List ℕ) (n limit : ℕ) (a : Answer) → o ≡ Some f → number_of x ≡ Some n → ReadShows o (number_of x) limit a → MessageShows (f.messages n) limit a
-message_shown o f x n limit a there named s = rw (there, named) at s
-
 one_gives : (m : Mailbox) (p : Place) (f : Folder) (n : ℕ) (ns : List ℕ) (h : Hand) → m.folders p ≡ Some f → number_of (name_of n) ≡ Some n →
     Gives by_mailbox m h (scan_lines f.messages (n ∷ ns)) (show_one p n) (OneEnds m f.messages n ns)
-unfolding Gives show_one read lifted bind ask ◌>>=◌
-one_gives m p f n ns h there named = λ a row live s. show_gives m p f.messages n ns h a row live (message_shown (m.folders p) f (name_of n) n LIMIT_BYTES a there named s)
+unfolding show_one
+one_gives m p f n ns h there named = read_gives m of_stop p f n LIMIT_BYTES h (scan_lines f.messages (n ∷ ns)) (show p n) (OneEnds m f.messages n ns) there named (λ a row live s. show_gives m p f.messages n ns h a row live s)
 
 all_gives : (m : Mailbox) (p : Place) (f : Folder) (names : List (List ℕ)) (ns : List ℕ) (h : Hand) → m.folders p ≡ Some f → AreListed names ns →
     Gives by_mailbox m h (scan_lines f.messages ns) (show_all p ns) (Ends (scan_end f.messages ns))
@@ -151,17 +147,13 @@ listed_gives m name p h answer.Exists row live s = absurd row
 listed_gives m name p h answer.Busy row live s = absurd row
 listed_gives m name p h answer.Grown row live s = absurd row
 
-folder_gives : (m : Mailbox) (name : List ℕ) (h : Hand) → Gives by_mailbox m h (folder_lines (m.folders (place_of name))) (scan_folder name) (Ends (folder_end name (m.folders (place_of name))))
-unfolding Gives scan_folder list lifted bind ask ◌>>=◌
-folder_gives m name h = λ a row live s. listed_gives m name (place_of name) h a row live s
-
 scan_gives : (m : Mailbox) (word : List ℕ) (h : Hand) → Gives by_mailbox m h (scan_output word m) (scan word) (Ends (scan_status word m))
-unfolding scan Gives
+unfolding scan scan_folder Gives
 scan_gives m word h = go (is_folder_name (without_plus word))
   where
     go : (b : Bool) → Gives by_mailbox m h (if b then folder_lines (m.folders (place_of (without_plus word))) else []) (if b then scan_folder (without_plus word) else Return (Err (fault.Refused (refusal.BadFolder word))))
         (Ends (if b then folder_end (without_plus word) (m.folders (place_of (without_plus word))) else Refused (refusal.BadFolder word)))
-    go true = folder_gives m (without_plus word) h
+    go true = list_gives m of_stop (place_of (without_plus word)) h (folder_lines (m.folders (place_of (without_plus word)))) (show_listed (without_plus word) (place_of (without_plus word))) (Ends (folder_end (without_plus word) (m.folders (place_of (without_plus word))))) (λ a row live s. listed_gives m (without_plus word) (place_of (without_plus word)) h a row live s)
     go false = (refl, refl)
 
 -- every command that there is
