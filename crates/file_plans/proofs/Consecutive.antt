@@ -1,23 +1,19 @@
 -- A call whose asked places follow each other: what others did before its first step and after its last.
 use Rattle.std.proofs.Common.{◌≡◌, ◌≢◌, ℕ, suc, ◌+◌, ◌<◌, List, [], ◌∷◌, ◌++◌, map, length, take, refl, sym, ◌∙◌, ap, subst, arith, append_assoc, append-nil, length-append}
 use Rattle.std.specs.Prelude.{reverse, drop}
-use Rattle.std.proofs.lemmas.List.{reverse-append, map-append, length-map, length-reverse}
+use Rattle.std.proofs.lemmas.List.{reverse-append, map-append, length-map}
 use Rattle.std.proofs.Math.Seq.{take-append_seam, drop-append_seam}
-use Rattle.folder_files.specs.Deeds as deeds
 use Rattle.folder_files.specs.Histories.{IsLegal, own, past_of, world_after, AreConsecutive, IsAlone}
-use Rattle.folder_files.specs.Story.{Story, Moment, Mine, Theirs, Grows, IsPossible, IsOther, AreOthers, event_of, places}
+use Rattle.folder_files.specs.Story.{Story, Moment, Mine, Theirs, Grows, IsPossible, AreOthers, event_of, places}
 use Rattle.folder_files.specs.Worlds.{WorldMap}
 use Rattle.folder_files.specs.declared.event.Event.{Event}
 use Rattle.folder_files.specs.declared.event.Event.TheVariants.{Act, Deliver, Crash, End}
 use Rattle.folder_files.specs.declared.world.World.{World}
-use Rattle.folder_files.specs.declared.step.Answer.{Answer}
-use Rattle.folder_files.specs.declared.step.Answer.TheVariants.{Failed}
-use Rattle.folder_files.specs.declared.step.Step.{Step}
 use Rattle.file_plans.specs.Alone.{world_at, first_of}
 use Rattle.file_plans.specs.Sightings.{events_since, Made}
 use Rattle.file_plans.proofs.Acting.{own_append, own_others, AllOther, since_is}
 use Rattle.file_plans.proofs.Finding.{Looks}
-use Rattle.file_plans.proofs.Lone.{AreActs, AreGlances, NotCrash, glances_fit, legal_tail, looks_glance, IsFailed}
+use Rattle.file_plans.proofs.Lone.{AreActs, AreGlances, glances_fit, legal_tail, looks_glance, IsFailed}
 use Rattle.file_plans.proofs.Standing.{AllFit}
 
 abbrev AllMine : List Moment → Type 0

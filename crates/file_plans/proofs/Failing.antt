@@ -4,12 +4,8 @@ use Rattle.std.specs.Prelude.{reverse}
 use Rattle.std.proofs.lemmas.List.{reverse-append}
 use Rattle.folder_files.specs.Deeds as deeds
 use Rattle.folder_files.specs.Deeds.{did}
-use Rattle.folder_files.specs.Histories.{IsLegal, own, past_of}
-use Rattle.folder_files.specs.Story.{Story, Moment, Mine, Theirs, Grows, IsPossible, event_of}
-use Rattle.folder_files.specs.declared.event.Event.{Event}
-use Rattle.folder_files.specs.declared.step.Answer.{Answer}
-use Rattle.folder_files.specs.declared.step.Answer.TheVariants.{Failed}
-use Rattle.folder_files.specs.declared.step.Step.{Step}
+use Rattle.folder_files.specs.Histories.{own, past_of}
+use Rattle.folder_files.specs.Story.{Story, Moment, Mine, Theirs, Grows, IsPossible}
 use Rattle.file_plans.specs.Follows.{Turn, Filed, Spoke, Took, said_in, deeds_in}
 use Rattle.file_plans.specs.Plan.{Hand, Plan, Return, Ask, Try, Say, Hear, Recall, Note}
 use Rattle.file_plans.specs.Runs.{Exit, Returned, FilesFailed, InFailed, OutFailed, NoMemory, Deed, Did, Said, Heard, Runs, AnyFailed}
@@ -54,7 +50,7 @@ made_over past (Said piece ∷ ds) m = made_over past ds m
 made_over past (Heard piece ∷ ds) m = made_over past ds m
 
 pub made_failed : (ds : List Deed) → Made IsFailed (acts ds) → AnyFailed ds
-made_failed ds m = elim (made_over [] ds m) [ | inl n ↦ absurd n | inr f ↦ f ]
+made_failed ds m = elim (made_over [] ds m) [ inl n ↦ absurd n | inr f ↦ f ]
 
 abbrev Same : {R : Type 0} → Exit R → Exit R → Type 0
 Same x y = x ≡ y

@@ -1,33 +1,28 @@
 -- A folder that is listed once, and whose messages are then read: the mailboxes that agree with the answers.
-use Rattle.std.proofs.Common.{◌≡◌, ◌≢◌, ◌⊎◌, inl, inr, ◌==◌, ◌&&◌, ◌||◌, ℕ, ◌<◌, ◌≤◌, ◌^◌, Bool, true, false, List, [], ◌∷◌, ◌++◌, Option, Some, None, length, refl, sym, ◌∙◌, ap, arith}
-use Rattle.std.specs.Prelude.{bytes_eq, nat_lt, nat_le, is_some, option_map, decimal, if◌then◌else◌}
+use Rattle.std.proofs.Common.{◌≡◌, ◌⊎◌, inl, inr, ◌==◌, ℕ, ◌<◌, Bool, true, false, List, [], ◌∷◌, ◌++◌, Option, Some, None, length, refl, ◌∙◌, ap, arith}
+use Rattle.std.specs.Prelude.{nat_lt, is_some, if◌then◌else◌}
 use Rattle.std.proofs.Math.ListN.{replicate}
 use Rattle.std.proofs.lemmas.List.{length-replicate}
-use Rattle.std.proofs.lemmas.Bool.Decides.{Decides-eqb, Decides-ltb}
-use Rattle.std.proofs.lemmas.Slice.Eq.{bytes_eq-Decides}
-use Rattle.mh_base.specs.Entries.{entry_text}
-use Rattle.mh_base.specs.Numbers.{number_of, decimal_of, in_range}
-use Rattle.mh_base.specs.declared.entry.Entry.TheVariants.{Number}
-use Rattle.mh_base.proofs.Decimals.{decimal_of_some, decimal_of_is}
+use Rattle.std.proofs.lemmas.Bool.Decides.{Decides-eqb}
+use Rattle.mh_base.specs.Numbers.{number_of}
 use Rattle.folder_files.specs.Deeds as deeds
 use Rattle.folder_files.specs.Deeds.{did}
-use Rattle.folder_files.specs.Directory.{DirectoryMap, now_in}
+use Rattle.folder_files.specs.Directory.{now_in}
 use Rattle.folder_files.specs.Histories.{IsLegal, begins, answers, fails, is_dead, delivers, crashes, crashes_within, stops, own, world_after}
-use Rattle.folder_files.specs.Steps.{Fits, IsListing, has_text, read_answer, reading_of}
+use Rattle.folder_files.specs.Steps.{Fits, read_answer}
 use Rattle.folder_files.specs.Worlds.{WorldMap}
 use Rattle.folder_files.specs.declared.event.After.{After}
 use Rattle.folder_files.specs.declared.event.After.TheVariants.{Made as made, Before}
 use Rattle.folder_files.specs.declared.event.Event.{Event}
-use Rattle.folder_files.specs.declared.event.Event.TheVariants.{Act, Deliver, Crash, End}
+use Rattle.folder_files.specs.declared.event.Event.TheVariants.{Act, Crash}
 use Rattle.folder_files.specs.declared.place.Place.{Place}
 use Rattle.folder_files.specs.declared.step.Step.{Step}
 use Rattle.folder_files.specs.declared.step.Step.TheVariants as step
 use Rattle.folder_files.specs.declared.step.Answer.{Answer}
 use Rattle.folder_files.specs.declared.step.Answer.TheVariants.{Done, Names, Content, Piece, Long, Gone, Exists, Busy, Grown, Failed}
 use Rattle.folder_files.specs.declared.world.World.{World}
-use Rattle.file_plans.specs.Mailboxes.{Folder, Mailbox, mailbox_of, folder_in, as_folder, numbered, is_message_number, text_in}
-use Rattle.file_plans.specs.Sightings.{Lists, ListShows, IsLong, MessageShows, ReadShows, message_of, Shows, Agrees, Made, has_number, is_this}
-use Rattle.file_plans.proofs.Acting.{own_append}
+use Rattle.file_plans.specs.Mailboxes.{Folder, Mailbox}
+use Rattle.file_plans.specs.Sightings.{Lists, MessageShows, ReadShows, Agrees, has_number}
 
 -- the messages of a listed folder are read, each at most once and ascending, so far below this number
 pub data Reads (p : Place) (names : List (List ℕ)) : ℕ → List deeds.Deed → Type 0 where

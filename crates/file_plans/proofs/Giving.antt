@@ -1,10 +1,9 @@
 -- What plans give, one after another, and what every run of a plan says and returns then.
-use Rattle.std.proofs.Common.{◌≡◌, ◌≢◌, ◌⊎◌, inl, inr, ◌++◌, ◌∷◌, [], List, ℕ, Result, Ok, Err, refl, sym, ◌∙◌, ap, append_assoc, append-nil}
+use Rattle.std.proofs.Common.{◌≡◌, ◌⊎◌, inl, inr, ◌++◌, ◌∷◌, [], List, ℕ, Result, refl, sym, ◌∙◌, ap, append_assoc, append-nil}
 use Rattle.folder_files.specs.Deeds as deeds
 use Rattle.folder_files.specs.Deeds.{did}
 use Rattle.folder_files.specs.declared.step.Step.{Step}
 use Rattle.folder_files.specs.declared.step.Answer.{Answer}
-use Rattle.folder_files.specs.declared.step.Answer.TheVariants.{Failed}
 use Rattle.folder_files.specs.Rows.{IsAnswerOf}
 use Rattle.file_plans.specs.Giving.{Table, Gives, FitAll, Gave}
 use Rattle.file_plans.specs.Mailboxes.{Mailbox}

@@ -1,13 +1,9 @@
 -- A call beside which nothing else happened, and which only lists and reads: all its answers are those of one world.
-use Rattle.std.proofs.Common.{◌≡◌, ◌≢◌, ◌⊎◌, inl, inr, ◌==◌, ℕ, ◌+◌, ◌<◌, ◌≤◌, Bool, true, false, List, [], ◌∷◌, ◌++◌, map, length, take, refl, sym, ◌∙◌, ap, subst, arith, append_assoc, append-nil, length-append}
-use Rattle.std.specs.Prelude.{reverse, drop, if◌then◌else◌}
-use Rattle.std.proofs.lemmas.List.{reverse-append, map-append, length-map, length-reverse}
-use Rattle.std.proofs.Math.Seq.{take-append_seam}
+use Rattle.std.proofs.Common.{◌≡◌, ◌≢◌, inl, inr, ℕ, List, [], ◌∷◌, ◌++◌, refl, ◌∙◌, subst}
 use Rattle.folder_files.specs.Deeds as deeds
 use Rattle.folder_files.specs.Deeds.{did}
-use Rattle.folder_files.specs.Histories.{IsLegal, begins, answers, fails, is_dead, delivers, crashes, crashes_within, stops, IsLive, own, deed_of, past_of, world_after, AreConsecutive, IsAlone}
-use Rattle.folder_files.specs.Steps.{Fits, left_by, made_by, made}
-use Rattle.folder_files.specs.Story.{Story, Moment, Mine, Theirs, Grows, IsPossible, IsOther, AreOthers, event_of, places}
+use Rattle.folder_files.specs.Histories.{IsLegal, begins, answers, fails, is_dead, delivers, crashes, crashes_within, stops, own, world_after}
+use Rattle.folder_files.specs.Steps.{Fits, left_by, made}
 use Rattle.folder_files.specs.Worlds.{WorldMap}
 use Rattle.folder_files.specs.declared.event.After.{After}
 use Rattle.folder_files.specs.declared.event.After.TheVariants as after
@@ -19,9 +15,8 @@ use Rattle.folder_files.specs.declared.step.Step.TheVariants as step
 use Rattle.folder_files.specs.declared.step.Answer.{Answer}
 use Rattle.folder_files.specs.declared.step.Answer.TheVariants.{Done, Names, Content, Piece, Long, Gone, Exists, Busy, Grown, Failed}
 use Rattle.folder_files.specs.declared.world.World.{World}
-use Rattle.file_plans.specs.Alone.{world_at, first_of}
-use Rattle.file_plans.specs.Sightings.{events_since, Made}
-use Rattle.file_plans.proofs.Acting.{own_append, own_mine, own_others, since_is}
+use Rattle.file_plans.specs.Sightings.{Made}
+use Rattle.file_plans.proofs.Acting.{own_mine}
 use Rattle.file_plans.proofs.Finding.{Reads, listed, read, Looks, nothing, asked, reads}
 use Rattle.file_plans.proofs.Standing.{AllFit}
 

@@ -1,24 +1,17 @@
 -- Calls whose plan only looks.
-use Rattle.std.proofs.Common.{◌≡◌, ◌≢◌, ◌++◌, ◌∷◌, [], ℕ, ◌+◌, List, Option, Some, None, Result, Ok, Err, map, length, refl, sym, ◌∙◌, ap, subst, arith, append_assoc, append-nil, length-append}
+use Rattle.std.proofs.Common.{◌≡◌, ◌++◌, ◌∷◌, [], ℕ, ◌+◌, List, Option, Some, None, Result, map, length, refl, sym, ◌∙◌, arith, append_assoc, length-append}
 use Rattle.folder_files.specs.Careful.{IsLook}
 use Rattle.folder_files.specs.Commands.{Manner}
-use Rattle.folder_files.specs.Rows.{IsAnswerOf}
 use Rattle.folder_files.specs.Story.{Story, Moment, Mine, Theirs, Grows, GrowsBy, event_of, places}
 use Rattle.folder_files.specs.declared.event.Event.{Event}
 use Rattle.folder_files.specs.declared.event.Event.TheVariants.{Act}
-use Rattle.folder_files.specs.declared.step.Answer.{Answer}
-use Rattle.folder_files.specs.declared.step.Answer.TheVariants.{Failed}
 use Rattle.folder_files.specs.declared.step.Step.{Step}
-use Rattle.file_plans.specs.Follows.{Turn, Filed, Spoke, Took, filed_in, deeds_in, State, Went, Follows}
-use Rattle.file_plans.specs.Plan.{Plan, Return, Ask, Say, Hand, ◌>>=◌, ask, say}
-use Rattle.file_plans.specs.Rules.{Rules, Keeps, AreKept, IsKept, IfOkay}
+use Rattle.file_plans.specs.Follows.{Turn, Filed, Spoke, Took, filed_in, deeds_in, State, Follows}
+use Rattle.file_plans.specs.Plan.{Plan, Hand}
+use Rattle.file_plans.specs.Rules.{Rules, Keeps, AreKept}
 use Rattle.file_plans.specs.Runs.{Cause, Deed, Did, Said, Heard}
-use Rattle.file_plans.specs.StaysCareful.{IsOwnStep, only_looks, HoldsOwnStep, HoldOwnSteps, GoesOnCarefully, StaysCareful, IsTold}
-use Rattle.folder_files.specs.declared.place.Place.{Place}
-use Rattle.folder_files.specs.declared.step.Step.TheVariants as step
-use Rattle.file_plans.specs.declared.asking.Stop.{Stop}
-use Rattle.file_plans.specs.Asking.{list, read, listing_of, reading_of}
-use Rattle.file_plans.proofs.Keeping.{run_keeps, keeps_then}
+use Rattle.file_plans.specs.StaysCareful.{only_looks, HoldOwnSteps, GoesOnCarefully, StaysCareful, IsTold}
+use Rattle.file_plans.proofs.Keeping.{run_keeps}
 
 abbrev LookAll : List Moment → Type 0
 LookAll [] = Unit {0}

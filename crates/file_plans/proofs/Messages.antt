@@ -1,5 +1,5 @@
 -- Plans that list a folder and then read its messages: the rules for their steps.
-use Rattle.std.proofs.Common.{◌≡◌, ◌≢◌, ◌⊎◌, inl, inr, ◌++◌, ℕ, ◌+◌, ◌<◌, ◌≤◌, true, List, [], ◌∷◌, Option, Some, None, Result, Ok, Err, arith}
+use Rattle.std.proofs.Common.{◌≡◌, ◌≢◌, inl, inr, ◌++◌, ℕ, ◌+◌, ◌<◌, ◌≤◌, true, List, [], ◌∷◌, Option, Some, Result, arith}
 use Rattle.mh_base.specs.Entries.{entry_text}
 use Rattle.mh_base.specs.Numbers.{number_of}
 use Rattle.mh_base.specs.declared.entry.Entry.TheVariants.{Number}
@@ -16,10 +16,10 @@ use Rattle.folder_files.specs.declared.step.Answer.TheVariants as answer
 use Rattle.file_plans.specs.Asking.{list, read, listing_of, reading_of}
 use Rattle.file_plans.specs.Giving.{Gives}
 use Rattle.file_plans.specs.Mailboxes.{Folder, Mailbox}
-use Rattle.file_plans.specs.Plan.{Plan, Hand, bind, after, ◌>>=◌, lifted, say, ask}
+use Rattle.file_plans.specs.Plan.{Plan, Hand, bind, ◌>>=◌, lifted, say, ask}
 use Rattle.file_plans.specs.Rules.{Rules, Keeps}
 use Rattle.file_plans.specs.Runs.{Deed, Did, Said}
-use Rattle.file_plans.specs.Sightings.{Made, has_number, ListShows, ReadShows, MessageShows, message_of}
+use Rattle.file_plans.specs.Sightings.{Made, has_number, ListShows, ReadShows, MessageShows}
 use Rattle.file_plans.specs.declared.answers.Listing.{Listing}
 use Rattle.file_plans.specs.declared.answers.Reading.{Reading}
 use Rattle.file_plans.specs.declared.asking.Stop.{Stop}

@@ -1,6 +1,6 @@
 -- What the mailbox of a world has to do with the answers that steps have in that world.
-use Rattle.std.proofs.Common.{◌≡◌, ◌≢◌, ◌⊎◌, inl, inr, ◌==◌, ◌&&◌, ◌||◌, ℕ, ◌<◌, ◌≤◌, Bool, true, false, List, [], ◌∷◌, ◌++◌, Option, Some, None, length, refl, sym, ◌∙◌, ap, arith}
-use Rattle.std.specs.Prelude.{bytes_eq, nat_lt, nat_le, is_some, option_map, decimal, if◌then◌else◌}
+use Rattle.std.proofs.Common.{◌≡◌, inl, inr, ◌==◌, ◌&&◌, ◌||◌, ℕ, ◌<◌, ◌≤◌, Bool, true, false, List, [], ◌∷◌, Option, Some, None, length, refl, sym, ◌∙◌, ap, arith}
+use Rattle.std.specs.Prelude.{bytes_eq, nat_lt, is_some, option_map, decimal, if◌then◌else◌}
 use Rattle.std.proofs.lemmas.Bool.Decides.{Decides-eqb, Decides-ltb, nat_tests}
 use Rattle.std.proofs.lemmas.Slice.Eq.{bytes_eq-Decides}
 use Rattle.mh_base.specs.Entries.{entry_text}
@@ -9,15 +9,15 @@ use Rattle.mh_base.specs.declared.entry.Entry.TheVariants.{Number}
 use Rattle.mh_base.proofs.Decimals.{decimal_of_some, decimal_of_is}
 use Rattle.folder_files.specs.Deeds as deeds
 use Rattle.folder_files.specs.Directory.{DirectoryMap, now_in}
-use Rattle.folder_files.specs.Steps.{Fits, IsListing, has_text, read_answer, reading_of}
+use Rattle.folder_files.specs.Steps.{Fits, IsListing, has_text, read_answer}
 use Rattle.folder_files.specs.Worlds.{WorldMap}
 use Rattle.folder_files.specs.declared.place.Place.{Place}
 use Rattle.folder_files.specs.declared.step.Step.{Step}
 use Rattle.folder_files.specs.declared.step.Step.TheVariants as step
 use Rattle.folder_files.specs.declared.step.Answer.{Answer}
 use Rattle.folder_files.specs.declared.step.Answer.TheVariants.{Done, Names, Content, Piece, Long, Gone, Exists, Busy, Grown, Failed}
-use Rattle.file_plans.specs.Mailboxes.{Folder, Mailbox, mailbox_of, folder_in, as_folder, numbered, is_message_number, text_in}
-use Rattle.file_plans.specs.Sightings.{Lists, ListShows, IsLong, MessageShows, ReadShows, message_of, Shows, Agrees, Made, has_number, is_this}
+use Rattle.file_plans.specs.Mailboxes.{mailbox_of, folder_in, as_folder, is_message_number}
+use Rattle.file_plans.specs.Sightings.{Lists, ListShows, MessageShows, ReadShows, Agrees, Made, has_number, is_this}
 use Rattle.file_plans.proofs.Finding.{Reads, listed, read, Looks, nothing, asked, reads}
 
 -- each answer is one that the step has in this world

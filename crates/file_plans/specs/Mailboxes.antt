@@ -1,7 +1,6 @@
 -- Mailboxes: what stands in folders and files, by numbers and names. Nothing here knows of steps.
-use Rattle.std.specs.Prelude.{ℕ, Bool, true, false, ◌&&◌, nat_le, zero, suc, ◌+◌, List, [], ◌∷◌, Option, Some, None, is_some, option_map, codes, if◌then◌else◌}
+use Rattle.std.specs.Prelude.{ℕ, Bool, ◌&&◌, nat_le, zero, suc, ◌+◌, List, [], ◌∷◌, Option, Some, None, is_some, option_map, codes, if◌then◌else◌}
 use Rattle.mh_base.specs.Entries.{entry_text}
-use Rattle.mh_base.specs.declared.entry.Entry.{Entry}
 use Rattle.mh_base.specs.declared.entry.Entry.TheVariants.{Number, Backup, Held, Sequences}
 use Rattle.folder_files.specs.Directory.{DirectoryMap, now_in}
 use Rattle.folder_files.specs.Worlds.{WorldMap}

@@ -1,12 +1,12 @@
 -- The promises of the top call, from its plan.
 use Rattle.std.proofs.Common.{◌≡◌, ◌≢◌, ◌⊎◌, inl, inr, ◌++◌, ℕ, ◌+◌, List, [], ◌∷◌, Option, Some, None, Result, Ok, Err, length, refl, sym, ◌∙◌, ap, subst, append-nil}
 use Rattle.mh_base.specs.Counts.{Rose}
-use Rattle.mh_base.specs.Streams.{SourceState, SinkState, Adds, AddsPart}
+use Rattle.mh_base.specs.Streams.{SourceState, SinkState, Adds}
 use Rattle.folder_files.specs.Commands.{Looking}
 use Rattle.folder_files.specs.Deeds as deeds
 use Rattle.folder_files.specs.Deeds.{did}
-use Rattle.folder_files.specs.Histories.{IsAlone, own, past_of}
-use Rattle.folder_files.specs.Story.{Story, FilesState, Grows, GrowsBy, IsPossible}
+use Rattle.folder_files.specs.Histories.{own, past_of}
+use Rattle.folder_files.specs.Story.{Story, FilesState, Grows, GrowsBy}
 use Rattle.folder_files.specs.Steps.{Fits}
 use Rattle.folder_files.specs.Worlds.{WorldMap}
 use Rattle.folder_files.specs.declared.place.Place.{Place}
@@ -17,19 +17,19 @@ use Rattle.folder_files.specs.declared.step.Step.TheVariants as step
 use Rattle.folder_files.specs.declared.step.Answer.{Answer}
 use Rattle.folder_files.specs.declared.step.Answer.TheVariants as answer
 use Rattle.file_plans.specs.Alone.{first_of, mailbox_at}
-use Rattle.file_plans.specs.Follows.{Went, State, all, filed_in, said_in, deeds_in}
+use Rattle.file_plans.specs.Follows.{Went, all, filed_in, deeds_in}
 use Rattle.file_plans.specs.Giving as giving
 use Rattle.file_plans.specs.Mailboxes.{Mailbox, mailbox_of}
 use Rattle.file_plans.specs.Plan.{fresh}
 use Rattle.file_plans.specs.Rules.{Kept}
-use Rattle.file_plans.specs.Runs.{Exit, Returned, FilesFailed, InFailed, OutFailed, NoMemory as no_memory, exit_of, AnyFailed}
+use Rattle.file_plans.specs.Runs.{Exit, Returned, FilesFailed, InFailed, OutFailed, exit_of}
 use Rattle.file_plans.specs.Sightings.{AreMade, Agrees, Made, events_since}
 use Rattle.file_plans.specs.StaysCareful.{StaysCareful}
 use Rattle.file_plans.specs.Text.{said_of}
 use Rattle.file_plans.proofs.Acting.{acts, acts_made}
-use Rattle.file_plans.proofs.Consecutive.{lone, IsLone}
+use Rattle.file_plans.proofs.Consecutive.{lone}
 use Rattle.file_plans.proofs.Failing.{said_are, failed_made, made_failed, run_failed, sound_since}
-use Rattle.file_plans.proofs.Finding.{Looks, find}
+use Rattle.file_plans.proofs.Finding.{find}
 use Rattle.file_plans.proofs.Giving.{run_gives, by_mailbox, agrees_fit}
 use Rattle.file_plans.proofs.Keeping.{run_keeps}
 use Rattle.file_plans.proofs.Standing.{AllFit, world_agrees, made_fits, listed_not_gone}
@@ -40,7 +40,7 @@ use Rattle.mh_tools.specs.IsCaused.{IsCaused, IsListing, IsMeddled, IsFailed, Is
 use Rattle.mh_tools.specs.Outcome.{outcome_of, output_of, verdict_of, error_of}
 use Rattle.mh_tools.specs.Setting.{SettingParts}
 use Rattle.mh_tools.specs.Status.{status_of}
-use Rattle.mh_tools.specs.TellsWhatItSaw.{TellsWhatItSaw, IsVerdict, Decides, DecidesIfTold}
+use Rattle.mh_tools.specs.TellsWhatItSaw.{TellsWhatItSaw, IsVerdict, DecidesIfTold}
 use Rattle.mh_tools.specs.Top.{TellsStatus, FollowsItsPlan}
 use Rattle.mh_tools.specs.declared.fault.CommandFault.{CommandFault}
 use Rattle.mh_tools.specs.declared.fault.CommandFault.TheVariants as fault
@@ -171,9 +171,9 @@ module _ (run : ℕ) (words : List (List ℕ)) (setting : SettingParts) (f g : F
         made = acts_made run f.story g.story w.log w.grows;
         done = λ q. no_failure outcome w (verdict_at (status_of outcome) Done (settle outcome status Done ends q (λ e. cc (e))) tt);
         refused = λ r q.
-        let is : status_of outcome ≡ Refused r = settle outcome status (Refused r) ends q (λ e. cc (e)) in
-        let v : IsVerdict (status_of outcome) = verdict_at (status_of outcome) (Refused r) is tt in
-        ((λ m agrees. sym (is_there outcome w v m agrees).verdict ∙ is), refused_at outcome w r is, no_failure outcome w v);
+            let is : status_of outcome ≡ Refused r = settle outcome status (Refused r) ends q (λ e. cc (e)) in
+            let v : IsVerdict (status_of outcome) = verdict_at (status_of outcome) (Refused r) is tt in
+            ((λ m agrees. sym (is_there outcome w v m agrees).verdict ∙ is), refused_at outcome w r is, no_failure outcome w v);
         files = λ q. files_at outcome w (settle outcome status (Faulted Files) ends q (λ e. cc (e)));
         source = λ q. no_source outcome w (settle outcome status (Faulted Source) ends q (λ e. cc (e)));
         out = λ q. out_at outcome w (settle outcome status (Faulted Out) ends q (λ e. cc (e)));
@@ -209,7 +209,7 @@ module _ (run : ℕ) (words : List (List ℕ)) (setting : SettingParts) (f g : F
   tells outcome w status ends =
       let made = acts_made run f.story g.story w.log w.grows in
       let verdict : (m : Mailbox) → Agrees m (acts (deeds_in w.log)) → IsVerdict status → status ≡ verdict_of words m =
-          λ m agrees v. let s = verdict_of_status outcome status ends v in s.1 ∙ (is_there outcome w s.0 m agrees).verdict
+      λ m agrees v. let s = verdict_of_status outcome status ends v in s.1 ∙ (is_there outcome w s.0 m agrees).verdict
       in
       record {
         deeds = acts (deeds_in w.log);

@@ -1,5 +1,5 @@
 -- The numbers among names.
-use Rattle.std.proofs.Common.{◌≡◌, ◌∷◌, [], List, ℕ, suc, ◌+◌, ◌<◌, ◌≤◌, Option, refl, sym, ◌∙◌, ap, drop, get_or, add-one, length, arith}
+use Rattle.std.proofs.Common.{◌≡◌, ◌∷◌, List, ℕ, suc, ◌+◌, ◌<◌, ◌≤◌, sym, ◌∙◌, ap, drop, get_or, add-one, length}
 use Rattle.std.proofs.Math.Seq.{drop-cons}
 use Rattle.std.proofs.lemmas.List.{drop_all}
 use Rattle.mh_base.specs.Numbers.{number_of}

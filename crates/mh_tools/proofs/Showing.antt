@@ -1,5 +1,5 @@
 -- The loop of `scan`.
-use Rattle.std.proofs.Common.{◌≡◌, ◌∷◌, [], List, ℕ, ◌+◌, ◌<◌, ◌≤◌, Result, Ok, Err, refl, ap, drop, get_or, length, arith, true, false, Bool}
+use Rattle.std.proofs.Common.{◌≡◌, ◌∷◌, [], List, ℕ, ◌+◌, ◌<◌, ◌≤◌, Result, Ok, Err, refl, ap, drop, get_or, length, arith, true, false}
 use Rattle.std.proofs.lemmas.List.{drop_all}
 use Rattle.std.specs.Prelude.{codes}
 use Rattle.folder_files.specs.declared.place.Place.{Place}

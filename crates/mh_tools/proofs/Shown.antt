@@ -1,29 +1,25 @@
 -- By each mailbox that agrees with the answers, `scan` says and returns what its outcome there is.
-use Rattle.std.proofs.Common.{◌≡◌, ◌≢◌, ◌&&◌, ◌==◌, ◌++◌, ℕ, ◌+◌, Bool, true, false, List, [], ◌∷◌, Option, Some, None, Result, Ok, Err, bytes_eq, length, refl, sym, ◌∙◌, ap, subst}
-use Rattle.std.specs.Prelude.{codes, slice_index, nat_lt, unwrap_or, decimal, if◌then◌else◌}
+use Rattle.std.proofs.Common.{◌≡◌, ◌≢◌, ◌++◌, ℕ, Bool, true, false, List, [], ◌∷◌, Option, Some, None, Result, Ok, Err, length, refl, sym, ◌∙◌, ap}
+use Rattle.std.specs.Prelude.{nat_lt, if◌then◌else◌}
 use Rattle.std.specs.Str.{chars}
-use Rattle.mh_base.specs.Entries.{entry_text}
 use Rattle.mh_base.specs.Folders.{is_folder_name, without_plus}
 use Rattle.mh_base.specs.Numbers.{number_of}
-use Rattle.mh_base.specs.declared.entry.Entry.TheVariants.{Number}
 use Rattle.folder_files.specs.Rows.{IsReadRow, IsNamesRow}
 use Rattle.folder_files.specs.declared.place.Place.{Place}
 use Rattle.folder_files.specs.declared.refusal.Refusal.TheVariants as refusal
-use Rattle.folder_files.specs.declared.step.Step.{Step}
-use Rattle.folder_files.specs.declared.step.Step.TheVariants as step
 use Rattle.folder_files.specs.declared.step.Answer.{Answer}
 use Rattle.folder_files.specs.declared.step.Answer.TheVariants as answer
-use Rattle.file_plans.specs.Asking.{list, read, listing_of, reading_of}
+use Rattle.file_plans.specs.Asking.{listing_of, reading_of}
 use Rattle.file_plans.specs.Giving.{Gives}
-use Rattle.file_plans.specs.Mailboxes.{Folder, Mailbox, numbers_of}
-use Rattle.file_plans.specs.Plan.{Plan, Return, Hand, bind, after, ◌>>=◌, lifted, say, ask}
-use Rattle.file_plans.specs.Sightings.{Lists, ListShows, ReadShows, MessageShows, IsLong, message_of, has_number}
+use Rattle.file_plans.specs.Mailboxes.{Folder, Mailbox}
+use Rattle.file_plans.specs.Plan.{Return, Hand, after, ◌>>=◌}
+use Rattle.file_plans.specs.Sightings.{Lists, ListShows, MessageShows, IsLong}
 use Rattle.file_plans.proofs.Giving.{gives_bind, by_mailbox}
 use Rattle.file_plans.proofs.Messages.{name_of, list_gives, read_gives, say_gives}
 use Rattle.mh_tools.specs.Command.{command, no_command}
 use Rattle.mh_tools.specs.Faults.{of_stop, of_sink}
 use Rattle.mh_tools.specs.MessageLine.{line_of, number_column, subject_of}
-use Rattle.mh_tools.specs.Outcome.{text_of, is_too_long, scan_lines, scan_end, messages_end, folder_lines, folder_end, scan_output, scan_status, is_scan, output_of, verdict_of, no_command_status}
+use Rattle.mh_tools.specs.Outcome.{text_of, scan_lines, scan_end, messages_end, folder_lines, folder_end, scan_output, scan_status, is_scan, output_of, verdict_of, no_command_status}
 use Rattle.mh_tools.specs.Scan.{show, show_one, show_all, show_some, show_listed, scan_folder, scan, place_of, numbers_in, LIMIT_BYTES}
 use Rattle.mh_tools.specs.declared.fault.CommandFault.{CommandFault}
 use Rattle.mh_tools.specs.declared.fault.CommandFault.TheVariants as fault

@@ -1,6 +1,6 @@
 -- The numbers of a listing, ascending and each once; and those of a folder that it shows.
-use Rattle.std.proofs.Common.{◌≡◌, ◌==◌, ◌||◌, ◌&&◌, ℕ, ◌+◌, ◌<◌, ◌≤◌, Bool, true, false, List, [], ◌∷◌, Option, Some, None, refl, sym, ◌∙◌, ap, arith}
-use Rattle.std.specs.Prelude.{is_some, nat_lt, decimal, if◌then◌else◌}
+use Rattle.std.proofs.Common.{◌≡◌, ◌==◌, ◌||◌, ℕ, ◌+◌, ◌<◌, ◌≤◌, Bool, true, false, List, [], ◌∷◌, Option, Some, None, refl, sym, ◌∙◌, ap, arith}
+use Rattle.std.specs.Prelude.{is_some, nat_lt}
 use Rattle.std.specs.BTreeSet.{insert_key}
 use Rattle.std.specs.Cmp.{nat_cmp_is}
 use Rattle.std.specs.Ordering.{nat_cmp}
@@ -10,7 +10,7 @@ use Rattle.mh_base.specs.Numbers.{number_of}
 use Rattle.mh_base.specs.Entries.{entry_text}
 use Rattle.mh_base.specs.declared.entry.Entry.TheVariants.{Number}
 use Rattle.file_plans.specs.Mailboxes.{Folder, numbers_of, is_message_number}
-use Rattle.file_plans.specs.Sightings.{has_number, is_this}
+use Rattle.file_plans.specs.Sightings.{has_number}
 use Rattle.file_plans.proofs.Rising.{Rises, AreBelow, has, numbers_are, num_same}
 use Rattle.file_plans.proofs.Standing.{number_is, number_below, number_back}
 use Rattle.mh_tools.specs.Scan.{with_number, numbers_with, numbers_in}

@@ -1,5 +1,5 @@
 -- Which command the words name.
-use Rattle.std.specs.Prelude.{◌∷◌, [], List, ℕ, ◌==◌, ◌&&◌, Bool, Result, Ok, Err, bytes_eq, codes, slice_index, if◌then◌else◌}
+use Rattle.std.specs.Prelude.{◌∷◌, [], List, ℕ, ◌==◌, ◌&&◌, Result, Err, bytes_eq, codes, slice_index, if◌then◌else◌}
 use Rattle.std.specs.Str.{chars}
 use Rattle.mh_base.specs.declared.word.WordWhy.TheVariants.{NoCommand}
 use Rattle.folder_files.specs.declared.refusal.Refusal.TheVariants as refusal

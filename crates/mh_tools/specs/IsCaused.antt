@@ -1,5 +1,5 @@
 -- Where each answer of `mh` comes from.
-use Rattle.std.specs.Prelude.{◌≡◌, ◌≢◌, ◌⊎◌, ℕ, true, false, List, [], ◌∷◌, Option, Some, None}
+use Rattle.std.specs.Prelude.{◌≡◌, ◌≢◌, ℕ, true, false, List, [], ◌∷◌, Option, Some}
 use Rattle.mh_base.specs.Counts.{Rose}
 use Rattle.mh_base.specs.Numbers.{number_of}
 use Rattle.mh_base.specs.Streams.{SourceState, SinkState}

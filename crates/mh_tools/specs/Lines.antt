@@ -5,7 +5,6 @@ use Rattle.mh_base.specs.declared.word.WordWhy.{WordWhy}
 use Rattle.mh_base.specs.declared.word.WordWhy.TheVariants as why
 use Rattle.folder_files.specs.declared.place.Place.{Place}
 use Rattle.folder_files.specs.declared.place.Place.TheVariants.{Home, Work, Mail, Folder}
-use Rattle.folder_files.specs.declared.place.FilePath.{FilePath}
 use Rattle.folder_files.specs.declared.refusal.Which.{Which}
 use Rattle.folder_files.specs.declared.refusal.Which.TheVariants as which
 use Rattle.folder_files.specs.declared.refusal.Refusal.{Refusal}

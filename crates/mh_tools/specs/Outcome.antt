@@ -3,7 +3,6 @@ use Rattle.std.specs.Prelude.{◌==◌, ◌&&◌, ℕ, Bool, nat_lt, List, [], �
 use Rattle.std.specs.Str.{chars}
 use Rattle.mh_base.specs.Folders.{is_folder_name, without_plus}
 use Rattle.mh_base.specs.declared.word.WordWhy.TheVariants.{NoCommand}
-use Rattle.folder_files.specs.declared.refusal.Refusal.{Refusal}
 use Rattle.folder_files.specs.declared.refusal.Refusal.TheVariants as refusal
 use Rattle.file_plans.specs.Mailboxes.{Folder, Mailbox, numbers_of}
 use Rattle.mh_tools.specs.Lines.{error_line_of}

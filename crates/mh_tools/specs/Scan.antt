@@ -1,5 +1,5 @@
 -- The plan of `scan`.
-use Rattle.std.specs.Prelude.{◌∷◌, [], List, ℕ, Bool, true, false, Option, Some, None, Result, Ok, Err, codes, if◌then◌else◌}
+use Rattle.std.specs.Prelude.{◌∷◌, [], List, ℕ, Option, Some, None, Result, Ok, Err, codes, if◌then◌else◌}
 use Rattle.std.specs.Ordering.{nat_cmp}
 use Rattle.std.specs.BTreeSet.{insert_key}
 use Rattle.mh_base.specs.Numbers.{number_of}

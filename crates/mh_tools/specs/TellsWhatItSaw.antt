@@ -1,5 +1,5 @@
 -- A call answers by what it saw.
-use Rattle.std.specs.Prelude.{◌≡◌, ◌≢◌, ◌⊎◌, ℕ, List, [], Option, Some, None}
+use Rattle.std.specs.Prelude.{◌≡◌, ◌⊎◌, ℕ, List, Option, Some, None}
 use Rattle.mh_base.specs.Streams.{SourceState, SinkState, Adds, AddsPart}
 use Rattle.folder_files.specs.Deeds.{Deed}
 use Rattle.folder_files.specs.Story.{Story, FilesState, IsPossible}

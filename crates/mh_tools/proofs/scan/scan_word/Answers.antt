@@ -1,4 +1,4 @@
-use Rattle.std.proofs.Common.{◌≡◌, refl, sym, ap, Err}
+use Rattle.std.proofs.Common.{refl, ap, Err}
 use Rattle.file_plans.proofs.Following.{no_room, no_room_at, refuses}
 use Rattle.mh_tools.proofs.Showing.{folder, bad_word}
 use Rattle.mh_tools.proofs.scan.scan_word.Goals as goal

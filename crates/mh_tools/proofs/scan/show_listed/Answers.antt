@@ -1,4 +1,4 @@
-use Rattle.std.proofs.Common.{◌≡◌, refl, rules, List, ℕ, length}
+use Rattle.std.proofs.Common.{◌≡◌, refl, rules, length}
 use Rattle.file_plans.proofs.Following.{no_room, refuses}
 use Rattle.mh_tools.specs.Scan.{numbers_in}
 use Rattle.mh_tools.proofs.Showing.{none, some}
