@@ -1,5 +1,5 @@
 -- Plans that list a folder and then read its messages: the rules for their steps.
-use Rattle.std.proofs.Common.{◌≡◌, ◌≢◌, inl, inr, ◌++◌, ℕ, ◌+◌, ◌<◌, ◌≤◌, true, List, [], ◌∷◌, Option, Some, Result, arith}
+use Rattle.std.proofs.Common.{◌≡◌, ◌≢◌, inl, inr, ◌++◌, ℕ, ◌+◌, ◌<◌, ◌≤◌, true, false, List, [], ◌∷◌, Option, Some, None, Result, length, nat_lt, refl, arith}
 use Rattle.mh_base.specs.Entries.{entry_text}
 use Rattle.mh_base.specs.Numbers.{number_of}
 use Rattle.mh_base.specs.declared.entry.Entry.TheVariants.{Number}
@@ -19,9 +19,11 @@ use Rattle.file_plans.specs.Mailboxes.{Folder, Mailbox}
 use Rattle.file_plans.specs.Plan.{Plan, Hand, bind, ◌>>=◌, lifted, say, ask}
 use Rattle.file_plans.specs.Rules.{Rules, Keeps}
 use Rattle.file_plans.specs.Runs.{Deed, Did, Said}
-use Rattle.file_plans.specs.Sightings.{Made, has_number, ListShows, ReadShows, MessageShows}
+use Rattle.file_plans.specs.Sightings.{Made, has_number, ListShows, Lists, IsLong, ReadShows, MessageShows}
 use Rattle.file_plans.specs.declared.answers.Listing.{Listing}
+use Rattle.file_plans.specs.declared.answers.Listing.TheVariants as listing
 use Rattle.file_plans.specs.declared.answers.Reading.{Reading}
+use Rattle.file_plans.specs.declared.answers.Reading.TheVariants as reading
 use Rattle.file_plans.specs.declared.asking.Stop.{Stop}
 use Rattle.file_plans.proofs.Acting.{acts, acts_append}
 use Rattle.file_plans.proofs.Finding.{Reads, listed, read as next_read, Looks, nothing, asked, reads}
@@ -71,9 +73,21 @@ look_of {p = p} {names = names} {hi = hi} r = reads p names hi r
 
 -- a folder is listed first
 pub list_once : {B F : Type 0} (from : Stop → F) (p : Place) (k : Listing → Plan (Result B F)) (h : Hand) (Q : List Deed → Hand → Result B F → Type 0) →
-    ((a : Answer) → IsNamesRow a → a ≢ answer.Failed → Keeps once (Did (step.List p) a ∷ []) h (k (listing_of a)) Q) → Keeps once [] h (lifted from (list p) >>= k) Q
+    ((names : List (List ℕ)) → Keeps once (Did (step.List p) (answer.Names names) ∷ []) h (k (listing.Names names)) Q) → Keeps once (Did (step.List p) answer.Gone ∷ []) h (k listing.Gone) Q → Keeps once [] h (lifted from (list p) >>= k) Q
 unfolding Keeps list lifted bind ask ◌>>=◌
-list_once from p k h Q next = (nothing, tt, asked p answer.Failed, next)
+list_once from p k h Q names gone = (nothing, tt, asked p answer.Failed, next)
+  where
+    next : (a : Answer) → IsNamesRow a → a ≢ answer.Failed → Keeps once (Did (step.List p) a ∷ []) h (k (listing_of a)) Q
+    next (answer.Names found) row live = names found
+    next answer.Gone row live = gone
+    next answer.Failed row live = absurd (live refl)
+    next answer.Done row live = absurd row
+    next (answer.Content b) row live = absurd row
+    next (answer.Piece b l) row live = absurd row
+    next (answer.Long l) row live = absurd row
+    next answer.Exists row live = absurd row
+    next answer.Busy row live = absurd row
+    next answer.Grown row live = absurd row
 
 below : (p : Place) (names : List (List ℕ)) (hi n : ℕ) (ds : List deeds.Deed) → hi ≤ n → Reads p names hi ds → Reads p names n ds
 below p names hi n _ le listed = listed
@@ -82,14 +96,28 @@ below p names hi n _ le (next_read m x limit a is has lt r) = next_read m x limi
 -- the next message is read
 pub read_once : {B F : Type 0} (from : Stop → F) (p : Place) (names : List (List ℕ)) (n hi limit : ℕ) (past : List Deed) (h : Hand) (k : Reading → Plan (Result B F)) (Q : List Deed → Hand → Result B F → Type 0) →
     Reads p names hi (acts past) → hi ≤ n → NoFailure (acts past) → number_of (name_of n) ≡ Some n → has_number n names ≡ true →
-    ((a : Answer) (later : List Deed) → IsReadRow a → IsRead p names n limit a later → Keeps once later h (k (reading_of a)) Q) → Keeps once past h (lifted from (read p (name_of n) limit) >>= k) Q
+    ((later : List Deed) (bytes : List ℕ) → IsRead p names n limit (answer.Content bytes) later → Keeps once later h (k (reading.Content bytes)) Q) →
+    ((later : List Deed) (l : ℕ) → IsRead p names n limit (answer.Long l) later → Keeps once later h (k (reading.Long l)) Q) →
+    ((later : List Deed) → IsRead p names n limit answer.Gone later → Keeps once later h (k reading.Gone) Q) → Keeps once past h (lifted from (read p (name_of n) limit) >>= k) Q
 unfolding Keeps read lifted bind ask ◌>>=◌
-read_once from p names n hi limit past h k Q r le clean named has_it next = (
+read_once from p names n hi limit past h k Q r le clean named has_it content long gone = (
   look_of r,
   tt,
   rw (did_more past (step.Read p (name_of n) limit) answer.Failed) (look_of (next_read n (name_of n) limit answer.Failed named has_it (one_more n) (below p names hi n (acts past) le r))),
-  λ a row live. next a (past ++ Did (step.Read p (name_of n) limit) a ∷ []) row (record { before = acts past; is = did_more past (step.Read p (name_of n) limit) a; live = live; named = named; has_it = has_it; so_far = below p names hi n (acts past) le r; clean = clean }),
+  λ a row live. next a row live (record { before = acts past; is = did_more past (step.Read p (name_of n) limit) a; live = live; named = named; has_it = has_it; so_far = below p names hi n (acts past) le r; clean = clean }),
 )
+  where
+    next : (a : Answer) → IsReadRow a → a ≢ answer.Failed → IsRead p names n limit a (past ++ Did (step.Read p (name_of n) limit) a ∷ []) → Keeps once (past ++ Did (step.Read p (name_of n) limit) a ∷ []) h (k (reading_of a)) Q
+    next (answer.Content bytes) row live is = content _ bytes is
+    next (answer.Long l) row live is = long _ l is
+    next answer.Gone row live is = gone _ is
+    next answer.Failed row live is = absurd (live refl)
+    next answer.Done row live is = absurd row
+    next (answer.Names found) row live is = absurd row
+    next (answer.Piece b l) row live is = absurd row
+    next answer.Exists row live is = absurd row
+    next answer.Busy row live is = absurd row
+    next answer.Grown row live is = absurd row
 
 -- a piece of output is said
 pub say_once : {B F : Type 0} (from : SinkFault → F) (piece : List ℕ) (past : List Deed) (h : Hand) (k : Unit → Plan (Result B F)) (Q : List Deed → Hand → Result B F → Type 0) →
@@ -99,18 +127,42 @@ say_once from piece past h k Q look next = (look, tt, (λ part rest e. rw (said_
 
 -- what a mailbox makes of each
 pub list_gives : {B F : Type 0} (m : Mailbox) (from : Stop → F) (p : Place) (h : Hand) (text : List ℕ) (k : Listing → Plan (Result B F)) (Q : Mailbox → Hand → List ℕ → Result B F → Type 0) →
-    ((a : Answer) → IsNamesRow a → a ≢ answer.Failed → ListShows (m.folders p) a → Gives by_mailbox m h text (k (listing_of a)) Q) → Gives by_mailbox m h text (lifted from (list p) >>= k) Q
+    ((names : List (List ℕ)) → Lists (m.folders p) names → Gives by_mailbox m h text (k (listing.Names names)) Q) → (m.folders p ≡ None → Gives by_mailbox m h text (k listing.Gone) Q) → Gives by_mailbox m h text (lifted from (list p) >>= k) Q
 unfolding Gives list lifted bind ask ◌>>=◌
-list_gives m from p h text k Q next = next
+list_gives m from p h text k Q names gone = next
+  where
+    next : (a : Answer) → IsNamesRow a → a ≢ answer.Failed → ListShows (m.folders p) a → Gives by_mailbox m h text (k (listing_of a)) Q
+    next (answer.Names found) row live s = names found s
+    next answer.Gone row live s = gone s
+    next answer.Failed row live s = absurd (live refl)
+    next answer.Done row live s = absurd row
+    next (answer.Content b) row live s = absurd row
+    next (answer.Piece b l) row live s = absurd row
+    next (answer.Long l) row live s = absurd row
+    next answer.Exists row live s = absurd row
+    next answer.Busy row live s = absurd row
+    next answer.Grown row live s = absurd row
 
 message_shown : (o : Option Folder) (f : Folder) (x : List ℕ) (n limit : ℕ) (a : Answer) → o ≡ Some f → number_of x ≡ Some n → ReadShows o (number_of x) limit a → MessageShows (f.messages n) limit a
 message_shown o f x n limit a there named s = rw (there, named) at s
 
 pub read_gives : {B F : Type 0} (m : Mailbox) (from : Stop → F) (p : Place) (f : Folder) (n limit : ℕ) (h : Hand) (text : List ℕ) (k : Reading → Plan (Result B F)) (Q : Mailbox → Hand → List ℕ → Result B F → Type 0) →
-    m.folders p ≡ Some f → number_of (name_of n) ≡ Some n → ((a : Answer) → IsReadRow a → a ≢ answer.Failed → MessageShows (f.messages n) limit a → Gives by_mailbox m h text (k (reading_of a)) Q) →
-    Gives by_mailbox m h text (lifted from (read p (name_of n) limit) >>= k) Q
+    m.folders p ≡ Some f → number_of (name_of n) ≡ Some n → ((bytes : List ℕ) → f.messages n ≡ Some bytes → nat_lt limit (length bytes) ≡ false → Gives by_mailbox m h text (k (reading.Content bytes)) Q) →
+    ((l : ℕ) → IsLong (f.messages n) limit l → Gives by_mailbox m h text (k (reading.Long l)) Q) → Gives by_mailbox m h text (k reading.Gone) Q → Gives by_mailbox m h text (lifted from (read p (name_of n) limit) >>= k) Q
 unfolding Gives read lifted bind ask ◌>>=◌
-read_gives m from p f n limit h text k Q there named next = λ a row live s. next a row live (message_shown (m.folders p) f (name_of n) n limit a there named s)
+read_gives m from p f n limit h text k Q there named content long gone = λ a row live s. next a row live (message_shown (m.folders p) f (name_of n) n limit a there named s)
+  where
+    next : (a : Answer) → IsReadRow a → a ≢ answer.Failed → MessageShows (f.messages n) limit a → Gives by_mailbox m h text (k (reading_of a)) Q
+    next (answer.Content bytes) row live s = content bytes s.0 s.1
+    next (answer.Long l) row live s = long l s
+    next answer.Gone row live s = gone
+    next answer.Failed row live s = absurd (live refl)
+    next answer.Done row live s = absurd row
+    next (answer.Names found) row live s = absurd row
+    next (answer.Piece b l) row live s = absurd row
+    next answer.Exists row live s = absurd row
+    next answer.Busy row live s = absurd row
+    next answer.Grown row live s = absurd row
 
 pub say_gives : {B F : Type 0} (m : Mailbox) (from : SinkFault → F) (piece rest text : List ℕ) (h : Hand) (k : Unit → Plan (Result B F)) (Q : Mailbox → Hand → List ℕ → Result B F → Type 0) →
     piece ≢ [] → text ≡ piece ++ rest → Gives by_mailbox m h rest (k tt) Q → Gives by_mailbox m h text (lifted from (say piece) >>= k) Q

@@ -6,13 +6,12 @@ use Rattle.mh_base.specs.Folders.{is_folder_name, without_plus}
 use Rattle.mh_base.specs.Numbers.{number_of}
 use Rattle.folder_files.specs.Deeds as deeds
 use Rattle.folder_files.specs.Deeds.{did}
-use Rattle.folder_files.specs.Rows.{IsReadRow, IsNamesRow}
 use Rattle.folder_files.specs.declared.place.Place.{Place}
 use Rattle.folder_files.specs.declared.refusal.Refusal.TheVariants as refusal
+use Rattle.folder_files.specs.declared.step.Step.{Step}
 use Rattle.folder_files.specs.declared.step.Step.TheVariants as step
 use Rattle.folder_files.specs.declared.step.Answer.{Answer}
 use Rattle.folder_files.specs.declared.step.Answer.TheVariants as answer
-use Rattle.file_plans.specs.Asking.{listing_of, reading_of}
 use Rattle.file_plans.specs.Plan.{Return, Hand, after, ◌>>=◌}
 use Rattle.file_plans.specs.Rules.{Keeps}
 use Rattle.file_plans.specs.Runs.{Deed, Did}
@@ -61,28 +60,13 @@ abbrev OneEnds : Place → List (List ℕ) → ℕ → List Deed → Hand → Re
 OneEnds p names n past h (Ok u) = Reads p names (n + 1) (acts past) × NoFailure (acts past)
 OneEnds p names n past h (Err e) = Looks (acts past) × EndsAs past h (Err e)
 
-shown_keeps : (p : Place) (names : List (List ℕ)) (n : ℕ) (bytes : List ℕ) (past : List Deed) (h : Hand) → IsRead p names n LIMIT_BYTES (answer.Content bytes) past → Keeps once past h (show p n (reading_of (answer.Content bytes))) (OneEnds p names n)
-unfolding Keeps
-shown_keeps p names n bytes past h r =
-    let all = all_reads r in
-    say_once of_sink (line_of n bytes) past h (λ told. Return (Ok tt)) (OneEnds p names n) (look_of all.0) (λ later same. (rw same (look_of all.0), rw same all))
-
-show_keeps : (p : Place) (names : List (List ℕ)) (n : ℕ) (a : Answer) (past : List Deed) (h : Hand) → IsReadRow a → IsRead p names n LIMIT_BYTES a past → Keeps once past h (show p n (reading_of a)) (OneEnds p names n)
-unfolding Keeps
-show_keeps p names n (answer.Content bytes) past h row r = shown_keeps p names n bytes past h r
-show_keeps p names n (answer.Long l) past h row r = let all = all_reads r in (look_of all.0, (look_of all.0, (too_large p names n LIMIT_BYTES l past r, all.1)))
-show_keeps p names n answer.Gone past h row r = let all = all_reads r in (look_of all.0, (look_of all.0, meddled p names n LIMIT_BYTES past r))
-show_keeps p names n answer.Failed past h row r = absurd (r.live refl)
-show_keeps p names n answer.Done past h row r = absurd row
-show_keeps p names n (answer.Names ns) past h row r = absurd row
-show_keeps p names n (answer.Piece b l) past h row r = absurd row
-show_keeps p names n answer.Exists past h row r = absurd row
-show_keeps p names n answer.Busy past h row r = absurd row
-show_keeps p names n answer.Grown past h row r = absurd row
-
 one_keeps : (p : Place) (names : List (List ℕ)) (n hi : ℕ) (past : List Deed) (h : Hand) → Reads p names hi (acts past) → hi ≤ n → NoFailure (acts past) → number_of (name_of n) ≡ Some n → has_number n names ≡ true → Keeps once past h (show_one p n) (OneEnds p names n)
-unfolding show_one
-one_keeps p names n hi past h r le clean named has_it = read_once of_stop p names n hi LIMIT_BYTES past h (show p n) (OneEnds p names n) r le clean named has_it (λ a later row is. show_keeps p names n a later h row is)
+unfolding Keeps show_one
+one_keeps p names n hi past h r le clean named has_it =
+    read_once of_stop p names n hi LIMIT_BYTES past h (show p n) (OneEnds p names n) r le clean named has_it
+    (λ later bytes is. let all = all_reads is in say_once of_sink (line_of n bytes) later h (λ told. Return (Ok tt)) (OneEnds p names n) (look_of all.0) (λ last same. (rw same (look_of all.0), rw same all)))
+    (λ later l is. let all = all_reads is in (look_of all.0, (look_of all.0, (too_large p names n LIMIT_BYTES l later is, all.1))))
+    (λ later is. let all = all_reads is in (look_of all.0, (look_of all.0, meddled p names n LIMIT_BYTES later is)))
 
 all_keeps : (p : Place) (names : List (List ℕ)) (ns : List ℕ) (hi : ℕ) (past : List Deed) (h : Hand) → Reads p names hi (acts past) → NoFailure (acts past) → Rises hi ns → AreListed names ns → Keeps once past h (show_all p ns) EndsAs
 unfolding Keeps show_all ◌>>=◌
@@ -99,27 +83,22 @@ unfolding Keeps
 some_keeps p names [] past h r clean up there empty = (look_of r, (empty refl, clean))
 some_keeps p names (n ∷ ns) past h r clean up there empty = all_keeps p names (n ∷ ns) 1 past h r clean up there
 
-listed_keeps : (name : List ℕ) (a : Answer) (h : Hand) → IsNamesRow a → a ≢ answer.Failed → Keeps once (Did (step.List (place_of name)) a ∷ []) h (show_listed name (place_of name) (listing_of a)) EndsAs
-unfolding Keeps
-listed_keeps name (answer.Names names) h row live =
-    some_keeps (place_of name) names (numbers_in names) (Did (step.List (place_of name)) (answer.Names names) ∷ []) h listed (no_failure_more (step.List (place_of name)) (answer.Names names) [] live (λ m. m)) (all_rise names) (all_listed names)
-    (λ none. inl (place_of name, names, refl, refl, none_listed names none))
-listed_keeps name answer.Gone h row live = (asked (place_of name) answer.Gone, (inl (refl, refl), no_failure_more (step.List (place_of name)) answer.Gone [] live (λ m. m)))
-listed_keeps name answer.Failed h row live = absurd (live refl)
-listed_keeps name answer.Done h row live = absurd row
-listed_keeps name (answer.Content b) h row live = absurd row
-listed_keeps name (answer.Piece b l) h row live = absurd row
-listed_keeps name (answer.Long l) h row live = absurd row
-listed_keeps name answer.Exists h row live = absurd row
-listed_keeps name answer.Busy h row live = absurd row
-listed_keeps name answer.Grown h row live = absurd row
+folder_keeps : (name : List ℕ) (h : Hand) → Keeps once [] h (scan_folder name) EndsAs
+unfolding Keeps scan_folder
+folder_keeps name h =
+    list_once of_stop (place_of name) (show_listed name (place_of name)) h EndsAs
+    (λ names. some_keeps (place_of name) names (numbers_in names) (Did (step.List (place_of name)) (answer.Names names) ∷ []) h listed (one_live (step.List (place_of name)) (answer.Names names) (λ e. cc (e))) (all_rise names) (all_listed names) (λ none. inl (place_of name, names, refl, refl, none_listed names none)))
+    (asked (place_of name) answer.Gone, (inl (refl, refl), one_live (step.List (place_of name)) answer.Gone (λ e. cc (e))))
+  where
+    one_live : (s : Step) (a : Answer) → a ≢ answer.Failed → NoFailure (did s a ∷ [])
+    one_live s a live = no_failure_more s a [] live (λ m. m)
 
 scan_keeps : (word : List ℕ) (h : Hand) → Keeps once [] h (scan word) EndsAs
-unfolding scan scan_folder
+unfolding scan
 scan_keeps word h = go (is_folder_name (without_plus word))
   where
     go : (b : Bool) → Keeps once [] h (if b then scan_folder (without_plus word) else Return (Err (fault.Refused (refusal.BadFolder word)))) EndsAs
-    go true = list_once of_stop (place_of (without_plus word)) (show_listed (without_plus word) (place_of (without_plus word))) h EndsAs (λ a row live. listed_keeps (without_plus word) a h row live)
+    go true = folder_keeps (without_plus word) h
     go false = at_once (Err (fault.Refused (refusal.BadFolder word))) h (refl, λ m. m)
 
 -- every command that there is

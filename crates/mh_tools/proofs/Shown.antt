@@ -1,19 +1,15 @@
 -- By each mailbox that agrees with the answers, `scan` says and returns what its outcome there is.
-use Rattle.std.proofs.Common.{◌≡◌, ◌≢◌, ◌++◌, ℕ, Bool, true, false, List, [], ◌∷◌, Option, Some, None, Result, Ok, Err, length, refl, sym, ◌∙◌, ap}
+use Rattle.std.proofs.Common.{◌≡◌, ◌++◌, ℕ, Bool, true, false, List, [], ◌∷◌, Option, Some, Result, Ok, Err, length, refl, sym, ◌∙◌, ap}
 use Rattle.std.specs.Prelude.{nat_lt, if◌then◌else◌}
 use Rattle.std.specs.Str.{chars}
 use Rattle.mh_base.specs.Folders.{is_folder_name, without_plus}
 use Rattle.mh_base.specs.Numbers.{number_of}
-use Rattle.folder_files.specs.Rows.{IsReadRow, IsNamesRow}
 use Rattle.folder_files.specs.declared.place.Place.{Place}
 use Rattle.folder_files.specs.declared.refusal.Refusal.TheVariants as refusal
-use Rattle.folder_files.specs.declared.step.Answer.{Answer}
-use Rattle.folder_files.specs.declared.step.Answer.TheVariants as answer
-use Rattle.file_plans.specs.Asking.{listing_of, reading_of}
 use Rattle.file_plans.specs.Giving.{Gives}
 use Rattle.file_plans.specs.Mailboxes.{Folder, Mailbox}
 use Rattle.file_plans.specs.Plan.{Return, Hand, after, ◌>>=◌}
-use Rattle.file_plans.specs.Sightings.{Lists, ListShows, MessageShows, IsLong}
+use Rattle.file_plans.specs.Sightings.{Lists, IsLong}
 use Rattle.file_plans.proofs.Giving.{gives_bind, by_mailbox}
 use Rattle.file_plans.proofs.Messages.{name_of, list_gives, read_gives, say_gives}
 use Rattle.mh_tools.specs.Command.{command, no_command}
@@ -68,37 +64,19 @@ long_end : (messages : ℕ → Option (List ℕ)) (n : ℕ) (ns b : List ℕ) �
 unfolding scan_end
 long_end messages n ns b e long = rw (text_there messages n b e, long) refl
 
-shown_gives : (m : Mailbox) (p : Place) (messages : ℕ → Option (List ℕ)) (n : ℕ) (ns bytes : List ℕ) (h : Hand) → messages n ≡ Some bytes → nat_lt LIMIT_BYTES (length bytes) ≡ false →
-    Gives by_mailbox m h (scan_lines messages (n ∷ ns)) (show p n (reading_of (answer.Content bytes))) (OneEnds m messages n ns)
-unfolding Gives
-shown_gives m p messages n ns bytes h e short =
-    say_gives m of_sink (line_of n bytes) (scan_lines messages ns) (scan_lines messages (n ∷ ns)) h (λ told. Return (Ok tt)) (OneEnds m messages n ns) (line_some n bytes) (short_lines messages n ns bytes e short) (refl, refl, short_end messages n ns bytes e short)
-
-long_gives : (m : Mailbox) (p : Place) (messages : ℕ → Option (List ℕ)) (n l : ℕ) (ns : List ℕ) (h : Hand) → IsLong (messages n) LIMIT_BYTES l →
-    Gives by_mailbox m h (scan_lines messages (n ∷ ns)) (show p n (reading_of (answer.Long l))) (OneEnds m messages n ns)
-unfolding Gives
-long_gives m p messages n l ns h i =
-    let above : nat_lt LIMIT_BYTES (length i.bytes) ≡ true = rw i.size i.above in
-    (long_lines messages n ns i.bytes i.there above, ap (λ k. Refused (refusal.TooLarge k LIMIT_BYTES)) (sym i.size) ∙ sym (long_end messages n ns i.bytes i.there above))
-
-show_gives : (m : Mailbox) (p : Place) (messages : ℕ → Option (List ℕ)) (n : ℕ) (ns : List ℕ) (h : Hand) (a : Answer) → IsReadRow a → a ≢ answer.Failed → MessageShows (messages n) LIMIT_BYTES a →
-    Gives by_mailbox m h (scan_lines messages (n ∷ ns)) (show p n (reading_of a)) (OneEnds m messages n ns)
-unfolding Gives
-show_gives m p messages n ns h (answer.Content bytes) row live s = shown_gives m p messages n ns bytes h s.0 s.1
-show_gives m p messages n ns h (answer.Long l) row live s = long_gives m p messages n l ns h s
-show_gives m p messages n ns h answer.Gone row live s = tt
-show_gives m p messages n ns h answer.Failed row live s = absurd (live refl)
-show_gives m p messages n ns h answer.Done row live s = absurd row
-show_gives m p messages n ns h (answer.Names names) row live s = absurd row
-show_gives m p messages n ns h (answer.Piece b l) row live s = absurd row
-show_gives m p messages n ns h answer.Exists row live s = absurd row
-show_gives m p messages n ns h answer.Busy row live s = absurd row
-show_gives m p messages n ns h answer.Grown row live s = absurd row
-
 one_gives : (m : Mailbox) (p : Place) (f : Folder) (n : ℕ) (ns : List ℕ) (h : Hand) → m.folders p ≡ Some f → number_of (name_of n) ≡ Some n →
     Gives by_mailbox m h (scan_lines f.messages (n ∷ ns)) (show_one p n) (OneEnds m f.messages n ns)
-unfolding show_one
-one_gives m p f n ns h there named = read_gives m of_stop p f n LIMIT_BYTES h (scan_lines f.messages (n ∷ ns)) (show p n) (OneEnds m f.messages n ns) there named (λ a row live s. show_gives m p f.messages n ns h a row live s)
+unfolding Gives show_one
+one_gives m p f n ns h there named =
+    read_gives m of_stop p f n LIMIT_BYTES h (scan_lines f.messages (n ∷ ns)) (show p n) (OneEnds m f.messages n ns) there named
+    (λ bytes is short. say_gives m of_sink (line_of n bytes) (scan_lines f.messages ns) (scan_lines f.messages (n ∷ ns)) h (λ told. Return (Ok tt)) (OneEnds m f.messages n ns) (line_some n bytes) (short_lines f.messages n ns bytes is short) (refl, refl, short_end f.messages n ns bytes is short))
+    (λ l is. long l is)
+    tt
+  where
+    long : (l : ℕ) → IsLong (f.messages n) LIMIT_BYTES l → (scan_lines f.messages (n ∷ ns) ≡ []) × (Refused (refusal.TooLarge l LIMIT_BYTES) ≡ scan_end f.messages (n ∷ ns))
+    long l i =
+        let above : nat_lt LIMIT_BYTES (length i.bytes) ≡ true = rw i.size i.above in
+        (long_lines f.messages n ns i.bytes i.there above, ap (λ k. Refused (refusal.TooLarge k LIMIT_BYTES)) (sym i.size) ∙ sym (long_end f.messages n ns i.bytes i.there above))
 
 all_gives : (m : Mailbox) (p : Place) (f : Folder) (names : List (List ℕ)) (ns : List ℕ) (h : Hand) → m.folders p ≡ Some f → AreListed names ns →
     Gives by_mailbox m h (scan_lines f.messages ns) (show_all p ns) (Ends (scan_end f.messages ns))
@@ -125,31 +103,20 @@ names_give : (m : Mailbox) (name : List ℕ) (p : Place) (names : List (List ℕ
 names_give m name p names h l =
     rw (l.there, folder_numbers l.folder names l.all) (some_gives m p l.folder names (numbers_in names) h l.there (all_listed names))
 
-gone_gives : (m : Mailbox) (name : List ℕ) (p : Place) (h : Hand) → m.folders p ≡ None →
-    Gives by_mailbox m h (folder_lines (m.folders p)) (show_listed name p (listing_of answer.Gone)) (Ends (folder_end name (m.folders p)))
-unfolding Gives
-gone_gives m name p h none = rw none (refl, refl)
-
-listed_gives : (m : Mailbox) (name : List ℕ) (p : Place) (h : Hand) (a : Answer) → IsNamesRow a → a ≢ answer.Failed → ListShows (m.folders p) a →
-    Gives by_mailbox m h (folder_lines (m.folders p)) (show_listed name p (listing_of a)) (Ends (folder_end name (m.folders p)))
-listed_gives m name p h (answer.Names names) row live s = names_give m name p names h s
-listed_gives m name p h answer.Gone row live s = gone_gives m name p h s
-listed_gives m name p h answer.Failed row live s = absurd (live refl)
-listed_gives m name p h answer.Done row live s = absurd row
-listed_gives m name p h (answer.Content b) row live s = absurd row
-listed_gives m name p h (answer.Piece b l) row live s = absurd row
-listed_gives m name p h (answer.Long l) row live s = absurd row
-listed_gives m name p h answer.Exists row live s = absurd row
-listed_gives m name p h answer.Busy row live s = absurd row
-listed_gives m name p h answer.Grown row live s = absurd row
+folder_gives : (m : Mailbox) (name : List ℕ) (h : Hand) → Gives by_mailbox m h (folder_lines (m.folders (place_of name))) (scan_folder name) (Ends (folder_end name (m.folders (place_of name))))
+unfolding Gives scan_folder
+folder_gives m name h =
+    list_gives m of_stop (place_of name) h (folder_lines (m.folders (place_of name))) (show_listed name (place_of name)) (Ends (folder_end name (m.folders (place_of name))))
+    (λ names l. names_give m name (place_of name) names h l)
+    (λ none. rw none (refl, refl))
 
 scan_gives : (m : Mailbox) (word : List ℕ) (h : Hand) → Gives by_mailbox m h (scan_output word m) (scan word) (Ends (scan_status word m))
-unfolding scan scan_folder Gives
+unfolding scan Gives
 scan_gives m word h = go (is_folder_name (without_plus word))
   where
     go : (b : Bool) → Gives by_mailbox m h (if b then folder_lines (m.folders (place_of (without_plus word))) else []) (if b then scan_folder (without_plus word) else Return (Err (fault.Refused (refusal.BadFolder word))))
         (Ends (if b then folder_end (without_plus word) (m.folders (place_of (without_plus word))) else Refused (refusal.BadFolder word)))
-    go true = list_gives m of_stop (place_of (without_plus word)) h (folder_lines (m.folders (place_of (without_plus word)))) (show_listed (without_plus word) (place_of (without_plus word))) (Ends (folder_end (without_plus word) (m.folders (place_of (without_plus word))))) (λ a row live s. listed_gives m (without_plus word) (place_of (without_plus word)) h a row live s)
+    go true = folder_gives m (without_plus word) h
     go false = (refl, refl)
 
 -- every command that there is
