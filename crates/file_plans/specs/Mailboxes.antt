@@ -23,10 +23,10 @@ pub record Mailbox : Type 0 where
   pub context : Place → Option (List ℕ)
   pub outside : FilePath → Option (List ℕ)
 
--- what the name of this kind leads to, where the number is one of a message
 abbrev pub is_message_number : ℕ → Bool
 is_message_number n = nat_le 1 n && nat_le n 999999
 
+-- a text, where the number is one that a message may have
 abbrev pub numbered : ℕ → Option (List ℕ) → Option (List ℕ)
 numbered n text = if is_message_number n then text else None
 

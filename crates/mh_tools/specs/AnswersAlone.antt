@@ -32,11 +32,13 @@ HasOutcomeAlone run words setting n o u e d status old new =
     let first = first_of (length old.history) added in
     (status ≡ NoMemory) ⊎ HasOutcome (outcome_of words (mailbox_at new first) setting n.left) (mailbox_at new (first + length added)) o u e d status
 
+-- the same, where a story is told
 abbrev pub AloneIfTold : ℕ → List (List ℕ) → SettingParts → SourceState → SinkState → SinkState → SinkState → SinkState → Status → Option Story → Option Story → Type 0
 AloneIfTold run words setting n o u e d status None None = Unit {0}
 AloneIfTold run words setting n o u e d status (Some old) (Some new) = HasOutcomeAlone run words setting n o u e d status old new
 AloneIfTold run words setting n o u e d status None (Some new) = ⊥
 AloneIfTold run words setting n o u e d status (Some old) None = ⊥
 
+-- a call that runs alone, and in which no count rose, has the outcome of its words and the mailbox, or wants memory
 abbrev pub AnswersAlone : ℕ → List (List ℕ) → SettingParts → FilesState → FilesState → SourceState → SourceState → SinkState → SinkState → SinkState → SinkState → Status → Type 0
 AnswersAlone run words setting f g n m o u e d status = IsUnfaulted f g n m o u → AloneIfTold run words setting n o u e d status f.story g.story

@@ -86,7 +86,7 @@ Yields (Locked p) = Unit {0}
 Yields (Meddled p name) = Unit {0}
 Yields NoMemory = Unit {0}
 
--- Where each answer comes from, by the answers to the call's own steps. Done and refusals come only where no step failed; a refusal just where every
+-- Where each answer comes from, by the answers to the call's own steps. Done and refusals come only where no step failed; a refusal only where every
 -- mailbox that agrees with the answers refuses so, and where what shows it was answered. A fault comes only where the count of that which failed rose:
 -- of the files where a step failed, of the output where there is a text to write; the input never fails, since no command that there is reads it.
 -- Meddled comes only where a listed name was gone when it was read. Nothing is locked. Want of memory alone is free.
