@@ -3,6 +3,7 @@ mod Clauses
 mod Numbers
 mod Once
 mod Texts
+mod Worked
 mod Showing
 mod Shown
 mod Sorted
