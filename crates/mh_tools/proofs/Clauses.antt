@@ -254,7 +254,7 @@ module _ (run : ℕ) (words : List (List ℕ)) (setting : SettingParts) (f g : F
   answers_by outcome w e d status m after is v agrees same told =
       let k = is_there outcome w v m agrees in
       let at : status ≡ verdict_of words m = is ∙ k.verdict in
-      record { ends = at; output = k.text; mailbox = same; error = λ never. subst (λ s. Adds e.told d.told (error_of words s)) at (error_told e d status (verdict_at status (status_of outcome) is v) told never) }
+      record { verdict = verdict_at status (status_of outcome) is v; ends = at; output = k.text; mailbox = same; error = λ never. subst (λ s. Adds e.told d.told (error_of words s)) at (error_told e d status (verdict_at status (status_of outcome) is v) told never) }
 
   -- a call that ran alone, without a fault
   alone_told : (outcome : Result Unit CommandFault) (w : Ran (exit_of command_cause outcome)) (m : SourceState) (e d : SinkState) (status : Status) → status ≡ status_of outcome → TellsStatus words e d status → IsUnfaulted f g n m o u →
@@ -280,7 +280,7 @@ module _ (run : ℕ) (words : List (List ℕ)) (setting : SettingParts) (f g : F
       by_outcome (Err fault.Memory) w status is told world fits agrees first after same kept_ = inl is
 
   pub answers_alone : (outcome : Result Unit CommandFault) (w : Ran (exit_of command_cause outcome)) (m : SourceState) (e d : SinkState) (status : Status) → (status ≡ status_of outcome) ⊎ (status ≡ NoMemory) → TellsStatus words e d status → AnswersAlone run words setting f g n m o u e d status
-  answers_alone outcome w m e d status ends told = λ unfaulted. by_story f.story g.story w.grows (acts_made run f.story g.story w.log w.grows) unfaulted ends
+  answers_alone outcome w m e d status ends told = record { answers = λ unfaulted. by_story f.story g.story w.grows (acts_made run f.story g.story w.log w.grows) unfaulted ends }
     where
       by_story : (old new : Option Story) → GrowsBy run old new (filed_in w.log) → AreMade run old new (steps (exit_of command_cause outcome) w) → IsUnfaulted f g n m o u → (status ≡ status_of outcome) ⊎ (status ≡ NoMemory) → AloneIfTold run words setting n o u e d status old new
       by_story None None grows made unfaulted end = tt

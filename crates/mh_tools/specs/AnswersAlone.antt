@@ -8,11 +8,13 @@ use Rattle.file_plans.specs.Alone.{first_of, mailbox_at}
 use Rattle.file_plans.specs.Mailboxes.{Mailbox}
 use Rattle.mh_tools.specs.Outcome.{Outcome, outcome_of}
 use Rattle.mh_tools.specs.Setting.{SettingParts}
+use Rattle.mh_tools.specs.TellsWhatItSaw.{IsVerdict}
 use Rattle.mh_tools.specs.declared.status.Status.{Status}
 use Rattle.mh_tools.specs.declared.status.Status.TheVariants.{NoMemory}
 
--- the call ended so, wrote this, and left this mailbox; the error text where the error output did not fail
+-- the call ended so, which is Done or a refusal, wrote this, and left this mailbox; the error text where the error output did not fail
 pub record HasOutcome (outcome : Outcome) (after : Mailbox) (o u e d : SinkState) (status : Status) : Type 0 where
+  pub verdict : IsVerdict status
   pub ends : status ≡ outcome.status
   pub output : Adds o.told u.told outcome.output
   pub mailbox : after ≡ outcome.mailbox
@@ -40,5 +42,5 @@ AloneIfTold run words setting n o u e d status None (Some new) = ⊥
 AloneIfTold run words setting n o u e d status (Some old) None = ⊥
 
 -- a call that runs alone, and in which no count rose, has the outcome of its words and the mailbox, or wants memory
-abbrev pub AnswersAlone : ℕ → List (List ℕ) → SettingParts → FilesState → FilesState → SourceState → SourceState → SinkState → SinkState → SinkState → SinkState → Status → Type 0
-AnswersAlone run words setting f g n m o u e d status = IsUnfaulted f g n m o u → AloneIfTold run words setting n o u e d status f.story g.story
+pub record AnswersAlone (run : ℕ) (words : List (List ℕ)) (setting : SettingParts) (f g : FilesState) (n m : SourceState) (o u e d : SinkState) (status : Status) : Type 0 where
+  pub answers : IsUnfaulted f g n m o u → AloneIfTold run words setting n o u e d status f.story g.story
