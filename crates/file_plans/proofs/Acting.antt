@@ -1,7 +1,6 @@
 -- A run's own steps, by what its plan did and by the story.
-use Rattle.std.proofs.Common.{◌≡◌, ◌≢◌, ◌==◌, ℕ, Bool, true, false, List, [], ◌∷◌, ◌++◌, Option, Some, None, map, refl, sym, ◌∙◌, ap, append_assoc, append-nil}
+use Rattle.std.proofs.Common.{◌≡◌, ◌==◌, ℕ, Bool, true, List, [], ◌∷◌, ◌++◌, Option, Some, None, map, refl, sym, ◌∙◌, ap, append_assoc, append-nil}
 use Rattle.std.specs.Prelude.{reverse, if◌then◌else◌}
-use Rattle.std.proofs.lemmas.Bool.Decides.{Decides-eqb}
 use Rattle.std.proofs.lemmas.List.{reverse-append}
 use Rattle.std.proofs.Math.Seq.{drop-append_seam}
 use Rattle.folder_files.specs.Deeds as deeds
@@ -16,6 +15,7 @@ use Rattle.folder_files.specs.declared.step.Answer.{Answer}
 use Rattle.file_plans.specs.Follows.{Turn, Filed, Spoke, Took, filed_in, deeds_in}
 use Rattle.file_plans.specs.Runs.{Deed, Did, Said, Heard}
 use Rattle.file_plans.specs.Sightings.{AreMade, events_since}
+use Rattle.file_plans.proofs.Rising.{num_same, num_not}
 
 -- the steps among deeds, the newest first, before these
 abbrev pub acts_over : List deeds.Deed → List Deed → List deeds.Deed
@@ -33,21 +33,11 @@ acts_append past (Did s x ∷ a) b = acts_append (did s x ∷ past) a b
 acts_append past (Said piece ∷ a) b = acts_append past a b
 acts_append past (Heard piece ∷ a) b = acts_append past a b
 
-num_other : (r run : ℕ) → r ≢ run → (r == run) ≡ false
-num_other r run never = go (r == run) refl
-  where
-    go : (b : Bool) → (r == run) ≡ b → b ≡ false
-    go false e = refl
-    go true e = absurd (never ((Decides-eqb r run).0 e))
-
-num_itself : (r : ℕ) → (r == r) ≡ true
-num_itself r = (Decides-eqb r r).1 refl
-
 deed_mine : (run : ℕ) (s : Step) (a : Answer) (b : Bool) → b ≡ true → (if b then did s a ∷ [] else []) ≡ did s a ∷ []
 deed_mine run s a b e = rw e refl
 
 deed_other : (run : ℕ) (e : Event) → IsOther run e → deed_of run e ≡ []
-deed_other run (Act r s a f) o = rw (num_other r run o) refl
+deed_other run (Act r s a f) o = rw (num_not r run o) refl
 deed_other run (Deliver path piece) o = refl
 deed_other run (Crash v) o = refl
 deed_other run (End r) o = refl
@@ -77,7 +67,7 @@ pub own_acts : (run : ℕ) (ts : List Turn) → AreOthers run (filed_in ts) → 
 unfolding own
 own_acts run [] o = refl
 own_acts run (Filed (Mine s a f) ∷ ts) o =
-    own_turned run (Act run s a f) (map (event_of run) (filed_in ts)) ∙ (ap (λ t. t ++ deed_of run (Act run s a f)) (own_acts run ts o) ∙ (ap (λ t. acts (deeds_in ts) ++ t) (deed_mine run s a (run == run) (num_itself run)) ∙ sym (over_split (did s a ∷ []) ts)))
+    own_turned run (Act run s a f) (map (event_of run) (filed_in ts)) ∙ (ap (λ t. t ++ deed_of run (Act run s a f)) (own_acts run ts o) ∙ (ap (λ t. acts (deeds_in ts) ++ t) (deed_mine run s a (run == run) (num_same run)) ∙ sym (over_split (did s a ∷ []) ts)))
 own_acts run (Filed (Theirs e) ∷ ts) o =
     own_turned run e (map (event_of run) (filed_in ts)) ∙ (ap (λ t. t ++ deed_of run e) (own_acts run ts o.1) ∙ (ap (λ t. acts (deeds_in ts) ++ t) (deed_other run e o.0) ∙ append-nil (acts (deeds_in ts))))
 own_acts run (Spoke piece ∷ ts) o = own_acts run ts o
@@ -95,7 +85,7 @@ acts_made run (Some old) None ts g = absurd g
 
 pub own_mine : (run : ℕ) (s : Step) (a : Answer) (m : After) (past : List Event) → own run (Act run s a m ∷ past) ≡ did s a ∷ own run past
 unfolding own
-own_mine run s a m past = rw (num_itself run) refl
+own_mine run s a m past = rw (num_same run) refl
 
 abbrev pub AllOther : ℕ → List Event → Type 0
 AllOther run [] = Unit {0}

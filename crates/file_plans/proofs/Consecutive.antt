@@ -10,10 +10,10 @@ use Rattle.folder_files.specs.declared.event.Event.{Event}
 use Rattle.folder_files.specs.declared.event.Event.TheVariants.{Act, Deliver, Crash, End}
 use Rattle.folder_files.specs.declared.world.World.{World}
 use Rattle.file_plans.specs.Alone.{world_at, first_of}
-use Rattle.file_plans.specs.Sightings.{events_since, Made}
+use Rattle.file_plans.specs.Sightings.{events_since, Made, IsFailed}
 use Rattle.file_plans.proofs.Acting.{own_append, own_others, AllOther, since_is}
 use Rattle.file_plans.proofs.Finding.{Looks}
-use Rattle.file_plans.proofs.Lone.{AreActs, AreGlances, glances_fit, legal_tail, looks_glance, IsFailed}
+use Rattle.file_plans.proofs.Lone.{AreActs, AreGlances, glances_fit, legal_tail, looks_glance}
 use Rattle.file_plans.proofs.Standing.{AllFit}
 
 abbrev AllMine : List Moment → Type 0
@@ -107,17 +107,17 @@ others_all : (run : ℕ) (es : List Event) → AreOthers run (map Theirs es) →
 others_all run [] o = tt
 others_all run (e ∷ es) o = (o.0, others_all run es o.1)
 
-acts_append : (run : ℕ) (a b : List Event) → AreActs run a → AreActs run b → AreActs run (a ++ b)
-acts_append run [] b f g = g
-acts_append run (Act r s x m ∷ a) b f g = (f.0, acts_append run a b f.1 g)
-acts_append run (Deliver path piece ∷ a) b f g = absurd f
-acts_append run (Crash v ∷ a) b f g = absurd f
-acts_append run (End r ∷ a) b f g = absurd f
+both_acts : (run : ℕ) (a b : List Event) → AreActs run a → AreActs run b → AreActs run (a ++ b)
+both_acts run [] b f g = g
+both_acts run (Act r s x m ∷ a) b f g = (f.0, both_acts run a b f.1 g)
+both_acts run (Deliver path piece ∷ a) b f g = absurd f
+both_acts run (Crash v ∷ a) b f g = absurd f
+both_acts run (End r ∷ a) b f g = absurd f
 
 mine_acts : (run : ℕ) (ms : List Moment) → AllMine ms → AreActs run (reverse (map (event_of run) ms))
 mine_acts run [] all = tt
 mine_acts run (Mine s a f ∷ ms) all =
-    rw (reverse-append (Act run s a f ∷ []) (map (event_of run) ms)) (acts_append run (reverse (map (event_of run) ms)) (Act run s a f ∷ []) (mine_acts run ms all) (refl, tt))
+    rw (reverse-append (Act run s a f ∷ []) (map (event_of run) ms)) (both_acts run (reverse (map (event_of run) ms)) (Act run s a f ∷ []) (mine_acts run ms all) (refl, tt))
 mine_acts run (Theirs e ∷ ms) all = absurd all
 
 -- what a call beside which nothing happened was answered, and that it left its world as it was

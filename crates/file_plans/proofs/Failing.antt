@@ -9,11 +9,11 @@ use Rattle.folder_files.specs.Story.{Story, Moment, Mine, Theirs, Grows, IsPossi
 use Rattle.file_plans.specs.Follows.{Turn, Filed, Spoke, Took, said_in, deeds_in}
 use Rattle.file_plans.specs.Plan.{Hand, Plan, Return, Ask, Try, Say, Hear, Recall, Note}
 use Rattle.file_plans.specs.Runs.{Exit, Returned, FilesFailed, InFailed, OutFailed, NoMemory, Deed, Did, Said, Heard, Runs, AnyFailed}
-use Rattle.file_plans.specs.Sightings.{Made, events_since}
+use Rattle.file_plans.specs.Sightings.{Made, events_since, IsFailed}
 use Rattle.file_plans.specs.Text.{said_of}
 use Rattle.file_plans.proofs.Acting.{acts, acts_over, own_append, since_is}
 use Rattle.file_plans.proofs.Finding.{AllSound, legal_sound, sound_front}
-use Rattle.file_plans.proofs.Lone.{IsFailed}
+use Rattle.file_plans.proofs.Giving.{Same}
 
 pub said_are : (ts : List Turn) → said_in ts ≡ said_of (deeds_in ts)
 said_are [] = refl
@@ -51,9 +51,6 @@ made_over past (Heard piece ∷ ds) m = made_over past ds m
 
 pub made_failed : (ds : List Deed) → Made IsFailed (acts ds) → AnyFailed ds
 made_failed ds m = elim (made_over [] ds m) [ inl n ↦ absurd n | inr f ↦ f ]
-
-abbrev Same : {R : Type 0} → Exit R → Exit R → Type 0
-Same x y = x ≡ y
 
 memory : {R : Type 0} (exit : Exit R) → exit ≡ NoMemory → exit ≡ FilesFailed → ⊥
 memory {R = R} exit e q = let both : Same {R = R} NoMemory FilesFailed = sym e ∙ q in cc

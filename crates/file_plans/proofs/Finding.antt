@@ -23,6 +23,7 @@ use Rattle.folder_files.specs.declared.step.Answer.TheVariants.{Done, Names, Con
 use Rattle.folder_files.specs.declared.world.World.{World}
 use Rattle.file_plans.specs.Mailboxes.{Folder, Mailbox}
 use Rattle.file_plans.specs.Sightings.{Lists, MessageShows, ReadShows, Agrees, has_number}
+use Rattle.file_plans.proofs.Rising.{num_same, num_not}
 
 -- the messages of a listed folder are read, each at most once and ascending, so far below this number
 pub data Reads (p : Place) (names : List (List ℕ)) : ℕ → List deeds.Deed → Type 0 where
@@ -132,16 +133,6 @@ answer_shows run p x limit Failed o s is = tt
 read_shows : (run : ℕ) (p : Place) (x : List ℕ) (n limit : ℕ) (a : Answer) (folder : Folder) → IsSound run (did (step.Read p x limit) a) → number_of x ≡ Some n → folder.messages n ≡ Some (answering a) → ReadShows (Some folder) (number_of x) limit a
 read_shows run p x n limit a folder s is there = rw is (answer_shows run p x limit a (folder.messages n) s there)
 
-itself : (n : ℕ) → (n == n) ≡ true
-itself n = (Decides-eqb n n).1 refl
-
-not_same : (k n : ℕ) → k < n → (k == n) ≡ false
-not_same k n lt = go (k == n) refl
-  where
-    go : (v : Bool) → (k == n) ≡ v → v ≡ false
-    go false e = refl
-    go true e = absurd (let same = (Decides-eqb k n).0 e in omega (arith, same))
-
 -- texts of messages, whatever those from hi on are
 pub record Found (names : List (List ℕ)) (hi : ℕ) (ds : List deeds.Deed) : Type 0 where
   pub texts : ℕ → List ℕ
@@ -154,8 +145,8 @@ find_reads run p names hi _ (read n x limit a {ds = ds} is has lt r) s =
     record {
       texts = λ k. if k == n then answering a else f.texts k;
       agrees = λ u same. (
-        read_shows run p x n limit a (imagined_folder names u) s.0 is (rw has (ap Some (same n lt ∙ rw (itself n) refl))),
-        f.agrees u (λ k below. same k (omega (arith, below, lt)) ∙ rw (not_same k n below) refl),
+        read_shows run p x n limit a (imagined_folder names u) s.0 is (rw has (ap Some (same n lt ∙ rw (num_same n) refl))),
+        f.agrees u (λ k below. same k (omega (arith, below, lt)) ∙ rw (num_not k n (λ e. omega (arith, below, e))) refl),
       );
     }
 

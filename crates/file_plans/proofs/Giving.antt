@@ -9,6 +9,7 @@ use Rattle.file_plans.specs.Giving.{Table, Gives, FitAll, Gave}
 use Rattle.file_plans.specs.Mailboxes.{Mailbox}
 use Rattle.file_plans.specs.Sightings.{Shows, Agrees}
 use Rattle.file_plans.proofs.Acting.{acts, acts_over}
+use Rattle.file_plans.proofs.Telling.{memory_no, files_no, in_no, out_no}
 use Rattle.file_plans.specs.Plan.{Hand, Plan, Return, Ask, Try, Say, Hear, Recall, Note, bind, after, ◌>>=◌, converted, lifted}
 use Rattle.file_plans.specs.Runs.{Exit, Returned, FilesFailed, InFailed, OutFailed, NoMemory, Deed, Did, Said, Heard, Runs}
 use Rattle.file_plans.specs.Text.{said_of}
@@ -36,19 +37,7 @@ gives_then {S = S} {A = A} {E = E} t s h text from p k P Q f g =
     returned : (z : S) (j : Hand) (left : List ℕ) (r : Result A E) → P z j left r → Gives t z j left (Return (converted from r)) (λ z j left q. Gives t z j left (after k q) Q)
     returned z j left r q = g z j left r q
 
-no_memory : {R : Type 0} (r : R) → NoMemory ≡ Returned r → ⊥
-no_memory r e = cc
-
-no_files : {R : Type 0} (r : R) → FilesFailed ≡ Returned r → ⊥
-no_files r e = cc
-
-no_in : {R : Type 0} (r : R) → InFailed ≡ Returned r → ⊥
-no_in r e = cc
-
-no_out : {R : Type 0} (r : R) → OutFailed ≡ Returned r → ⊥
-no_out r e = cc
-
-abbrev Same : {R : Type 0} → Exit R → Exit R → Type 0
+abbrev pub Same : {R : Type 0} → Exit R → Exit R → Type 0
 Same x y = x ≡ y
 
 memory_out : {R : Type 0} → Same {R = R} NoMemory OutFailed → ⊥
@@ -68,11 +57,11 @@ stopped : {S R : Type 0} (z : S) (k : Hand) (text : List ℕ) (exit e : Exit R) 
 stopped z k text exit e Q is never out = record { left = text; prefix = refl; returned = λ r q. absurd (never r (sym is ∙ q)); cut = λ q. absurd (out (sym is ∙ q)) }
 
 heard_stop : {S R : Type 0} (z : S) (k : Hand) (text : List ℕ) (exit : Exit R) (Q : S → Hand → List ℕ → R → Type 0) → (exit ≡ InFailed) ⊎ (exit ≡ NoMemory) → Gave z k text [] exit Q
-heard_stop z k text exit Q (inl e) = stopped z k text exit InFailed Q e no_in in_out
-heard_stop z k text exit Q (inr e) = stopped z k text exit NoMemory Q e no_memory memory_out
+heard_stop z k text exit Q (inl e) = stopped z k text exit InFailed Q e in_no in_out
+heard_stop z k text exit Q (inr e) = stopped z k text exit NoMemory Q e memory_no memory_out
 
 at_return : {S R : Type 0} (s z : S) (h k : Hand) (text : List ℕ) (r : R) (exit : Exit R) (Q : S → Hand → List ℕ → R → Type 0) → z ≡ s → k ≡ h → (exit ≡ Returned r) ⊎ (exit ≡ NoMemory) → Q s h text r → Gave z k text [] exit Q
-at_return s z h k text r exit Q same hand (inr e) q = stopped z k text exit NoMemory Q e no_memory memory_out
+at_return s z h k text r exit Q same hand (inr e) q = stopped z k text exit NoMemory Q e memory_no memory_out
 at_return {R = R} s z h k text r exit Q same hand (inl e) q =
     record { left = text; prefix = refl; returned = λ u f. given u (sym e ∙ f); cut = λ f. absurd (returned_out r (sym e ∙ f)) }
   where
@@ -96,7 +85,7 @@ not_empty (b ∷ piece) rest text some is none = let both : b ∷ (piece ++ rest
 -- a part of a piece was put
 in_part : {S R : Type 0} (z : S) (k : Hand) (text piece part tail rest said : List ℕ) (exit : Exit R) (Q : S → Hand → List ℕ → R → Type 0) → said ≡ [] → part ++ tail ≡ piece → text ≡ piece ++ rest → (piece ≡ [] → ⊥) → exit ≡ OutFailed → Gave z k text (part ++ said) exit Q
 in_part z k text piece part tail rest said exit Q none is whole some e =
-    record { left = tail ++ rest; prefix = rw (none, append-nil, ← append_assoc, is) (sym whole); returned = λ r f. absurd (no_out r (sym e ∙ f)); cut = λ f. not_empty piece rest text some whole }
+    record { left = tail ++ rest; prefix = rw (none, append-nil, ← append_assoc, is) (sym whole); returned = λ r f. absurd (out_no r (sym e ∙ f)); cut = λ f. not_empty piece rest text some whole }
 
 -- a piece, and then the rest
 in_whole : {S R : Type 0} (z : S) (k : Hand) (text piece part rest said : List ℕ) (exit : Exit R) (Q : S → Hand → List ℕ → R → Type 0) → part ≡ piece → text ≡ piece ++ rest → (piece ≡ [] → ⊥) → Gave z k rest said exit Q → Gave z k text (part ++ said) exit Q
@@ -109,18 +98,18 @@ pub run_gives : {S R : Type 0} (t : Table S) (s z : S) (h k : Hand) (text : List
 unfolding Gives Runs
 run_gives t s z h k text (Return r) [] exit Q g fit f = at_return s z h k text r exit Q fit f.0 f.1 g
 run_gives t s z h k text (Return r) (d ∷ ds) exit Q g fit f = absurd f
-run_gives t s z h k text (Ask step next) [] exit Q g fit f = stopped z k text exit NoMemory Q f.1 no_memory memory_out
-run_gives t s z h k text (Ask step next) (Did made a ∷ ds) exit Q g fit (is, row, inl e) = rw e.1 (stopped z k text exit FilesFailed Q e.3 no_files files_out)
+run_gives t s z h k text (Ask step next) [] exit Q g fit f = stopped z k text exit NoMemory Q f.1 memory_no memory_out
+run_gives t s z h k text (Ask step next) (Did made a ∷ ds) exit Q g fit (is, row, inl e) = rw e.1 (stopped z k text exit FilesFailed Q e.3 files_no files_out)
 run_gives t s z h k text (Ask step next) (Did made a ∷ ds) exit Q g fit (is, row, inr (live, f)) =
     run_gives t (t.after s step a) z h k text (next a) ds exit Q (g a (step_row made step a is row) live (step_fits t s a step made is (fit.0 live))) (state_after t s z a step made ds is fit.1) f
 run_gives t s z h k text (Ask step next) (Said piece ∷ ds) exit Q g fit f = absurd f
 run_gives t s z h k text (Ask step next) (Heard piece ∷ ds) exit Q g fit f = absurd f
-run_gives t s z h k text (Try step next) [] exit Q g fit f = stopped z k text exit NoMemory Q f.1 no_memory memory_out
+run_gives t s z h k text (Try step next) [] exit Q g fit f = stopped z k text exit NoMemory Q f.1 memory_no memory_out
 run_gives t s z h k text (Try step next) (Did made a ∷ ds) exit Q g fit (is, row, f) =
     run_gives t (t.after s step a) z h k text (next a) ds exit Q (g a (step_row made step a is row) (λ live. step_fits t s a step made is (fit.0 live))) (state_after t s z a step made ds is fit.1) f
 run_gives t s z h k text (Try step next) (Said piece ∷ ds) exit Q g fit f = absurd f
 run_gives t s z h k text (Try step next) (Heard piece ∷ ds) exit Q g fit f = absurd f
-run_gives t s z h k text (Say piece next) [] exit Q g fit f = stopped z k text exit NoMemory Q f.1 no_memory memory_out
+run_gives t s z h k text (Say piece next) [] exit Q g fit f = stopped z k text exit NoMemory Q f.1 memory_no memory_out
 run_gives t s z h k text (Say piece next) (Did made a ∷ ds) exit Q g fit f = absurd f
 run_gives t s z h k text (Say piece next) (Said part ∷ ds) exit Q g fit (inl e) = in_part z k text piece part e.0.0 g.1.0 (said_of ds) exit Q (ap said_of e.1) e.0.1 g.1.1 g.0 e.3
 run_gives t s z h k text (Say piece next) (Said part ∷ ds) exit Q g fit (inr (is, f)) =
@@ -131,7 +120,7 @@ run_gives t s z h k text (Hear most next) (Did made a ∷ ds) exit Q g fit f = a
 run_gives t s z h k text (Hear most next) (Said part ∷ ds) exit Q g fit f = absurd f
 run_gives t s z h k text (Hear most next) (Heard piece ∷ ds) exit Q g fit (short, f) = run_gives t s z h k text (next piece) ds exit Q (g piece short) fit f
 run_gives t s z h k text (Recall next) ds exit Q g fit f = run_gives t s z h k text (next h) ds exit Q g fit f
-run_gives t s z h k text (Note hand next) ds exit Q g fit (inl e) = rw e.0 (stopped z k text exit NoMemory Q e.2 no_memory memory_out)
+run_gives t s z h k text (Note hand next) ds exit Q g fit (inl e) = rw e.0 (stopped z k text exit NoMemory Q e.2 memory_no memory_out)
 run_gives t s z h k text (Note hand next) ds exit Q g fit (inr f) = run_gives t s z hand k text next ds exit Q g fit f
 
 -- the answers that one mailbox shows

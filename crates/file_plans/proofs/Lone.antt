@@ -15,7 +15,7 @@ use Rattle.folder_files.specs.declared.step.Step.TheVariants as step
 use Rattle.folder_files.specs.declared.step.Answer.{Answer}
 use Rattle.folder_files.specs.declared.step.Answer.TheVariants.{Done, Names, Content, Piece, Long, Gone, Exists, Busy, Grown, Failed}
 use Rattle.folder_files.specs.declared.world.World.{World}
-use Rattle.file_plans.specs.Sightings.{Made}
+use Rattle.file_plans.specs.Sightings.{Made, IsFailed}
 use Rattle.file_plans.proofs.Acting.{own_mine}
 use Rattle.file_plans.proofs.Finding.{Reads, listed, read, Looks, nothing, asked, reads}
 use Rattle.file_plans.proofs.Standing.{AllFit}
@@ -40,9 +40,6 @@ IsGlance (step.CutDrop f length_) = ⊥
 abbrev pub AreGlances : List deeds.Deed → Type 0
 AreGlances [] = Unit {0}
 AreGlances (d ∷ ds) = IsGlance d.step × (d.answer ≢ Failed) × AreGlances ds
-
-abbrev pub IsFailed : Step → Answer → Type 0
-IsFailed s a = a ≡ Failed
 
 reads_glance : (p : Place) (names : List (List ℕ)) (hi : ℕ) (ds : List deeds.Deed) → Reads p names hi ds → (Made IsFailed ds → ⊥) → AreGlances ds
 reads_glance p names hi _ listed never = (tt, (λ e. never (inl e)), tt)

@@ -19,7 +19,7 @@ use Rattle.file_plans.specs.Mailboxes.{Folder, Mailbox}
 use Rattle.file_plans.specs.Plan.{Plan, Hand, bind, ◌>>=◌, lifted, say, ask}
 use Rattle.file_plans.specs.Rules.{Rules, Keeps}
 use Rattle.file_plans.specs.Runs.{Deed, Did, Said}
-use Rattle.file_plans.specs.Sightings.{Made, has_number, ListShows, Lists, IsLong, ReadShows, MessageShows}
+use Rattle.file_plans.specs.Sightings.{Made, has_number, ListShows, Lists, IsLong, ReadShows, MessageShows, IsFailed}
 use Rattle.file_plans.specs.declared.answers.Listing.{Listing}
 use Rattle.file_plans.specs.declared.answers.Listing.TheVariants as listing
 use Rattle.file_plans.specs.declared.answers.Reading.{Reading}
@@ -28,7 +28,6 @@ use Rattle.file_plans.specs.declared.asking.Stop.{Stop}
 use Rattle.file_plans.proofs.Acting.{acts, acts_append}
 use Rattle.file_plans.proofs.Finding.{Reads, listed, read as next_read, Looks, nothing, asked, reads}
 use Rattle.file_plans.proofs.Giving.{by_mailbox}
-use Rattle.file_plans.proofs.Lone.{IsFailed}
 
 -- the rule: each step looks; so far a folder was listed at most once, and then each of its messages was read at most once; and the call reads no input
 abbrev pub once : Rules

@@ -19,6 +19,7 @@ use Rattle.folder_files.specs.declared.step.Answer.TheVariants.{Done, Names, Con
 use Rattle.file_plans.specs.Mailboxes.{mailbox_of, folder_in, as_folder, is_message_number}
 use Rattle.file_plans.specs.Sightings.{Lists, ListShows, MessageShows, ReadShows, Agrees, Made, has_number, is_this}
 use Rattle.file_plans.proofs.Finding.{Reads, listed, read, Looks, nothing, asked, reads}
+use Rattle.file_plans.proofs.Rising.{true_not}
 
 -- each answer is one that the step has in this world
 abbrev pub AllFit : WorldMap → ℕ → List deeds.Deed → Type 0
@@ -54,9 +55,6 @@ number_back n ok =
     let high : nat_lt n 1000000 ≡ true = (Decides-ltb n 1000000).1 b.1 in
     rw some (rw (low, high) refl)
 
-true_not : true ≡ false → ⊥
-true_not e = cc
-
 -- a name is the number's just where it is its decimal
 is_this_text : (n : ℕ) (x : List ℕ) → is_this n (number_of x) ≡ is_message_number n && bytes_eq x (decimal n)
 is_this_text n x = go (number_of x) refl
@@ -89,9 +87,9 @@ is_this_text n x = go (number_of x) refl
     go None e = other (is_message_number n) (bytes_eq x (decimal n)) refl refl e
     go (Some k) e = this k (k == n) (is_message_number n) (bytes_eq x (decimal n)) refl refl refl e
 
-or_and : (b x y z : Bool) → (b && x) || (b && y) ≡ b && (x || y)
-or_and true x y z = refl
-or_and false x y z = refl
+or_and : (b x y : Bool) → (b && x) || (b && y) ≡ b && (x || y)
+or_and true x y = refl
+or_and false x y = refl
 
 pub has_number_text : (n : ℕ) (names : List (List ℕ)) → has_number n names ≡ is_message_number n && has_text (decimal n) names
 has_number_text n [] = go (is_message_number n)
@@ -99,7 +97,7 @@ has_number_text n [] = go (is_message_number n)
     go : (b : Bool) → false ≡ b && false
     go true = refl
     go false = refl
-has_number_text n (x ∷ names) = rw (is_this_text n x, has_number_text n names) (or_and (is_message_number n) (bytes_eq x (decimal n)) (has_text (decimal n) names) true)
+has_number_text n (x ∷ names) = rw (is_this_text n x, has_number_text n names) (or_and (is_message_number n) (bytes_eq x (decimal n)) (has_text (decimal n) names))
 
 numbered_there : {A : Type 0} (b : Bool) (g : A → List ℕ) (o : Option A) → is_some (if b then option_map g o else None) ≡ b && is_some o
 numbered_there true g None = refl

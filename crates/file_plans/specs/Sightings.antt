@@ -100,6 +100,9 @@ abbrev pub Agrees : Mailbox → List Deed → Type 0
 Agrees m [] = Unit {0}
 Agrees m (d ∷ ds) = Shows m d.step d.answer × Agrees m ds
 
+abbrev pub IsFailed : Step → Answer → Type 0
+IsFailed s a = a ≡ Failed
+
 -- such a step was made, with such an answer
 abbrev pub Made : (Step → Answer → Type 0) → List Deed → Type 0
 Made P [] = ⊥

@@ -23,7 +23,7 @@ use Rattle.file_plans.specs.Mailboxes.{Mailbox, mailbox_of}
 use Rattle.file_plans.specs.Plan.{fresh}
 use Rattle.file_plans.specs.Rules.{Kept}
 use Rattle.file_plans.specs.Runs.{Exit, Returned, FilesFailed, InFailed, OutFailed, exit_of}
-use Rattle.file_plans.specs.Sightings.{AreMade, Agrees, Made, events_since}
+use Rattle.file_plans.specs.Sightings.{AreMade, Agrees, Made, events_since, IsFailed}
 use Rattle.file_plans.specs.StaysCareful.{StaysCareful}
 use Rattle.file_plans.specs.Text.{said_of}
 use Rattle.file_plans.proofs.Acting.{acts, acts_made}
@@ -36,7 +36,7 @@ use Rattle.file_plans.proofs.Standing.{AllFit, world_agrees, made_fits, listed_n
 use Rattle.mh_tools.specs.AnswersAlone.{HasOutcome, IsUnfaulted, HasOutcomeAlone, AloneIfTold, AnswersAlone}
 use Rattle.mh_tools.specs.Command.{command}
 use Rattle.mh_tools.specs.Faults.{command_cause}
-use Rattle.mh_tools.specs.IsCaused.{IsCaused, IsListing, IsMeddled, IsFailed, IsDecided, ShowsRefusal, Yields}
+use Rattle.mh_tools.specs.IsCaused.{IsCaused, IsListing, IsMeddled, IsDecided, ShowsRefusal}
 use Rattle.mh_tools.specs.Outcome.{outcome_of, output_of, verdict_of, error_of}
 use Rattle.mh_tools.specs.Setting.{SettingParts}
 use Rattle.mh_tools.specs.Status.{status_of}
@@ -182,13 +182,13 @@ module _ (run : ℕ) (words : List (List ℕ)) (setting : SettingParts) (f g : F
       }
 
   -- a refusal that all mailboxes give is answered
-  decided : (deeds : List deeds.Deed) (status : Status) (m : Mailbox) → Agrees m deeds → (IsVerdict status → status ≡ (outcome_of words m setting n.left).status) → (r : Refusal) → IsDecided words setting n.left deeds r → (status ≡ Refused r) ⊎ Yields status
+  decided : (deeds : List deeds.Deed) (status : Status) (m : Mailbox) → Agrees m deeds → (IsVerdict status → status ≡ (outcome_of words m setting n.left).status) → (r : Refusal) → IsDecided words setting n.left deeds r → (status ≡ Refused r) ⊎ (IsVerdict status → ⊥)
   decided deeds Done m agrees same r all = absurd (let e : Done ≡ Refused r = same tt ∙ all m agrees in cc)
   decided deeds (Refused q) m agrees same r all = inl (same tt ∙ all m agrees)
-  decided deeds (Faulted which) m agrees same r all = inr tt
-  decided deeds (Locked p) m agrees same r all = inr tt
-  decided deeds (Meddled p x) m agrees same r all = inr tt
-  decided deeds NoMemory m agrees same r all = inr tt
+  decided deeds (Faulted which) m agrees same r all = inr (λ v. v)
+  decided deeds (Locked p) m agrees same r all = inr (λ v. v)
+  decided deeds (Meddled p x) m agrees same r all = inr (λ v. v)
+  decided deeds NoMemory m agrees same r all = inr (λ v. v)
 
   decides : (status : Status) (exit : Exit (Result Unit CommandFault)) (w : Ran exit) → ((m : Mailbox) → Agrees m (steps exit w) → IsVerdict status → status ≡ (outcome_of words m setting n.left).status) →
       (old new : Option Story) → GrowsBy run old new (filed_in w.log) → AreMade run old new (steps exit w) → DecidesIfTold words setting n.left old (steps exit w) status

@@ -11,7 +11,7 @@ use Rattle.mh_base.specs.Entries.{entry_text}
 use Rattle.mh_base.specs.declared.entry.Entry.TheVariants.{Number}
 use Rattle.file_plans.specs.Mailboxes.{Folder, numbers_of, is_message_number}
 use Rattle.file_plans.specs.Sightings.{has_number}
-use Rattle.file_plans.proofs.Rising.{Rises, AreBelow, has, numbers_are, num_same}
+use Rattle.file_plans.proofs.Rising.{Rises, AreBelow, has, numbers_are, num_same, true_not}
 use Rattle.file_plans.proofs.Standing.{number_is, number_below, number_back}
 use Rattle.mh_tools.specs.Scan.{with_number, numbers_with, numbers_in}
 
@@ -51,16 +51,10 @@ inserted lo hi k (x ∷ ks) le lt r b = go (nat_lt k x) (k == x) refl refl (λ a
         rw (← nat_cmp_is k x Greater not_same) (record { rises = (r.0, rest.rises); below = (b.0, rest.below); has_it = λ n. rw (rest.has_it n) (or_left (x == n) (k == n) (has n ks)) })
       where
         le_of : nat_lt k x ≡ false → x ≤ k
-        le_of e = omega (arith, λ (lt_ : k < x). let yes_ : nat_lt k x ≡ true = (Decides-ltb k x).1 lt_ in bad (sym yes_ ∙ e))
-          where
-            bad : true ≡ false → ⊥
-            bad e = cc
+        le_of e = omega (arith, λ (lt_ : k < x). let yes_ : nat_lt k x ≡ true = (Decides-ltb k x).1 lt_ in true_not (sym yes_ ∙ e))
 
         lt_of : x ≤ k → x < k
-        lt_of le_ = omega (arith, le_, λ (e : k ≡ x). let yes_ : (k == x) ≡ true = (Decides-eqb k x).1 e in bad (sym yes_ ∙ q))
-          where
-            bad : true ≡ false → ⊥
-            bad e = cc
+        lt_of le_ = omega (arith, le_, λ (e : k ≡ x). let yes_ : (k == x) ≡ true = (Decides-eqb k x).1 e in true_not (sym yes_ ∙ q))
 
 -- the numbers among the names beside some
 pub record Collected (ks : List ℕ) (names : List (List ℕ)) (all : List ℕ) : Type 0 where

@@ -14,12 +14,12 @@ use Rattle.folder_files.specs.declared.step.Answer.TheVariants as answer
 use Rattle.folder_files.specs.declared.step.Step.{Step}
 use Rattle.folder_files.specs.declared.step.Step.TheVariants as step
 use Rattle.file_plans.specs.Mailboxes.{Mailbox}
-use Rattle.file_plans.specs.Sightings.{AreMade, Agrees, Made, has_number}
+use Rattle.file_plans.specs.Sightings.{AreMade, Agrees, Made, has_number, IsFailed}
 use Rattle.mh_tools.specs.Outcome.{outcome_of}
 use Rattle.mh_tools.specs.Scan.{place_of}
 use Rattle.mh_tools.specs.Setting.{SettingParts}
 use Rattle.mh_tools.specs.declared.status.Status.{Status}
-use Rattle.mh_tools.specs.declared.status.Status.TheVariants.{Done, Refused, Faulted, Locked, Meddled, NoMemory}
+use Rattle.mh_tools.specs.declared.status.Status.TheVariants.{Done, Refused, Faulted, Locked, Meddled}
 
 -- the folder was listed with this name among the message numbers
 abbrev pub IsListing : Place → List ℕ → Step → Answer → Type 0
@@ -70,21 +70,9 @@ ShowsRefusal refusal.DropGrown deeds = ⊥
 ShowsRefusal (refusal.NoFile path) deeds = ⊥
 ShowsRefusal refusal.DropChanged deeds = ⊥
 
-abbrev pub IsFailed : Step → Answer → Type 0
-IsFailed s a = a ≡ answer.Failed
-
 -- every mailbox that agrees with what was answered refuses so
 abbrev pub IsDecided : List (List ℕ) → SettingParts → Option (List ℕ) → List Deed → Refusal → Type 0
 IsDecided words setting input deeds r = (m : Mailbox) → Agrees m deeds → (outcome_of words m setting input).status ≡ Refused r
-
--- answers to which a refusal yields
-abbrev pub Yields : Status → Type 0
-Yields Done = ⊥
-Yields (Refused r) = ⊥
-Yields (Faulted w) = Unit {0}
-Yields (Locked p) = Unit {0}
-Yields (Meddled p name) = Unit {0}
-Yields NoMemory = Unit {0}
 
 -- Where each answer comes from, by the answers to the call's own steps. Done and refusals come only where no step failed; a refusal only where every
 -- mailbox that agrees with the answers refuses so, and where what shows it was answered. A fault comes only where the count of that which failed rose:

@@ -6,7 +6,7 @@ use Rattle.folder_files.specs.Story.{Story, FilesState, IsPossible}
 use Rattle.folder_files.specs.declared.refusal.Refusal.{Refusal}
 use Rattle.file_plans.specs.Mailboxes.{Mailbox}
 use Rattle.file_plans.specs.Sightings.{AreMade, Agrees}
-use Rattle.mh_tools.specs.IsCaused.{IsDecided, Yields}
+use Rattle.mh_tools.specs.IsCaused.{IsDecided}
 use Rattle.mh_tools.specs.Outcome.{outcome_of}
 use Rattle.mh_tools.specs.Setting.{SettingParts}
 use Rattle.mh_tools.specs.declared.status.Status.{Status}
@@ -21,11 +21,11 @@ IsVerdict (Locked p) = ⊥
 IsVerdict (Meddled p name) = ⊥
 IsVerdict NoMemory = ⊥
 
--- there is a mailbox that agrees, and a refusal that all such mailboxes give is answered, but for the statuses to which it yields
+-- there is a mailbox that agrees, and a refusal that all such mailboxes give is answered, unless a fault, another run or want of memory came before it
 pub record Decides (words : List (List ℕ)) (setting : SettingParts) (input : Option (List ℕ)) (deeds : List Deed) (status : Status) : Type 0 where
   pub mailbox : Mailbox
   pub agrees : Agrees mailbox deeds
-  pub refuses : (r : Refusal) → IsDecided words setting input deeds r → (status ≡ Refused r) ⊎ Yields status
+  pub refuses : (r : Refusal) → IsDecided words setting input deeds r → (status ≡ Refused r) ⊎ (IsVerdict status → ⊥)
 
 -- the same, where a possible story is told
 abbrev pub DecidesIfTold : List (List ℕ) → SettingParts → Option (List ℕ) → Option Story → List Deed → Status → Type 0
