@@ -1,5 +1,5 @@
 -- Mailboxes: what stands in folders and files, by numbers and names. Nothing here knows of steps.
-use Rattle.std.specs.Prelude.{ℕ, Bool, ◌&&◌, nat_le, zero, suc, ◌+◌, List, [], ◌∷◌, Option, Some, None, is_some, option_map, codes, if◌then◌else◌}
+use Rattle.std.specs.Prelude.{ℕ, Bool, ◌&&◌, ◌^◌, nat_le, nat_lt, zero, suc, ◌+◌, List, [], ◌∷◌, Option, Some, None, is_some, option_map, codes, if◌then◌else◌}
 use Rattle.mh_base.specs.Entries.{entry_text}
 use Rattle.mh_base.specs.declared.entry.Entry.TheVariants.{Number, Backup, Held, Sequences}
 use Rattle.folder_files.specs.Directory.{DirectoryMap, now_in}
@@ -8,7 +8,7 @@ use Rattle.folder_files.specs.declared.place.Place.{Place}
 use Rattle.folder_files.specs.declared.place.Place.TheVariants.{Home, Work}
 use Rattle.folder_files.specs.declared.place.FilePath.{FilePath}
 
--- a folder: its messages by number, the removed ones, those held aside by run and number, and the text of its sequences
+-- a folder: its messages by number, the removed ones, those held aside by run (below 2^128) and number, and the text of its sequences
 pub record Folder : Type 0 where
   pub messages : ℕ → Option (List ℕ)
   pub removed : ℕ → Option (List ℕ)
@@ -39,7 +39,7 @@ abbrev pub as_folder : WorldMap → DirectoryMap → Folder
 as_folder w d = record {
   messages = λ n. numbered n (text_in w d (entry_text (Number n)));
   removed = λ n. numbered n (text_in w d (entry_text (Backup n)));
-  held = λ run n. numbered n (text_in w d (entry_text (Held run n)));
+  held = λ run n. if nat_lt run (2 ^ 128) then numbered n (text_in w d (entry_text (Held run n))) else None;
   sequences = text_in w d (entry_text Sequences);
 }
 

@@ -1,9 +1,9 @@
 -- What a call did to the files: its story goes on, stays a possible one, and the call's own steps in it are careful and of its command's kinds.
-use Rattle.std.specs.Prelude.{◌≡◌, ◌++◌, ℕ, true, List, [], ◌∷◌, length, Option, Some, None}
-use Rattle.folder_files.specs.Careful.{Kind, Keeps, IsLook, IsCareful, looks, changes}
-use Rattle.folder_files.specs.Commands.{Manner, makes}
+use Rattle.std.specs.Prelude.{◌≡◌, ◌++◌, ℕ, List, [], ◌∷◌, length, Option, Some, None}
+use Rattle.folder_files.specs.Careful.{Kind, Keeps, IsLook}
+use Rattle.folder_files.specs.Commands.{Manner, MakesStep}
 use Rattle.folder_files.specs.Deeds as deeds
-use Rattle.folder_files.specs.Histories.{own, past_of}
+use Rattle.folder_files.specs.Histories.{own, past_of, IsOrderly}
 use Rattle.folder_files.specs.Story.{Story, FilesState, IsPossible}
 use Rattle.folder_files.specs.declared.event.After.{After}
 use Rattle.folder_files.specs.declared.event.Event.{Event}
@@ -11,10 +11,11 @@ use Rattle.folder_files.specs.declared.event.Event.TheVariants.{Act}
 use Rattle.folder_files.specs.declared.step.Answer.{Answer}
 use Rattle.folder_files.specs.declared.step.Step.{Step}
 
--- after these deeds of the run a step looks, or changes something in a kind that commands of this manner make, and none has failed
+-- after these deeds of the run a step looks; or none has failed, and it changes something in a kind, and where, commands of this manner do,
+-- names of a folder or the mail directory only under its lock
 pub data IsOwnStep (run : ℕ) (manner : Manner) (own : List deeds.Deed) (s : Step) : Type 0 where
   only_looks : IsLook s → IsOwnStep run manner own s
-  careful : (deeds.HasFailed own → ⊥) → (kind : Kind) → Keeps run own kind s → makes manner kind ≡ true → IsOwnStep run manner own s
+  careful : (deeds.HasFailed own → ⊥) → (kind : Kind) → Keeps run own kind s → MakesStep manner own kind s → IsOrderly own s → IsOwnStep run manner own s
 
 -- at this place of a history, counted from 0, stands such a step of this run
 pub record HoldsOwnStep (run : ℕ) (manner : Manner) (history : List Event) (place : ℕ) : Type 0 where
@@ -50,8 +51,3 @@ IsTold run manner (Some old) None = ⊥
 
 abbrev pub StaysCareful : ℕ → Manner → FilesState → FilesState → Type 0
 StaysCareful run manner f g = IsTold run manner f.story g.story
-
--- such a step is careful
-pub own_is_careful : (run : ℕ) (manner : Manner) (own : List deeds.Deed) (s : Step) → IsOwnStep run manner own s → IsCareful run own s
-own_is_careful run manner own s (only_looks l) = looks l
-own_is_careful run manner own s (careful n kind k m) = changes n kind k

@@ -1,7 +1,7 @@
 -- Messages that were stored one after another, deed by deed.
 use Rattle.std.proofs.Common.{◌≡◌, ◌↔◌, ◌⊎◌, inl, inr, ◌++◌, ◌+◌, ℕ, List, [], ◌∷◌, length, take, drop, map, reverse, refl, sym, ◌∙◌, ap, subst, Bor, arith}
 use Rattle.std.proofs.lemmas.List.{map-append, reverse-append}
-use Rattle.folder_files.specs.Careful.{IsPut, IsNoFirst, HasStored, all, put, on}
+use Rattle.folder_files.specs.Careful.{IsFirstPut, IsNoFirst, HasStored, all, put, on}
 use Rattle.folder_files.specs.Deeds.{Deed, WasDone}
 use Rattle.folder_files.specs.Seen.{seen, seen_all}
 use Rattle.folder_files.specs.declared.discipline.deed.DeedRef.{DeedRef}
@@ -12,7 +12,7 @@ use Rattle.folder_files.proofs.Walking.{newer_more, older_less, nothing}
 
 -- the newest deed stored this message
 abbrev pub StoresAt : ℕ → List ℕ → List Deed → Deed → List Deed → Type 0
-StoresAt run m newer d own = (q : Place) × IsPut run q m d own × WasDone (step.SyncFolder q) newer
+StoresAt run m newer d own = (q : Place) × IsFirstPut run q m d own × WasDone (step.SyncFolder q) newer
 
 abbrev pub Putting : ℕ → FilePath → List ℕ → List (List ℕ) → List Deed → Deed → List Deed → Type 0
 Putting run f m ms newer d own = StoresAt run m newer d own × HasStored run f (newer ++ d ∷ []) ms own
@@ -36,7 +36,7 @@ none_left run f m ms newer own (on {own = o} {d = d} n h) e = no_cons e
     no_cons x = cc (x)
 
 -- a put is no piece of a file
-put_apart : (run : ℕ) (f : FilePath) (q : Place) (m : List ℕ) (d : Deed) (own : List Deed) → IsPut run q m d own → IsNoFirst f d
+put_apart : (run : ℕ) (f : FilePath) (q : Place) (m : List ℕ) (d : Deed) (own : List Deed) → IsFirstPut run q m d own → IsNoFirst f d
 put_apart run f q m d own p most e = differ (sym (ap (λ x. x.step) p.1.1) ∙ e)
   where
     differ : step.Link q p.0 p.1.0 ≡ step.ReadDrop f 0 most → ⊥

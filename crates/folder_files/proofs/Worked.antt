@@ -1,9 +1,10 @@
 -- Small cases of the definitions, worked out by hand, as facts that compute.
-use Rattle.std.proofs.Common.{◌≡◌, ◌∷◌, [], ℕ, Bool, true, false, List, refl, subst, sym, Some, None, ◌==◌, ◌+◌, ◌||◌, bytes_eq}
-use Rattle.std.specs.Prelude.{if◌then◌else◌, is_some}
+use Rattle.std.proofs.Common.{◌≡◌, ◌⊎◌, inl, inr, ◌∷◌, [], ℕ, Bool, true, false, List, refl, subst, sym, Some, None, ◌==◌, ◌+◌, ◌||◌, bytes_eq}
+use Rattle.std.specs.Prelude.{if◌then◌else◌, is_some, Contains}
+use Rattle.std.proofs.Common.{arith}
 use Rattle.std.proofs.lemmas.Slice.Eq.{bytes_eq-Decides}
-use Rattle.folder_files.specs.Careful.{HasLock, Puts, Takes, Commits, looks}
-use Rattle.folder_files.specs.Commands.{makes, Looking, Incorporating, Removing}
+use Rattle.folder_files.specs.Careful.{HasLock, Cuts, Removes, Commits, looks}
+use Rattle.folder_files.specs.Commands.{Manner, MakesStep, Looking, Noting, Incorporating, Removing}
 use Rattle.folder_files.specs.CrashImage.{IsCrashImage}
 use Rattle.folder_files.specs.Deeds.{did}
 use Rattle.folder_files.specs.Directory.{Slots, lead, kept_lead, touches, IsClosed, now_in}
@@ -176,7 +177,7 @@ first_two_are_legal : IsLegal empty (event.End 5 ∷ (event.Act 5 (step.SyncFold
 first_two_are_legal = stops 5 first_is_legal
 
 short_is_careful : AreCareful short_past
-short_is_careful = (looks tt, tt)
+short_is_careful = ((λ on. looks tt), tt)
 
 short_is_honest : AreHonest empty short_past
 short_is_honest = tt
@@ -193,14 +194,32 @@ gap_between c = apart_numbers c.0
     apart_numbers : 6 ≡ 4 + 1 → ⊥
     apart_numbers e = cc (e)
 
-incorporating_puts : makes Incorporating Puts ≡ true
-incorporating_puts = refl
+-- `inc` into `i` of the mail directory `m` cuts its own drop, and no other
+abbrev pub incorporating : Manner
+incorporating = Incorporating (109 ∷ []) (105 ∷ []) (record { home = true; text = 109 ∷ [] })
 
-removing_takes_not : makes Removing Takes ≡ false
-removing_takes_not = refl
+incorporating_cuts : MakesStep incorporating [] Cuts (step.CutDrop (record { home = true; text = 109 ∷ [] }) 3)
+incorporating_cuts = inr (inr (3, refl))
 
-looking_commits : makes Looking Commits ≡ true
-looking_commits = refl
+-- who looks commits nothing, and who keeps the context commits no folder's sequences
+looking_commits_not : MakesStep Looking [] Commits (step.Rename inbox (50 ∷ []) (51 ∷ [])) → ⊥
+looking_commits_not m = m
+
+noting_commits : MakesStep (Noting (109 ∷ [])) [] Commits (step.Rename (place.Mail (109 ∷ [])) (50 ∷ []) (51 ∷ []))
+noting_commits = (refl, refl)
+
+noting_leaves_folders : MakesStep (Noting (109 ∷ [])) [] Commits (step.Rename inbox (50 ∷ []) (51 ∷ [])) → ⊥
+noting_leaves_folders m = apart_places m.1
+  where
+    apart_places : place.Mail (109 ∷ []) ≡ inbox → ⊥
+    apart_places e = cc (e)
+
+-- nobody's words chose the number of a removal
+removing_none : MakesStep (Removing (109 ∷ []) (105 ∷ []) []) [] Removes (step.Unlink inbox (49 ∷ [])) → ⊥
+removing_none m = elim m [ inl k ↦ elim k [ inl z ↦ (let e = z.0 in cc (e)) | inr z ↦ (let e = z.0 in cc (e)) ] | inr k ↦ none_there k.2.2 ]
+  where
+    none_there : {n : ℕ} → Contains [] n → ⊥
+    none_there c = omega (arith, c.1)
 
 -- the one name of `inbox`
 one_listed : IsListing ((shown small).directories inbox) ((49 ∷ []) ∷ [])

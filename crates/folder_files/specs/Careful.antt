@@ -28,14 +28,23 @@ WasReady p temp bytes own = Once (λ d older. (d ≡ did (step.SyncFile p temp) 
 abbrev pub IsReady : ℕ → Place → List ℕ → List Deed → Type 0
 IsReady run p temp own = (is_temp_of run (kind_of temp) ≡ true) × WasSynced p temp own
 
--- the run gave a number to a file that it was making
+-- the run gave a number of a folder to a file that it was making
 abbrev pub IsPutLink : ℕ → Place → List ℕ → Deed → Type 0
 IsPutLink run q temp d =
     (number : List ℕ) × (d ≡ did (step.Link q temp number) Done) × (is_temp_of run (kind_of temp) ≡ true) × (is_number (kind_of number) ≡ true)
+    × (is_folder q ≡ true)
 
 -- a message with these bytes was put into a folder
 abbrev pub IsPut : ℕ → Place → List ℕ → Deed → List Deed → Type 0
 IsPut run q bytes d older = (temp : List ℕ) × IsPutLink run q temp d × WasReady q temp bytes older
+
+-- the file that the run made under this name was put
+abbrev pub WasPutFrom : ℕ → Place → List ℕ → List Deed → Type 0
+WasPutFrom run q temp own = Once (λ d older. IsPutLink run q temp d) own
+
+-- a message with these bytes was put into a folder, as a file that was not put before
+abbrev pub IsFirstPut : ℕ → Place → List ℕ → Deed → List Deed → Type 0
+IsFirstPut run q bytes d older = (temp : List ℕ) × IsPutLink run q temp d × WasReady q temp bytes older × (WasPutFrom run q temp older → ⊥)
 
 -- the run renamed a number to its held name of that number
 abbrev pub WasTaken : ℕ → Place → List ℕ → List Deed → Type 0
@@ -126,10 +135,11 @@ pub data HasPieces (f : FilePath) : List ℕ → List Deed → Type 0 where
 abbrev pub IsNoFirst : FilePath → Deed → Type 0
 IsNoFirst f d = (most : ℕ) → d.step ≢ step.ReadDrop f 0 most
 
--- these messages, the last first, were put one after another since the last piece from place 0, and each one's folder was synced after it
+-- these messages, the last first, were put one after another since the last piece from place 0, each as a file of its own, and each one's
+-- folder was synced after it
 pub data HasStored (run : ℕ) (f : FilePath) : List Deed → List (List ℕ) → List Deed → Type 0 where
   all : {newer own : List Deed} → HasStored run f newer [] own
-  put : {newer own : List Deed} {d : Deed} (q : Place) {message : List ℕ} {messages : List (List ℕ)} → IsPut run q message d own → WasDone (step.SyncFolder q) newer
+  put : {newer own : List Deed} {d : Deed} (q : Place) {message : List ℕ} {messages : List (List ℕ)} → IsFirstPut run q message d own → WasDone (step.SyncFolder q) newer
       → HasStored run f (newer ++ d ∷ []) messages own → HasStored run f newer (message ∷ messages) (d ∷ own)
   on : {newer own : List Deed} {d : Deed} {messages : List (List ℕ)} → IsNoFirst f d
       → HasStored run f (newer ++ d ∷ []) messages own → HasStored run f newer messages (d ∷ own)

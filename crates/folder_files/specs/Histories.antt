@@ -83,10 +83,34 @@ pub data IsLegal (start : World) : List Event → Type 0 where
       → IsLegal start (Act run s Failed Before ∷ (Crash v ∷ past))
   stops : (run : ℕ) {past : List Event} → IsLegal start past → IsLegal start (End run ∷ past)
 
--- each step is careful after its run's deeds
+-- a directory whose changes need its lock: a folder or the mail directory
+abbrev pub IsLockable : Place → Type 0
+IsLockable Home = ⊥
+IsLockable Work = ⊥
+IsLockable (Mail path) = Unit {0}
+IsLockable (Folder path name) = Unit {0}
+
+-- a step in a folder or the mail directory, or a cut of a drop
+abbrev pub IsOnMail : Step → Type 0
+IsOnMail (step.List p) = IsLockable p
+IsOnMail (step.Read p n limit) = IsLockable p
+IsOnMail (step.MakeFolder p) = IsLockable p
+IsOnMail (step.Create p n b) = IsLockable p
+IsOnMail (step.SyncFile p n) = IsLockable p
+IsOnMail (step.SyncFolder p) = IsLockable p
+IsOnMail (step.Link p a b) = IsLockable p
+IsOnMail (step.Rename p a b) = IsLockable p
+IsOnMail (step.Unlink p a) = IsLockable p
+IsOnMail (step.Lock p) = IsLockable p
+IsOnMail (step.Unlock p) = IsLockable p
+IsOnMail (step.ReadFile f limit) = ⊥
+IsOnMail (step.ReadDrop f from most) = ⊥
+IsOnMail (step.CutDrop f length_) = Unit {0}
+
+-- each step in a folder or the mail directory, and each cut of a drop, is careful after its run's deeds
 abbrev pub AreCareful : List Event → Type 0
 AreCareful [] = Unit {0}
-AreCareful (Act run s a m ∷ past) = IsCareful run (own run past) s × AreCareful past
+AreCareful (Act run s a m ∷ past) = (IsOnMail s → IsCareful run (own run past) s) × AreCareful past
 AreCareful (Deliver path piece ∷ past) = AreCareful past
 AreCareful (Crash v ∷ past) = AreCareful past
 AreCareful (End run ∷ past) = AreCareful past
@@ -101,13 +125,6 @@ AreHonest start [] = Unit {0}
 AreHonest start (Act run (step.Lock p) Done m ∷ past) = HeldByNoOther (world_after start past) p run × AreHonest start past
 AreHonest start (e ∷ past) = AreHonest start past
 
--- a directory whose changes need its lock: a folder or the mail directory
-abbrev pub IsLockable : Place → Type 0
-IsLockable Home = ⊥
-IsLockable Work = ⊥
-IsLockable (Mail path) = Unit {0}
-IsLockable (Folder path name) = Unit {0}
-
 -- a step that changes the names of this directory
 abbrev pub Changes : Place → Step → Type 0
 Changes p (step.Create q n b) = p ≡ q
@@ -116,10 +133,14 @@ Changes p (step.Rename q a b) = p ≡ q
 Changes p (step.Unlink q a) = p ≡ q
 Changes p s = ⊥
 
--- each changing step in a folder or the mail directory is made under that directory's lock
+-- after these deeds of its run the step changes names of a folder or the mail directory only under that directory's lock
+abbrev pub IsOrderly : List Deed → Step → Type 0
+IsOrderly own s = (p : Place) → IsLockable p → Changes p s → HasLock p own
+
+-- each step is orderly after its run's deeds
 abbrev pub AreOrderly : List Event → Type 0
 AreOrderly [] = Unit {0}
-AreOrderly (Act run s a m ∷ past) = ((p : Place) → IsLockable p → Changes p s → HasLock p (own run past)) × AreOrderly past
+AreOrderly (Act run s a m ∷ past) = IsOrderly (own run past) s × AreOrderly past
 AreOrderly (Deliver path piece ∷ past) = AreOrderly past
 AreOrderly (Crash v ∷ past) = AreOrderly past
 AreOrderly (End run ∷ past) = AreOrderly past

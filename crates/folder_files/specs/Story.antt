@@ -36,12 +36,12 @@ places n [] = []
 places n (Mine s a f ∷ ms) = n ∷ places (n + 1) ms
 places n (Theirs e ∷ ms) = places (n + 1) ms
 
--- an event that is no step of this run
+-- an event that is neither a step of this run nor its end
 abbrev pub IsOther : ℕ → Event → Type 0
 IsOther run (Act r s a f) = r ≢ run
 IsOther run (Deliver p b) = Unit {0}
 IsOther run (Crash w) = Unit {0}
-IsOther run (End r) = Unit {0}
+IsOther run (End r) = r ≢ run
 
 abbrev pub AreOthers : ℕ → List Moment → Type 0
 AreOthers run [] = Unit {0}

@@ -61,8 +61,9 @@ fn may_change(alloc: Global, own: &[DeedRef], run: u128, step: &Step) -> Result<
 }
 
 /// Whether the step is careful after what this run did in the history: whether it keeps the rules
-/// of docs/DISK.md by which no message is lost. It takes at most quadratic time in the run's steps
-/// and is meant for tests and for files in memory.
+/// of docs/DISK.md by which no message is lost. Its time grows with the square of the run's steps,
+/// and faster where these read one held message many times: it is meant for tests and for files in
+/// memory.
 pub fn may_step(
     alloc: Global,
     history: &History,

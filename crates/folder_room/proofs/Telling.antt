@@ -14,7 +14,7 @@ use Rattle.folder_files.specs.declared.event.After.TheVariants.{Before, Made}
 use Rattle.folder_files.specs.declared.event.Event.{Event}
 use Rattle.folder_files.specs.declared.event.Event.TheVariants as event
 use Rattle.folder_files.specs.declared.world.World.{World}
-use Rattle.folder_room.specs.Played.{Plays, PlaysOne, stops, plays, skips, acts, delivers, fails, crashes, IsAnswered, is_dead, fails_by, answers, crashes_within, IsPlayed, failing, fail_of}
+use Rattle.folder_room.specs.Played.{Plays, PlaysOne, stops, plays, skips, acts, lives, is_over, delivers, fails, crashes, IsAnswered, is_dead, fails_by, answers, crashes_within, IsPlayed, failing, fail_of}
 use Rattle.folder_room.specs.Seen.{Seen, story_of}
 use Rattle.folder_room.specs.declared.script.Happening.{Happening}
 use Rattle.folder_room.proofs.Fitted.{fits_row, failed_row}
@@ -37,7 +37,8 @@ one_more run e past now h a = record {
 
 one_adds : (start : World) (run : ℕ) (what : Happening) (past mid now : List Event) → PlaysOne start run what past mid → Adds run mid now → Adds run past now
 one_adds start run _ past _ now (skips r s k) a = a
-one_adds start run _ past _ now (acts r s x m n k) a = one_more run (event.Act r s x m) past now n a
+one_adds start run _ past _ now (acts r s n k (lives x l h)) a = one_more run (event.Act r s x Made) past now n a
+one_adds start run _ past _ now (acts r s n k (is_over e)) a = one_more run (event.Act r s Failed Before) past now n a
 one_adds start run _ past _ now (delivers path piece) a = one_more run (event.Deliver path piece) past now tt a
 one_adds start run _ past _ now (fails m) a = a
 one_adds start run _ past _ now (crashes keeps fill is_made v c) a = one_more run (event.Crash v) past now tt a
@@ -67,7 +68,7 @@ with_last run e past mid h d = record {
 pub answered_ends : (start : World) (run : ℕ) (s : Step) (fail : Option After) (past mid : List Event) (left : List Happening) (a : Answer) (now : List Event) → Adds run past mid → IsAnswered start run s fail mid left a now → EndsWith run s a past now
 answered_ends start run s fail past mid _ _ _ d (is_dead e) = ends_with run s Failed Before past mid d
 answered_ends start run s fail past mid _ _ _ d (fails_by m l e) = ends_with run s Failed (failing s m) past mid d
-answered_ends start run s fail past mid _ _ _ d (answers a l e n f h) = ends_with run s a Made past mid d
+answered_ends start run s fail past mid _ _ _ d (answers a l e h) = ends_with run s a Made past mid d
 answered_ends start run s fail past mid _ _ _ d (crashes_within keeps fill v l c) = ends_with run s Failed Before past (event.Crash v ∷ mid) (with_last run (event.Crash v) past mid tt d)
 
 turned : (a b : List Event) → reverse a ≡ reverse b → a ≡ b
@@ -133,7 +134,7 @@ room_row start run s turn past now (Ok a) p = row (fail_of turn) p.1 p.0 a now p
     row : (fail : Option After) (mid : List Event) (left : List Happening) (a : Answer) (now : List Event) → IsAnswered start run s fail mid left a now → IsAnswerOf s a
     row fail mid _ _ _ (is_dead e) = failed_row s
     row fail mid _ _ _ (fails_by m l e) = failed_row s
-    row fail mid _ _ _ (answers a l e n f h) = fits_row (world_after start mid) run s a f
+    row fail mid _ _ _ (answers a l e h) = fits_row (world_after start mid) run s a h.fits
     row fail mid _ _ _ (crashes_within keeps fill v l c) = failed_row s
 room_row start run s turn past now (Err x) p = tt
 

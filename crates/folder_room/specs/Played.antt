@@ -51,10 +51,26 @@ abbrev pub is_within : Happening → List Happening → Bool
 is_within (Crash keeps fill true) [] = true
 is_within what turn = false
 
+-- the lock that another run has is not given
+abbrev pub IsHonest : WorldMap → ℕ → Step → Answer → Type 0
+IsHonest w run (step.Lock p) Done = (other : ℕ) → other ≢ run → w.holds p other ≡ false
+IsHonest w run s a = Unit {0}
+
+-- an answer that the world has for the step, and no failure; a lock that another run has is not given
+pub record IsAnsweredBy (w : WorldMap) (run : ℕ) (s : Step) (a : Answer) : Type 0 where
+  pub unfailed : a ≢ Failed
+  pub fits : Fits w run s a
+  pub honest : IsHonest w run s a
+
+-- a scripted step of a live run was made and answered as the world has it; one of a run that has ended was not made
+pub data IsActed (start : World) (run : ℕ) (s : Step) (past : List Event) : List Event → Type 0 where
+  lives : (a : Answer) → IsLive run (world_after start past) → IsAnsweredBy (world_after start past) run s a → IsActed start run s past (event.Act run s a Made ∷ past)
+  is_over : (world_after start past).ended run ≡ true → IsActed start run s past (event.Act run s Failed Before ∷ past)
+
 -- at a call of this run one prompt acted: it added its event, or was skipped
 pub data PlaysOne (start : World) (run : ℕ) : Happening → List Event → List Event → Type 0 where
   skips : (r : ℕ) (s : Step) {past : List Event} → IsSkipped run past r s → PlaysOne start run (Other r s) past past
-  acts : (r : ℕ) (s : Step) (a : Answer) (m : After) {past : List Event} → r ≢ run → IsCareful r (own r past) s → PlaysOne start run (Other r s) past (event.Act r s a m ∷ past)
+  acts : (r : ℕ) (s : Step) {past now : List Event} → r ≢ run → IsCareful r (own r past) s → IsActed start r s past now → PlaysOne start run (Other r s) past now
   delivers : (path : FilePath) (piece : List ℕ) {past : List Event} → PlaysOne start run (Deliver path piece) past (event.Deliver path piece ∷ past)
   fails : (m : After) {past : List Event} → PlaysOne start run (Fail m) past past
   crashes : (keeps : List Keep) (fill : ℕ) (is_made : Bool) (v : World) {past : List Event} → IsCrashBy keeps fill (has_acted_or_is run past) (world_after start past) (shown v)
@@ -73,16 +89,11 @@ failing s (Torn c) = Before
 failing s Before = Before
 failing s Made = Made
 
--- the lock that another run has is not given
-abbrev pub IsHonest : WorldMap → ℕ → Step → Answer → Type 0
-IsHonest w run (step.Lock p) Done = (other : ℕ) → other ≢ run → w.holds p other ≡ false
-IsHonest w run s a = Unit {0}
-
 -- how the call ends after the prompts: what its run asked is answered, or it fails by a Fail, by the crash within it that is left, or since the run has ended
 pub data IsAnswered (start : World) (run : ℕ) (s : Step) (fail : Option After) (past : List Event) : List Happening → Answer → List Event → Type 0 where
   is_dead : (world_after start past).ended run ≡ true → IsAnswered start run s fail past [] Failed (event.Act run s Failed Before ∷ past)
   fails_by : (m : After) → IsLive run (world_after start past) → fail ≡ Some m → IsAnswered start run s fail past [] Failed (event.Act run s Failed (failing s m) ∷ past)
-  answers : (a : Answer) → IsLive run (world_after start past) → fail ≡ None → a ≢ Failed → Fits (world_after start past) run s a → IsHonest (world_after start past) run s a
+  answers : (a : Answer) → IsLive run (world_after start past) → fail ≡ None → IsAnsweredBy (world_after start past) run s a
       → IsAnswered start run s fail past [] a (event.Act run s a Made ∷ past)
   crashes_within : (keeps : List Keep) (fill : ℕ) (v : World) → IsLive run (world_after start past) → IsCrashBy keeps fill (has_acted_or_is run past) (made (world_after start past) run s) (shown v)
       → IsAnswered start run s fail past (Crash keeps fill true ∷ []) Failed (event.Act run s Failed Before ∷ (event.Crash v ∷ past))

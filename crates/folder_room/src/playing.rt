@@ -106,7 +106,7 @@ impl Course {
     /// A step of a run that the script has.
     fn act_other(&mut self, alloc: Global, other: u128, step: &Step) -> Result<(), AllocError>
         ensures now { (start : World) → IsNow start self.old.world self.old.history → IsNow start self.new.world self.new.history }
-        ensures ok { OnOk result ((a : Answer) × ((m : After) × (self.new.history ≡ self.old.history ++ Event.Act other step.now a m ∷ []))) }
+        ensures ok { (start : World) → IsNow start self.old.world self.old.history → OnOk result (played.IsActed start other step.now (past_of self.old.history) (past_of self.new.history)) }
         ensures err { OnErr result (self.new ≡ self.old) }
     {
         if self.is_dead(other) {
@@ -125,7 +125,7 @@ impl Course {
         step: &Step,
     ) -> Result<(), AllocError>
         ensures now { (start : World) → IsNow start self.old.world self.old.history → IsNow start self.new.world self.new.history }
-        ensures ok { (start : World) → OnOk result (played.PlaysOne start run (happening.Other other step.now) (past_of self.old.history) (past_of self.new.history)) }
+        ensures ok { (start : World) → IsNow start self.old.world self.old.history → OnOk result (played.PlaysOne start run (happening.Other other step.now) (past_of self.old.history) (past_of self.new.history)) }
         ensures err { OnErr result (self.new ≡ self.old) }
     {
         if other == run {

@@ -20,7 +20,8 @@ use std::marker::Model;
 /// A mailbox in memory. It stores its start, its history and the places of the steps that were asked
 /// for, and runs a script: each prompt acts just before the call of `act` of its number, counted
 /// from 1. A Fail makes the call fail, a Crash ends all runs and the call fails, and steps of other
-/// runs are made where they are careful. Locks are honest.
+/// runs are made where they are careful, and answered as the world has it. Locks are honest for every
+/// run.
 #[derive(Drop)]
 pub struct Room {
     alloc: Global,

@@ -27,6 +27,9 @@ const OTHER: &[u8] = b"S: b\n\nx\n";
 
 const DROP: &[u8] = b"From a\nS: a\n\nx\n\nFrom b\nS: b\n\nx\n";
 
+/// Two equal messages.
+const TWINS: &[u8] = b"From a\nS: a\n\nx\n\nFrom b\nS: a\n\nx\n";
+
 #[derive(Clone, Copy)]
 enum Verb {
     Create,
@@ -80,6 +83,8 @@ fn file_row(letter: u8) -> Option<Row> {
         b'w' => step_row(Verb::Create, At::Inbox, NEXT_TEMP, OTHER),
         b'x' => step_row(Verb::SyncFile, At::Inbox, NEXT_TEMP, b""),
         b'y' => step_row(Verb::Link, At::Inbox, NEXT_TEMP, b"4"),
+        b'v' => step_row(Verb::Link, At::Inbox, TEMP, b"4"),
+        b'Z' => step_row(Verb::Create, At::Inbox, NEXT_TEMP, MESSAGE),
         b'A' => step_row(Verb::Create, At::Inbox, b"5", MESSAGE),
         b'B' => step_row(Verb::Rename, At::Inbox, TEMP, b"1"),
         b'F' => step_row(Verb::Unlink, At::Inbox, THEIR_TEMP, b""),
@@ -203,7 +208,7 @@ fn drop_step(alloc: Global, from: u64) -> Option<Step> {
 /// The drop is read whole, or in two pieces, and cut.
 fn step(alloc: Global, letter: u8) -> Option<Step> {
     match letter {
-        b's' | b'R' => drop_step(alloc, 0),
+        b's' | b'R' | b'T' => drop_step(alloc, 0),
         b'S' => drop_step(alloc, 10),
         b't' => Some(Step::CutDrop(path(alloc)?, 31)),
         b'u' => Some(Step::CutDrop(path(alloc)?, 32)),
@@ -230,6 +235,7 @@ fn row_answer(alloc: Global, row: Row) -> Option<Answer> {
 fn answer(alloc: Global, letter: u8) -> Option<Answer> {
     match letter {
         b's' => piece(alloc, DROP),
+        b'T' => piece(alloc, TWINS),
         b'R' => piece(alloc, &DROP[..10]),
         b'S' => piece(alloc, &DROP[10..]),
         _ => row_answer(alloc, row_of(letter)?),
@@ -355,6 +361,8 @@ fn cuts(rt: HostRuntime) {
     assert!(rt; may_not(&rt, b"swxyabcd", b't'));
     assert!(rt; may_not(&rt, b"abcwxyds", b't'));
     assert!(rt; may_not(&rt, b"Rabcwxyd", b't'));
+    assert!(rt; may(&rt, b"TabcZxyd", b't'));
+    assert!(rt; may_not(&rt, b"Tabcvd", b't'));
 }
 
 #[test]

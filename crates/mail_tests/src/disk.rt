@@ -21,7 +21,7 @@ const ONE: u128 = 1;
 const TWO: u128 = 2;
 
 /// A directory that no other test has.
-fn new_home(rt: &HostRuntime) -> Result<String, Fail> {
+pub fn new_home(rt: &HostRuntime) -> Result<String, Fail> {
     let mut random = [0u8; 8];
     File::open(rt, "/dev/urandom")?.read_exact(&mut random)?;
     let home = format!(in rt.alloc(); "/tmp/mh_tools_test_{}", u64::from_le_bytes(random))?;
@@ -29,11 +29,11 @@ fn new_home(rt: &HostRuntime) -> Result<String, Fail> {
     Ok(home)
 }
 
-fn name(alloc: Global, text: &[u8]) -> Result<Name, Fail> {
+pub fn name(alloc: Global, text: &[u8]) -> Result<Name, Fail> {
     Ok(Name::new(bytes_of(alloc, text)?).ok_or("a name")?)
 }
 
-fn has(
+pub fn has(
     rt: &(impl Abort + AllocGlobal),
     files: &mut HostFiles,
     place: &Place,
@@ -45,7 +45,7 @@ fn has(
     }
 }
 
-fn is_locked(
+pub fn is_locked(
     rt: &impl AllocGlobal,
     run: u128,
     files: &mut HostFiles,
@@ -54,7 +54,7 @@ fn is_locked(
     Ok(matches!(ask_lock(rt.alloc(), run, files, place)?, Locking::Done))
 }
 
-fn is_made(rt: &impl AllocGlobal, files: &mut HostFiles, place: &Place) -> Result<bool, Fail> {
+pub fn is_made(rt: &impl AllocGlobal, files: &mut HostFiles, place: &Place) -> Result<bool, Fail> {
     Ok(matches!(
         ask_make_folder(rt.alloc(), ONE, files, place)?,
         FolderMade::Done
@@ -68,7 +68,7 @@ fn is_synced(rt: &impl AllocGlobal, files: &mut HostFiles, place: &Place) -> Res
     ))
 }
 
-fn is_created(
+pub fn is_created(
     rt: &impl AllocGlobal,
     files: &mut HostFiles,
     place: &Place,
@@ -96,7 +96,7 @@ fn is_file_synced(
     ))
 }
 
-fn is_linked(
+pub fn is_linked(
     rt: &impl AllocGlobal,
     files: &mut HostFiles,
     place: &Place,
@@ -111,7 +111,7 @@ fn is_linked(
     ))
 }
 
-fn is_renamed(
+pub fn is_renamed(
     rt: &impl AllocGlobal,
     files: &mut HostFiles,
     place: &Place,
@@ -279,7 +279,7 @@ fn write_drop(rt: &HostRuntime, home: &str) -> Result<(), Fail> {
     Ok(())
 }
 
-fn open(rt: &HostRuntime, home: &str) -> Result<HostFiles, Fail> {
+pub fn open(rt: &HostRuntime, home: &str) -> Result<HostFiles, Fail> {
     let home = bytes_of(rt.alloc(), home.as_bytes())?;
     Ok(HostFiles::open(rt.clone()?, rt.alloc(), home)?)
 }

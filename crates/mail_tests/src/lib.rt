@@ -10,4 +10,6 @@ mod given;
 #[cfg(test)]
 mod mail;
 #[cfg(test)]
+mod odd;
+#[cfg(test)]
 mod values;

@@ -64,11 +64,11 @@ fn variable(rt: &HostRuntime, name: &str) -> Result<Option<String>, StartFault> 
     }
 }
 
-/// `HOME`, else the current directory.
+/// `HOME`, else the current directory; an empty `HOME` counts as missing.
 fn home(rt: &HostRuntime) -> Result<String, StartFault> {
     match variable(rt, "HOME")? {
-        Some(home) => Ok(home),
-        None => Ok(String::from_str(rt.alloc(), env::current_dir(rt)?.as_path().as_str())?),
+        Some(home) if !home.is_empty() => Ok(home),
+        _ => Ok(String::from_str(rt.alloc(), env::current_dir(rt)?.as_path().as_str())?),
     }
 }
 

@@ -28,7 +28,7 @@ use Rattle.step_plans.proofs.Names.{not_both, bytes_true, bytes_self}
 use Rattle.step_plans.proofs.Effects.{IsNext, answered, failed, refused, left, next_fits, fits_as, world_deliver, world_end, world_next}
 use Rattle.step_plans.proofs.Past.{did_step, did_answer, did_both, once_none}
 use Rattle.step_plans.proofs.Inv.{Inv, read_gives}
-use Rattle.step_plans.proofs.Discipline.{careful_rename}
+use Rattle.step_plans.proofs.Discipline.{Cares, committed_lock, careful_rename}
 use Rattle.step_plans.proofs.Changes.{IsBelow}
 use Rattle.step_plans.proofs.Crashes.{ended_by}
 use Rattle.step_plans.proofs.Law.{inv, none_before, within_ended}
@@ -63,13 +63,13 @@ base_once (on n nk h) = on (base_once h)
 -- each of a run's deeds was careful after those before it
 abbrev AllCareful : ℕ → List Deed → Type 0
 AllCareful r [] = Unit {0}
-AllCareful r (d ∷ older) = IsCareful r older d.step × AllCareful r older
+AllCareful r (d ∷ older) = Cares r older d.step × AllCareful r older
 
 careful_deeds : (r : ℕ) (past : List Event) → AreCareful past → AllCareful r (own r past)
 unfolding own
 careful_deeds r [] c = tt
 careful_deeds r (Act o s a m ∷ past) c = elim (own_split r o s a m past) [
-  | inl e ↦ subst (λ (ds : List Deed). AllCareful r ds) (sym e.1) (subst (λ (k : ℕ). IsCareful k (own k past) s) e.0 c.0, careful_deeds r past c.1)
+  | inl e ↦ subst (λ (ds : List Deed). AllCareful r ds) (sym e.1) (subst (λ (k : ℕ). Cares k (own k past) s) e.0 c.0, careful_deeds r past c.1)
   | inr e ↦ subst (λ (ds : List Deed). AllCareful r ds) (sym e.1) (careful_deeds r past c.1)
 ]
 careful_deeds r (Deliver path piece ∷ past) c = careful_deeds r past c
@@ -138,11 +138,11 @@ was_made : {p : Place} {t : List ℕ} {deeds : List Deed} → WasSynced p t deed
 was_made (now z) = on z.1
 was_made (on w) = on (was_made w)
 
-from_known : (r : ℕ) (p : Place) (x : List ℕ) → is_committed p x ≡ true → (d : Deed) (older : List Deed) → IsCareful r older d.step → HasLock p older → IsKnown r p x d → (text : List ℕ) × IsBase r p x text (d ∷ older)
+from_known : (r : ℕ) (p : Place) (x : List ℕ) → is_committed p x ≡ true → (d : Deed) (older : List Deed) → Cares r older d.step → HasLock p older → IsKnown r p x d → (text : List ℕ) × IsBase r p x text (d ∷ older)
 from_known r p x c d older careful lock (inl k) = (k.0, found k.1 lock)
 from_known r p x c d older careful lock (inr (inl k)) = ([], missing k.1 lock)
 from_known r p x c d older careful lock (inr (inr k)) =
-    let m = commit_of r older p k.0 x c (careful_rename r older p k.0 x (subst (λ (s : Step). IsCareful r older s) (ap (λ d. d.step) k.1) careful)).1 in
+    let m = commit_of r older p k.0 x c (careful_rename r older p k.0 x (subst (λ (s : Step). Cares r older s) (ap (λ d. d.step) k.1) careful (committed_lock p x c))).1 in
     let b = made_of (was_made m.1.1) in
     (b.0, committed k.1 k.2 b.1 lock)
 
@@ -184,7 +184,7 @@ name_answers : (u : Option ℕ) (a : Answer) → a ≡ name_answer u → (a ≡ 
 name_answers (Some f) a h = inl h
 name_answers None a h = inr h
 
-module _ (start : World) (past : List Event) (o : ℕ) (s : Step) (a : Answer) (m : After) (p : Place) (x : List ℕ) (c : is_committed p x ≡ true) (careful : IsCareful o (own o past) s) (nx : IsNext (world_after start past) o s a m) (i : Inv start past) where
+module _ (start : World) (past : List Event) (o : ℕ) (s : Step) (a : Answer) (m : After) (p : Place) (x : List ℕ) (c : is_committed p x ≡ true) (careful : Cares o (own o past) s) (nx : IsNext (world_after start past) o s a m) (i : Inv start past) where
   abbrev w : WorldMap
   w = world_after start past
 
@@ -223,7 +223,7 @@ module _ (start : World) (past : List Event) (o : ℕ) (s : Step) (a : Answer) (
   after_commit : (t text : List ℕ) → did s a ≡ did (step.Rename p t x) Done → is_temp_of o (kind_of t) ≡ true → WasDone (step.Create p t text) (own o past) → text_at v p x ≡ text
   after_commit t text e temp wrote = let es = did_step e in let ea = did_answer e in let f3 = next_fits w o s a m nx (λ k. cc (k, ea)) in
       let z = commit_leads w p t x o temp c (fits_as w o s (step.Rename p t x) a Done es ea f3.1) in
-      as_made text es f3.2 (ap (text_of (left w o (step.Rename p t x) a Made)) z.2 ∙ i.temps o p t z.0 text temp f3.0 wrote z.1)
+      as_made text es f3.2 (ap (text_of (left w o (step.Rename p t x) a Made)) z.2 ∙ i.temps o p t z.0 text (committed_lock p x c) temp f3.0 wrote z.1)
 
   after_other : (text : List ℕ) → (a ≡ Failed → ⊥) → (IsKnown o p x (did s a) → ⊥) → text_at w p x ≡ text → text_at v p x ≡ text
   after_other text unfailed unknown h = elim (left_spares w o (own o past) s a m p x c careful nx) [
@@ -238,7 +238,7 @@ module _ (start : World) (past : List Event) (o : ℕ) (s : Step) (a : Answer) (
             | inr ea ↦ as_made text es f3.2 (text_spared w o (step.Rename p t x) a Made p x (i.below p) (gone_spares w p t x (gone_of (now_in (w.directories p) t) (fits_as w o s (step.Rename p t x) a Gone es ea f3.1))) ∙ h)
           ]
 
-act_base : (start : World) (past : List Event) (r o : ℕ) (s : Step) (a : Answer) (m : After) (p : Place) (x : List ℕ) → is_committed p x ≡ true → IsCareful o (own o past) s → IsNext (world_after start past) o s a m → Inv start past
+act_base : (start : World) (past : List Event) (r o : ℕ) (s : Step) (a : Answer) (m : After) (p : Place) (x : List ℕ) → is_committed p x ≡ true → Cares o (own o past) s → IsNext (world_after start past) o s a m → Inv start past
     → (IsLockable p → Changes p s → HasLock p (own o past)) → (IsLive o (world_after start past) → HasLock p (own r past) → HasLock p (own o past) → r ≡ o)
     → ((HasFailed (own r past) → ⊥) → (text : List ℕ) → IsBase r p x text (own r past) → text_at (world_after start past) p x ≡ text)
     → (HasFailed (own r (Act o s a m ∷ past)) → ⊥) → (text : List ℕ) → IsBase r p x text (own r (Act o s a m ∷ past)) → text_at (world_after start (Act o s a m ∷ past)) p x ≡ text
@@ -307,14 +307,14 @@ pub base_law : (start : World) (past : List Event) (r : ℕ) (p : Place) (t x : 
     → (moment : List Event) → IsTriedAt start r moment past → IsBase r p x (text_at (world_after start moment) p x) (own r past)
 base_law start past r p t x a m st l careful none honest orderly c moment tr =
     let k = tried start r (step.Rename p t x) l tr in
-    let may = careful_rename r (own r past) p t x careful.0 in
+    let may = careful_rename r (own r past) p t x (careful.0 (committed_lock p x c)) in
     let base = base_some r p x c (careful_deeds r past careful.1) (commit_of r (own r past) p t x c may.1).2 in
     let same = base_is start r p x st k.legal (careful_then tr careful.1) (none_then tr (none_before start r (step.Rename p t x) a m past none)) (honest_then tr (honest_before start (Act r (step.Rename p t x) a m) past honest)) (orderly_then tr orderly.1) c
     k.lives (subst (λ (ds : List Deed). HasFailed ds → ⊥) k.deeds may.0) base.0 (subst (λ (ds : List Deed). IsBase r p x base.0 ds) k.deeds base.1) in
     subst (λ (b : List ℕ). IsBase r p x b (own r past)) (sym same) base.1
 
 -- nothing but a commit changes the text, and a crash
-act_stays : (start : World) (past : List Event) (o : ℕ) (s : Step) (a : Answer) (m : After) (p : Place) (x : List ℕ) → is_committed p x ≡ true → IsCareful o (own o past) s → IsNext (world_after start past) o s a m → IsBelow (world_after start past).next_file ((world_after start past).directories p)
+act_stays : (start : World) (past : List Event) (o : ℕ) (s : Step) (a : Answer) (m : After) (p : Place) (x : List ℕ) → is_committed p x ≡ true → Cares o (own o past) s → IsNext (world_after start past) o s a m → IsBelow (world_after start past).next_file ((world_after start past).directories p)
     → (TriesCommit start p x (Act o s a m) past → ⊥) → text_at (world_after start (Act o s a m ∷ past)) p x ≡ text_at (world_after start past) p x
 act_stays start past o s a m p x c careful nx below never = ap (λ z. text_at z p x) (world_next start o s a m past nx) ∙ (elim (left_spares (world_after start past) o (own o past) s a m p x c careful nx) [
   | inl z ↦ text_spared (world_after start past) o s a m p x below z

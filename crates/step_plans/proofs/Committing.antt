@@ -3,7 +3,7 @@ use Rattle.std.proofs.Common.{◌≡◌, ℕ, Bool, true, false, ◌||◌, ◌�
 use Rattle.mh_base.specs.Entries.{kind_of}
 use Rattle.mh_base.specs.declared.entry.Entry.{Entry}
 use Rattle.mh_base.specs.declared.entry.Entry.TheVariants.{Number, Sequences}
-use Rattle.folder_files.specs.Careful.{IsCareful, MayCommit}
+use Rattle.folder_files.specs.Careful.{MayCommit}
 use Rattle.folder_files.specs.Deeds.{Deed}
 use Rattle.folder_files.specs.Directory.{DirectoryMap, touches, lead, now_in}
 use Rattle.folder_files.specs.Histories.{IsLive}
@@ -30,7 +30,7 @@ use Rattle.step_plans.proofs.Names.{not_both, or_left, bytes_true, bytes_self, b
 use Rattle.step_plans.proofs.Closing.{untouched_change, untouched_lead}
 use Rattle.step_plans.proofs.Changes.{IsBelow, now_below}
 use Rattle.step_plans.proofs.Effects.{IsNext, answered, failed, refused, left, left_directory, left_keeps}
-use Rattle.step_plans.proofs.Discipline.{careful_create, careful_link, careful_rename, careful_unlink}
+use Rattle.step_plans.proofs.Discipline.{Cares, place_lock, committed_lock, careful_create, careful_link, careful_rename, careful_unlink}
 
 -- a directory's change that spares the name
 pub data Spares (x : List ℕ) (d : DirectoryMap) : DirectoryMap → Type 0 where
@@ -144,7 +144,7 @@ rename_spares w r deeds q a b p x c (inr (inr (inl m))) = inl (at_place x p q (w
 rename_spares w r deeds q a b p x c (inr (inr (inr m))) = inl (at_place x p q (w.directories p) _ (λ e. absurd (work_uncommitted p x (subst (λ (y : Place). is_work y ≡ true) e m.0) c)))
 
 -- a careful step spares a committed name, or is a commit of it
-pub step_spares : (w : WorldMap) (r : ℕ) (deeds : List Deed) (s : Step) (p : Place) (x : List ℕ) → is_committed p x ≡ true → IsCareful r deeds s → Spares x (w.directories p) (directory_after w s p) ⊎ IsRename r s p x
+pub step_spares : (w : WorldMap) (r : ℕ) (deeds : List Deed) (s : Step) (p : Place) (x : List ℕ) → is_committed p x ≡ true → Cares r deeds s → Spares x (w.directories p) (directory_after w s p) ⊎ IsRename r s p x
 step_spares w r deeds (step.MakeFolder q) p x c careful = inl (go (same_place q p || is_parent p q))
   where
     go : (v : Bool) → Spares x (w.directories p) (if v then with_made (w.directories p) else w.directories p)
@@ -152,16 +152,20 @@ step_spares w r deeds (step.MakeFolder q) p x c careful = inl (go (same_place q 
     go false = stays
 step_spares w r deeds (step.SyncFolder q) p x c careful = inl (at_place x p q (w.directories p) _ (λ e. settles))
 step_spares w r deeds (step.Create q n b) p x c careful = inl (at_place x p q (w.directories p) _
-    (λ e. spares_created x (w.directories p) n w.next_file (apart_own p x n c (temp_own r n (careful_create r deeds q n b careful).1.0))))
+    (λ e. spares_created x (w.directories p) n w.next_file (apart_own p x n c (temp_own r n (careful_create r deeds q n b (careful (place_lock e (committed_lock p x c)))).1.0))))
 step_spares w r deeds (step.Link q a b) p x c careful = inl (at_place x p q (w.directories p) _
-    (λ e. spares_linked x (w.directories p) b (now_in (w.directories p) a) (now_in (w.directories p) b) (go e (careful_link r deeds q a b careful).1)))
+    (λ e. spares_linked x (w.directories p) b (now_in (w.directories p) a) (now_in (w.directories p) b) (go e (careful_link r deeds q a b (careful (place_lock e (committed_lock p x c)))).1)))
   where
     go : q ≡ p → MayLink r q a b deeds → bytes_eq b x ≡ false
     go e (inl m) = apart_standing p x b c (number_stands b m.1)
     go e (inr (inl m)) = apart_standing p x b c (number_stands b m.2)
     go e (inr (inr m)) = absurd (work_uncommitted p x (subst (λ (y : Place). is_work y ≡ true) e m.0) c)
-step_spares w r deeds (step.Rename q a b) p x c careful = rename_spares w r deeds q a b p x c (careful_rename r deeds q a b careful).1
-step_spares w r deeds (step.Unlink q a) p x c careful = inl (at_place x p q (w.directories p) _ (λ e. spares_if x (w.directories p) (change.Gone a) (now_in (w.directories p) a) (go (careful_unlink r deeds q a careful).1)))
+step_spares w r deeds (step.Rename q a b) p x c careful = go (same_place q p) refl
+  where
+    go : (v : Bool) → same_place q p ≡ v → Spares x (w.directories p) (directory_after w (step.Rename q a b) p) ⊎ IsRename r (step.Rename q a b) p x
+    go true e = rename_spares w r deeds q a b p x c (careful_rename r deeds q a b (careful (place_lock (place_same q p e) (committed_lock p x c)))).1
+    go false e = inl (rw e stays)
+step_spares w r deeds (step.Unlink q a) p x c careful = inl (at_place x p q (w.directories p) _ (λ e. spares_if x (w.directories p) (change.Gone a) (now_in (w.directories p) a) (go (careful_unlink r deeds q a (careful (place_lock e (committed_lock p x c)))).1)))
   where
     go : MayUnlink r q a deeds → bytes_eq a x ≡ false
     go (inl temp) = apart_own p x a c (or_left _ (is_held (kind_of a)) temp)
@@ -170,10 +174,10 @@ step_spares w r deeds (step.Unlink q a) p x c careful = inl (at_place x p q (w.d
     go (inr (inr (inr m))) = apart_standing p x a c (held_stands a (is_held_any r a m.1))
 step_spares w r deeds s p x c careful = inl stays
 
-pub torn_commit : (w : WorldMap) (r : ℕ) (deeds : List Deed) (s : Step) (b : List ℕ) (p : Place) (x : List ℕ) → is_committed p x ≡ true → IsCareful r deeds s → MayLeave s (Torn b)
+pub torn_commit : (w : WorldMap) (r : ℕ) (deeds : List Deed) (s : Step) (b : List ℕ) (p : Place) (x : List ℕ) → is_committed p x ≡ true → Cares r deeds s → MayLeave s (Torn b)
     → Spares x (w.directories p) (directory_after w (torn s b) p)
 torn_commit w r deeds (step.Create q n k) b p x c careful may =
-    at_place x p q (w.directories p) _ (λ e. spares_created x (w.directories p) n w.next_file (apart_own p x n c (temp_own r n (careful_create r deeds q n k careful).1.0)))
+    at_place x p q (w.directories p) _ (λ e. spares_created x (w.directories p) n w.next_file (apart_own p x n c (temp_own r n (careful_create r deeds q n k (careful (place_lock e (committed_lock p x c)))).1.0)))
 torn_commit w r deeds s b p x c careful may = absurd may
 
 -- a commit whose temporary name is not there does nothing
@@ -185,7 +189,7 @@ gone_spares w p t x none = at_place x p p (w.directories p) _ (λ e. go (bytes_e
     go false None e = stays
     go false (Some f) e = absurd (cc (e))
 
-made_spares : (w : WorldMap) (r : ℕ) (deeds : List Deed) (s : Step) (p : Place) (x : List ℕ) → is_committed p x ≡ true → IsCareful r deeds s → Spares x (w.directories p) (directory_after w s p) ⊎ IsCommit w r s p x
+made_spares : (w : WorldMap) (r : ℕ) (deeds : List Deed) (s : Step) (p : Place) (x : List ℕ) → is_committed p x ≡ true → Cares r deeds s → Spares x (w.directories p) (directory_after w s p) ⊎ IsCommit w r s p x
 made_spares w r deeds s p x c careful = elim (step_spares w r deeds s p x c careful) [ inl z ↦ inl z | inr z ↦ go z.0 z.1 z.2 (now_in (w.directories p) z.0) refl ]
   where
     go : (t : List ℕ) → s ≡ step.Rename p t x → is_temp_of r (kind_of t) ≡ true → (u : Option ℕ) → now_in (w.directories p) t ≡ u → Spares x (w.directories p) (directory_after w s p) ⊎ IsCommit w r s p x
@@ -193,7 +197,7 @@ made_spares w r deeds s p x c careful = elim (step_spares w r deeds s p x c care
     go t es temp (Some f) e = inr (t, es, temp, (f, e))
 
 -- what such an act leaves of the name
-pub left_spares : (w : WorldMap) (r : ℕ) (deeds : List Deed) (s : Step) (a : Answer) (m : After) (p : Place) (x : List ℕ) → is_committed p x ≡ true → IsCareful r deeds s → IsNext w r s a m
+pub left_spares : (w : WorldMap) (r : ℕ) (deeds : List Deed) (s : Step) (a : Answer) (m : After) (p : Place) (x : List ℕ) → is_committed p x ≡ true → Cares r deeds s → IsNext w r s a m
     → Spares x (w.directories p) (left_directory w s m p) ⊎ (IsCommit w r s p x × IsLive r w)
 left_spares w r deeds s a m p x c careful (answered _ lv fits) = elim (made_spares w r deeds s p x c careful) [ inl z ↦ inl z | inr z ↦ inr (z, lv) ]
 left_spares w r deeds s a m p x c careful (failed Before lv may) = inl stays

@@ -13,7 +13,7 @@ use Rattle.folder_files.specs.declared.place.FilePath.{FilePath}
 use Rattle.folder_files.specs.declared.step.Answer.TheVariants.{Failed}
 use Rattle.folder_files.specs.declared.step.Step.{Step}
 use Rattle.folder_files.specs.declared.world.World.{World}
-use Rattle.step_plans.specs.Durable.{WasPut, IsDurable, stood, now, on}
+use Rattle.step_plans.specs.Durable.{WasPut, HasBeenPut, IsDurable, stood, now, on}
 use Rattle.step_plans.specs.Leaving.{IsRemoved, IsDiscarded, backed_up, unlinked, now, on}
 use Rattle.step_plans.specs.MailInvariant.{IsLetGo}
 use Rattle.step_plans.specs.Moments.{Leads, IsTriedAt, live, cut, Tries}
@@ -24,7 +24,7 @@ use Rattle.step_plans.proofs.Names.{not_both, or_left, or_false}
 use Rattle.step_plans.proofs.Closing.{untouched_kept, anchor_fresh}
 use Rattle.step_plans.proofs.Changes.{IsUnseen, kept_below}
 use Rattle.step_plans.proofs.Effects.{refused, left, world_start, world_crash, world_deliver, world_end, world_next}
-use Rattle.step_plans.proofs.Past.{once_none, acted, since_read, put_case, durable_case, since_case, spent_case, clear_case, let_go_on}
+use Rattle.step_plans.proofs.Past.{once_none, acted, since_read, put_case, ever_case, durable_case, since_case, spent_case, clear_case, let_go_on}
 use Rattle.step_plans.proofs.Holds.{crash_holds}
 use Rattle.step_plans.proofs.Inv.{Inv, InvAt, IsSafeAs}
 use Rattle.step_plans.proofs.Beginning.{nothing_pending, all_safe, all_known}
@@ -39,11 +39,11 @@ crash_at start v past image i = record {
     safe = λ n f e. rw image.next_file (kept_below (world_after start past).next_file (old p).safe (old p).pending (image.directories p).keep (i.below p).safe (i.below p).pending n f (sym ((image.directories p).slots n) ∙ e));
     pending = rw (image.directories p).nothing_pending tt;
   };
-  fresh = λ p r n x t none nd nf. (let fr = i.fresh p r n x t none nd nf in record { unseen = unseen p x fr.unseen; unspent = no_spent p x; unread = fr.unread });
-  fresh_temp = λ p r x t none nd nf. unseen p x (i.fresh_temp p r x t none nd nf);
-  temps = λ r p x f c t lv w leads. absurd (over r lv (acted r past w));
-  ready = λ r p x f t lv w leads. absurd (over r lv (acted r past w));
-  read = λ r p x f b h lv none w leads. absurd (over r lv (acted r past w));
+  fresh = λ p r n x lock t none nd nf. (let fr = i.fresh p r n x lock t none nd nf in record { unseen = unseen p x fr.unseen; unspent = no_spent p x; unread = fr.unread });
+  fresh_temp = λ p r x lock t none nd nf. unseen p x (i.fresh_temp p r x lock t none nd nf);
+  temps = λ r p x f c lock t lv w leads. absurd (over r lv (acted r past w));
+  ready = λ r p x f lock t lv w leads. absurd (over r lv (acted r past w));
+  read = λ r p x f b lock h lv none w leads. absurd (over r lv (acted r past w));
   gave = λ r p h held lv w. absurd (over r lv (acted r past w));
   cleared = λ r p h held lv w. absurd (over r lv (acted r past w));
   put = λ p f b w. absurd (no_put p f b w);
@@ -52,10 +52,11 @@ crash_at start v past image i = record {
     safe = image.all_safe f z.there;
     bytes = image.kept_bytes f z.safe ∙ z.bytes;
   });
+  ever = λ p f b w. (let z = i.ever p f b (ever w) in record { there = rw image.next_file z.there; safe = image.all_safe f z.there; bytes = image.kept_bytes f z.safe ∙ z.bytes });
   since = λ r p h b q g c lv lines w. absurd (over r lv (acted r past (since_read r past (earlier w))));
-  older_temp = λ r p x q t f g b c h tt_ lv none w leads_t leads_x. absurd (over r lv (acted r past w));
-  older_put = λ r p x q f g b c h lv none w leads. absurd (over r lv (acted r past (since_read r past (earlier w))));
-  holds = λ p. crash_holds start p v past (has_acted past) image (i.holds p);
+  older_temp = λ r p x q t f g b c lock lock_q h tt_ lv none w leads_t leads_x. absurd (over r lv (acted r past w));
+  older_put = λ r p x q f g b c lock h lv none w leads. absurd (over r lv (acted r past (since_read r past (earlier w))));
+  holds = λ p lock. crash_holds start p v past (has_acted past) image (i.holds p lock);
 }
   where
     old : Place → DirectoryMap
@@ -72,6 +73,9 @@ crash_at start v past image i = record {
 
     no_put : (p : Place) (f : ℕ) (b : List ℕ) → WasPut start p f b (Crash v ∷ past) → ⊥
     no_put p f b (on nc z) = nc
+
+    ever : {p : Place} {f : ℕ} {b : List ℕ} → HasBeenPut start p f b (Crash v ∷ past) → HasBeenPut start p f b past
+    ever (on z) = z
 
     before : {p : Place} {f : ℕ} {b : List ℕ} → IsDurable start p f b (Crash v ∷ past) → IsDurable start p f b past
     before (on z) = z
@@ -111,7 +115,7 @@ within_at : (start : World) (v : World) (r : ℕ) (s : Step) (past : List Event)
 unfolding own world_after
 within_at start v r s past lv over i = record {
   below = i.below;
-  fresh = λ p o n x t none nd nf. (let fr = i.fresh p o n x t none nd nf in record { unseen = fr.unseen; unspent = no_spent p x; unread = fr.unread });
+  fresh = λ p o n x lock t none nd nf. (let fr = i.fresh p o n x lock t none nd nf in record { unseen = fr.unseen; unspent = no_spent p x; unread = fr.unread });
   fresh_temp = i.fresh_temp;
   temps = i.temps;
   ready = i.ready;
@@ -120,15 +124,16 @@ within_at start v r s past lv over i = record {
   cleared = λ o p h held l w. absurd (was_clear p h (i.cleared o p h held l w));
   put = λ p f b w. absurd (no_put p f b w);
   durable = λ p f b w. (let z = i.durable p f b (durable w) in record { there = z.there; safe = z.safe; bytes = z.bytes });
+  ever = λ p f b w. (let z = i.ever p f b (ever w) in record { there = z.there; safe = z.safe; bytes = z.bytes });
   since = λ o p h b q g c l lines w. elim (i.since o p h b q g c l lines (on (on (earlier w)))) [ inl z ↦ inl (back z) | inr z ↦ absurd (was_put q g c z.1) ];
   older_temp = i.older_temp;
-  older_put = λ o p x q f g b c h l none w leads. i.older_put o p x q f g b c h l none (on (on (earlier w))) leads;
-  holds = λ p. record {
-    solid = λ f b ps. elim ((i.holds p).solid f b (inr (elim ps [ inl z ↦ absurd (no_put p f b z) | inr z ↦ durable z ]))) [
+  older_put = λ o p x q f g b c lock h l none w leads. i.older_put o p x q f g b c lock h l none (on (on (earlier w))) leads;
+  holds = λ p lock. record {
+    solid = λ f b ps. elim ((i.holds p lock).solid f b (inr (elim ps [ inl z ↦ absurd (no_put p f b z) | inr z ↦ durable z ]))) [
       | inl k ↦ inl (record { name = k.name; standing = k.standing; unspent = no_spent p k.name; leads = k.leads })
       | inr z ↦ inr (let_go p f z)
     ];
-    anchored = λ f b st. elim ((i.holds p).anchored f b (durable st)) [
+    anchored = λ f b st. elim ((i.holds p lock).anchored f b (durable st)) [
       | inl k ↦ inl (record { root = k.root; end = k.end; anchor = k.anchor; unclear = no_clear p k.end })
       | inr z ↦ inr (let_go p f z)
     ];
@@ -168,6 +173,12 @@ within_at start v r s past lv over i = record {
     durable : {p : Place} {f : ℕ} {b : List ℕ} → IsDurable start p f b (Act r s Failed Before ∷ (Crash v ∷ past)) → IsDurable start p f b (Crash v ∷ (Act r s Failed Made ∷ past))
     durable z = elim (durable_case z) [ inl y ↦ absurd (cc (y.1)) | inr y ↦ on (on (crash_durable y)) ]
 
+    crash_ever : {p : Place} {f : ℕ} {b : List ℕ} → HasBeenPut start p f b (Crash v ∷ past) → HasBeenPut start p f b past
+    crash_ever (on z) = z
+
+    ever : {p : Place} {f : ℕ} {b : List ℕ} → HasBeenPut start p f b (Act r s Failed Before ∷ (Crash v ∷ past)) → HasBeenPut start p f b (Crash v ∷ (Act r s Failed Made ∷ past))
+    ever z = elim (ever_case z) [ inl y ↦ absurd (cc (y.3)) | inr y ↦ on (on (crash_ever y)) ]
+
     uncrash : {p : Place} {f : ℕ} {b : List ℕ} → IsDurable start p f b (Crash v ∷ (Act r s Failed Made ∷ past)) → IsDurable start p f b (Act r s Failed Made ∷ past)
     uncrash (on z) = z
 
@@ -199,7 +210,7 @@ deliver_at : (start : World) (path : FilePath) (piece : List ℕ) (past : List E
 unfolding own
 deliver_at start path piece past i = record {
   below = i.below;
-  fresh = λ p o n x t none nd nf. (let fr = i.fresh p o n x t none nd nf in record { unseen = fr.unseen; unspent = λ z. fr.unspent (spent z); unread = fr.unread });
+  fresh = λ p o n x lock t none nd nf. (let fr = i.fresh p o n x lock t none nd nf in record { unseen = fr.unseen; unspent = λ z. fr.unspent (spent z); unread = fr.unread });
   fresh_temp = i.fresh_temp;
   temps = i.temps;
   ready = i.ready;
@@ -208,15 +219,16 @@ deliver_at start path piece past i = record {
   cleared = λ o p h held lv w. on tt (i.cleared o p h held lv w);
   put = λ p f b w. safely f b (i.put p f b (put w));
   durable = λ p f b w. safely f b (i.durable p f b (durable w));
+  ever = λ p f b w. safely f b (i.ever p f b (ever w));
   since = λ o p h b q g c lv lines w. elim (i.since o p h b q g c lv lines (since w)) [ inl z ↦ inl (on z) | inr z ↦ inr (z.0, on tt z.1) ];
   older_temp = i.older_temp;
-  older_put = λ o p x q f g b c h lv none w leads. i.older_put o p x q f g b c h lv none (since w) leads;
-  holds = λ p. record {
-    solid = λ f b ps. elim ((i.holds p).solid f b (elim ps [ inl z ↦ inl (put z) | inr z ↦ inr (durable z) ])) [
+  older_put = λ o p x q f g b c lock h lv none w leads. i.older_put o p x q f g b c lock h lv none (since w) leads;
+  holds = λ p lock. record {
+    solid = λ f b ps. elim ((i.holds p lock).solid f b (elim ps [ inl z ↦ inl (put z) | inr z ↦ inr (durable z) ])) [
       | inl k ↦ inl (record { name = k.name; standing = k.standing; unspent = λ z. k.unspent (spent z); leads = k.leads })
       | inr z ↦ inr (let_go_on z)
     ];
-    anchored = λ f b st. elim ((i.holds p).anchored f b (durable st)) [
+    anchored = λ f b st. elim ((i.holds p lock).anchored f b (durable st)) [
       | inl k ↦ inl (record { root = k.root; end = k.end; anchor = k.anchor; unclear = λ z. k.unclear (clear z) })
       | inr z ↦ inr (let_go_on z)
     ];
@@ -231,6 +243,9 @@ deliver_at start path piece past i = record {
 
     clear : {p : Place} {h : List ℕ} → IsClear start p h (Deliver path piece ∷ past) → IsClear start p h past
     clear (on nc z) = z
+
+    ever : {p : Place} {f : ℕ} {b : List ℕ} → HasBeenPut start p f b (Deliver path piece ∷ past) → HasBeenPut start p f b past
+    ever (on z) = z
 
     put : {p : Place} {f : ℕ} {b : List ℕ} → WasPut start p f b (Deliver path piece ∷ past) → WasPut start p f b past
     put (on nc z) = z
@@ -248,24 +263,25 @@ end_at : (start : World) (who : ℕ) (past : List Event) → Inv start past → 
 unfolding own
 end_at start who past i = record {
   below = i.below;
-  fresh = λ p o n x t none nd nf. (let fr = i.fresh p o n x t none nd nf in record { unseen = fr.unseen; unspent = λ z. fr.unspent (spent z); unread = fr.unread });
+  fresh = λ p o n x lock t none nd nf. (let fr = i.fresh p o n x lock t none nd nf in record { unseen = fr.unseen; unspent = λ z. fr.unspent (spent z); unread = fr.unread });
   fresh_temp = i.fresh_temp;
-  temps = λ o p x f c t lv w leads. i.temps o p x f c t (lives o lv) w leads;
-  ready = λ o p x f t lv w leads. i.ready o p x f t (lives o lv) w leads;
-  read = λ o p x f b h lv none w leads. i.read o p x f b h (lives o lv) none w leads;
+  temps = λ o p x f c lock t lv w leads. i.temps o p x f c lock t (lives o lv) w leads;
+  ready = λ o p x f lock t lv w leads. i.ready o p x f lock t (lives o lv) w leads;
+  read = λ o p x f b lock h lv none w leads. i.read o p x f b lock h (lives o lv) none w leads;
   gave = λ o p h held lv w. on tt (i.gave o p h held (lives o lv) w);
   cleared = λ o p h held lv w. on tt (i.cleared o p h held (lives o lv) w);
   put = λ p f b w. safely f b (i.put p f b (put w));
   durable = λ p f b w. safely f b (i.durable p f b (durable w));
+  ever = λ p f b w. safely f b (i.ever p f b (ever w));
   since = λ o p h b q g c lv lines w. elim (i.since o p h b q g c (lives o lv) lines (since w)) [ inl z ↦ inl (on z) | inr z ↦ inr (z.0, on tt z.1) ];
-  older_temp = λ o p x q t f g b c h is lv none w leads_t leads_x. i.older_temp o p x q t f g b c h is (lives o lv) none w leads_t leads_x;
-  older_put = λ o p x q f g b c h lv none w leads. i.older_put o p x q f g b c h (lives o lv) none (since w) leads;
-  holds = λ p. record {
-    solid = λ f b ps. elim ((i.holds p).solid f b (elim ps [ inl z ↦ inl (put z) | inr z ↦ inr (durable z) ])) [
+  older_temp = λ o p x q t f g b c lock lock_q h is lv none w leads_t leads_x. i.older_temp o p x q t f g b c lock lock_q h is (lives o lv) none w leads_t leads_x;
+  older_put = λ o p x q f g b c lock h lv none w leads. i.older_put o p x q f g b c lock h (lives o lv) none (since w) leads;
+  holds = λ p lock. record {
+    solid = λ f b ps. elim ((i.holds p lock).solid f b (elim ps [ inl z ↦ inl (put z) | inr z ↦ inr (durable z) ])) [
       | inl k ↦ inl (record { name = k.name; standing = k.standing; unspent = λ z. k.unspent (spent z); leads = k.leads })
       | inr z ↦ inr (let_go_on z)
     ];
-    anchored = λ f b st. elim ((i.holds p).anchored f b (durable st)) [
+    anchored = λ f b st. elim ((i.holds p lock).anchored f b (durable st)) [
       | inl k ↦ inl (record { root = k.root; end = k.end; anchor = k.anchor; unclear = λ z. k.unclear (clear z) })
       | inr z ↦ inr (let_go_on z)
     ];
@@ -284,6 +300,9 @@ end_at start who past i = record {
     clear : {p : Place} {h : List ℕ} → IsClear start p h (End who ∷ past) → IsClear start p h past
     clear (on nc z) = z
 
+    ever : {p : Place} {f : ℕ} {b : List ℕ} → HasBeenPut start p f b (End who ∷ past) → HasBeenPut start p f b past
+    ever (on z) = z
+
     put : {p : Place} {f : ℕ} {b : List ℕ} → WasPut start p f b (End who ∷ past) → WasPut start p f b past
     put (on nc z) = z
 
@@ -300,19 +319,20 @@ start_at : (start : World) → IsStart start → InvAt start [] (shown start)
 unfolding own
 start_at start st = record {
   below = λ p. record { safe = λ n f e. all_known start st p n f e; pending = rw (nothing_pending start st p) tt };
-  fresh = λ p o n x t none nd nf. record { unseen = (none, rw (nothing_pending start st p) tt); unspent = no_spent p x; unread = λ b w. once_none w };
-  fresh_temp = λ p r x t none nd nf. (none, rw (nothing_pending start st p) tt);
-  temps = λ o p x f c t lv w leads. absurd (once_none w);
-  ready = λ o p x f t lv w leads. absurd (once_none w);
-  read = λ o p x f b h lv none w leads. absurd (once_none w);
+  fresh = λ p o n x lock t none nd nf. record { unseen = (none, rw (nothing_pending start st p) tt); unspent = no_spent p x; unread = λ b w. once_none w };
+  fresh_temp = λ p r x lock t none nd nf. (none, rw (nothing_pending start st p) tt);
+  temps = λ o p x f c lock t lv w leads. absurd (once_none w);
+  ready = λ o p x f lock t lv w leads. absurd (once_none w);
+  read = λ o p x f b lock h lv none w leads. absurd (once_none w);
   gave = λ o p h held lv w. absurd (once_none w);
   cleared = λ o p h held lv w. absurd (once_none w);
   put = λ p f b w. absurd (no_put p f b w);
   durable = λ p f b w. durable p f b w;
+  ever = λ p f b w. elim w [ ];
   since = λ o p h b q g c lv lines w. elim w [ ];
-  older_temp = λ o p x q t f g b c h is lv none w leads_t leads_x. absurd (once_none w);
-  older_put = λ o p x q f g b c h lv none w leads. elim w [ ];
-  holds = λ p. record {
+  older_temp = λ o p x q t f g b c lock lock_q h is lv none w leads_t leads_x. absurd (once_none w);
+  older_put = λ o p x q f g b c lock h lv none w leads. elim w [ ];
+  holds = λ p lock. record {
     solid = λ f b ps. inl (let k = stands p f b (elim ps [ inl z ↦ absurd (no_put p f b z) | inr z ↦ z ]) in
         record { name = k.0; standing = k.1; unspent = no_spent p k.0; leads = rw (nothing_pending start st p) k.2 });
     anchored = λ f b ps. inl (let k = stands p f b ps in
@@ -330,10 +350,10 @@ start_at start st = record {
     no_put p f b z = elim z [ ]
 
     stands : (p : Place) (f : ℕ) (b : List ℕ) → IsDurable start p f b [] → (x : List ℕ) × (is_standing x ≡ true) × (((shown start).directories p).safe x ≡ Some f)
-    stands p f b (stood x s e bytes) = (x, s, e)
+    stands p f b (stood x lock s e bytes) = (x, s, e)
 
     durable : (p : Place) (f : ℕ) (b : List ℕ) → IsDurable start p f b [] → IsSafeAs (shown start) f b
-    durable p f b (stood x s e bytes) = record { there = all_known start st p x f e; safe = all_safe start st f; bytes = bytes }
+    durable p f b (stood x lock s e bytes) = record { there = all_known start st p x f e; safe = all_safe start st f; bytes = bytes }
 
 pub inv_start : (start : World) → IsStart start → Inv start []
 inv_start start st = subst (λ (z : WorldMap). InvAt start [] z) (sym (world_start start)) (start_at start st)

@@ -29,7 +29,7 @@ use Rattle.step_plans.proofs.Closing.{AtEach, kept_moment}
 use Rattle.step_plans.proofs.Changes.{now_below}
 use Rattle.step_plans.proofs.Effects.{IsNext, answered, failed, refused, left, left_directory, left_next, left_grows, left_keeps, ComesTo, next_goes, world_start, world_crash, world_deliver, world_end, world_next}
 use Rattle.step_plans.proofs.Inv.{Inv}
-use Rattle.step_plans.proofs.Discipline.{careful_rename}
+use Rattle.step_plans.proofs.Discipline.{careful_rename, Cares, committed_lock}
 use Rattle.step_plans.proofs.Beginning.{nothing_pending, all_safe, all_known}
 use Rattle.step_plans.proofs.Crashes.{ended_by}
 use Rattle.step_plans.proofs.Law.{inv, none_before, may_made, careful_back, image_within, within_ended}
@@ -78,7 +78,7 @@ sync_case p r (step.SyncFolder q) a Made = go (same_place q p) refl
 sync_case p r (step.SyncFolder q) a m = inr (λ z k. cc (k))
 sync_case p r s a m = inr (λ z k. cc (z))
 
-firm_now : (start : World) (past : List Event) (r : ℕ) (s : Step) (a : Answer) (m : After) (p : Place) (x : List ℕ) → is_committed p x ≡ true → IsCareful r (own r past) s → IsNext (world_after start past) r s a m → Inv start past
+firm_now : (start : World) (past : List Event) (r : ℕ) (s : Step) (a : Answer) (m : After) (p : Place) (x : List ℕ) → is_committed p x ≡ true → Cares r (own r past) s → IsNext (world_after start past) r s a m → Inv start past
     → IsFirm (world_after start past) (now_in ((world_after start past).directories p) x) → IsFirm (world_after start past) (now_in (left_directory (world_after start past) s m p) x)
 firm_now start past r s a m p x c careful nx i h = by nx
   where
@@ -91,8 +91,8 @@ firm_now start past r s a m p x c careful nx i h = by nx
       where
         ready : (f : ℕ) → now_in ((world_after start past).directories p) t ≡ Some f → IsFirm (world_after start past) (Some f)
         ready f e =
-            let may = commit_of r (own r past) p t x c (careful_rename r (own r past) p t x (subst (λ (k : Step). IsCareful r (own r past) k) es careful)).1 in
-            (now_below (world_after start past).next_file ((world_after start past).directories p) (i.below p) t f e, i.ready r p t f temp lv may.1.1 e)
+            let may = commit_of r (own r past) p t x c (careful_rename r (own r past) p t x (subst (λ (k : Step). Cares r (own r past) k) es careful (committed_lock p x c))).1 in
+            (now_below (world_after start past).next_file ((world_after start past).directories p) (i.below p) t f e, i.ready r p t f (committed_lock p x c) temp lv may.1.1 e)
 
         go : (u : Option ℕ) → now_in ((world_after start past).directories p) t ≡ u → IsFirm (world_after start past) (now_in (changed_if ((world_after start past).directories p) (Moved t x) u) x)
         go None e = h
@@ -115,7 +115,7 @@ IsHad start past p x w o = HadText start p x (text_of w o) past × IsFirm w o
 sync_is : (w : WorldMap) (p : Place) → directory_after w (step.SyncFolder p) p ≡ synced (w.directories p)
 sync_is w p = rw (place_is p) refl
 
-had_act : (start : World) (past : List Event) (r : ℕ) (s : Step) (a : Answer) (m : After) (p : Place) (x : List ℕ) → is_committed p x ≡ true → IsCareful r (own r past) s → IsNext (world_after start past) r s a m → Inv start past
+had_act : (start : World) (past : List Event) (r : ℕ) (s : Step) (a : Answer) (m : After) (p : Place) (x : List ℕ) → is_committed p x ≡ true → Cares r (own r past) s → IsNext (world_after start past) r s a m → Inv start past
     → HadAll start past p x (world_after start past) → HadAll start (Act r s a m ∷ past) p x (left (world_after start past) r s a m)
 had_act start past r s a m p x c careful nx i h = elim (sync_case p r s a m) [
   | inl e ↦ settled e.0 e.1

@@ -3,8 +3,10 @@ use Rattle.std.proofs.Common.{◌≡◌, ℕ, true, false, inl, inr, List, refl,
 use Rattle.mh_base.specs.Entries.{kind_of}
 use Rattle.folder_files.specs.Careful.{MayCreate, MayCut, IsCareful, looks, changes, WasMade, WasSynced}
 use Rattle.folder_files.specs.Deeds.{Deed, WasDone, HasFailed}
-use Rattle.folder_files.specs.Named.{is_temp, is_temp_of, is_number, is_held, is_taking}
+use Rattle.folder_files.specs.Histories.{IsLockable, IsOnMail}
+use Rattle.folder_files.specs.Named.{is_temp, is_temp_of, is_number, is_held, is_taking, is_committed}
 use Rattle.folder_files.specs.declared.place.Place.{Place}
+use Rattle.folder_files.specs.declared.place.Place.TheVariants.{Home, Work, Mail, Folder}
 use Rattle.folder_files.specs.declared.place.FilePath.{FilePath}
 use Rattle.folder_files.specs.declared.step.Step.{Step}
 use Rattle.folder_files.specs.declared.step.Step.TheVariants as step
@@ -33,6 +35,19 @@ pub careful_cut : (r : ℕ) (own : List Deed) (f : FilePath) (n : ℕ) → IsCar
 careful_cut r own f n (looks l) = absurd l
 careful_cut r own f n (changes fl k h) = (fl, (cuts_kind r own (step.CutDrop f n) f n (MayCut r f n own) refl (λ x. x, λ x. x)).1 (k, h))
 
+-- a step is careful where it is made in a folder or the mail directory
+abbrev pub Cares : ℕ → List Deed → Step → Type 0
+Cares r own s = IsOnMail s → IsCareful r own s
+
+pub place_lock : {q p : Place} → q ≡ p → IsLockable p → IsLockable q
+place_lock e lock = subst (λ (z : Place). IsLockable z) (sym e) lock
+
+pub committed_lock : (p : Place) (x : List ℕ) → is_committed p x ≡ true → IsLockable p
+committed_lock Home x h = absurd (cc (h))
+committed_lock Work x h = absurd (cc (h))
+committed_lock (Mail path) x h = tt
+committed_lock (Folder path name) x h = tt
+
 held_own : (x : List ℕ) → is_held (kind_of x) ≡ true → is_own x ≡ true
 held_own x h = or_last (is_temp (kind_of x)) (is_held (kind_of x)) h
 
@@ -60,11 +75,11 @@ pub record IsTake (r : ℕ) (own : List Deed) (s : Step) (p : Place) (x : List �
   pub unfailed : HasFailed own → ⊥
   pub fresh : WasDone (step.Rename p number x) own → ⊥
 
-pub held_target : (r : ℕ) (own : List Deed) (s : Step) (p : Place) (x : List ℕ) → IsCareful r own s → is_held (kind_of x) ≡ true → IsTarget s p x → IsTake r own s p x
-held_target r own (step.Create q n b) p x careful held t = absurd (let m = careful_create r own q n b careful in
+pub held_target : (r : ℕ) (own : List Deed) (s : Step) (p : Place) (x : List ℕ) → IsLockable p → Cares r own s → is_held (kind_of x) ≡ true → IsTarget s p x → IsTake r own s p x
+held_target r own (step.Create q n b) p x lock careful held t = absurd (let m = careful_create r own q n b (careful (place_lock t.0 lock)) in
     not_both (is_held (kind_of n)) (subst (λ (z : List ℕ). is_held (kind_of z) ≡ true) (sym t.1) held) (is_temp_unheld n (is_temp_any r n m.1.0)))
-held_target r own (step.Link q a b) p x careful held t = absurd (link_unown r own q a b (careful_link r own q a b careful).1 (subst (λ (z : List ℕ). is_own z ≡ true) (sym t.1) (held_own x held)))
-held_target r own (step.Rename q a b) p x careful held t = let m = careful_rename r own q a b careful in
+held_target r own (step.Link q a b) p x lock careful held t = absurd (link_unown r own q a b (careful_link r own q a b (careful (place_lock t.0 lock))).1 (subst (λ (z : List ℕ). is_own z ≡ true) (sym t.1) (held_own x held)))
+held_target r own (step.Rename q a b) p x lock careful held t = let m = careful_rename r own q a b (careful (place_lock t.0 lock)) in
     let z = rename_takes r own q a b m.1 (subst (λ (z : List ℕ). is_own z ≡ true) (sym t.1) (held_own x held)) in
     let e : step.Rename q a b ≡ step.Rename p a x = λ i. step.Rename (t.0 i) a (t.1 i) in
     record {
@@ -74,7 +89,7 @@ held_target r own (step.Rename q a b) p x careful held t = let m = careful_renam
       unfailed = m.0;
       fresh = subst (λ (y : Step). WasDone y own → ⊥) e z.1;
     }
-held_target r own s p x careful held t = absurd t
+held_target r own s p x lock careful held t = absurd t
 
 -- where a temporary name comes from
 pub record IsMaking (r : ℕ) (own : List Deed) (s : Step) (p : Place) (x : List ℕ) : Type 0 where
@@ -84,8 +99,8 @@ pub record IsMaking (r : ℕ) (own : List Deed) (s : Step) (p : Place) (x : List
   pub unfailed : HasFailed own → ⊥
   pub fresh : WasMade p x own → ⊥
 
-pub temp_target : (r : ℕ) (own : List Deed) (s : Step) (p : Place) (x : List ℕ) → IsCareful r own s → is_temp (kind_of x) ≡ true → IsTarget s p x → IsMaking r own s p x
-temp_target r own (step.Create q n b) p x careful temp t = let m = careful_create r own q n b careful in
+pub temp_target : (r : ℕ) (own : List Deed) (s : Step) (p : Place) (x : List ℕ) → IsLockable p → Cares r own s → is_temp (kind_of x) ≡ true → IsTarget s p x → IsMaking r own s p x
+temp_target r own (step.Create q n b) p x lock careful temp t = let m = careful_create r own q n b (careful (place_lock t.0 lock)) in
     record {
       bytes = b;
       is = λ i. step.Create (t.0 i) (t.1 i) b;
@@ -93,11 +108,11 @@ temp_target r own (step.Create q n b) p x careful temp t = let m = careful_creat
       unfailed = m.0;
       fresh = subst (λ (z : List ℕ). WasMade p z own → ⊥) t.1 (subst (λ (z : Place). WasMade z n own → ⊥) t.0 m.1.1);
     }
-temp_target r own (step.Link q a b) p x careful temp t = absurd (link_unown r own q a b (careful_link r own q a b careful).1 (subst (λ (z : List ℕ). is_own z ≡ true) (sym t.1) (temp_own x temp)))
-temp_target r own (step.Rename q a b) p x careful temp t = absurd (let m = careful_rename r own q a b careful in
+temp_target r own (step.Link q a b) p x lock careful temp t = absurd (link_unown r own q a b (careful_link r own q a b (careful (place_lock t.0 lock))).1 (subst (λ (z : List ℕ). is_own z ≡ true) (sym t.1) (temp_own x temp)))
+temp_target r own (step.Rename q a b) p x lock careful temp t = absurd (let m = careful_rename r own q a b (careful (place_lock t.0 lock)) in
     let z = rename_takes r own q a b m.1 (subst (λ (z : List ℕ). is_own z ≡ true) (sym t.1) (temp_own x temp)) in
     not_both (is_held (kind_of b)) (is_held_any r b (is_taking_held r a b z.0)) (is_temp_unheld b (subst (λ (z : List ℕ). is_temp (kind_of z) ≡ true) (sym t.1) temp)))
-temp_target r own s p x careful temp t = absurd t
+temp_target r own s p x lock careful temp t = absurd t
 
 -- no rename leads to a number
 rename_unnumbered : (r : ℕ) (own : List Deed) (p : Place) (a b : List ℕ) → MayRename r p a b own → is_number (kind_of b) ≡ true → ⊥

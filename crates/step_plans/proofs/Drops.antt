@@ -1,12 +1,14 @@
 -- The messages of a drop that is cut are durable.
 use Rattle.std.proofs.Common.{◌≡◌, ℕ, zero, suc, Bool, true, false, ◌==◌, ◌||◌, ◌⊎◌, inl, inr, List, [], ◌∷◌, ◌++◌, length, take, drop, reverse, All, Option, Some, None, refl, sym, ◌∙◌, ap, subst, arith, append_assoc, append-nil, length-append, if◌then◌else◌}
-use Rattle.std.proofs.lemmas.List.{take-append-drop, reverse-append}
+use Rattle.std.proofs.lemmas.List.{take-append-drop, reverse-append, reverse-reverse}
 use Rattle.std.proofs.Math.Seq.{drop-append_seam}
 use Rattle.mbox_drop.specs.Drops.{messages}
-use Rattle.folder_files.specs.Careful.{HasPieces, first, more, on, HasStored, all, put, MayCut}
+use Rattle.mh_base.specs.Entries.{kind_of}
+use Rattle.folder_files.specs.Careful.{HasPieces, first, more, on, HasStored, all, put, MayCut, WasPutFrom}
 use Rattle.folder_files.specs.Deeds.{Deed, did, Once, WasDone, now, on}
 use Rattle.folder_files.specs.Histories.{world_after, own, has_acted, IsLive, IsLegal, begins, answers, fails, is_dead, delivers, crashes, crashes_within, stops, AreCareful, delivered}
-use Rattle.folder_files.specs.Places.{same_path}
+use Rattle.folder_files.specs.Named.{is_temp_of}
+use Rattle.folder_files.specs.Places.{same_path, is_folder}
 use Rattle.folder_files.specs.Steps.{made, made_by, unmade, left_by, torn, MayLeave, piece_answer, cut_at, cut_answer}
 use Rattle.folder_files.specs.Worlds.{WorldMap, shown, IsStart}
 use Rattle.folder_files.specs.declared.event.After.{After}
@@ -21,18 +23,19 @@ use Rattle.folder_files.specs.declared.step.Step.{Step}
 use Rattle.folder_files.specs.declared.step.Step.TheVariants as step
 use Rattle.folder_files.specs.declared.world.World.{World}
 use Rattle.step_plans.proofs.Sameness.{path_same}
-use Rattle.step_plans.specs.Cutting.{IsCut, IsUncut, read, on, AreDurable}
-use Rattle.step_plans.specs.Durable.{IsDurable, HasPut, HasPutAndSynced}
-use Rattle.step_plans.specs.Moments.{IsTriedAt, live, cut}
-use Rattle.step_plans.specs.Starts.{HasNoneOfTheirs}
+use Rattle.step_plans.specs.Cutting.{IsCut, IsUncut, read, on, AreStoredAs, IsNoneOf, AreApart, AreDurable}
+use Rattle.step_plans.specs.Durable.{IsDurable}
+use Rattle.step_plans.specs.Moments.{HasLed, IsTriedAt, live, cut}
+use Rattle.step_plans.specs.Starts.{HasNoneOf, HasNoneOfTheirs}
 use Rattle.step_plans.proofs.Names.{num_same, num_apart, not_both, or_left, or_false}
 use Rattle.step_plans.proofs.Effects.{IsNext, answered, failed, refused, next_fits, fits_as, world_act, world_crash, world_deliver, world_end}
-use Rattle.step_plans.proofs.Past.{did_step, did_answer, acted}
+use Rattle.step_plans.proofs.Past.{did_step, did_answer, acted, folder_lock}
 use Rattle.step_plans.proofs.Discipline.{careful_cut}
 use Rattle.step_plans.proofs.Crashes.{ended_by}
-use Rattle.step_plans.proofs.Law.{none_before, within_ended}
+use Rattle.step_plans.proofs.Law.{none_now, none_before, within_ended}
 use Rattle.step_plans.proofs.Tried.{tried, careful_then, none_then}
-use Rattle.step_plans.proofs.Told.{lives_before, durable_told}
+use Rattle.step_plans.proofs.Told.{lives_before, HasPutAs, HasSyncedAs, durable_as}
+use Rattle.step_plans.proofs.Apart.{apart}
 
 -- an outside file stays as it is at a step that doesn't cut it
 cut_misses : (n : ℕ) (o : Option (List ℕ)) → (cut_answer n o ≡ Done → ⊥) → cut_at n o ≡ o
@@ -199,57 +202,110 @@ whole_of b x z e =
     some : {x y : List ℕ} → Some x ≡ Some y → x ≡ y
     some e = cc (e)
 
--- each of a list
-abbrev Each : {A : Type 0} → (A → Type 0) → List A → Type 0
-Each P [] = Unit {0}
-Each P (x ∷ xs) = P x × Each P xs
+-- what was stored, in another order
+stored_more : (start : World) (past : List Event) (fs : List ℕ) (ms : List (List ℕ)) (f : ℕ) (m : List ℕ) → AreStoredAs start past fs ms → (p : Place) × IsDurable start p f m past → AreStoredAs start past (fs ++ f ∷ []) (ms ++ m ∷ [])
+stored_more start past [] [] f m h d = (d, tt)
+stored_more start past [] (n ∷ ms) f m h d = absurd h
+stored_more start past (g ∷ fs) [] f m h d = absurd h
+stored_more start past (g ∷ fs) (n ∷ ms) f m h d = (h.0, stored_more start past fs ms f m h.1 d)
 
-each_back : {A : Type 0} (P : A → Type 0) (xs ys : List A) → Each P (xs ++ ys) → Each P xs × Each P ys
-each_back P [] ys h = (tt, h)
-each_back P (x ∷ xs) ys h = let z = each_back P xs ys h.1 in ((h.0, z.0), z.1)
+none_more : (g f : ℕ) (fs : List ℕ) → IsNoneOf g fs → (g ≡ f → ⊥) → IsNoneOf g (fs ++ f ∷ [])
+none_more g f [] h n = (n, tt)
+none_more g f (k ∷ fs) h n = (h.0, none_more g f fs h.1 n)
 
-each_reversed : {A : Type 0} (P : A → Type 0) (xs : List A) → Each P (reverse xs) → Each P xs
-each_reversed P [] h = tt
-each_reversed P (x ∷ xs) h = let z = each_back P (reverse xs) (x ∷ []) (subst (Each P) (reverse-append (x ∷ []) xs) h) in (z.1.0, each_reversed P xs z.0)
+apart_more : (f : ℕ) (fs : List ℕ) → AreApart fs → IsNoneOf f fs → AreApart (fs ++ f ∷ [])
+apart_more f [] h n = (tt, tt)
+apart_more f (g ∷ fs) h n = (none_more g f fs h.0 (λ e. n.0 (sym e)), apart_more f fs h.1 n.1)
 
-each_map : {A : Type 0} (P Q : A → Type 0) (xs : List A) → ((x : A) → P x → Q x) → Each P xs → Each Q xs
-each_map P Q [] f h = tt
-each_map P Q (x ∷ xs) f h = (f x h.0, each_map P Q xs f h.1)
+none_back : (g : ℕ) (fs gs : List ℕ) → IsNoneOf g fs → IsNoneOf g gs → IsNoneOf g (fs ++ gs)
+none_back g [] gs h k = k
+none_back g (f ∷ fs) gs h k = (h.0, none_back g fs gs h.1 k)
 
-each_all : {A : Type 0} (P : A → Type 0) (xs : List A) → Each P xs → All P xs
-each_all P [] h k d l = absurd (omega arith)
-each_all P (x ∷ xs) h zero d l = h.0
-each_all P (x ∷ xs) h (suc k) d l = each_all P xs h.1 k d (omega arith)
+-- files of messages, each its own
+abbrev AreFiles : World → List Event → List ℕ → List (List ℕ) → Type 0
+AreFiles start past fs ms = AreStoredAs start past fs ms × AreApart fs
+
+none_reversed : (g : ℕ) (fs : List ℕ) → IsNoneOf g fs → IsNoneOf g (reverse fs)
+none_reversed g [] h = tt
+none_reversed g (f ∷ fs) h = subst (λ (l : List ℕ). IsNoneOf g l) (sym (reverse-append (f ∷ []) fs)) (none_more g f (reverse fs) (none_reversed g fs h.1) h.0)
+
+files_reversed : (start : World) (past : List Event) (fs : List ℕ) (ms : List (List ℕ)) → AreFiles start past fs ms → AreFiles start past (reverse fs) (reverse ms)
+files_reversed start past [] [] h = (tt, tt)
+files_reversed start past [] (m ∷ ms) h = absurd h.0
+files_reversed start past (f ∷ fs) [] h = absurd h.0
+files_reversed start past (f ∷ fs) (m ∷ ms) h = let k = files_reversed start past fs ms (h.0.1, h.1.1) in
+    subst (λ (l : List ℕ). AreFiles start past l (reverse (m ∷ ms))) (sym (reverse-append (f ∷ []) fs))
+    (subst (λ (l : List (List ℕ)). AreFiles start past (reverse fs ++ f ∷ []) l) (sym (reverse-append (m ∷ []) ms))
+    (stored_more start past (reverse fs) (reverse ms) f m k.0 h.0.0, apart_more f (reverse fs) k.1 (none_reversed f fs h.1.0)))
 
 -- what the messages that the run stored rest on
 once_front : {P : Deed → List Deed → Type 0} (front : List Deed) {deeds : List Deed} → Once P deeds → Once P (front ++ deeds)
 once_front [] w = w
 once_front (d ∷ front) w = on (once_front front w)
 
-synced_after : (q : Place) (r : ℕ) (m : List ℕ) (older : List Deed) → HasPut r q m older → {newer : List Deed} → WasDone (step.SyncFolder q) newer → HasPutAndSynced r q m (newer ++ older)
-synced_after q r m older h (now {own = rest} e) = now (e, once_front rest h)
-synced_after q r m older h (on w) = on (synced_after q r m older h w)
+synced_after : (q : Place) (r : ℕ) (t m : List ℕ) (older : List Deed) → HasPutAs r q t m older → {newer : List Deed} → WasDone (step.SyncFolder q) newer → HasSyncedAs r q t m (newer ++ older)
+synced_after q r t m older h (now {own = rest} e) = now (e, once_front rest h)
+synced_after q r t m older h (on w) = on (synced_after q r t m older h w)
 
-abbrev IsStoredBy : ℕ → List Deed → List ℕ → Type 0
-IsStoredBy r deeds m = (q : Place) × HasPutAndSynced r q m deeds
+-- the file was put by these deeds, from this name of the run
+record IsPutFrom (start : World) (past : List Event) (r : ℕ) (deeds : List Deed) (f : ℕ) : Type 0 where
+  pub place : Place
+  pub temp : List ℕ
+  pub folder : is_folder place ≡ true
+  pub is : is_temp_of r (kind_of temp) ≡ true
+  pub led : HasLed start place temp f past
+  pub put : WasPutFrom r place temp deeds
 
-stored_each : (r : ℕ) (f : FilePath) {newer : List Deed} {ms : List (List ℕ)} {deeds : List Deed} → HasStored r f newer ms deeds → Each (IsStoredBy r (newer ++ deeds)) ms
-stored_each r f all = tt
-stored_each r f (put {newer = newer} {own = older} {d = d} q {message = m} {messages = ms} p s h) =
-    ((q, synced_after q r m (d ∷ older) (now p) s), subst (λ (ds : List Deed). Each (IsStoredBy r ds) ms) (append_assoc newer (d ∷ []) older) (stored_each r f h))
-stored_each r f (on {newer = newer} {own = older} {d = d} {messages = ms} n h) =
-    subst (λ (ds : List Deed). Each (IsStoredBy r ds) ms) (append_assoc newer (d ∷ []) older) (stored_each r f h)
+abbrev ArePutFrom : World → List Event → ℕ → List Deed → List ℕ → Type 0
+ArePutFrom start past r deeds [] = Unit {0}
+ArePutFrom start past r deeds (f ∷ fs) = IsPutFrom start past r deeds f × ArePutFrom start past r deeds fs
 
-cut_at_moment : (start : World) (r : ℕ) (f : FilePath) (n : ℕ) (bytes : List ℕ) {past : List Event} → IsStart start → IsLegal start past → AreCareful past → HasNoneOfTheirs start past → IsLive r (world_after start past)
+put_later : (start : World) (past : List Event) (r : ℕ) (d : Deed) (deeds : List Deed) (fs : List ℕ) → ArePutFrom start past r deeds fs → ArePutFrom start past r (d ∷ deeds) fs
+put_later start past r d deeds [] h = tt
+put_later start past r d deeds (f ∷ fs) h =
+    (record { place = h.0.place; temp = h.0.temp; folder = h.0.folder; is = h.0.is; led = h.0.led; put = on h.0.put }, put_later start past r d deeds fs h.1)
+
+-- such files for these messages
+record HasFiles (start : World) (past : List Event) (r : ℕ) (deeds : List Deed) (ms : List (List ℕ)) : Type 0 where
+  pub files : List ℕ
+  pub stored : AreStoredAs start past files ms
+  pub apart : AreApart files
+  pub from : ArePutFrom start past r deeds files
+
+module _ (start : World) (r : ℕ) (f : FilePath) (past : List Event) (st : IsStart start) (l : IsLegal start past) (careful : AreCareful past) (none : HasNoneOfTheirs start past) (lv : HasNoneOf start r) where
+  -- a file put from a name that was not put from before is none of those that were
+  first_apart : (q : Place) (t : List ℕ) (g : ℕ) (deeds : List Deed) (fs : List ℕ) → is_folder q ≡ true → is_temp_of r (kind_of t) ≡ true → HasLed start q t g past → (WasPutFrom r q t deeds → ⊥) → ArePutFrom start past r deeds fs → IsNoneOf g fs
+  first_apart q t g deeds [] folder temp led unput h = tt
+  first_apart q t g deeds (k ∷ fs) folder temp led unput h = (
+    λ e. (let one = apart start r q h.0.place t h.0.temp g st lv (folder_lock q folder) (folder_lock h.0.place h.0.folder) temp h.0.is l careful none led (subst (λ (n : ℕ). HasLed start h.0.place h.0.temp n past) (sym e) h.0.led) in
+        unput (subst (λ (n : List ℕ). WasPutFrom r q n deeds) (sym one.1) (subst (λ (n : Place). WasPutFrom r n h.0.temp deeds) (sym one.0) h.0.put))),
+    first_apart q t g deeds fs folder temp led unput h.1,
+  )
+
+  stored_files : {newer : List Deed} {ms : List (List ℕ)} {deeds : List Deed} → newer ++ deeds ≡ own r past → HasStored r f newer ms deeds → HasFiles start past r deeds ms
+  stored_files e all = record { files = []; stored = tt; apart = tt; from = tt }
+  stored_files e (put {newer = newer} {own = older} {d = d} q {message = m} {messages = ms} p s h) =
+      let rest = stored_files (append_assoc newer (d ∷ []) older ∙ e) h in
+      let z = durable_as start r q p.0 m st l careful none (subst (λ (ds : List Deed). HasSyncedAs r q p.0 m ds) e (synced_after q r p.0 m (d ∷ older) (now (p.1, p.2)) s)) in
+      record {
+        files = z.0 ∷ rest.files;
+        stored = ((q, z.1), rest.stored);
+        apart = (first_apart q p.0 z.0 older rest.files p.1.4 p.1.2 z.2 p.3 rest.from, rest.apart);
+        from = (record { place = q; temp = p.0; folder = p.1.4; is = p.1.2; led = z.2; put = now p.1 }, put_later start past r d older rest.files rest.from);
+      }
+  stored_files e (on {newer = newer} {own = older} {d = d} {messages = ms} n h) =
+      let rest = stored_files (append_assoc newer (d ∷ []) older ∙ e) h in
+      record { files = rest.files; stored = rest.stored; apart = rest.apart; from = put_later start past r d older rest.files rest.from }
+
+cut_at_moment : (start : World) (r : ℕ) (f : FilePath) (n : ℕ) (bytes : List ℕ) {past : List Event} → IsStart start → IsLegal start past → AreCareful past → HasNoneOfTheirs start past → HasNoneOf start r → IsLive r (world_after start past)
     → MayCut r f n (own r past) → IsUncut start r f past → (world_after start past).outside f ≡ Some bytes → length bytes ≡ n → AreDurable start past bytes
-cut_at_moment start r f n bytes {past = past} st l careful none lv may u has long =
+cut_at_moment start r f n bytes {past = past} st l careful none fresh lv may u has long =
     let z = begins_so start r f l lv u may.drop may.pieces in
     let same : bytes ≡ may.drop = whole_of may.drop bytes (z.0, sym has ∙ z.1) (may.whole ∙ sym long) in
-    let stored = each_reversed (IsStoredBy r (own r past)) (messages may.drop) (stored_each r f may.stored) in
+    let k = stored_files start r f past st l careful none fresh refl may.stored in
+    let both = files_reversed start past k.files (reverse (messages may.drop)) (k.stored, k.apart) in
     subst (λ (b : List ℕ). AreDurable start past b) (sym same)
-    (each_all (λ m. (p : Place) × (g : ℕ) × IsDurable start p g m past) (messages may.drop)
-    (each_map (IsStoredBy r (own r past)) (λ m. (p : Place) × (g : ℕ) × IsDurable start p g m past) (messages may.drop)
-    (λ m k. let d = durable_told start r k.0 m st l careful none k.1 in (k.0, d.0, d.1)) stored))
+    (reverse k.files, subst (λ (ms : List (List ℕ)). AreStoredAs start past (reverse k.files) ms) (reverse-reverse (messages may.drop)) both.0, both.1)
 
 uncut_then : {start : World} {r : ℕ} {f : FilePath} {moment past : List Event} → IsTriedAt start r moment past → IsUncut start r f past → IsUncut start r f moment
 uncut_then (live lv) u = u
@@ -260,5 +316,5 @@ pub cut_law : (start : World) (past : List Event) (r : ℕ) (f : FilePath) (n : 
     → AreDurable start moment bytes
 cut_law start past r f n a m st l careful none moment bytes t u has long =
     let k = tried start r (step.CutDrop f n) l t in
-    cut_at_moment start r f n bytes st k.legal (careful_then t careful.1) (none_then t (none_before start r (step.CutDrop f n) a m past none)) k.lives
-    (subst (λ (ds : List Deed). MayCut r f n ds) k.deeds (careful_cut r (own r past) f n careful.0).1) (uncut_then t u) has long
+    cut_at_moment start r f n bytes st k.legal (careful_then t careful.1) (none_then t (none_before start r (step.CutDrop f n) a m past none)) (none_now start r (step.CutDrop f n) a m past none) k.lives
+    (subst (λ (ds : List Deed). MayCut r f n ds) k.deeds (careful_cut r (own r past) f n (careful.0 tt)).1) (uncut_then t u) has long

@@ -143,6 +143,9 @@ left_failed : (w : WorldMap) (r : ℕ) (s : Step) → made w r s ≡ left w r s 
 unfolding made
 left_failed w r s = refl
 
+pub made_left : (w : WorldMap) (r : ℕ) (s : Step) → made w r s ≡ left w r s Failed Made
+made_left w r s = left_failed w r s
+
 left_torn : (w : WorldMap) (r : ℕ) (s : Step) (a : Answer) (b : List ℕ) → made w r (torn s b) ≡ left w r s a (Torn b)
 unfolding made
 left_torn w r s a b = refl

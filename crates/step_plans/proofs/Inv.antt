@@ -2,12 +2,12 @@
 use Rattle.std.proofs.Common.{◌≡◌, ℕ, ◌<◌, Bool, true, false, ◌⊎◌, inl, inr, List, ◌∷◌, Option, Some, None, is_none, length, nat_lt, refl, sym, ◌∙◌, ap, subst, arith, if◌then◌else◌}
 use Rattle.mh_base.specs.Entries.{kind_of}
 use Rattle.folder_files.specs.Annotations.{Annotates}
-use Rattle.folder_files.specs.Careful.{IsCareful, WasMade, WasSynced, WasGiven, WasGivenAway, WasCopiedFrom, IsSuccessorPut}
+use Rattle.folder_files.specs.Careful.{WasMade, WasSynced, WasGiven, WasGivenAway, WasCopiedFrom, IsSuccessorPut}
 use Rattle.folder_files.specs.Deeds.{Deed, did, Once, Since, last, still, WasDone, now, on}
 use Rattle.folder_files.specs.Directory.{DirectoryMap, now_in}
-use Rattle.folder_files.specs.Histories.{world_after, own, IsLive}
+use Rattle.folder_files.specs.Histories.{world_after, own, IsLive, IsLockable}
 use Rattle.folder_files.specs.Named.{is_number, is_held, is_held_of, is_temp, is_temp_of, is_taking}
-use Rattle.folder_files.specs.Places.{same_place}
+use Rattle.folder_files.specs.Places.{same_place, is_folder}
 use Rattle.folder_files.specs.Steps.{with_created, read_answer, name_answer, directory_after, file_after, torn, Fits, MayLeave}
 use Rattle.folder_files.specs.Worlds.{FileState, WorldMap, shown}
 use Rattle.folder_files.specs.declared.event.After.{After}
@@ -21,16 +21,16 @@ use Rattle.folder_files.specs.declared.step.Step.{Step}
 use Rattle.folder_files.specs.declared.step.Step.TheVariants as step
 use Rattle.folder_files.specs.declared.world.World.{World}
 use Rattle.step_plans.proofs.Sameness.{place_same, place_is}
-use Rattle.step_plans.specs.Durable.{WasPut, IsDurable, now, on}
+use Rattle.step_plans.specs.Durable.{WasPut, HasBeenPut, IsDurable, now, on}
 use Rattle.step_plans.specs.Spending.{IsSpent, IsClear, now, on}
 use Rattle.step_plans.specs.Starts.{HasNoneOf}
 use Rattle.step_plans.specs.Successors.{HasRead, HasMadeSince, WasPutSince, now, on}
 use Rattle.step_plans.proofs.Names.{not_both, num_itself, is_temp_any, is_temp_quiet, is_temp_run, is_held_any, is_held_run, is_taking_held, taking_same, held_owned}
 use Rattle.step_plans.proofs.Changes.{IsTarget, IsUnseen, unseen_leads, Goes, arrives, unseen_stays, IsBelow, now_below, goes_below}
 use Rattle.step_plans.proofs.Effects.{IsNext, answered, failed, refused, left, left_directory, left_file, left_grows, left_keeps, link_done, ComesTo, next_goes, next_fits, fits_as, created_leads, created_bytes, world_next}
-use Rattle.step_plans.proofs.Past.{own_case, own_mine, did_step, did_answer, did_both, once_map, once_more, once_case, once_mine, spent_case, put_case, durable_case, since_case, made_created, made_read, since_read}
+use Rattle.step_plans.proofs.Past.{own_case, own_mine, did_step, did_answer, did_both, once_map, once_more, once_case, once_mine, spent_case, put_case, ever_case, durable_case, folder_lock, since_case, made_created, made_read, since_read}
 use Rattle.step_plans.proofs.Holds.{Holds, calm_same, calm_holds, plain_news, idle_news}
-use Rattle.step_plans.proofs.Discipline.{careful_create, IsTake, held_target, IsMaking, temp_target, put_ready}
+use Rattle.step_plans.proofs.Discipline.{Cares, place_lock, careful_create, IsTake, held_target, IsMaking, temp_target, put_ready}
 use Rattle.step_plans.proofs.StepHolds.{Given, step_holds, calm_create}
 
 -- the name leads to the file in this world
@@ -62,24 +62,25 @@ IsUnsynced r p h q deeds = Since (IsSuccessorPut r p h q) (λ d. d ≡ did (step
 
 pub record InvAt (start : World) (past : List Event) (w : WorldMap) : Type 0 where
   pub below : (p : Place) → IsBelow w.next_file (w.directories p)
-  pub fresh : (p : Place) (r : ℕ) (n x : List ℕ) → is_taking r (kind_of n) (kind_of x) ≡ true → ((shown start).directories p).safe x ≡ None
+  pub fresh : (p : Place) (r : ℕ) (n x : List ℕ) → IsLockable p → is_taking r (kind_of n) (kind_of x) ≡ true → ((shown start).directories p).safe x ≡ None
       → (WasDone (step.Rename p n x) (own r past) → ⊥) → (WasFailed (step.Rename p n x) (own r past) → ⊥) → IsFresh start p r x past w
-  pub fresh_temp : (p : Place) (r : ℕ) (x : List ℕ) → is_temp_of r (kind_of x) ≡ true → ((shown start).directories p).safe x ≡ None
+  pub fresh_temp : (p : Place) (r : ℕ) (x : List ℕ) → IsLockable p → is_temp_of r (kind_of x) ≡ true → ((shown start).directories p).safe x ≡ None
       → (WasMade p x (own r past) → ⊥) → (WasMakingFailed p x (own r past) → ⊥) → IsUnseen (w.directories p) x
-  pub temps : (r : ℕ) (p : Place) (x : List ℕ) (f : ℕ) (c : List ℕ) → is_temp_of r (kind_of x) ≡ true → IsLive r w → WasDone (step.Create p x c) (own r past) → In w p x f → (w.files f).bytes ≡ c
-  pub ready : (r : ℕ) (p : Place) (x : List ℕ) (f : ℕ) → is_temp_of r (kind_of x) ≡ true → IsLive r w → WasSynced p x (own r past) → In w p x f → (w.files f).safe ≡ true
-  pub read : (r : ℕ) (p : Place) (x : List ℕ) (f : ℕ) (b : List ℕ) → is_held_of r (kind_of x) ≡ true → IsLive r w → HasNoneOf start r → HasRead p x b (own r past) → In w p x f → (w.files f).bytes ≡ b
+  pub temps : (r : ℕ) (p : Place) (x : List ℕ) (f : ℕ) (c : List ℕ) → IsLockable p → is_temp_of r (kind_of x) ≡ true → IsLive r w → WasDone (step.Create p x c) (own r past) → In w p x f → (w.files f).bytes ≡ c
+  pub ready : (r : ℕ) (p : Place) (x : List ℕ) (f : ℕ) → IsLockable p → is_temp_of r (kind_of x) ≡ true → IsLive r w → WasSynced p x (own r past) → In w p x f → (w.files f).safe ≡ true
+  pub read : (r : ℕ) (p : Place) (x : List ℕ) (f : ℕ) (b : List ℕ) → IsLockable p → is_held_of r (kind_of x) ≡ true → IsLive r w → HasNoneOf start r → HasRead p x b (own r past) → In w p x f → (w.files f).bytes ≡ b
   pub gave : (r : ℕ) (p : Place) (h : List ℕ) → is_held (kind_of h) ≡ true → IsLive r w → WasGiven p h (own r past) → IsSpent start p h past
   pub cleared : (r : ℕ) (p : Place) (h : List ℕ) → is_held (kind_of h) ≡ true → IsLive r w → WasGivenAway p h (own r past) → IsClear start p h past
   pub put : (p : Place) (f : ℕ) (b : List ℕ) → WasPut start p f b past → IsSafeAs w f b
   pub durable : (p : Place) (f : ℕ) (b : List ℕ) → IsDurable start p f b past → IsSafeAs w f b
+  pub ever : (p : Place) (f : ℕ) (b : List ℕ) → HasBeenPut start p f b past → IsSafeAs w f b
   pub since : (r : ℕ) (p : Place) (h b : List ℕ) (q : Place) (g : ℕ) (c : List ℕ) → IsLive r w → Annotates b c → WasPutSince start r p h b q g c past
       → IsDurable start q g c past ⊎ (IsUnsynced r p h q (own r past) × WasPut start q g c past)
-  pub older_temp : (r : ℕ) (p : Place) (x : List ℕ) (q : Place) (t : List ℕ) (f g : ℕ) (b c : List ℕ) → is_held_of r (kind_of x) ≡ true → is_temp_of r (kind_of t) ≡ true → IsLive r w → HasNoneOf start r
+  pub older_temp : (r : ℕ) (p : Place) (x : List ℕ) (q : Place) (t : List ℕ) (f g : ℕ) (b c : List ℕ) → IsLockable p → IsLockable q → is_held_of r (kind_of x) ≡ true → is_temp_of r (kind_of t) ≡ true → IsLive r w → HasNoneOf start r
       → HasMadeSince p x b q t c (own r past) → In w q t g → In w p x f → f < g
-  pub older_put : (r : ℕ) (p : Place) (x : List ℕ) (q : Place) (f g : ℕ) (b c : List ℕ) → is_held_of r (kind_of x) ≡ true → IsLive r w → HasNoneOf start r
+  pub older_put : (r : ℕ) (p : Place) (x : List ℕ) (q : Place) (f g : ℕ) (b c : List ℕ) → IsLockable p → is_held_of r (kind_of x) ≡ true → IsLive r w → HasNoneOf start r
       → WasPutSince start r p x b q g c past → In w p x f → f < g
-  pub holds : (p : Place) → Holds start p (w.directories p) past
+  pub holds : (p : Place) → IsLockable p → Holds start p (w.directories p) past
 
 abbrev pub Inv : World → List Event → Type 0
 Inv start past = InvAt start past (world_after start past)
@@ -119,7 +120,7 @@ same_sync q s a = go s a refl refl
     go (step.SyncFolder p) b es ea = inr (λ z. let y = did_answer z in cc (y))
     go t b es ea = inr (λ z. let y = did_step z in cc (y))
 
-module _ (start : World) (past : List Event) (r : ℕ) (s : Step) (a : Answer) (m : After) (careful : IsCareful r (own r past) s) (nx : IsNext (world_after start past) r s a m) (i : Inv start past) where
+module _ (start : World) (past : List Event) (r : ℕ) (s : Step) (a : Answer) (m : After) (careful : Cares r (own r past) s) (nx : IsNext (world_after start past) r s a m) (i : Inv start past) where
   abbrev w : WorldMap
   w = world_after start past
 
@@ -137,15 +138,15 @@ module _ (start : World) (past : List Event) (r : ℕ) (s : Step) (a : Answer) (
   act_below p = goes_below w.next_file v.next_file (ComesTo s a p) (w.directories p) (left_grows w s m) (goes p) (i.below p)
 
   -- a take that comes to x, where the run took it before or fails
-  act_fresh : (p : Place) (o : ℕ) (n x : List ℕ) → is_taking o (kind_of n) (kind_of x) ≡ true → ((shown start).directories p).safe x ≡ None
+  act_fresh : (p : Place) (o : ℕ) (n x : List ℕ) → IsLockable p → is_taking o (kind_of n) (kind_of x) ≡ true → ((shown start).directories p).safe x ≡ None
       → (WasDone (step.Rename p n x) (own o (Act r s a m ∷ past)) → ⊥) → (WasFailed (step.Rename p n x) (own o (Act r s a m ∷ past)) → ⊥) → IsFresh start p o x (Act r s a m ∷ past) v
-  act_fresh p o n x taking none nd nf = record { unseen = unseen; unspent = unspent; unread = unread }
+  act_fresh p o n x lock taking none nd nf = record { unseen = unseen; unspent = unspent; unread = unread }
     where
       held : is_held (kind_of x) ≡ true
       held = is_held_any o x (is_taking_held o n x taking)
 
       fr : IsFresh start p o x past w
-      fr = i.fresh p o n x taking none (λ z. nd (once_more o (Act r s a m) past z)) (λ z. nf (once_more o (Act r s a m) past z))
+      fr = i.fresh p o n x lock taking none (λ z. nd (once_more o (Act r s a m) past z)) (λ z. nf (once_more o (Act r s a m) past z))
 
       never : ComesTo s a p x → ⊥
       never t = elim (rename_answers (now_in (w.directories p) n) a (fits_as w r s (step.Rename p n x) a a is refl f.1)) [
@@ -154,7 +155,7 @@ module _ (start : World) (past : List Event) (r : ℕ) (s : Step) (a : Answer) (
       ]
         where
           h : IsTake r (own r past) s p x
-          h = held_target r (own r past) s p x careful held t.0
+          h = held_target r (own r past) s p x lock careful held t.0
 
           ro : r ≡ o
           ro = is_held_run r o x (is_taking_held r h.number x h.taking) (is_taking_held o n x taking)
@@ -183,12 +184,12 @@ module _ (start : World) (past : List Event) (r : ℕ) (s : Step) (a : Answer) (
         | inr y ↦ fr.unread b y
       ]
 
-  act_fresh_temp : (p : Place) (o : ℕ) (x : List ℕ) → is_temp_of o (kind_of x) ≡ true → ((shown start).directories p).safe x ≡ None
+  act_fresh_temp : (p : Place) (o : ℕ) (x : List ℕ) → IsLockable p → is_temp_of o (kind_of x) ≡ true → ((shown start).directories p).safe x ≡ None
       → (WasMade p x (own o (Act r s a m ∷ past)) → ⊥) → (WasMakingFailed p x (own o (Act r s a m ∷ past)) → ⊥) → IsUnseen (v.directories p) x
-  act_fresh_temp p o x temp none nd nf = unseen_stays w.next_file v.next_file (ComesTo s a p) (w.directories p) x (goes p) never old
+  act_fresh_temp p o x lock temp none nd nf = unseen_stays w.next_file v.next_file (ComesTo s a p) (w.directories p) x (goes p) never old
     where
       old : IsUnseen (w.directories p) x
-      old = i.fresh_temp p o x temp none (λ z. nd (once_more o (Act r s a m) past z)) (λ z. nf (once_more o (Act r s a m) past z))
+      old = i.fresh_temp p o x lock temp none (λ z. nd (once_more o (Act r s a m) past z)) (λ z. nf (once_more o (Act r s a m) past z))
 
       never : ComesTo s a p x → ⊥
       never t = elim (create_answers (w.directories p).there (now_in (w.directories p) x) a (unseen_leads (w.directories p) x old) (fits_as w r s (step.Create p x h.bytes) a a h.is refl f.1)) [
@@ -197,7 +198,7 @@ module _ (start : World) (past : List Event) (r : ℕ) (s : Step) (a : Answer) (
       ]
         where
           h : IsMaking r (own r past) s p x
-          h = temp_target r (own r past) s p x careful (is_temp_any o x temp) t.0
+          h = temp_target r (own r past) s p x lock careful (is_temp_any o x temp) t.0
 
           ro : r ≡ o
           ro = is_temp_run r o x h.temp temp
@@ -211,19 +212,19 @@ module _ (start : World) (past : List Event) (r : ℕ) (s : Step) (a : Answer) (
   under : (p : Place) (x : List ℕ) (f : ℕ) → In w p x f → f < w.next_file
   under p x f e = now_below w.next_file (w.directories p) (i.below p) x f e
 
-  old_temp : (o : ℕ) (p : Place) (x : List ℕ) (f : ℕ) → is_temp_of o (kind_of x) ≡ true → WasMade p x (own o past) → In v p x f → In w p x f
-  old_temp o p x f temp z leads = elim (arrives w.next_file v.next_file (ComesTo s a p) (w.directories p) x f (goes p) leads) [
+  old_temp : (o : ℕ) (p : Place) (x : List ℕ) (f : ℕ) → IsLockable p → is_temp_of o (kind_of x) ≡ true → WasMade p x (own o past) → In v p x f → In w p x f
+  old_temp o p x f lock temp z leads = elim (arrives w.next_file v.next_file (ComesTo s a p) (w.directories p) x f (goes p) leads) [
     | inl y ↦ y
-    | inr y ↦ (let h = temp_target r (own r past) s p x careful (is_temp_any o x temp) y.0 in absurd (h.fresh (subst (λ (k : ℕ). WasMade p x (own k past)) (is_temp_run o r x temp h.temp) z)))
+    | inr y ↦ (let h = temp_target r (own r past) s p x lock careful (is_temp_any o x temp) y.0 in absurd (h.fresh (subst (λ (k : ℕ). WasMade p x (own k past)) (is_temp_run o r x temp h.temp) z)))
   ]
 
-  old_created : (o : ℕ) (p : Place) (x : List ℕ) (f : ℕ) (c : List ℕ) → is_temp_of o (kind_of x) ≡ true → WasDone (step.Create p x c) (own o past) → In v p x f → In w p x f
-  old_created o p x f c temp z leads = old_temp o p x f temp (once_map (λ d older e. (c, e)) z) leads
+  old_created : (o : ℕ) (p : Place) (x : List ℕ) (f : ℕ) (c : List ℕ) → IsLockable p → is_temp_of o (kind_of x) ≡ true → WasDone (step.Create p x c) (own o past) → In v p x f → In w p x f
+  old_created o p x f c lock temp z leads = old_temp o p x f lock temp (once_map (λ d older e. (c, e)) z) leads
 
-  act_temps : (o : ℕ) (p : Place) (x : List ℕ) (f : ℕ) (c : List ℕ) → is_temp_of o (kind_of x) ≡ true → IsLive o w → WasDone (step.Create p x c) (own o (Act r s a m ∷ past)) → In v p x f → (v.files f).bytes ≡ c
-  act_temps o p x f c temp lv z leads = elim (once_case o r s a m past z) [
+  act_temps : (o : ℕ) (p : Place) (x : List ℕ) (f : ℕ) (c : List ℕ) → IsLockable p → is_temp_of o (kind_of x) ≡ true → IsLive o w → WasDone (step.Create p x c) (own o (Act r s a m ∷ past)) → In v p x f → (v.files f).bytes ≡ c
+  act_temps o p x f c lock temp lv z leads = elim (once_case o r s a m past z) [
     | inl y ↦ created (did_step y.1) (did_answer y.1) leads
-    | inr y ↦ (let old = old_created o p x f c temp y leads in (keeps f (under p x f old)).0 ∙ i.temps o p x f c temp lv y old)
+    | inr y ↦ (let old = old_created o p x f c lock temp y leads in (keeps f (under p x f old)).0 ∙ i.temps o p x f c lock temp lv y old)
   ]
     where
       at_once : Fits w r (step.Create p x c) Done → now_in (directory_after w (step.Create p x c) p) x ≡ Some f → (file_after w (step.Create p x c) f).bytes ≡ c
@@ -234,10 +235,10 @@ module _ (start : World) (past : List Event) (r : ℕ) (s : Step) (a : Answer) (
       created es ea = let f3 = next_fits w r s a m nx (λ e. cc (e, ea)) in
           as_made (λ ds fs. now_in (ds p) x ≡ Some f → (fs f).bytes ≡ c) es f3.2 (at_once (fits_as w r s (step.Create p x c) a Done es ea f3.1))
 
-  act_ready : (o : ℕ) (p : Place) (x : List ℕ) (f : ℕ) → is_temp_of o (kind_of x) ≡ true → IsLive o w → WasSynced p x (own o (Act r s a m ∷ past)) → In v p x f → (v.files f).safe ≡ true
-  act_ready o p x f temp lv z leads = elim (once_case o r s a m past z) [
+  act_ready : (o : ℕ) (p : Place) (x : List ℕ) (f : ℕ) → IsLockable p → is_temp_of o (kind_of x) ≡ true → IsLive o w → WasSynced p x (own o (Act r s a m ∷ past)) → In v p x f → (v.files f).safe ≡ true
+  act_ready o p x f lock temp lv z leads = elim (once_case o r s a m past z) [
     | inl y ↦ synced (did_step y.1.0) (did_answer y.1.0) leads
-    | inr y ↦ (let old = old_temp o p x f temp (was_made y) leads in (keeps f (under p x f old)).1 (i.ready o p x f temp lv y old))
+    | inr y ↦ (let old = old_temp o p x f lock temp (was_made y) leads in (keeps f (under p x f old)).1 (i.ready o p x f lock temp lv y old))
   ]
     where
       was_made : {deeds : List Deed} → WasSynced p x deeds → WasMade p x deeds
@@ -251,20 +252,20 @@ module _ (start : World) (past : List Event) (r : ℕ) (s : Step) (a : Answer) (
       synced es ea = let f3 = next_fits w r s a m nx (λ e. cc (e, ea)) in
           as_made (λ ds fs. now_in (ds p) x ≡ Some f → (fs f).safe ≡ true) es f3.2 at_once
 
-  old_held : (o : ℕ) (p : Place) (x : List ℕ) (f : ℕ) (b : List ℕ) → is_held_of o (kind_of x) ≡ true → HasNoneOf start o → HasRead p x b (own o past) → In v p x f → In w p x f
-  old_held o p x f b held none z leads = elim (arrives w.next_file v.next_file (ComesTo s a p) (w.directories p) x f (goes p) leads) [
+  old_held : (o : ℕ) (p : Place) (x : List ℕ) (f : ℕ) (b : List ℕ) → IsLockable p → is_held_of o (kind_of x) ≡ true → HasNoneOf start o → HasRead p x b (own o past) → In v p x f → In w p x f
+  old_held o p x f b lock held none z leads = elim (arrives w.next_file v.next_file (ComesTo s a p) (w.directories p) x f (goes p) leads) [
     | inl y ↦ y
-    | inr y ↦ (let h = held_target r (own r past) s p x careful (is_held_any o x held) y.0 in
+    | inr y ↦ (let h = held_target r (own r past) s p x lock careful (is_held_any o x held) y.0 in
         let ro : r ≡ o = is_held_run r o x (is_taking_held r h.number x h.taking) held in
-        let fr = i.fresh p r h.number x h.taking (subst (λ (k : ℕ). HasNoneOf start k) (sym ro) none p x (held_owned r x (is_taking_held r h.number x h.taking))) h.fresh
+        let fr = i.fresh p r h.number x lock h.taking (subst (λ (k : ℕ). HasNoneOf start k) (sym ro) none p x (held_owned r x (is_taking_held r h.number x h.taking))) h.fresh
         (λ u. h.unfailed (once_map (λ d older e. ap (λ k. k.answer) e) u)) in
         absurd (fr.unread b (subst (λ (k : ℕ). HasRead p x b (own k past)) (sym ro) z)))
   ]
 
-  act_read : (o : ℕ) (p : Place) (x : List ℕ) (f : ℕ) (b : List ℕ) → is_held_of o (kind_of x) ≡ true → IsLive o w → HasNoneOf start o → HasRead p x b (own o (Act r s a m ∷ past)) → In v p x f → (v.files f).bytes ≡ b
-  act_read o p x f b held lv none z leads = elim (once_case o r s a m past z) [
+  act_read : (o : ℕ) (p : Place) (x : List ℕ) (f : ℕ) (b : List ℕ) → IsLockable p → is_held_of o (kind_of x) ≡ true → IsLive o w → HasNoneOf start o → HasRead p x b (own o (Act r s a m ∷ past)) → In v p x f → (v.files f).bytes ≡ b
+  act_read o p x f b lock held lv none z leads = elim (once_case o r s a m past z) [
     | inl y ↦ just y.1.0 (did_step y.1.1) (did_answer y.1.1) leads
-    | inr y ↦ (let old = old_held o p x f b held none y leads in (keeps f (under p x f old)).0 ∙ i.read o p x f b held lv none y old)
+    | inr y ↦ (let old = old_held o p x f b lock held none y leads in (keeps f (under p x f old)).0 ∙ i.read o p x f b lock held lv none y old)
   ]
     where
       just : (limit : ℕ) → s ≡ step.Read p x limit → a ≡ Content b → In v p x f → (v.files f).bytes ≡ b
@@ -299,9 +300,17 @@ module _ (start : World) (past : List Event) (r : ℕ) (s : Step) (a : Answer) (
   act_put : (p : Place) (f : ℕ) (b : List ℕ) → WasPut start p f b (Act r s a m ∷ past) → IsSafeAs v f b
   act_put p f b z = safe_on f b (elim (put_case z) [
     | inl y ↦ (let f3 = next_fits w r s a m nx (λ e. cc (e, y.3)) in
-        let k = put_ready r (own r past) p y.0 y.1 (subst (λ (t : Step). IsCareful r (own r past) t) y.2 careful) y.4 y.5 in
-        record { there = under p y.0 f y.6; safe = i.ready r p y.0 f k.0 f3.0 k.1 y.6; bytes = y.7 })
+        let k = put_ready r (own r past) p y.0 y.1 (subst (λ (t : Step). Cares r (own r past) t) y.2 careful (folder_lock p y.8)) y.4 y.5 in
+        record { there = under p y.0 f y.6; safe = i.ready r p y.0 f (folder_lock p y.8) k.0 f3.0 k.1 y.6; bytes = y.7 })
     | inr y ↦ i.put p f b y
+  ])
+
+  act_ever : (p : Place) (f : ℕ) (b : List ℕ) → HasBeenPut start p f b (Act r s a m ∷ past) → IsSafeAs v f b
+  act_ever p f b z = safe_on f b (elim (ever_case z) [
+    | inl y ↦ (let f3 = next_fits w r s a m nx (λ e. cc (e, y.3)) in
+        let k = put_ready r (own r past) p y.0 y.1 (subst (λ (t : Step). Cares r (own r past) t) y.2 careful (folder_lock p y.8)) (is_temp_any r y.0 y.4) y.5 in
+        record { there = under p y.0 f y.6; safe = i.ready r p y.0 f (folder_lock p y.8) k.0 f3.0 k.1 y.6; bytes = i.temps r p y.0 f b (folder_lock p y.8) y.4 f3.0 y.7 y.6 })
+    | inr y ↦ i.ever p f b y
   ])
 
   act_durable : (p : Place) (f : ℕ) (b : List ℕ) → IsDurable start p f b (Act r s a m ∷ past) → IsSafeAs v f b
@@ -310,7 +319,7 @@ module _ (start : World) (past : List Event) (r : ℕ) (s : Step) (a : Answer) (
   act_since : (o : ℕ) (p : Place) (h b : List ℕ) (q : Place) (g : ℕ) (c : List ℕ) → IsLive o w → Annotates b c → WasPutSince start o p h b q g c (Act r s a m ∷ past)
       → IsDurable start q g c (Act r s a m ∷ past) ⊎ (IsUnsynced o p h q (own o (Act r s a m ∷ past)) × WasPut start q g c (Act r s a m ∷ past))
   act_since o p h b q g c lv lines z = elim (since_case z) [
-    | inl y ↦ inr (just y.0 y.1 y.2 y.3 y.4 y.5 y.6 y.7, put y.0 y.1 y.3 y.4 (is_temp_any o y.0 y.5) y.6 (i.temps o q y.0 g c y.5 lv (made_created y.7) y.8) y.8)
+    | inl y ↦ inr (just y.0 y.1 y.2 y.3 y.4 y.5 y.6 y.7 y.9, put y.0 y.1 y.3 y.4 y.9 (is_temp_any o y.0 y.5) y.6 (i.temps o q y.0 g c (folder_lock q y.9) y.5 lv (made_created y.7) y.8) y.8)
     | inr y ↦ elim (i.since o p h b q g c lv lines y) [
       | inl k ↦ inl (on k)
       | inr k ↦ further k.0 k.1
@@ -320,13 +329,13 @@ module _ (start : World) (past : List Event) (r : ℕ) (s : Step) (a : Answer) (
       copied : {t : List ℕ} {deeds : List Deed} → HasMadeSince p h b q t c deeds → WasCopiedFrom p h q t deeds
       copied k = once_map (λ d older e. (c, e.0, once_map (λ d older f. (b, f, lines)) e.1)) k
 
-      just : (t n : List ℕ) → r ≡ o → s ≡ step.Link q t n → a ≡ Done → is_temp_of o (kind_of t) ≡ true → is_number (kind_of n) ≡ true → HasMadeSince p h b q t c (own o past) → IsUnsynced o p h q (own o (Act r s a m ∷ past))
-      just t n er es ea temp number k = subst (λ (z : ℕ). IsUnsynced o p h q (own o (Act z s a m ∷ past))) (sym er)
-          (rw (own_mine o s a m past) (last (t, (n, did_both es ea, temp, number), copied k)))
+      just : (t n : List ℕ) → r ≡ o → s ≡ step.Link q t n → a ≡ Done → is_temp_of o (kind_of t) ≡ true → is_number (kind_of n) ≡ true → HasMadeSince p h b q t c (own o past) → is_folder q ≡ true → IsUnsynced o p h q (own o (Act r s a m ∷ past))
+      just t n er es ea temp number k folder = subst (λ (z : ℕ). IsUnsynced o p h q (own o (Act z s a m ∷ past))) (sym er)
+          (rw (own_mine o s a m past) (last (t, (n, did_both es ea, temp, number, folder), copied k)))
 
-      put : (t n : List ℕ) → s ≡ step.Link q t n → a ≡ Done → is_temp (kind_of t) ≡ true → is_number (kind_of n) ≡ true → (w.files g).bytes ≡ c → In w q t g → WasPut start q g c (Act r s a m ∷ past)
-      put t n es ea temp number bytes leads =
-          subst (λ (z : Step). WasPut start q g c (Act r z a m ∷ past)) (sym es) (subst (λ (z : Answer). WasPut start q g c (Act r (step.Link q t n) z m ∷ past)) (sym ea) (now temp number leads bytes))
+      put : (t n : List ℕ) → s ≡ step.Link q t n → a ≡ Done → is_folder q ≡ true → is_temp (kind_of t) ≡ true → is_number (kind_of n) ≡ true → (w.files g).bytes ≡ c → In w q t g → WasPut start q g c (Act r s a m ∷ past)
+      put t n es ea folder temp number bytes leads =
+          subst (λ (z : Step). WasPut start q g c (Act r z a m ∷ past)) (sym es) (subst (λ (z : Answer). WasPut start q g c (Act r (step.Link q t n) z m ∷ past)) (sym ea) (now folder temp number leads bytes))
 
       further : IsUnsynced o p h q (own o past) → WasPut start q g c past
           → IsDurable start q g c (Act r s a m ∷ past) ⊎ (IsUnsynced o p h q (own o (Act r s a m ∷ past)) × WasPut start q g c (Act r s a m ∷ past))
@@ -335,11 +344,11 @@ module _ (start : World) (past : List Event) (r : ℕ) (s : Step) (a : Answer) (
         | inr n ↦ inr (elim (own_case o r s a m past) [ inl e ↦ rw e.1 (still n u) | inr e ↦ rw e u ], on tt pt)
       ]
 
-  act_older_temp : (o : ℕ) (p : Place) (x : List ℕ) (q : Place) (t : List ℕ) (f g : ℕ) (b c : List ℕ) → is_held_of o (kind_of x) ≡ true → is_temp_of o (kind_of t) ≡ true → IsLive o w → HasNoneOf start o
+  act_older_temp : (o : ℕ) (p : Place) (x : List ℕ) (q : Place) (t : List ℕ) (f g : ℕ) (b c : List ℕ) → IsLockable p → IsLockable q → is_held_of o (kind_of x) ≡ true → is_temp_of o (kind_of t) ≡ true → IsLive o w → HasNoneOf start o
       → HasMadeSince p x b q t c (own o (Act r s a m ∷ past)) → In v q t g → In v p x f → f < g
-  act_older_temp o p x q t f g b c held temp lv none z leads_t leads_x = elim (once_case o r s a m past z) [
-    | inl y ↦ just (did_step y.1.0) (did_answer y.1.0) (old_held o p x f b held none y.1.1 leads_x)
-    | inr y ↦ i.older_temp o p x q t f g b c held temp lv none y (old_created o q t g c temp (made_created y) leads_t) (old_held o p x f b held none (made_read y) leads_x)
+  act_older_temp o p x q t f g b c lock lock_q held temp lv none z leads_t leads_x = elim (once_case o r s a m past z) [
+    | inl y ↦ just (did_step y.1.0) (did_answer y.1.0) (old_held o p x f b lock held none y.1.1 leads_x)
+    | inr y ↦ i.older_temp o p x q t f g b c lock lock_q held temp lv none y (old_created o q t g c lock_q temp (made_created y) leads_t) (old_held o p x f b lock held none (made_read y) leads_x)
   ]
     where
       just : s ≡ step.Create q t c → a ≡ Done → In w p x f → f < g
@@ -349,42 +358,42 @@ module _ (start : World) (past : List Event) (r : ℕ) (s : Step) (a : Answer) (
           let l : f < w.next_file = under p x f old in
           omega arith
 
-  act_older_put : (o : ℕ) (p : Place) (x : List ℕ) (q : Place) (f g : ℕ) (b c : List ℕ) → is_held_of o (kind_of x) ≡ true → IsLive o w → HasNoneOf start o
+  act_older_put : (o : ℕ) (p : Place) (x : List ℕ) (q : Place) (f g : ℕ) (b c : List ℕ) → IsLockable p → is_held_of o (kind_of x) ≡ true → IsLive o w → HasNoneOf start o
       → WasPutSince start o p x b q g c (Act r s a m ∷ past) → In v p x f → f < g
-  act_older_put o p x q f g b c held lv none z leads = elim (since_case z) [
-    | inl y ↦ i.older_temp o p x q y.0 f g b c held y.5 lv none y.7 y.8 (old_held o p x f b held none (made_read y.7) leads)
-    | inr y ↦ i.older_put o p x q f g b c held lv none y (old_held o p x f b held none (since_read o past y) leads)
+  act_older_put o p x q f g b c lock held lv none z leads = elim (since_case z) [
+    | inl y ↦ i.older_temp o p x q y.0 f g b c lock (folder_lock q y.9) held y.5 lv none y.7 y.8 (old_held o p x f b lock held none (made_read y.7) leads)
+    | inr y ↦ i.older_put o p x q f g b c lock held lv none y (old_held o p x f b lock held none (since_read o past y) leads)
   ]
 
-given_now : (start : World) (past : List Event) (r : ℕ) (s : Step) (a : Answer) → IsCareful r (own r past) s → IsLive r (world_after start past) → (a ≡ Failed) ⊎ Fits (world_after start past) r s a
+given_now : (start : World) (past : List Event) (r : ℕ) (s : Step) (a : Answer) → Cares r (own r past) s → IsLive r (world_after start past) → (a ≡ Failed) ⊎ Fits (world_after start past) r s a
     → Inv start past → HasNoneOf start r → Given start past r s a
 given_now start past r s a careful lv answer i none = record {
   lives = lv;
   answer = answer;
   cleared = λ p h held d. i.cleared r p h held lv d;
-  unseen = λ p n h e taking. (let t = held_target r (own r past) s p h careful (is_held_any r h (is_taking_held r n h taking)) (subst (λ (z : Step). IsTarget z p h) (sym e) (refl, refl)) in
-      let fr = i.fresh p r t.number h t.taking (none p h (held_owned r h (is_taking_held r n h taking))) t.fresh (λ u. t.unfailed (once_map (λ d older e. ap (λ k. k.answer) e) u)) in (fr.unseen, fr.unspent));
+  unseen = λ p n h lock e taking. (let t = held_target r (own r past) s p h lock careful (is_held_any r h (is_taking_held r n h taking)) (subst (λ (z : Step). IsTarget z p h) (sym e) (refl, refl)) in
+      let fr = i.fresh p r t.number h lock t.taking (none p h (held_owned r h (is_taking_held r n h taking))) t.fresh (λ u. t.unfailed (once_map (λ d older e. ap (λ k. k.answer) e) u)) in (fr.unseen, fr.unspent));
 }
 
-torn_holds : (start : World) (past : List Event) (r : ℕ) (s : Step) (b : List ℕ) → IsCareful r (own r past) s → MayLeave s (Torn b) → (p : Place) → Holds start p ((world_after start past).directories p) past
+torn_holds : (start : World) (past : List Event) (r : ℕ) (s : Step) (b : List ℕ) → Cares r (own r past) s → MayLeave s (Torn b) → (p : Place) → IsLockable p → Holds start p ((world_after start past).directories p) past
     → Holds start p (directory_after (world_after start past) (torn s b) p) (Act r s Failed (Torn b) ∷ past)
-torn_holds start past r (step.Create q n c) b careful may p h = go (same_place q p)
+torn_holds start past r (step.Create q n c) b careful may p lock h = go (same_place q p) refl
   where
-    go : (v : Bool) → Holds start p (if v then with_created ((world_after start past).directories p) n (world_after start past).next_file else (world_after start past).directories p) (Act r (step.Create q n c) Failed (Torn b) ∷ past)
-    go true = calm_holds start p ((world_after start past).directories p) _ (Act r (step.Create q n c) Failed (Torn b)) past (plain_news start p r (step.Create q n c) Failed (Torn b) past (λ y n is z. cc (z)) (λ z. cc (z)))
-        (calm_create ((world_after start past).directories p) n (world_after start past).next_file (is_temp_quiet n (is_temp_any r n (careful_create r (own r past) q n c careful).1.0))) h
-    go false = calm_holds start p ((world_after start past).directories p) _ (Act r (step.Create q n c) Failed (Torn b)) past (plain_news start p r (step.Create q n c) Failed (Torn b) past (λ y n is z. cc (z)) (λ z. cc (z))) (calm_same _) h
-torn_holds start past r s b careful may p h = absurd may
+    go : (v : Bool) → same_place q p ≡ v → Holds start p (if v then with_created ((world_after start past).directories p) n (world_after start past).next_file else (world_after start past).directories p) (Act r (step.Create q n c) Failed (Torn b) ∷ past)
+    go true e = calm_holds start p ((world_after start past).directories p) _ (Act r (step.Create q n c) Failed (Torn b)) past (plain_news start p r (step.Create q n c) Failed (Torn b) past (λ y n is z. cc (z)) (λ z. cc (z)))
+        (calm_create ((world_after start past).directories p) n (world_after start past).next_file (is_temp_quiet n (is_temp_any r n (careful_create r (own r past) q n c (careful (place_lock (place_same q p e) lock))).1.0))) h
+    go false e = calm_holds start p ((world_after start past).directories p) _ (Act r (step.Create q n c) Failed (Torn b)) past (plain_news start p r (step.Create q n c) Failed (Torn b) past (λ y n is z. cc (z)) (λ z. cc (z))) (calm_same _) h
+torn_holds start past r s b careful may p lock h = absurd may
 
-holds_next : (start : World) (past : List Event) (r : ℕ) (s : Step) (a : Answer) (m : After) → IsCareful r (own r past) s → IsNext (world_after start past) r s a m → Inv start past → HasNoneOf start r
-    → (p : Place) → Holds start p (left_directory (world_after start past) s m p) (Act r s a m ∷ past)
-holds_next start past r s a m careful (answered _ lv fits) i none p = step_holds start past r s a careful (given_now start past r s a careful lv (inr fits) i none) p (i.holds p)
-holds_next start past r s a m careful (failed Before lv may) i none p = calm_holds start p ((world_after start past).directories p) _ (Act r s Failed Before) past (idle_news start p r s past) (calm_same _) (i.holds p)
-holds_next start past r s a m careful (failed Made lv may) i none p = step_holds start past r s Failed careful (given_now start past r s Failed careful lv (inl refl) i none) p (i.holds p)
-holds_next start past r s a m careful (failed (Torn b) lv may) i none p = torn_holds start past r s b careful may p (i.holds p)
-holds_next start past r s a m careful (refused d) i none p = calm_holds start p ((world_after start past).directories p) _ (Act r s Failed Before) past (idle_news start p r s past) (calm_same _) (i.holds p)
+holds_next : (start : World) (past : List Event) (r : ℕ) (s : Step) (a : Answer) (m : After) → Cares r (own r past) s → IsNext (world_after start past) r s a m → Inv start past → HasNoneOf start r
+    → (p : Place) → IsLockable p → Holds start p (left_directory (world_after start past) s m p) (Act r s a m ∷ past)
+holds_next start past r s a m careful (answered _ lv fits) i none p lock = step_holds start past r s a careful (given_now start past r s a careful lv (inr fits) i none) p lock (i.holds p lock)
+holds_next start past r s a m careful (failed Before lv may) i none p lock = calm_holds start p ((world_after start past).directories p) _ (Act r s Failed Before) past (idle_news start p r s past) (calm_same _) (i.holds p lock)
+holds_next start past r s a m careful (failed Made lv may) i none p lock = step_holds start past r s Failed careful (given_now start past r s Failed careful lv (inl refl) i none) p lock (i.holds p lock)
+holds_next start past r s a m careful (failed (Torn b) lv may) i none p lock = torn_holds start past r s b careful may p lock (i.holds p lock)
+holds_next start past r s a m careful (refused d) i none p lock = calm_holds start p ((world_after start past).directories p) _ (Act r s Failed Before) past (idle_news start p r s past) (calm_same _) (i.holds p lock)
 
-inv_left : (start : World) (past : List Event) (r : ℕ) (s : Step) (a : Answer) (m : After) → IsCareful r (own r past) s → IsNext (world_after start past) r s a m → HasNoneOf start r → Inv start past
+inv_left : (start : World) (past : List Event) (r : ℕ) (s : Step) (a : Answer) (m : After) → Cares r (own r past) s → IsNext (world_after start past) r s a m → HasNoneOf start r → Inv start past
     → InvAt start (Act r s a m ∷ past) (left (world_after start past) r s a m)
 inv_left start past r s a m careful nx none i = record {
   below = act_below start past r s a m careful nx i;
@@ -397,6 +406,7 @@ inv_left start past r s a m careful nx none i = record {
   cleared = act_cleared start past r s a m careful nx i;
   put = act_put start past r s a m careful nx i;
   durable = act_durable start past r s a m careful nx i;
+  ever = act_ever start past r s a m careful nx i;
   since = act_since start past r s a m careful nx i;
   older_temp = act_older_temp start past r s a m careful nx i;
   older_put = act_older_put start past r s a m careful nx i;
@@ -404,7 +414,7 @@ inv_left start past r s a m careful nx none i = record {
 }
 
 -- each act keeps the invariant
-pub inv_act : (start : World) (past : List Event) (r : ℕ) (s : Step) (a : Answer) (m : After) → IsCareful r (own r past) s → IsNext (world_after start past) r s a m → HasNoneOf start r → Inv start past
+pub inv_act : (start : World) (past : List Event) (r : ℕ) (s : Step) (a : Answer) (m : After) → Cares r (own r past) s → IsNext (world_after start past) r s a m → HasNoneOf start r → Inv start past
     → Inv start (Act r s a m ∷ past)
 inv_act start past r s a m careful nx none i =
     subst (λ (z : WorldMap). InvAt start (Act r s a m ∷ past) z) (sym (world_next start r s a m past nx)) (inv_left start past r s a m careful nx none i)

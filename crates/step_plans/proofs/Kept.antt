@@ -14,6 +14,7 @@ use Rattle.step_plans.specs.Starts.{HasNoneOfTheirs}
 use Rattle.step_plans.specs.Successors.{IsSuccessor, now, on}
 use Rattle.step_plans.proofs.Names.{held_stands}
 use Rattle.step_plans.proofs.Closing.{anchor_kept, end_leads, end_stands}
+use Rattle.step_plans.proofs.Past.{durable_lock}
 use Rattle.step_plans.proofs.Holds.{HasAnchor, AnchorOr, directory_in}
 use Rattle.step_plans.proofs.Inv.{IsSafeAs}
 use Rattle.step_plans.proofs.Law.{inv, heir, heirs}
@@ -39,23 +40,23 @@ lines_of (on w) = lines_of w
 module _ (start : World) (past : List Event) (st : IsStart start) (l : IsLegal start past) (careful : AreCareful past) (none : HasNoneOfTheirs start past) where
   -- what a discarding run had read is the file's own bytes
   read_is : (p : Place) (f : ℕ) (b : List ℕ) (q : Place) (g : ℕ) (d c : List ℕ) → IsDurable start p f b past → IsSuccessor start p f q g d c past → d ≡ b
-  read_is p f b q g d c s w = let i = inv start st l careful none in sym (elder start p f q g d c st l careful none w).safe.bytes ∙ (i.durable p f b s).bytes
+  read_is p f b q g d c s w = let i = inv start st l careful none in sym (elder start p f q g d c (durable_lock s) st l careful none w).safe.bytes ∙ (i.durable p f b s).bytes
 
   kept_up_to : (n : ℕ) (p : Place) (f : ℕ) (b : List ℕ) → (world_after start past).next_file ≤ f + n → IsDurable start p f b past → IsKept start past p f b
   kept_up_to zero p f b le s = absurd (let t = ((inv start st l careful none).durable p f b s).there in omega arith)
-  kept_up_to (suc n) p f b le s = go (((inv start st l careful none).holds p).anchored f b s) (λ q g c k w. kept_up_to n q g c k w)
+  kept_up_to (suc n) p f b le s = go (((inv start st l careful none).holds p (durable_lock s)).anchored f b s) (λ q g c k w. kept_up_to n q g c k w)
     where
       successor : IsDiscarded start p f past → HasSuccessor start past p f b
-      successor d = let h = heir start p f l careful d in (h.0, h.1, h.3, subst (λ (x : List ℕ). IsSuccessor start p f h.0 h.1 x h.3 past) (read_is p f b h.0 h.1 h.2 h.3 s h.4) h.4)
+      successor d = let h = heir start p f (durable_lock s) l careful d in (h.0, h.1, h.3, subst (λ (x : List ℕ). IsSuccessor start p f h.0 h.1 x h.3 past) (read_is p f b h.0 h.1 h.2 h.3 s h.4) h.4)
 
       true_one : (q : Place) (g : ℕ) (read copy : List ℕ) → IsSuccessor start p f q g read copy past → IsTrueSuccessor start past b q g copy
-      true_one q g read copy w = (heirs start p f q g read copy st l careful none w, subst (λ (x : List ℕ). Annotates x copy) (read_is p f b q g read copy s w) (lines_of w))
+      true_one q g read copy w = (heirs start p f q g read copy (durable_lock s) st l careful none w, subst (λ (x : List ℕ). Annotates x copy) (read_is p f b q g read copy s w) (lines_of w))
 
       go : AnchorOr start p (directory_in start past p) past f → ((q : Place) (g : ℕ) (c : List ℕ) → (world_after start past).next_file ≤ g + n → IsDurable start q g c past → IsKept start past q g c) → IsKept start past p f b
       go (inl k) rest = stands (stands_firm start past p f b ((inv start st l careful none).durable p f b s) k)
       go (inr (inl z)) rest = removed z
       go (inr (inr z)) rest = discarded z (successor z) true_one
-          (λ q g read copy w. rest q g copy (let o = (elder start p f q g read copy st l careful none w).older in omega arith) (heirs start p f q g read copy st l careful none w))
+          (λ q g read copy w. rest q g copy (let o = (elder start p f q g read copy (durable_lock s) st l careful none w).older in omega arith) (heirs start p f q g read copy (durable_lock s) st l careful none w))
 
 pub loses_nothing : (start : World) (past : List Event) → IsStart start → IsLegal start past → AreCareful past → HasNoneOfTheirs start past → LosesNothing start past
 loses_nothing start past st l careful none p f b s = kept_up_to start past st l careful none (world_after start past).next_file p f b (omega arith) s

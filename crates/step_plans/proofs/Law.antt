@@ -6,7 +6,7 @@ use Rattle.folder_files.specs.Careful.{IsCareful, IsCopyPut, IsPutLink, IsRead, 
 use Rattle.folder_files.specs.CrashImage.{IsCrashImage}
 use Rattle.folder_files.specs.Deeds.{Deed, did, Once, last, still, WasDone, now, on}
 use Rattle.folder_files.specs.Directory.{now_in}
-use Rattle.folder_files.specs.Histories.{world_after, own, has_acted, IsLive, IsLegal, begins, answers, fails, is_dead, delivers, crashes, crashes_within, stops, AreCareful}
+use Rattle.folder_files.specs.Histories.{world_after, own, has_acted, IsLive, IsLegal, begins, answers, fails, is_dead, delivers, crashes, crashes_within, stops, AreCareful, IsLockable}
 use Rattle.folder_files.specs.Named.{is_held, is_held_of}
 use Rattle.folder_files.specs.Steps.{made, MayLeave, Fits}
 use Rattle.folder_files.specs.Worlds.{WorldMap, shown, IsStart}
@@ -30,7 +30,7 @@ use Rattle.step_plans.proofs.Names.{not_both, num_itself, or_left, or_last, is_h
 use Rattle.step_plans.proofs.Effects.{answered, failed, refused, link_done, fits_as, world_failed}
 use Rattle.step_plans.proofs.Past.{own_crash, did_step, did_answer, once_head, once_none, once_case, discard_case, successor_case}
 use Rattle.step_plans.proofs.Inv.{Inv, IsUnsynced, inv_act}
-use Rattle.step_plans.proofs.Discipline.{careful_unlink}
+use Rattle.step_plans.proofs.Discipline.{Cares, careful_unlink}
 use Rattle.step_plans.proofs.Crashes.{ended_by, inv_crash, inv_within, inv_deliver, inv_end, inv_start}
 
 pub none_now : (start : World) (r : ℕ) (s : Step) (a : Answer) (m : After) (past : List Event) → HasNoneOfTheirs start (Act r s a m ∷ past) → HasNoneOf start r
@@ -43,8 +43,8 @@ pub may_made : (s : Step) → MayLeave s Made
 may_made (step.Create p n c) = tt
 may_made s = tt
 
-pub careful_back : (r : ℕ) (s : Step) (v : World) (past : List Event) → IsCareful r (own r (Crash v ∷ past)) s → IsCareful r (own r past) s
-careful_back r s v past c = subst (λ (z : List Deed). IsCareful r z s) (own_crash r v past) c
+pub careful_back : (r : ℕ) (s : Step) (v : World) (past : List Event) → Cares r (own r (Crash v ∷ past)) s → Cares r (own r past) s
+careful_back r s v past c = subst (λ (z : List Deed). Cares r z s) (own_crash r v past) c
 
 -- an image of the world with the step made is one of the world after it, had it been made and answered Failed
 pub image_within : (start : World) (past : List Event) (v : World) (r : ℕ) (s : Step) (over : ℕ → Bool) → IsCrashImage (made (world_after start past) r s) (shown v) over
@@ -83,7 +83,7 @@ put_now start past r o s a m p h b q c t fits er l w =
     let z = link_done (now_in ((world_after start past).directories q) t) (now_in ((world_after start past).directories q) l.0) (fits_as (world_after start past) o s (step.Link q t l.0) a Done es ea fits) in (
       z.0.0,
       subst (λ (k : ℕ). WasPutSince start r p h b q z.0.0 c (Act k s a m ∷ past)) (sym er) (subst (λ (k : Step). WasPutSince start r p h b q z.0.0 c (Act r k a m ∷ past)) (sym es)
-          (subst (λ (k : Answer). WasPutSince start r p h b q z.0.0 c (Act r (step.Link q t l.0) k m ∷ past)) (sym ea) (now l.2 l.3 w z.0.1))),
+          (subst (λ (k : Answer). WasPutSince start r p h b q z.0.0 c (Act r (step.Link q t l.0) k m ∷ past)) (sym ea) (now l.4 l.2 l.3 w z.0.1))),
     )
 
 no_put : (r : ℕ) {q : Place} {t : List ℕ} {s : Step} → IsPutLink r q t (did s Failed) → ⊥
@@ -126,8 +126,8 @@ is_discard r deeds p h careful is never = go (careful_unlink r deeds p h careful
     go (inr (inr (inl m))) = absurd (never m.2)
     go (inr (inr (inr m))) = m.2
 
-pub careful_as : (r : ℕ) (deeds : List Deed) (s : Step) (p : Place) (h : List ℕ) → s ≡ step.Unlink p h → IsCareful r deeds s → IsCareful r deeds (step.Unlink p h)
-careful_as r deeds s p h e c = subst (λ (z : Step). IsCareful r deeds z) e c
+pub careful_as : (r : ℕ) (deeds : List Deed) (s : Step) (p : Place) (h : List ℕ) → IsLockable p → s ≡ step.Unlink p h → Cares r deeds s → IsCareful r deeds (step.Unlink p h)
+careful_as r deeds s p h lock e c = subst (λ (z : Step). Cares r deeds z) e c lock
 
 -- a list of deeds parted at one of them
 record IsParted (P : Deed → List Deed → Type 0) (N : List Deed → Type 0) (deeds : List Deed) : Type 0 where
@@ -198,36 +198,36 @@ within_moment start r v {past = before} st l careful none lv over t = go lv over
         same : {u : World} {moment : List Event} → ◌≡◌ {A = List Event} (Crash u ∷ moment) (Crash v ∷ past) → past ≡ moment
         same e = cc (e)
 
-next_durable : (start : World) (past : List Event) (r : ℕ) (s : Step) (p : Place) (f : ℕ) (q : Place) (g : ℕ) (b c h : List ℕ) → IsCareful r (own r past) s → s ≡ step.Unlink p h → is_held_of r (kind_of h) ≡ true → {moment : List Event} → IsMoment start r moment past
+next_durable : (start : World) (past : List Event) (r : ℕ) (s : Step) (p : Place) (f : ℕ) (q : Place) (g : ℕ) (b c h : List ℕ) → IsLockable p → Cares r (own r past) s → s ≡ step.Unlink p h → is_held_of r (kind_of h) ≡ true → {moment : List Event} → IsMoment start r moment past
     → (WasGivenAway p h (own r past) → ⊥) → Annotates b c → WasPutSince start r p h b q g c past → IsDurable start q g c past
-next_durable start past r s p f q g b c h careful es is {moment = moment} k never lines w =
-    k.durable q g c (synced_durable start moment r p h b q g c k.inv k.lives (subst (λ (z : List Deed). MayDiscard r p h z) k.deeds (is_discard r (own r past) p h (careful_as r (own r past) s p h es careful) is never)) lines (k.since p h b q g c w))
+next_durable start past r s p f q g b c h lock careful es is {moment = moment} k never lines w =
+    k.durable q g c (synced_durable start moment r p h b q g c k.inv k.lives (subst (λ (z : List Deed). MayDiscard r p h z) k.deeds (is_discard r (own r past) p h (careful_as r (own r past) s p h lock es careful) is never)) lines (k.since p h b q g c w))
 
 -- the successors of a discarded file are durable
-pub heirs : (start : World) (p : Place) (f : ℕ) (q : Place) (g : ℕ) (b c : List ℕ) {past : List Event} → IsStart start → IsLegal start past → AreCareful past → HasNoneOfTheirs start past → IsSuccessor start p f q g b c past → IsDurable start q g c past
-heirs start p f q g b c st begins careful none w = elim w [ ]
-heirs start p f q g b c st (answers r s a {past = past} l lv fits) careful none w = let none_b = none_before start r s a Made past none in on (elim (successor_case w) [
-  | inl y ↦ next_durable start past r s p f q g b c y.0 careful.0 y.1 y.2 (at_moment start r st l careful.1 none_b y.3.1) y.4 y.5 y.6
-  | inr y ↦ heirs start p f q g b c st l careful.1 none_b y
+pub heirs : (start : World) (p : Place) (f : ℕ) (q : Place) (g : ℕ) (b c : List ℕ) {past : List Event} → IsLockable p → IsStart start → IsLegal start past → AreCareful past → HasNoneOfTheirs start past → IsSuccessor start p f q g b c past → IsDurable start q g c past
+heirs start p f q g b c lock st begins careful none w = elim w [ ]
+heirs start p f q g b c lock st (answers r s a {past = past} l lv fits) careful none w = let none_b = none_before start r s a Made past none in on (elim (successor_case w) [
+  | inl y ↦ next_durable start past r s p f q g b c y.0 lock careful.0 y.1 y.2 (at_moment start r st l careful.1 none_b y.3.1) y.4 y.5 y.6
+  | inr y ↦ heirs start p f q g b c lock st l careful.1 none_b y
 ])
-heirs start p f q g b c st (fails r s m {past = past} l lv may) careful none w = let none_b = none_before start r s Failed m past none in on (elim (successor_case w) [
-  | inl y ↦ next_durable start past r s p f q g b c y.0 careful.0 y.1 y.2 (at_moment start r st l careful.1 none_b y.3.1) y.4 y.5 y.6
-  | inr y ↦ heirs start p f q g b c st l careful.1 none_b y
+heirs start p f q g b c lock st (fails r s m {past = past} l lv may) careful none w = let none_b = none_before start r s Failed m past none in on (elim (successor_case w) [
+  | inl y ↦ next_durable start past r s p f q g b c y.0 lock careful.0 y.1 y.2 (at_moment start r st l careful.1 none_b y.3.1) y.4 y.5 y.6
+  | inr y ↦ heirs start p f q g b c lock st l careful.1 none_b y
 ])
-heirs start p f q g b c st (is_dead r s {past = past} l over) careful none w = let none_b = none_before start r s Failed Before past none in on (elim (successor_case w) [
-  | inl y ↦ next_durable start past r s p f q g b c y.0 careful.0 y.1 y.2 (at_moment start r st l careful.1 none_b y.3.1) y.4 y.5 y.6
-  | inr y ↦ heirs start p f q g b c st l careful.1 none_b y
+heirs start p f q g b c lock st (is_dead r s {past = past} l over) careful none w = let none_b = none_before start r s Failed Before past none in on (elim (successor_case w) [
+  | inl y ↦ next_durable start past r s p f q g b c y.0 lock careful.0 y.1 y.2 (at_moment start r st l careful.1 none_b y.3.1) y.4 y.5 y.6
+  | inr y ↦ heirs start p f q g b c lock st l careful.1 none_b y
 ])
-heirs start p f q g b c st (delivers path piece l) careful none (on w) = on (heirs start p f q g b c st l careful none w)
-heirs start p f q g b c st (crashes v l image) careful none (on w) = on (heirs start p f q g b c st l careful none w)
-heirs start p f q g b c st (crashes_within v r s {past = past} l lv image) careful none w = let none_b = none_before start r s Failed Before (Crash v ∷ past) none in on (elim (successor_case w) [
-  | inl y ↦ next_durable start (Crash v ∷ past) r s p f q g b c y.0 careful.0 y.1 y.2 (within_moment start r v st l careful.1 none_b lv (within_ended r v past (made (world_after start past) r s).ended image.ended) y.3.1) y.4 y.5 y.6
-  | inr y ↦ on (heirs start p f q g b c st l careful.1 none_b (back y))
+heirs start p f q g b c lock st (delivers path piece l) careful none (on w) = on (heirs start p f q g b c lock st l careful none w)
+heirs start p f q g b c lock st (crashes v l image) careful none (on w) = on (heirs start p f q g b c lock st l careful none w)
+heirs start p f q g b c lock st (crashes_within v r s {past = past} l lv image) careful none w = let none_b = none_before start r s Failed Before (Crash v ∷ past) none in on (elim (successor_case w) [
+  | inl y ↦ next_durable start (Crash v ∷ past) r s p f q g b c y.0 lock careful.0 y.1 y.2 (within_moment start r v st l careful.1 none_b lv (within_ended r v past (made (world_after start past) r s).ended image.ended) y.3.1) y.4 y.5 y.6
+  | inr y ↦ on (heirs start p f q g b c lock st l careful.1 none_b (back y))
 ])
   where
     back : IsSuccessor start p f q g b c (Crash v ∷ past) → IsSuccessor start p f q g b c past
     back (on z) = z
-heirs start p f q g b c st (stops o l) careful none (on w) = on (heirs start p f q g b c st l careful none w)
+heirs start p f q g b c lock st (stops o l) careful none (on w) = on (heirs start p f q g b c lock st l careful none w)
 
 abbrev pub HasHeir : World → Place → ℕ → List Event → Type 0
 HasHeir start p f past = (q : Place) × (g : ℕ) × (b : List ℕ) × (c : List ℕ) × IsSuccessor start p f q g b c past
@@ -258,11 +258,11 @@ may_put r p h deeds may =
     let z = put_since r p h k.holds.0.0 k.deed k.older k.holds.0.1 (may.succeeded k.newer k.deed k.older k.parts k.holds.0.0 k.holds.0.1) in
     (k.holds.0.0, subst (λ (ds : List Deed). HasSomePut r p h k.holds.0.0 ds) (sym k.parts) z)
 
-heir_now : (start : World) (p : Place) (f r : ℕ) (s : Step) (a : Answer) (m : After) (past : List Event)
-    → ((h b : List ℕ) (q : Place) (c : List ℕ) → HasPutSince r p h b q c (own r past) → (g : ℕ) × WasPutSince start r p h b q g c past) → IsCareful r (own r past) s
+heir_now : (start : World) (p : Place) (f r : ℕ) (s : Step) (a : Answer) (m : After) (past : List Event) → IsLockable p
+    → ((h b : List ℕ) (q : Place) (c : List ℕ) → HasPutSince r p h b q c (own r past) → (g : ℕ) × WasPutSince start r p h b q g c past) → Cares r (own r past) s
     → IsDiscarded start p f (Act r s a m ∷ past) → HasHeir start p f (Act r s a m ∷ past) ⊎ IsDiscarded start p f past
-heir_now start p f r s a m past found careful d = elim (discard_case d) [
-  | inl y ↦ inl (made_heir y.0 y.1 y.2 y.3 y.4 (is_discard r (own r past) p y.0 (careful_as r (own r past) s p y.0 y.1 careful) y.2 y.4))
+heir_now start p f r s a m past lock found careful d = elim (discard_case d) [
+  | inl y ↦ inl (made_heir y.0 y.1 y.2 y.3 y.4 (is_discard r (own r past) p y.0 (careful_as r (own r past) s p y.0 lock y.1 careful) y.2 y.4))
   | inr y ↦ inr y
 ]
   where
@@ -272,20 +272,20 @@ heir_now start p f r s a m past found careful d = elim (discard_case d) [
         let g = found h k.0 k.1.0 k.1.1 k.1.2 in
         (k.1.0, g.0, k.0, k.1.1, subst (λ (z : Step). IsSuccessor start p f k.1.0 g.0 k.0 k.1.1 (Act r z a m ∷ past)) (sym e) (now is t never k.1.3 g.1))
 
-pub heir : (start : World) (p : Place) (f : ℕ) {past : List Event} → IsLegal start past → AreCareful past → IsDiscarded start p f past → HasHeir start p f past
+pub heir : (start : World) (p : Place) (f : ℕ) {past : List Event} → IsLockable p → IsLegal start past → AreCareful past → IsDiscarded start p f past → HasHeir start p f past
 unfolding own
-heir start p f begins careful w = elim w [ ]
-heir start p f (answers r s a {past = past} l lv fits) careful w = elim (heir_now start p f r s a Made past (λ h b q c z. put_found start r p h b q c l z) careful.0 w) [ inl z ↦ z | inr z ↦ heir_on start p f _ past (heir start p f l careful.1 z) ]
-heir start p f (fails r s m {past = past} l lv may) careful w = elim (heir_now start p f r s Failed m past (λ h b q c z. put_found start r p h b q c l z) careful.0 w) [ inl z ↦ z | inr z ↦ heir_on start p f _ past (heir start p f l careful.1 z) ]
-heir start p f (is_dead r s {past = past} l over) careful w = elim (heir_now start p f r s Failed Before past (λ h b q c z. put_found start r p h b q c l z) careful.0 w) [ inl z ↦ z | inr z ↦ heir_on start p f _ past (heir start p f l careful.1 z) ]
-heir start p f (delivers path piece {past = past} l) careful (on w) = heir_on start p f _ past (heir start p f l careful w)
-heir start p f (crashes v {past = past} l image) careful (on w) = heir_on start p f _ past (heir start p f l careful w)
-heir start p f (crashes_within v r s {past = past} l lv image) careful w =
-    elim (heir_now start p f r s Failed Before (Crash v ∷ past) (λ h b q c y. let x = put_found start r p h b q c l y in (x.0, on x.1)) careful.0 w) [
+heir start p f lock begins careful w = elim w [ ]
+heir start p f lock (answers r s a {past = past} l lv fits) careful w = elim (heir_now start p f r s a Made past lock (λ h b q c z. put_found start r p h b q c l z) careful.0 w) [ inl z ↦ z | inr z ↦ heir_on start p f _ past (heir start p f lock l careful.1 z) ]
+heir start p f lock (fails r s m {past = past} l lv may) careful w = elim (heir_now start p f r s Failed m past lock (λ h b q c z. put_found start r p h b q c l z) careful.0 w) [ inl z ↦ z | inr z ↦ heir_on start p f _ past (heir start p f lock l careful.1 z) ]
+heir start p f lock (is_dead r s {past = past} l over) careful w = elim (heir_now start p f r s Failed Before past lock (λ h b q c z. put_found start r p h b q c l z) careful.0 w) [ inl z ↦ z | inr z ↦ heir_on start p f _ past (heir start p f lock l careful.1 z) ]
+heir start p f lock (delivers path piece {past = past} l) careful (on w) = heir_on start p f _ past (heir start p f lock l careful w)
+heir start p f lock (crashes v {past = past} l image) careful (on w) = heir_on start p f _ past (heir start p f lock l careful w)
+heir start p f lock (crashes_within v r s {past = past} l lv image) careful w =
+    elim (heir_now start p f r s Failed Before (Crash v ∷ past) lock (λ h b q c y. let x = put_found start r p h b q c l y in (x.0, on x.1)) careful.0 w) [
       | inl z ↦ z
-      | inr z ↦ heir_on start p f _ (Crash v ∷ past) (heir_on start p f _ past (heir start p f l careful.1 (back z)))
+      | inr z ↦ heir_on start p f _ (Crash v ∷ past) (heir_on start p f _ past (heir start p f lock l careful.1 (back z)))
     ]
   where
     back : IsDiscarded start p f (Crash v ∷ past) → IsDiscarded start p f past
     back (on z) = z
-heir start p f (stops o {past = past} l) careful (on w) = heir_on start p f _ past (heir start p f l careful w)
+heir start p f lock (stops o {past = past} l) careful (on w) = heir_on start p f _ past (heir start p f lock l careful w)

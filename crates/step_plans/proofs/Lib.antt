@@ -14,6 +14,7 @@ pub mod Sound
 pub mod Kept
 pub mod Once
 pub mod Taken
+pub mod Apart
 pub mod Told
 pub mod Tried
 pub mod Drops
@@ -22,6 +23,7 @@ pub mod Committing
 pub mod Bases
 pub mod Settling
 pub mod Crashing
+pub mod CutCommits
 pub mod Stage
 pub mod LostByDrop
 pub mod LostByDiscard

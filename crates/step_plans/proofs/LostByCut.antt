@@ -1,5 +1,5 @@
 -- Why a drop is cut only at the length at which it was read: a history in which this is not so, and a message is lost.
-use Rattle.std.proofs.Common.{◌≡◌, ℕ, ◌<◌, true, inl, inr, List, [], ◌∷◌, length, Some, refl, ap, arith, codes}
+use Rattle.std.proofs.Common.{subst, ◌≡◌, ℕ, ◌<◌, true, inl, inr, List, [], ◌∷◌, length, Some, refl, ap, arith, codes}
 use Rattle.mbox_drop.specs.Drops.{messages, parts, sections, lines}
 use Rattle.folder_files.specs.Careful.{IsCareful, looks}
 use Rattle.folder_files.specs.Histories.{world_after, own, IsLegal, begins, answers, delivers, AreCareful}
@@ -13,7 +13,7 @@ use Rattle.folder_files.specs.declared.place.Place.{Place}
 use Rattle.folder_files.specs.declared.step.Answer.TheVariants.{Done, Piece}
 use Rattle.folder_files.specs.declared.step.Step.TheVariants.{ReadDrop, CutDrop}
 use Rattle.folder_files.specs.declared.world.World.{World}
-use Rattle.step_plans.specs.Cutting.{read, on, AreDurable}
+use Rattle.step_plans.specs.Cutting.{AreStoredAs, read, on, AreDurable}
 use Rattle.step_plans.specs.Durable.{IsDurable, stood, on}
 use Rattle.step_plans.specs.Moments.{live}
 use Rattle.step_plans.specs.Starts.{HasNoneOfTheirs}
@@ -53,7 +53,7 @@ unfolding world_after made shown
 lost_is_legal = answers 5 (CutDrop mailbox 10) Done (delivers mailbox mail (answers 5 (ReadDrop mailbox 0 9) (Piece [] 0) begins refl refl)) refl refl
 
 delivered_is_careful : AreCareful delivered
-delivered_is_careful = (looks tt, tt)
+delivered_is_careful = ((λ on. looks tt), tt)
 
 -- the drop is empty then
 drop_is_cut : (world_after begun lost).outside mailbox ≡ Some []
@@ -72,14 +72,15 @@ not_durable : (p : Place) (f : ℕ) (b : List ℕ) → IsDurable begun p f b del
 not_durable p f b (on z) = elim (durable_case z) [ inl y ↦ cc (y.0) | inr y ↦ at_start y ]
   where
     at_start : IsDurable begun p f b [] → ⊥
-    at_start (stood x st leads bytes) = no_file p x f leads
+    at_start (stood x lock st leads bytes) = no_file p x f leads
 
 -- and its message is nowhere
 message_is_lost : AreDurable begun delivered mail → ⊥
-message_is_lost h = let z = h 0 [] (some (ap length one_message)) in not_durable z.0 z.1 _ z.2
+message_is_lost h = go h.0 (subst (λ (ms : List (List ℕ)). AreStoredAs begun delivered h.0 ms) one_message h.1)
   where
-    some : length (messages mail) ≡ 1 → 0 < length (messages mail)
-    some e = omega (arith, e)
+    go : (fs : List ℕ) → AreStoredAs begun delivered fs (codes "hi\n" ∷ []) → ⊥
+    go [] s = s
+    go (f ∷ fs) s = not_durable s.0.0 f _ s.0.1
 
 none_of_theirs : HasNoneOfTheirs begun lost
 unfolding shown
@@ -88,4 +89,4 @@ none_of_theirs r acted p x o = refl
 -- so the cut is not careful
 cut_is_careless : IsCareful 5 (own 5 delivered) (CutDrop mailbox 10) → ⊥
 unfolding world_after made shown
-cut_is_careless c = message_is_lost (cut_law begun delivered 5 mailbox 10 Done Made begun_starts lost_is_legal (c, delivered_is_careful) none_of_theirs delivered mail (live refl) (on (λ z. z) read) drop_holds refl)
+cut_is_careless c = message_is_lost (cut_law begun delivered 5 mailbox 10 Done Made begun_starts lost_is_legal ((λ on. c), delivered_is_careful) none_of_theirs delivered mail (live refl) (on (λ z. z) read) drop_holds refl)

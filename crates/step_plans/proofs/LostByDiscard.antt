@@ -177,12 +177,12 @@ lost_is_legal = crashes left gone_is_legal left_is_image
 pub put_is_careful : AreCareful put
 unfolding own
 put_is_careful = (
-  changes (unfailed (own 5 synced) (done_is_no_failure, (done_is_no_failure, (no_failure, (done_is_no_failure, tt))))) Puts (puts out temp one (refl, ap (λ k. is_number k) one_is, (ap (λ k. is_temp_of 5 k) temp_is, now (refl, now (codes "x", refl))))),
+  λ on. changes (unfailed (own 5 synced) (done_is_no_failure, (done_is_no_failure, (no_failure, (done_is_no_failure, tt))))) Puts (puts out temp one (refl, ap (λ k. is_number k) one_is, (ap (λ k. is_temp_of 5 k) temp_is, now (refl, now (codes "x", refl))))),
   (
-    looks tt,
+    λ on. looks tt,
     (
-      changes (unfailed (own 5 read) (no_failure, (done_is_no_failure, tt))) Creates (creates out temp (codes "x") (ap (λ k. is_temp_of 5 k) temp_is, not_made)),
-      (looks tt, (changes (unfailed [] tt) Takes (takes inbox two held (refl, taking, λ w. once_none w)), tt)),
+      λ on. changes (unfailed (own 5 read) (no_failure, (done_is_no_failure, tt))) Creates (creates out temp (codes "x") (ap (λ k. is_temp_of 5 k) temp_is, not_made)),
+      ((λ on. looks tt), ((λ on. changes (unfailed [] tt) Takes (takes inbox two held (refl, taking, λ w. once_none w))), tt)),
     ),
   ),
 )
@@ -276,7 +276,7 @@ not_durable g c (on z) = elim (durable_case z) [
 ]
   where
     at_start : IsDurable begun out g c [] → ⊥
-    at_start (stood x st leads bytes) = out_is_empty x g leads
+    at_start (stood x lock st leads bytes) = out_is_empty x g leads
 
 none_leads : (x : List ℕ) → now_in ((world_after begun lost).directories inbox) x ≡ Some 7 → ⊥
 unfolding world_after shown
@@ -284,7 +284,7 @@ none_leads x e = cc (e)
 
 was_durable : IsDurable begun inbox 7 (codes "x") lost
 unfolding shown
-was_durable = on (on (on (on (on (on (on (stood two stand refl refl)))))))
+was_durable = on (on (on (on (on (on (on (stood two tt stand refl refl)))))))
   where
     stand : is_standing two ≡ true
     stand = rw two_is refl
@@ -311,4 +311,4 @@ none_of_theirs r acted p x o = go (same_place inbox p) (same_place out p) (bytes
 
 -- so the discard is not careful
 discard_is_careless : IsCareful 5 (own 5 put) (Unlink inbox held) → ⊥
-discard_is_careless c = file_is_lost (loses_nothing begun lost begun_starts lost_is_legal (c, put_is_careful) none_of_theirs)
+discard_is_careless c = file_is_lost (loses_nothing begun lost begun_starts lost_is_legal ((λ on. c), put_is_careful) none_of_theirs)

@@ -127,7 +127,7 @@ lost_is_legal = crashes left dropped_is_legal left_is_image
 -- all that came before the drop was careful
 given_is_careful : AreCareful given
 unfolding own
-given_is_careful = (changes unfailed Gives (gives inbox held three (refl, ap (λ k. is_held k) held_is, ap (λ k. is_number k) three_is)), (changes unfailed_first Takes (takes inbox two held (refl, taking, λ w. once_none w)), tt))
+given_is_careful = ((λ on. changes unfailed Gives (gives inbox held three (refl, ap (λ k. is_held k) held_is, ap (λ k. is_number k) three_is))), ((λ on. changes unfailed_first Takes (takes inbox two held (refl, taking, λ w. once_none w))), tt))
   where
     taking : is_taking 5 (kind_of two) (kind_of held) ≡ true
     taking = rw (two_is, held_is) refl
@@ -182,7 +182,7 @@ none_leads x e = cc (e)
 
 was_durable : IsDurable begun inbox 7 (codes "x") lost
 unfolding shown
-was_durable = on (on (on (on (stood two stand refl refl))))
+was_durable = on (on (on (on (stood two tt stand refl refl))))
   where
     stand : is_standing two ≡ true
     stand = rw two_is refl
@@ -207,4 +207,4 @@ none_of_theirs r acted = at_all inbox (λ p. (x : List ℕ) → is_own_of r x �
 
 -- so the drop is not careful
 drop_is_careless : IsCareful 5 (own 5 given) (Unlink inbox held) → ⊥
-drop_is_careless c = file_is_lost (loses_nothing begun lost begun_starts lost_is_legal (c, given_is_careful) none_of_theirs)
+drop_is_careless c = file_is_lost (loses_nothing begun lost begun_starts lost_is_legal ((λ on. c), given_is_careful) none_of_theirs)

@@ -1,13 +1,14 @@
 -- A temporary or held name leads to one file only, also through crashes.
 use Rattle.std.proofs.Common.{◌≡◌, ℕ, Bool, true, ◌⊎◌, inl, inr, List, [], ◌∷◌, Option, Some, None, refl, sym, ◌∙◌, ap, subst}
 use Rattle.mh_base.specs.Entries.{kind_of}
+use Rattle.step_plans.proofs.Tried.{tried, careful_then, none_then}
 use Rattle.folder_files.specs.Careful.{IsCareful, WasMade}
 use Rattle.folder_files.specs.CrashImage.{IsCrashImage}
-use Rattle.folder_files.specs.Deeds.{WasDone}
+use Rattle.folder_files.specs.Deeds.{WasDone, Deed}
 use Rattle.folder_files.specs.Directory.{Slots, DirectoryMap, lead, now_in}
-use Rattle.folder_files.specs.Histories.{world_after, own, IsLegal, begins, answers, fails, is_dead, delivers, crashes, crashes_within, stops, AreCareful}
+use Rattle.folder_files.specs.Histories.{world_after, own, IsLegal, begins, answers, fails, is_dead, delivers, crashes, crashes_within, stops, AreCareful, IsLockable}
 use Rattle.folder_files.specs.Named.{is_temp, is_temp_of, is_held, is_taking}
-use Rattle.folder_files.specs.Steps.{made}
+use Rattle.folder_files.specs.Steps.{made, next_after, directory_after}
 use Rattle.folder_files.specs.Worlds.{WorldMap, shown, IsStart}
 use Rattle.folder_files.specs.declared.event.After.{After}
 use Rattle.folder_files.specs.declared.event.After.TheVariants.{Before, Made}
@@ -22,17 +23,17 @@ use Rattle.folder_files.specs.declared.world.Change.{Change}
 use Rattle.folder_files.specs.declared.world.World.{World}
 use Rattle.step_plans.specs.Anchors.{IsUntouched}
 use Rattle.step_plans.specs.MailInvariant.{MailInvariant}
-use Rattle.step_plans.specs.Moments.{Leads, HasLed, now, on}
+use Rattle.step_plans.specs.Moments.{Leads, HasLed, now, on, IsTriedAt, WouldMake, IsMadeOnce}
 use Rattle.step_plans.specs.Standing.{is_own}
 use Rattle.step_plans.specs.Starts.{HasNoneOf, HasNoneOfTheirs}
 use Rattle.step_plans.proofs.Names.{own_cases, temp_owned, held_owned, is_taking_held}
 use Rattle.step_plans.proofs.Closing.{AtEach, kept_moment, end_stands}
-use Rattle.step_plans.proofs.Changes.{IsTarget, IsUnseen, unseen_leads, Goes, stays, opens, takes_on, settles, arrives}
-use Rattle.step_plans.proofs.Effects.{IsNext, answered, failed, refused, left_next, ComesTo, next_goes, world_start, world_crash, world_deliver, world_end, world_next}
-use Rattle.step_plans.proofs.Past.{once_map, once_more}
-use Rattle.step_plans.proofs.Holds.{directory_in}
+use Rattle.step_plans.proofs.Changes.{IsTarget, IsUnseen, unseen_leads, Goes, stays, opens, takes_on, settles, arrives, step_goes}
+use Rattle.step_plans.proofs.Effects.{IsNext, answered, failed, refused, left_next, ComesTo, next_goes, world_start, world_crash, world_deliver, world_end, world_next, made_left}
+use Rattle.step_plans.proofs.Past.{once_map, once_more, put_lock, durable_lock}
+use Rattle.step_plans.proofs.Holds.{directory_in, Stood}
 use Rattle.step_plans.proofs.Inv.{Inv, WasFailed, WasMakingFailed}
-use Rattle.step_plans.proofs.Discipline.{held_target, temp_target}
+use Rattle.step_plans.proofs.Discipline.{held_target, temp_target, Cares}
 use Rattle.step_plans.proofs.Beginning.{nothing_pending}
 use Rattle.step_plans.proofs.Crashes.{ended_by}
 use Rattle.step_plans.proofs.Law.{inv, none_now, none_before, may_made, careful_back, image_within, within_ended, heir, heirs}
@@ -59,7 +60,7 @@ WasLed start p x past v = (g : ℕ) → v ≡ Some g → HasLed start p x g past
 abbrev IsAt : ℕ → Option ℕ → Type 0
 IsAt f v = (v ≡ None) ⊎ (v ≡ Some f)
 
-record LedOnce (start : World) (past : List Event) (p : Place) (x : List ℕ) : Type 0 where
+pub record LedOnce (start : World) (past : List Event) (p : Place) (x : List ℕ) : Type 0 where
   pub led : AtEach (WasLed start p x past) (directory_in start past p).safe (directory_in start past p).pending x
   pub unique : (f g : ℕ) → HasLed start p x f past → HasLed start p x g past → f ≡ g
   pub states : (f : ℕ) → HasLed start p x f past → AtEach (IsAt f) (directory_in start past p).safe (directory_in start past p).pending x
@@ -68,11 +69,11 @@ record LedOnce (start : World) (past : List Event) (p : Place) (x : List ℕ) : 
 abbrev NeverLed : World → List Event → Place → List ℕ → Type 0
 NeverLed start past p x = IsUnseen (directory_in start past p) x × ((f : ℕ) → HasLed start p x f past → ⊥)
 
-led_case : {start : World} {p : Place} {x : List ℕ} {f : ℕ} {e : Event} {past : List Event} → HasLed start p x f (e ∷ past) → Leads start (e ∷ past) p x f ⊎ HasLed start p x f past
+pub led_case : {start : World} {p : Place} {x : List ℕ} {f : ℕ} {e : Event} {past : List Event} → HasLed start p x f (e ∷ past) → Leads start (e ∷ past) p x f ⊎ HasLed start p x f past
 led_case (now h) = inl h
 led_case (on z) = inr z
 
-led_start : {start : World} {p : Place} {x : List ℕ} {f : ℕ} → HasLed start p x f [] → Leads start [] p x f
+pub led_start : {start : World} {p : Place} {x : List ℕ} {f : ℕ} → HasLed start p x f [] → Leads start [] p x f
 led_start (now h) = h
 
 -- an event by which what comes to x comes to a name never led
@@ -107,6 +108,18 @@ once_event start past e p x k j t goes fresh o = record {
     newest None q f z = inl q
     newest (Some g) q f z = inr (q ∙ ap Some (unique g f (now q) z))
 
+-- what it led to after a crash it had led to before
+pub crash_led : (start : World) (past : List Event) (v : World) (over : ℕ → Bool) (p : Place) (x : List ℕ) → IsCrashImage (world_after start past) (shown v) over → LedOnce start past p x
+    → (f : ℕ) → HasLed start p x f (Crash v ∷ past) → HasLed start p x f past
+crash_led start past v over p x image o f z = elim (led_case z) [
+  | inl h ↦ kept_moment (WasLed start p x past) (directory_in start past p).safe (directory_in start past p).pending (image.directories p).keep x (image.directories p).closed o.led f
+      (sym ((image.directories p).slots x) ∙ rw (image.directories p).nothing_pending at (from h))
+  | inr y ↦ y
+]
+  where
+    from : Leads start (Crash v ∷ past) p x f → now_in ((shown v).directories p) x ≡ Some f
+    from h = subst (λ (z : WorldMap). now_in (z.directories p) x ≡ Some f) (world_crash start v past) h
+
 -- a crash
 once_crash : (start : World) (past : List Event) (v : World) (over : ℕ → Bool) (p : Place) (x : List ℕ) → IsCrashImage (world_after start past) (shown v) over → LedOnce start past p x → LedOnce start (Crash v ∷ past) p x
 once_crash start past v over p x image o = record {
@@ -120,15 +133,8 @@ once_crash start past v over p x image o = record {
     to : (g : ℕ) → now_in ((shown v).directories p) x ≡ Some g → Leads start (Crash v ∷ past) p x g
     to g h = subst (λ (z : WorldMap). now_in (z.directories p) x ≡ Some g) (sym (world_crash start v past)) h
 
-    from : (g : ℕ) → Leads start (Crash v ∷ past) p x g → now_in ((shown v).directories p) x ≡ Some g
-    from g h = subst (λ (z : WorldMap). now_in (z.directories p) x ≡ Some g) (world_crash start v past) h
-
     back : (f : ℕ) → HasLed start p x f (Crash v ∷ past) → HasLed start p x f past
-    back f z = elim (led_case z) [
-      | inl h ↦ kept_moment (WasLed start p x past) (directory_in start past p).safe (directory_in start past p).pending (image.directories p).keep x (image.directories p).closed o.led f
-          (sym ((image.directories p).slots x) ∙ rw (image.directories p).nothing_pending at (from f h))
-      | inr y ↦ y
-    ]
+    back f z = crash_led start past v over p x image o f z
 
 -- no step so far can have made it
 record IsHeldUnmade (start : World) (past : List Event) (p : Place) (x : List ℕ) : Type 0 where
@@ -147,15 +153,15 @@ record IsTempUnmade (start : World) (past : List Event) (p : Place) (x : List �
   pub not_failed : WasMakingFailed p x (own run past) → ⊥
 
 abbrev IsUnmade : World → List Event → Place → List ℕ → Type 0
-IsUnmade start past p x = IsHeldUnmade start past p x ⊎ IsTempUnmade start past p x
+IsUnmade start past p x = IsLockable p × (IsHeldUnmade start past p x ⊎ IsTempUnmade start past p x)
 
 not_seen : (start : World) (past : List Event) (p : Place) (x : List ℕ) → Inv start past → IsUnmade start past p x → IsUnseen (directory_in start past p) x
-not_seen start past p x i (inl h) = (i.fresh p h.run h.number x h.taking h.none h.not_done h.not_failed).unseen
-not_seen start past p x i (inr h) = i.fresh_temp p h.run x h.temp h.none h.not_done h.not_failed
+not_seen start past p x i (lock, inl h) = (i.fresh p h.run h.number x lock h.taking h.none h.not_done h.not_failed).unseen
+not_seen start past p x i (lock, inr h) = i.fresh_temp p h.run x lock h.temp h.none h.not_done h.not_failed
 
 unmade_before : (start : World) (past : List Event) (p : Place) (x : List ℕ) (e : Event) → IsUnmade start (e ∷ past) p x → IsUnmade start past p x
-unmade_before start past p x e (inl h) = inl (record { run = h.run; number = h.number; taking = h.taking; none = h.none; not_done = λ w. h.not_done (once_more h.run e past w); not_failed = λ w. h.not_failed (once_more h.run e past w) })
-unmade_before start past p x e (inr h) = inr (record { run = h.run; temp = h.temp; none = h.none; not_done = λ w. h.not_done (once_more h.run e past w); not_failed = λ w. h.not_failed (once_more h.run e past w) })
+unmade_before start past p x e (lock, inl h) = (lock, inl (record { run = h.run; number = h.number; taking = h.taking; none = h.none; not_done = λ w. h.not_done (once_more h.run e past w); not_failed = λ w. h.not_failed (once_more h.run e past w) }))
+unmade_before start past p x e (lock, inr h) = (lock, inr (record { run = h.run; temp = h.temp; none = h.none; not_done = λ w. h.not_done (once_more h.run e past w); not_failed = λ w. h.not_failed (once_more h.run e past w) }))
 
 unseen_not : (start : World) (past : List Event) (p : Place) (f : ℕ) (x : List ℕ) → IsUnseen (directory_in start past p) x → Leads start past p x f → ⊥
 unseen_not start past p f x u h = let n = unseen_leads (directory_in start past p) x u in cc (n, h)
@@ -201,23 +207,23 @@ never start p f x st (stops r {past = past} l) careful none n z = elim (led_case
   | inr y ↦ never start p f x st l careful none (unmade_before start past p x (End r) n) y
 ]
 
-target_fresh : (start : World) (past : List Event) (r : ℕ) (s : Step) (p : Place) (x : List ℕ) → is_own x ≡ true → IsCareful r (own r past) s → HasNoneOf start r → IsTarget s p x → IsUnmade start past p x
-target_fresh start past r s p x is careful none t = elim (own_cases x is) [ inl temp ↦ inr (made temp) | inr held ↦ inl (took held) ]
+target_fresh : (start : World) (past : List Event) (r : ℕ) (s : Step) (p : Place) (x : List ℕ) → IsLockable p → is_own x ≡ true → Cares r (own r past) s → HasNoneOf start r → IsTarget s p x → IsUnmade start past p x
+target_fresh start past r s p x lock is careful none t = (lock, elim (own_cases x is) [ inl temp ↦ inr (made_so temp) | inr held ↦ inl (took held) ])
   where
-    made : is_temp (kind_of x) ≡ true → IsTempUnmade start past p x
-    made temp = let h = temp_target r (own r past) s p x careful temp t in
+    made_so : is_temp (kind_of x) ≡ true → IsTempUnmade start past p x
+    made_so temp = let h = temp_target r (own r past) s p x lock careful temp t in
         record { run = r; temp = h.temp; none = none p x (temp_owned r x h.temp); not_done = h.fresh; not_failed = λ w. h.unfailed (once_map (λ d older e. ap (λ k. k.answer) e.1) w) }
 
     took : is_held (kind_of x) ≡ true → IsHeldUnmade start past p x
-    took held = let h = held_target r (own r past) s p x careful held t in
+    took held = let h = held_target r (own r past) s p x lock careful held t in
         record { run = r; number = h.number; taking = h.taking; none = none p x (held_owned r x (is_taking_held r h.number x h.taking)); not_done = h.fresh; not_failed = λ w. h.unfailed (once_map (λ d older e. ap (λ k. k.answer) e) w) }
 
-once_act : (start : World) (past : List Event) (r : ℕ) (s : Step) (a : Answer) (m : After) (p : Place) (x : List ℕ) → is_own x ≡ true → IsStart start → IsLegal start past → AreCareful past → HasNoneOfTheirs start past → HasNoneOf start r
-    → IsCareful r (own r past) s → IsNext (world_after start past) r s a m → LedOnce start past p x → LedOnce start (Act r s a m ∷ past) p x
-once_act start past r s a m p x is st l all theirs none careful nx o =
+once_act : (start : World) (past : List Event) (r : ℕ) (s : Step) (a : Answer) (m : After) (p : Place) (x : List ℕ) → IsLockable p → is_own x ≡ true → IsStart start → IsLegal start past → AreCareful past → HasNoneOfTheirs start past → HasNoneOf start r
+    → Cares r (own r past) s → IsNext (world_after start past) r s a m → LedOnce start past p x → LedOnce start (Act r s a m ∷ past) p x
+once_act start past r s a m p x lock is st l all theirs none careful nx o =
     once_event start past (Act r s a m) p x (world_after start past).next_file (left_next (world_after start past) s m) (ComesTo s a p)
     (subst (λ (z : WorldMap). Goes (world_after start past).next_file (left_next (world_after start past) s m) (ComesTo s a p) (directory_in start past p) (z.directories p)) (sym (world_next start r s a m past nx)) (next_goes (world_after start past) r s a m p nx))
-    (λ t. let n = target_fresh start past r s p x is careful none t.0 in (not_seen start past p x (inv start st l all theirs) n, λ f z. never start p f x st l all theirs n z)) o
+    (λ t. let n = target_fresh start past r s p x lock is careful none t.0 in (not_seen start past p x (inv start st l all theirs) n, λ f z. never start p f x st l all theirs n z)) o
 
 -- an event that leaves the directories
 once_calm : (start : World) (past : List Event) (e : Event) (p : Place) (x : List ℕ) → directory_in start (e ∷ past) p ≡ directory_in start past p → LedOnce start past p x → LedOnce start (e ∷ past) p x
@@ -253,8 +259,8 @@ once_within start past v r s p x o over empty = record {
       | inr y ↦ elim (led_case y) [ inl h ↦ now (as_there f (subst (λ (z : DirectoryMap). now_in z x ≡ Some f) after_crash h)) | inr y ↦ on (on y) ]
     ]
 
-once : (start : World) (p : Place) (x : List ℕ) {past : List Event} → is_own x ≡ true → IsStart start → IsLegal start past → AreCareful past → HasNoneOfTheirs start past → LedOnce start past p x
-once start p x is st begins careful none = record {
+pub once : (start : World) (p : Place) (x : List ℕ) {past : List Event} → IsLockable p → is_own x ≡ true → IsStart start → IsLegal start past → AreCareful past → HasNoneOfTheirs start past → LedOnce start past p x
+once start p x lock is st begins careful none = record {
   led = subst (λ (z : WorldMap). AtEach (WasLed start p x []) (z.directories p).safe (z.directories p).pending x) (sym (world_start start)) (rw (nothing_pending start st p) (λ g q. now (back g (rw (nothing_pending start st p) q))));
   unique = λ f g y z. (let a = led_start y in let b = led_start z in cc (a, b));
   states = λ f z. subst (λ (z : WorldMap). AtEach (IsAt f) (z.directories p).safe (z.directories p).pending x) (sym (world_start start))
@@ -263,31 +269,68 @@ once start p x is st begins careful none = record {
   where
     back : (g : ℕ) → now_in ((shown start).directories p) x ≡ Some g → Leads start [] p x g
     back g h = subst (λ (z : WorldMap). now_in (z.directories p) x ≡ Some g) (sym (world_start start)) h
-once start p x is st (answers r s a {past = past} l lv fits) careful none = let none_b = none_before start r s a Made past none in
-    once_act start past r s a Made p x is st l careful.1 none_b (none_now start r s a Made past none) careful.0 (answered a lv fits) (once start p x is st l careful.1 none_b)
-once start p x is st (fails r s m {past = past} l lv may) careful none = let none_b = none_before start r s Failed m past none in
-    once_act start past r s Failed m p x is st l careful.1 none_b (none_now start r s Failed m past none) careful.0 (failed m lv may) (once start p x is st l careful.1 none_b)
-once start p x is st (is_dead r s {past = past} l over) careful none = let none_b = none_before start r s Failed Before past none in
-    once_act start past r s Failed Before p x is st l careful.1 none_b (none_now start r s Failed Before past none) careful.0 (refused over) (once start p x is st l careful.1 none_b)
-once start p x is st (delivers path b {past = past} l) careful none = once_calm start past _ p x (ap (λ w. w.directories p) (world_deliver start path b past)) (once start p x is st l careful none)
-once start p x is st (crashes v {past = past} l image) careful none = once_crash start past v _ p x image (once start p x is st l careful none)
-once start p x is st (crashes_within v r s {past = past} l lv image) careful none = let none_b = none_before start r s Failed Before (Crash v ∷ past) none in
+once start p x lock is st (answers r s a {past = past} l lv fits) careful none = let none_b = none_before start r s a Made past none in
+    once_act start past r s a Made p x lock is st l careful.1 none_b (none_now start r s a Made past none) careful.0 (answered a lv fits) (once start p x lock is st l careful.1 none_b)
+once start p x lock is st (fails r s m {past = past} l lv may) careful none = let none_b = none_before start r s Failed m past none in
+    once_act start past r s Failed m p x lock is st l careful.1 none_b (none_now start r s Failed m past none) careful.0 (failed m lv may) (once start p x lock is st l careful.1 none_b)
+once start p x lock is st (is_dead r s {past = past} l over) careful none = let none_b = none_before start r s Failed Before past none in
+    once_act start past r s Failed Before p x lock is st l careful.1 none_b (none_now start r s Failed Before past none) careful.0 (refused over) (once start p x lock is st l careful.1 none_b)
+once start p x lock is st (delivers path b {past = past} l) careful none = once_calm start past _ p x (ap (λ w. w.directories p) (world_deliver start path b past)) (once start p x lock is st l careful none)
+once start p x lock is st (crashes v {past = past} l image) careful none = once_crash start past v _ p x image (once start p x lock is st l careful none)
+once start p x lock is st (crashes_within v r s {past = past} l lv image) careful none = let none_b = none_before start r s Failed Before (Crash v ∷ past) none in
     once_within start past v r s p x
     (once_crash start (Act r s Failed Made ∷ past) v _ p x (image_within start past v r s _ image)
-    (once_act start past r s Failed Made p x is st l careful.1 none_b (none_now start r s Failed Before (Crash v ∷ past) none) (careful_back r s v past careful.0) (failed Made lv (may_made s))
-    (once start p x is st l careful.1 none_b)))
+    (once_act start past r s Failed Made p x lock is st l careful.1 none_b (none_now start r s Failed Before (Crash v ∷ past) none) (careful_back r s v past careful.0) (failed Made lv (may_made s))
+    (once start p x lock is st l careful.1 none_b)))
     (within_ended r v past (made (world_after start past) r s).ended image.ended) (image.directories p).nothing_pending
-once start p x is st (stops r {past = past} l) careful none = once_calm start past _ p x (ap (λ w. w.directories p) (world_end start r past)) (once start p x is st l careful none)
+once start p x lock is st (stops r {past = past} l) careful none = once_calm start past _ p x (ap (λ w. w.directories p) (world_end start r past)) (once start p x lock is st l careful none)
+
+-- a step that would make the name comes to a name that led to nothing before
+making_fresh : (start : World) (past : List Event) (r : ℕ) (s : Step) (p : Place) (x : List ℕ) → IsLockable p → is_own x ≡ true → IsStart start → IsLegal start past → AreCareful past → HasNoneOfTheirs start past → HasNoneOf start r
+    → Cares r (own r past) s → WouldMake (world_after start past) r s p x → (f : ℕ) → HasLed start p x f past → ⊥
+making_fresh start past r s p x lock is st l all theirs none careful would f led =
+    elim (arrives (world_after start past).next_file (next_after (world_after start past) s) (λ y. IsTarget s p y) (directory_in start past p) x would.1.0 (step_goes (world_after start past) s p) leads) [
+      | inl old ↦ (let n = would.0 in cc (old, n))
+      | inr new ↦ never start p f x st l all theirs (target_fresh start past r s p x lock is careful none new) led
+    ]
+  where
+    leads : now_in (directory_after (world_after start past) s p) x ≡ Some would.1.0
+    leads = subst (λ (z : WorldMap). now_in (z.directories p) x ≡ Some would.1.0) (made_left (world_after start past) r s) would.1.1
+
+made_act : (start : World) (past : List Event) (r : ℕ) (s : Step) {a : Answer} {m : After} (p : Place) (x : List ℕ) → IsLockable p → is_own x ≡ true → IsStart start → IsLegal start (Act r s a m ∷ past) → AreCareful past → HasNoneOfTheirs start past → HasNoneOf start r
+    → Cares r (own r past) s → (moment : List Event) → IsTriedAt start r moment past → WouldMake (world_after start moment) r s p x → (f : ℕ) → HasLed start p x f moment → ⊥
+made_act start past r s p x lock is st l all theirs none careful moment t would f led = let k = tried start r s l t in
+    making_fresh start moment r s p x lock is st k.legal (careful_then t all) (none_then t theirs) none (subst (λ (ds : List Deed). Cares r ds s) k.deeds careful) would f led
+
+made_once : (start : World) (p : Place) (x : List ℕ) {past : List Event} → IsStart start → IsLockable p → is_own x ≡ true → IsLegal start past → AreCareful past → HasNoneOfTheirs start past → IsMadeOnce start p x past
+made_once start p x st lock is begins careful none = tt
+made_once start p x st lock is (answers r s a {past = past} l lv fits) careful none = let none_b = none_before start r s a Made past none in
+    (made_act start past r s p x lock is st (answers r s a l lv fits) careful.1 none_b (none_now start r s a Made past none) careful.0, made_once start p x st lock is l careful.1 none_b)
+made_once start p x st lock is (fails r s m {past = past} l lv may) careful none = let none_b = none_before start r s Failed m past none in
+    (made_act start past r s p x lock is st (fails r s m l lv may) careful.1 none_b (none_now start r s Failed m past none) careful.0, made_once start p x st lock is l careful.1 none_b)
+made_once start p x st lock is (is_dead r s {past = past} l over) careful none = let none_b = none_before start r s Failed Before past none in
+    (made_act start past r s p x lock is st (is_dead r s l over) careful.1 none_b (none_now start r s Failed Before past none) careful.0, made_once start p x st lock is l careful.1 none_b)
+made_once start p x st lock is (delivers path b l) careful none = made_once start p x st lock is l careful none
+made_once start p x st lock is (crashes v l image) careful none = made_once start p x st lock is l careful none
+made_once start p x st lock is (crashes_within v r s {past = past} l lv image) careful none = let none_b = none_before start r s Failed Before (Crash v ∷ past) none in
+    (made_act start (Crash v ∷ past) r s p x lock is st (crashes_within v r s l lv image) careful.1 none_b (none_now start r s Failed Before (Crash v ∷ past) none) careful.0, made_once start p x st lock is l careful.1 none_b)
+made_once start p x st lock is (stops r l) careful none = made_once start p x st lock is l careful none
+
+stood_lock : {start : World} {p : Place} {f : ℕ} {b : List ℕ} {past : List Event} → Stood start p past f b → IsLockable p
+stood_lock (inl z) = put_lock z
+stood_lock (inr z) = durable_lock z
 
 pub mail_invariant : (start : World) (past : List Event) → IsStart start → IsLegal start past → AreCareful past → HasNoneOfTheirs start past → MailInvariant start past
 mail_invariant start past st l careful none = record {
-  one_file = λ p x f g is y z. (once start p x is st l careful none).unique f g y z;
+  one_file = λ p x f g lock is y z. (once start p x lock is st l careful none).unique f g y z;
   safe = λ p f b ps. (let i = inv start st l careful none in elim ps [ inl z ↦ ((i.put p f b z).safe, (i.put p f b z).bytes) | inr z ↦ ((i.durable p f b z).safe, (i.durable p f b z).bytes) ]);
-  solid = λ p f b ps. elim (((inv start st l careful none).holds p).solid f b ps) [ inl k ↦ inl (record { name = k.name; standing = k.standing; unspent = k.unspent; leads = k.leads }) | inr z ↦ inr z ];
-  anchored = λ p f b s. elim (((inv start st l careful none).holds p).anchored f b s) [
+  solid = λ p f b ps. elim (((inv start st l careful none).holds p (stood_lock ps)).solid f b ps) [ inl k ↦ inl (record { name = k.name; standing = k.standing; unspent = k.unspent; leads = k.leads }) | inr z ↦ inr z ];
+  anchored = λ p f b s. elim (((inv start st l careful none).holds p (durable_lock s)).anchored f b s) [
     | inl k ↦ inl (record { root = k.root; end = k.end; anchor = k.anchor; standing = end_stands (directory_in start past p).safe (directory_in start past p).pending f k.root k.end k.anchor; unclear = k.unclear })
     | inr z ↦ inr z
   ];
-  succeeded = λ p f d. heir start p f l careful d;
-  successors = λ p f q g b c w. heirs start p f q g b c st l careful none w;
+  succeeded = λ p f lock d. heir start p f lock l careful d;
+  made_once = λ p x lock is. made_once start p x st lock is l careful none;
+  safe_ever = λ p f b w. (let z = (inv start st l careful none).ever p f b w in (z.safe, z.bytes));
+  successors = λ p f q g b c lock w. heirs start p f q g b c lock st l careful none w;
 }

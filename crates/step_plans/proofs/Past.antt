@@ -5,20 +5,22 @@ use Rattle.folder_files.specs.Annotations.{Annotates}
 use Rattle.folder_files.specs.Careful.{WasGivenAway}
 use Rattle.folder_files.specs.Deeds.{Deed, did, Once, WasDone, now, on}
 use Rattle.folder_files.specs.Directory.{now_in}
-use Rattle.folder_files.specs.Histories.{own, has_acted, world_after}
+use Rattle.folder_files.specs.Histories.{IsLockable, own, has_acted, world_after}
 use Rattle.folder_files.specs.Named.{is_number, is_held, is_held_of, is_temp, is_temp_of}
+use Rattle.folder_files.specs.Places.{is_folder}
 use Rattle.folder_files.specs.declared.event.After.{After}
 use Rattle.folder_files.specs.declared.event.After.TheVariants.{Made}
 use Rattle.folder_files.specs.declared.event.Event.{Event}
 use Rattle.folder_files.specs.declared.event.Event.TheVariants.{Act, Deliver, Crash, End}
 use Rattle.folder_files.specs.declared.place.Place.{Place}
+use Rattle.folder_files.specs.declared.place.Place.TheVariants.{Home, Work, Mail, Folder}
 use Rattle.folder_files.specs.declared.place.FilePath.{FilePath}
 use Rattle.folder_files.specs.declared.step.Answer.{Answer}
 use Rattle.folder_files.specs.declared.step.Answer.TheVariants.{Done}
 use Rattle.folder_files.specs.declared.step.Step.{Step}
 use Rattle.folder_files.specs.declared.step.Step.TheVariants.{Create, Link, SyncFolder, Unlink}
 use Rattle.folder_files.specs.declared.world.World.{World}
-use Rattle.step_plans.specs.Durable.{WasPut, IsDurable, now, on}
+use Rattle.step_plans.specs.Durable.{WasPut, HasBeenPut, IsDurable, stood, now, on}
 use Rattle.step_plans.specs.Leaving.{IsDiscarded, now, on}
 use Rattle.step_plans.specs.MailInvariant.{IsLetGo}
 use Rattle.step_plans.specs.Moments.{Leads, Tries}
@@ -118,9 +120,15 @@ clear_case (on nc w) = inr w
 
 pub put_case : {start : World} {p : Place} {f : ℕ} {b : List ℕ} {r : ℕ} {s : Step} {a : Answer} {m : After} {past : List Event} → WasPut start p f b (Act r s a m ∷ past)
     → ((t : List ℕ) × (n : List ℕ) × (s ≡ Link p t n) × (a ≡ Done) × (is_temp (kind_of t) ≡ true) × (is_number (kind_of n) ≡ true) × Leads start past p t f
-    × (((world_after start past).files f).bytes ≡ b)) ⊎ WasPut start p f b past
-put_case (now {temp = t} {number = n} temp number here bytes) = inl (t, n, refl, refl, temp, number, here, bytes)
+    × (((world_after start past).files f).bytes ≡ b) × (is_folder p ≡ true)) ⊎ WasPut start p f b past
+put_case (now {temp = t} {number = n} folder temp number here bytes) = inl (t, n, refl, refl, temp, number, here, bytes, folder)
 put_case (on nc w) = inr w
+
+pub ever_case : {start : World} {p : Place} {f : ℕ} {b : List ℕ} {r : ℕ} {s : Step} {a : Answer} {m : After} {past : List Event} → HasBeenPut start p f b (Act r s a m ∷ past)
+    → ((t : List ℕ) × (n : List ℕ) × (s ≡ Link p t n) × (a ≡ Done) × (is_temp_of r (kind_of t) ≡ true) × (is_number (kind_of n) ≡ true) × Leads start past p t f
+    × WasDone (Create p t b) (own r past) × (is_folder p ≡ true)) ⊎ HasBeenPut start p f b past
+ever_case (now {temp = t} {number = n} folder temp number made here) = inl (t, n, refl, refl, temp, number, here, made, folder)
+ever_case (on w) = inr w
 
 pub durable_case : {start : World} {p : Place} {f : ℕ} {b : List ℕ} {r : ℕ} {s : Step} {a : Answer} {m : After} {past : List Event} → IsDurable start p f b (Act r s a m ∷ past)
     → ((s ≡ SyncFolder p) × (a ≡ Done) × WasPut start p f b past) ⊎ IsDurable start p f b past
@@ -136,9 +144,9 @@ spent_held (now held number here none) = held
 spent_held (on nc w) = spent_held w
 
 pub since_case : {start : World} {r : ℕ} {p : Place} {h b : List ℕ} {q : Place} {g : ℕ} {c : List ℕ} {u : ℕ} {s : Step} {a : Answer} {m : After} {past : List Event} → WasPutSince start r p h b q g c (Act u s a m ∷ past)
-    → ((t : List ℕ) × (n : List ℕ) × (u ≡ r) × (s ≡ Link q t n) × (a ≡ Done) × (is_temp_of r (kind_of t) ≡ true) × (is_number (kind_of n) ≡ true) × HasMadeSince p h b q t c (own r past) × Leads start past q t g)
+    → ((t : List ℕ) × (n : List ℕ) × (u ≡ r) × (s ≡ Link q t n) × (a ≡ Done) × (is_temp_of r (kind_of t) ≡ true) × (is_number (kind_of n) ≡ true) × HasMadeSince p h b q t c (own r past) × Leads start past q t g × (is_folder q ≡ true))
     ⊎ WasPutSince start r p h b q g c past
-since_case (now {temp = t} {number = n} temp number w here) = inl (t, n, refl, refl, refl, temp, number, w, here)
+since_case (now {temp = t} {number = n} folder temp number w here) = inl (t, n, refl, refl, refl, temp, number, w, here, folder)
 since_case (on w) = inr w
 
 pub made_created : {p : Place} {h b : List ℕ} {q : Place} {t c : List ℕ} {deeds : List Deed} → HasMadeSince p h b q t c deeds → WasDone (Create q t c) deeds
@@ -170,3 +178,19 @@ successor_case (on w) = inr w
 pub let_go_on : {start : World} {p : Place} {f : ℕ} {e : Event} {past : List Event} → IsLetGo start p f past → IsLetGo start p f (e ∷ past)
 let_go_on (inl z) = inl (on z)
 let_go_on (inr z) = inr (on z)
+
+pub folder_lock : (p : Place) → is_folder p ≡ true → IsLockable p
+folder_lock Home h = absurd (cc (h))
+folder_lock Work h = absurd (cc (h))
+folder_lock (Mail path) h = tt
+folder_lock (Folder path name) h = tt
+
+-- messages are put into folders, and stood there or in the mail directory
+pub put_lock : {start : World} {p : Place} {f : ℕ} {b : List ℕ} {past : List Event} → WasPut start p f b past → IsLockable p
+put_lock {p = p} (now folder temp number here bytes) = folder_lock p folder
+put_lock (on nc w) = put_lock w
+
+pub durable_lock : {start : World} {p : Place} {f : ℕ} {b : List ℕ} {past : List Event} → IsDurable start p f b past → IsLockable p
+durable_lock (stood x lock s e bytes) = lock
+durable_lock (now w) = put_lock w
+durable_lock (on w) = durable_lock w

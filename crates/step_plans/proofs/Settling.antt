@@ -28,7 +28,7 @@ use Rattle.step_plans.proofs.Closing.{untouched_lead, untouched_kept}
 use Rattle.step_plans.proofs.Changes.{now_below}
 use Rattle.step_plans.proofs.Effects.{IsNext, answered, failed, refused, left, left_directory, left_grows, left_keeps, next_fits, fits_as, world_crash, world_deliver, world_end, world_next}
 use Rattle.step_plans.proofs.Inv.{Inv, IsSafeAs}
-use Rattle.step_plans.proofs.Discipline.{careful_rename}
+use Rattle.step_plans.proofs.Discipline.{Cares, committed_lock, careful_rename}
 use Rattle.step_plans.proofs.Crashes.{ended_by, tries_cut}
 use Rattle.step_plans.proofs.Law.{inv, none_before, may_made, careful_back, image_within, within_ended}
 use Rattle.step_plans.proofs.Committing.{Spares, spares_now, spares_settled, commit_of, left_spares, commit_leads}
@@ -62,7 +62,7 @@ settled_case : {start : World} {p : Place} {x text : List ℕ} {o : ℕ} {s : St
 settled_case (now h) = inl (refl, refl, h)
 settled_case (on n h) = inr (n, h)
 
-module _ (start : World) (past : List Event) (o : ℕ) (s : Step) (a : Answer) (m : After) (p : Place) (x text : List ℕ) (c : is_committed p x ≡ true) (careful : IsCareful o (own o past) s) (nx : IsNext (world_after start past) o s a m) (i : Inv start past) where
+module _ (start : World) (past : List Event) (o : ℕ) (s : Step) (a : Answer) (m : After) (p : Place) (x text : List ℕ) (c : is_committed p x ≡ true) (careful : Cares o (own o past) s) (nx : IsNext (world_after start past) o s a m) (i : Inv start past) where
   abbrev w : WorldMap
   w = world_after start past
 
@@ -76,11 +76,11 @@ module _ (start : World) (past : List Event) (o : ℕ) (s : Step) (a : Answer) (
   just t es ea temp wrote =
       let f3 = next_fits w o s a m nx (λ k. cc (k, ea)) in
       let z = commit_leads w p t x o temp c (fits_as w o s (step.Rename p t x) a Done es ea f3.1) in
-      let may = commit_of o (own o past) p t x c (careful_rename o (own o past) p t x (subst (λ (k : Step). IsCareful o (own o past) k) es careful)).1 in
+      let may = commit_of o (own o past) p t x c (careful_rename o (own o past) p t x (subst (λ (k : Step). Cares o (own o past) k) es careful (committed_lock p x c))).1 in
       record {
         file = z.0;
         leads = subst (λ (k : After). now_in (left_directory w s k p) x ≡ Some z.0) (sym f3.2) (subst (λ (k : Step). now_in (directory_after w k p) x ≡ Some z.0) (sym es) z.2);
-        is = safe_left w o s a m z.0 text (record { there = now_below w.next_file (w.directories p) (i.below p) t z.0 z.1; safe = i.ready o p t z.0 temp f3.0 may.1.1 z.1; bytes = i.temps o p t z.0 text temp f3.0 wrote z.1 });
+        is = safe_left w o s a m z.0 text (record { there = now_below w.next_file (w.directories p) (i.below p) t z.0 z.1; safe = i.ready o p t z.0 (committed_lock p x c) temp f3.0 may.1.1 z.1; bytes = i.temps o p t z.0 text (committed_lock p x c) temp f3.0 wrote z.1 });
       }
 
   on_committed : (TriesCommit start p x (Act o s a m) past → ⊥) → CommittedAt w p x text → CommittedAt v p x text

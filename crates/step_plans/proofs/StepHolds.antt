@@ -3,7 +3,7 @@ use Rattle.std.proofs.Common.{◌≡◌, ℕ, Bool, true, false, ◌||◌, ◌�
 use Rattle.mh_base.specs.Entries.{kind_of}
 use Rattle.folder_files.specs.Careful.{IsCareful, WasGivenAway}
 use Rattle.folder_files.specs.Directory.{DirectoryMap, touches, now_in}
-use Rattle.folder_files.specs.Histories.{world_after, own, IsLive}
+use Rattle.folder_files.specs.Histories.{world_after, own, IsLive, IsLockable}
 use Rattle.folder_files.specs.Named.{is_number, is_held, is_taking, is_backing_up}
 use Rattle.folder_files.specs.Places.{same_place, is_parent}
 use Rattle.folder_files.specs.Steps.{changed, changed_if, is_created, with_created, linked, with_linked, with_renamed, with_unlinked, with_made, synced, directory_after, Fits}
@@ -27,7 +27,7 @@ use Rattle.step_plans.specs.Standing.{is_standing}
 use Rattle.step_plans.proofs.Names.{not_both, or_case, bytes_true, bytes_false, number_stands, is_temp_any, is_temp_quiet, is_held_any, is_other_quiet, is_taking_number, is_taking_held, is_backing_quiet, is_committed_quiet, original_both}
 use Rattle.step_plans.proofs.Changes.{IsUnseen}
 use Rattle.step_plans.proofs.Holds.{Holds, Calm, calm_same, calm_change, NoNews, calm_holds, plain_news, directory_in, fill_holds, sync_holds, lose_holds, take_holds}
-use Rattle.step_plans.proofs.Discipline.{careful_create, careful_link, careful_rename, careful_unlink}
+use Rattle.step_plans.proofs.Discipline.{Cares, place_lock, careful_create, careful_link, careful_rename, careful_unlink}
 
 place_holds : (start : World) (p q : Place) (r : ℕ) (a : Answer) (past : List Event) (mk : Place → Step) (change : DirectoryMap → DirectoryMap)
     → (q ≡ p → Holds start p (change (directory_in start past p)) (Act r (mk p) a Made ∷ past))
@@ -87,7 +87,7 @@ pub record Given (start : World) (past : List Event) (r : ℕ) (s : Step) (a : A
   pub lives : IsLive r (world_after start past)
   pub answer : (a ≡ Failed) ⊎ Fits (world_after start past) r s a
   pub cleared : (p : Place) (h : List ℕ) → is_held (kind_of h) ≡ true → WasGivenAway p h (own r past) → IsClear start p h past
-  pub unseen : (p : Place) (n h : List ℕ) → s ≡ step.Rename p n h → is_taking r (kind_of n) (kind_of h) ≡ true → IsUnseen (directory_in start past p) h × (IsSpent start p h past → ⊥)
+  pub unseen : (p : Place) (n h : List ℕ) → IsLockable p → s ≡ step.Rename p n h → is_taking r (kind_of n) (kind_of h) ≡ true → IsUnseen (directory_in start past p) h × (IsSpent start p h past → ⊥)
 
 -- no news of an act of this kind
 abbrev IsNoLink : Step → Type 0
@@ -101,11 +101,11 @@ IsNoSync s = Unit {0}
 plain : (start : World) (p : Place) (r : ℕ) (s : Step) (a : Answer) (past : List Event) → IsNoLink s → IsNoSync s → NoNews start p (Act r s a Made) past
 plain start p r s a past l y = plain_news start p r s a Made past (λ h n is e. subst (λ (z : Step). IsNoLink z) e l) (λ e. subst (λ (z : Step). IsNoSync z) e y)
 
-link_holds : (start : World) (past : List Event) (r : ℕ) (a : Answer) (q : Place) (x y : List ℕ) (p : Place) → MayLink r q x y (own r past) → Given start past r (step.Link q x y) a
+link_holds : (start : World) (past : List Event) (r : ℕ) (a : Answer) (q : Place) (x y : List ℕ) (p : Place) → (q ≡ p → MayLink r q x y (own r past)) → Given start past r (step.Link q x y) a
     → Holds start p (directory_in start past p) past → Holds start p (directory_after (world_after start past) (step.Link q x y) p) (Act r (step.Link q x y) a Made ∷ past)
 link_holds start past r a q x y p may g h =
     place_holds start p q r a past (λ z. step.Link z x y) (λ d. with_linked d x y)
-    (λ e. at_p may e)
+    (λ e. at_p (may e) e)
     (λ never. plain_news start p r (step.Link q x y) a Made past (λ u v is e. never (place e)) (λ e. cc (e))) h
   where
     place : {u v : List ℕ} → step.Link q x y ≡ step.Link p u v → q ≡ p
@@ -126,10 +126,10 @@ link_holds start past r a q x y p may g h =
             second : {u v : List ℕ} → step.Link p x y ≡ step.Link p u v → y ≡ v
             second e = cc (e)
 
-rename_holds : (start : World) (past : List Event) (r : ℕ) (a : Answer) (q : Place) (x y : List ℕ) (p : Place) → MayRename r q x y (own r past) → Given start past r (step.Rename q x y) a
+rename_holds : (start : World) (past : List Event) (r : ℕ) (a : Answer) (q : Place) (x y : List ℕ) (p : Place) → IsLockable p → (q ≡ p → MayRename r q x y (own r past)) → Given start past r (step.Rename q x y) a
     → Holds start p (directory_in start past p) past → Holds start p (directory_after (world_after start past) (step.Rename q x y) p) (Act r (step.Rename q x y) a Made ∷ past)
-rename_holds start past r a q x y p may g h =
-    place_holds start p q r a past (λ z. step.Rename z x y) (λ d. with_renamed d x y) (λ e. at_p may e) (λ never. plain start p r (step.Rename q x y) a past tt tt) h
+rename_holds start past r a q x y p lock may g h =
+    place_holds start p q r a past (λ z. step.Rename z x y) (λ d. with_renamed d x y) (λ e. at_p (may e) e) (λ never. plain start p r (step.Rename q x y) a past tt tt) h
   where
     same : Holds start p (directory_in start past p) (Act r (step.Rename p x y) a Made ∷ past)
     same = calm_holds start p (directory_in start past p) _ (Act r (step.Rename p x y) a Made) past (plain start p r (step.Rename p x y) a past tt tt) (calm_same _) h
@@ -140,7 +140,7 @@ rename_holds start past r a q x y p may g h =
     takes : is_taking r (kind_of x) (kind_of y) ≡ true → q ≡ p → (v : Bool) (u : Option ℕ) → Holds start p (if v then directory_in start past p else changed_if (directory_in start past p) (Moved x y) u) (Act r (step.Rename p x y) a Made ∷ past)
     takes m e true u = same
     takes m e false None = same
-    takes m e false (Some f) = let z = g.unseen p x y (λ i. step.Rename (e i) x y) m in
+    takes m e false (Some f) = let z = g.unseen p x y lock (λ i. step.Rename (e i) x y) m in
         take_holds start p r x y a Made past (is_taking_number r x y m) (is_held_any r y (is_taking_held r x y m)) z.0 z.1 h
 
     backs_up : is_backing_up (kind_of x) (kind_of y) ≡ true → (v : Bool) (u : Option ℕ) → Holds start p (if v then directory_in start past p else changed_if (directory_in start past p) (Moved x y) u) (Act r (step.Rename p x y) a Made ∷ past)
@@ -156,10 +156,10 @@ rename_holds start past r a q x y p may g h =
     at_p (inr (inr (inl m))) e = calm (is_temp_quiet x (is_temp_any r x m.2.0)) (is_other_quiet y m.1)
     at_p (inr (inr (inr m))) e = calm (is_other_quiet x m.1) (subst (λ (z : List ℕ). is_standing z ≡ false) (sym m.2) (original_both x).0)
 
-unlink_holds : (start : World) (past : List Event) (r : ℕ) (a : Answer) (q : Place) (x : List ℕ) (p : Place) → MayUnlink r q x (own r past) → Given start past r (step.Unlink q x) a
+unlink_holds : (start : World) (past : List Event) (r : ℕ) (a : Answer) (q : Place) (x : List ℕ) (p : Place) → (q ≡ p → MayUnlink r q x (own r past)) → Given start past r (step.Unlink q x) a
     → Holds start p (directory_in start past p) past → Holds start p (directory_after (world_after start past) (step.Unlink q x) p) (Act r (step.Unlink q x) a Made ∷ past)
 unlink_holds start past r a q x p may g h =
-    place_holds start p q r a past (λ z. step.Unlink z x) (λ d. with_unlinked d x) (λ e. at_p may e (now_in (directory_in start past p) x)) (λ never. plain start p r (step.Unlink q x) a past tt tt) h
+    place_holds start p q r a past (λ z. step.Unlink z x) (λ d. with_unlinked d x) (λ e. at_p (may e) e (now_in (directory_in start past p) x)) (λ never. plain start p r (step.Unlink q x) a past tt tt) h
   where
     same : Holds start p (directory_in start past p) (Act r (step.Unlink p x) a Made ∷ past)
     same = calm_holds start p (directory_in start past p) _ (Act r (step.Unlink p x) a Made) past (plain start p r (step.Unlink p x) a past tt tt) (calm_same _) h
@@ -175,23 +175,23 @@ unlink_holds start past r a q x p may g h =
     at_p (inr (inr (inr m))) e (Some f) = lose_holds start p r (step.Unlink p x) a Made (Gone x) x past (λ u v is e. cc (e)) (λ e. cc (e)) (λ z st t. bytes_true x z t)
         (λ f leads. inr (inr (now m.1 (past, live g.lives, leads) (subst (λ (z : Place). WasGivenAway z x (own r past) → ⊥) e m.2.not_given_away)))) h
 
-pub step_holds : (start : World) (past : List Event) (r : ℕ) (s : Step) (a : Answer) → IsCareful r (own r past) s → Given start past r s a
-    → (p : Place) → Holds start p (directory_in start past p) past → Holds start p (directory_after (world_after start past) s p) (Act r s a Made ∷ past)
-step_holds start past r (step.MakeFolder q) a careful g p h = go (same_place q p || is_parent p q)
+pub step_holds : (start : World) (past : List Event) (r : ℕ) (s : Step) (a : Answer) → Cares r (own r past) s → Given start past r s a
+    → (p : Place) → IsLockable p → Holds start p (directory_in start past p) past → Holds start p (directory_after (world_after start past) s p) (Act r s a Made ∷ past)
+step_holds start past r (step.MakeFolder q) a careful g p lock h = go (same_place q p || is_parent p q)
   where
     go : (v : Bool) → Holds start p (if v then with_made (directory_in start past p) else directory_in start past p) (Act r (step.MakeFolder q) a Made ∷ past)
     go true = calm_holds start p (directory_in start past p) _ (Act r (step.MakeFolder q) a Made) past (plain start p r (step.MakeFolder q) a past tt tt) (calm_opens (directory_in start past p)) h
     go false = calm_holds start p (directory_in start past p) _ (Act r (step.MakeFolder q) a Made) past (plain start p r (step.MakeFolder q) a past tt tt) (calm_same _) h
-step_holds start past r (step.SyncFolder q) a careful g p h =
+step_holds start past r (step.SyncFolder q) a careful g p lock h =
     place_holds start p q r a past (λ x. step.SyncFolder x) synced
     (λ e. sync_holds start p r a past h)
     (λ never. plain_news start p r (step.SyncFolder q) a Made past (λ y n is z. cc (z)) (λ z. never (cc (z)))) h
-step_holds start past r (step.Create q n b) a careful g p h =
+step_holds start past r (step.Create q n b) a careful g p lock h =
     place_holds start p q r a past (λ x. step.Create x n b) (λ d. with_created d n (world_after start past).next_file)
     (λ e. calm_holds start p (directory_in start past p) _ (Act r (step.Create p n b) a Made) past (plain start p r (step.Create p n b) a past tt tt)
-    (calm_create (directory_in start past p) n (world_after start past).next_file (is_temp_quiet n (is_temp_any r n (careful_create r (own r past) q n b careful).1.0))) h)
+    (calm_create (directory_in start past p) n (world_after start past).next_file (is_temp_quiet n (is_temp_any r n (careful_create r (own r past) q n b (careful (place_lock e lock))).1.0))) h)
     (λ never. plain start p r (step.Create q n b) a past tt tt) h
-step_holds start past r (step.Link q x y) a careful g p h = link_holds start past r a q x y p (careful_link r (own r past) q x y careful).1 g h
-step_holds start past r (step.Rename q x y) a careful g p h = rename_holds start past r a q x y p (careful_rename r (own r past) q x y careful).1 g h
-step_holds start past r (step.Unlink q x) a careful g p h = unlink_holds start past r a q x p (careful_unlink r (own r past) q x careful).1 g h
-step_holds start past r s a careful g p h = calm_holds start p (directory_in start past p) _ (Act r s a Made) past (plain start p r s a past tt tt) (calm_same _) h
+step_holds start past r (step.Link q x y) a careful g p lock h = link_holds start past r a q x y p (λ e. (careful_link r (own r past) q x y (careful (place_lock e lock))).1) g h
+step_holds start past r (step.Rename q x y) a careful g p lock h = rename_holds start past r a q x y p lock (λ e. (careful_rename r (own r past) q x y (careful (place_lock e lock))).1) g h
+step_holds start past r (step.Unlink q x) a careful g p lock h = unlink_holds start past r a q x p (λ e. (careful_unlink r (own r past) q x (careful (place_lock e lock))).1) g h
+step_holds start past r s a careful g p lock h = calm_holds start p (directory_in start past p) _ (Act r s a Made) past (plain start p r s a past tt tt) (calm_same _) h

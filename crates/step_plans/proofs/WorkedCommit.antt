@@ -72,7 +72,7 @@ is_one = ap (λ k. is_sequences k) sequences_is
 
 created_is_careful : AreCareful created
 unfolding own
-created_is_careful = (changes (unfailed (own 5 read) (no_failure, (done_is_no_failure, tt))) Creates (creates inbox temp text (ap (λ k. is_temp_of 5 k) temp_is, not_made)), (looks tt, (looks tt, tt)))
+created_is_careful = ((λ on. changes (unfailed (own 5 read) (no_failure, (done_is_no_failure, tt))) Creates (creates inbox temp text (ap (λ k. is_temp_of 5 k) temp_is, not_made))), ((λ on. looks tt), ((λ on. looks tt), tt)))
   where
     no_failure : Gone ≡ Failed → ⊥
     no_failure e = cc (e)
@@ -90,9 +90,9 @@ has_base = still (λ e. cc (e)) (still (λ e. cc (e)) (last (inr (inl (100, refl
 committed_is_careful : AreCareful committed
 unfolding own
 committed_is_careful = (
-  changes (unfailed (own 5 ready) (done_is_no_failure, (done_is_no_failure, (no_failure, (done_is_no_failure, tt))))) Commits
+  λ on. changes (unfailed (own 5 ready) (done_is_no_failure, (done_is_no_failure, (no_failure, (done_is_no_failure, tt))))) Commits
       (commits inbox temp sequences (is_one, (ap (λ k. is_temp_of 5 k) temp_is, now (refl, now (text, refl))), has_base)),
-  (looks tt, created_is_careful),
+  ((λ on. looks tt), created_is_careful),
 )
   where
     no_failure : Gone ≡ Failed → ⊥
@@ -128,4 +128,4 @@ was_settled = now (now (ap (λ k. is_temp_of 5 k) temp_is) (on (now refl)))
 
 -- the text stays, whatever a crash may do
 text_stays : HasTextFirmly (world_after begun settled) inbox sequences text
-text_stays = settled_law begun settled inbox sequences text begun_starts settled_is_legal (looks tt, committed_is_careful) (none_of_theirs settled) is_one was_settled
+text_stays = settled_law begun settled inbox sequences text begun_starts settled_is_legal ((λ on. looks tt), committed_is_careful) (none_of_theirs settled) is_one was_settled

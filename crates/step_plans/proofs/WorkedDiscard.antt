@@ -45,7 +45,7 @@ no_read s newer bytes r = absurd (differ (did_answer r.1))
 
 -- the copy that was put after the reading
 copy_put : Once (IsCopyPut 5 (codes "x")) (did (SyncFolder out) Done ∷ (did (Link out temp one) Done ∷ (did (SyncFile out temp) Done ∷ (did (Create out temp (codes "x")) Done ∷ []))))
-copy_put = on (now (out, temp, (one, refl, ap (λ k. is_temp_of 5 k) temp_is, ap (λ k. is_number k) one_is), on (now (codes "x", refl, ([], refl, refl)))))
+copy_put = on (now (out, temp, (one, refl, ap (λ k. is_temp_of 5 k) temp_is, ap (λ k. is_number k) one_is, refl), on (now (codes "x", refl, ([], refl, refl)))))
 
 read_succeeded : IsSucceeded 5 inbox held (did (SyncFolder out) Done ∷ (did (Link out temp one) Done ∷ (did (SyncFile out temp) Done ∷ (did (Create out temp (codes "x")) Done ∷ [])))) (did (Read inbox held 10) (Content (codes "x")))
 read_succeeded bytes r = subst (λ b. Once (IsCopyPut 5 b) (did (SyncFolder out) Done ∷ (did (Link out temp one) Done ∷ (did (SyncFile out temp) Done ∷ (did (Create out temp (codes "x")) Done ∷ []))))) (same (did_answer r.1)) copy_put
@@ -117,9 +117,9 @@ may_discard = record {
 moved_is_careful : AreCareful moved
 unfolding own
 moved_is_careful = (
-  changes (unfailed (own 5 safe) (done_is_no_failure, (done_is_no_failure, (done_is_no_failure, (done_is_no_failure, (no_failure, (done_is_no_failure, tt))))))) Discards
+  λ on. changes (unfailed (own 5 safe) (done_is_no_failure, (done_is_no_failure, (done_is_no_failure, (done_is_no_failure, (no_failure, (done_is_no_failure, tt))))))) Discards
       (discards inbox held (refl, ap (λ k. is_held_of 5 k) held_is, may_discard)),
-  (looks tt, put_is_careful),
+  ((λ on. looks tt), put_is_careful),
 )
   where
     no_failure : Content (codes "x") ≡ Failed → ⊥
@@ -133,9 +133,9 @@ was_discarded = now (ap (λ k. is_held_of 5 k) held_is) (safe, live refl, refl) 
 is_successor : IsSuccessor begun inbox 7 out 8 (codes "x") (codes "x") moved
 unfolding world_after made shown own
 is_successor = now (ap (λ k. is_held_of 5 k) held_is) (safe, live refl, refl) not_given ([], refl, refl)
-    (on (now (ap (λ k. is_temp_of 5 k) temp_is) (ap (λ k. is_number k) one_is) (on (now (refl, now (10, refl)))) refl))
+    (on (now refl (ap (λ k. is_temp_of 5 k) temp_is) (ap (λ k. is_number k) one_is) (on (now (refl, now (10, refl)))) refl))
 
 -- and it is durable
 is_durable : IsDurable begun out 8 (codes "x") moved
 unfolding world_after made shown
-is_durable = on (now (now (ap (λ k. is_temp k) temp_is) (ap (λ k. is_number k) one_is) refl refl))
+is_durable = on (now (now refl (ap (λ k. is_temp k) temp_is) (ap (λ k. is_number k) one_is) refl refl))

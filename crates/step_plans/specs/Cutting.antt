@@ -1,5 +1,5 @@
 -- What the cut of a mail drop rests on.
-use Rattle.std.specs.Prelude.{◌≡◌, ℕ, List, ◌∷◌, All}
+use Rattle.std.specs.Prelude.{◌≡◌, ℕ, List, [], ◌∷◌}
 use Rattle.mbox_drop.specs.Drops.{messages}
 use Rattle.folder_files.specs.Histories.{world_after}
 use Rattle.folder_files.specs.Steps.{cut_answer}
@@ -27,6 +27,23 @@ pub data IsUncut (start : World) (run : ℕ) (f : FilePath) : List Event → Typ
   read : {most : ℕ} {a : Answer} {m : After} {past : List Event} → IsUncut start run f (Act run (ReadDrop f 0 most) a m ∷ past)
   on : {e : Event} {past : List Event} → (IsCut start f e past → ⊥) → IsUncut start run f past → IsUncut start run f (e ∷ past)
 
--- each message of a drop of these bytes is durable in some folder
+-- each of these files is durable in some folder, and has the bytes of the message beside it
+abbrev pub AreStoredAs : World → List Event → List ℕ → List (List ℕ) → Type 0
+AreStoredAs start past [] [] = Unit {0}
+AreStoredAs start past [] (m ∷ ms) = ⊥
+AreStoredAs start past (f ∷ fs) [] = ⊥
+AreStoredAs start past (f ∷ fs) (m ∷ ms) = ((p : Place) × IsDurable start p f m past) × AreStoredAs start past fs ms
+
+-- the file is none of these
+abbrev pub IsNoneOf : ℕ → List ℕ → Type 0
+IsNoneOf f [] = Unit {0}
+IsNoneOf f (g ∷ gs) = (f ≡ g → ⊥) × IsNoneOf f gs
+
+-- no two are one
+abbrev pub AreApart : List ℕ → Type 0
+AreApart [] = Unit {0}
+AreApart (f ∷ fs) = IsNoneOf f fs × AreApart fs
+
+-- each message of a drop of these bytes is durable in some folder, as a file of its own
 abbrev pub AreDurable : World → List Event → List ℕ → Type 0
-AreDurable start past bytes = All (λ message. (p : Place) × (f : ℕ) × IsDurable start p f message past) (messages bytes)
+AreDurable start past bytes = (files : List ℕ) × AreStoredAs start past files (messages bytes) × AreApart files

@@ -1,11 +1,13 @@
 -- Moments of a history, the newest event first: where names lead, and when a step was tried.
-use Rattle.std.specs.Prelude.{◌≡◌, ℕ, true, List, ◌∷◌, Some}
+use Rattle.std.specs.Prelude.{◌≡◌, ℕ, true, List, [], ◌∷◌, Some, None}
 use Rattle.folder_files.specs.Directory.{now_in}
 use Rattle.folder_files.specs.Histories.{world_after, IsLive}
-use Rattle.folder_files.specs.Worlds.{shown}
+use Rattle.folder_files.specs.Steps.{made}
+use Rattle.folder_files.specs.Worlds.{WorldMap, shown}
 use Rattle.folder_files.specs.declared.event.Event.{Event}
 use Rattle.folder_files.specs.declared.event.Event.TheVariants.{Act, Deliver, Crash, End}
 use Rattle.folder_files.specs.declared.place.Place.{Place}
+use Rattle.folder_files.specs.declared.step.Step.{Step}
 use Rattle.folder_files.specs.declared.world.World.{World}
 
 -- the name leads to the file after these events
@@ -26,6 +28,20 @@ pub data IsTriedAt (start : World) (run : ℕ) : List Event → List Event → T
 -- the name led to the file at the moment at which the run tried the step that comes after these events
 abbrev pub Tries : World → ℕ → Place → List ℕ → ℕ → List Event → Type 0
 Tries start run p x f past = (moment : List Event) × IsTriedAt start run moment past × Leads start moment p x f
+
+-- the step would make the name, which leads to no file in this world, lead to one
+abbrev pub WouldMake : WorldMap → ℕ → Step → Place → List ℕ → Type 0
+WouldMake w run s p x = (now_in (w.directories p) x ≡ None) × ((f : ℕ) × (now_in ((made w run s).directories p) x ≡ Some f))
+
+-- no step was tried that would make the name where it had led to a file before
+abbrev pub IsMadeOnce : World → Place → List ℕ → List Event → Type 0
+IsMadeOnce start p x [] = Unit {0}
+IsMadeOnce start p x (Act run s a m ∷ past) =
+    ((moment : List Event) → IsTriedAt start run moment past → WouldMake (world_after start moment) run s p x → (f : ℕ) → HasLed start p x f moment → ⊥)
+    × IsMadeOnce start p x past
+IsMadeOnce start p x (Deliver path piece ∷ past) = IsMadeOnce start p x past
+IsMadeOnce start p x (Crash v ∷ past) = IsMadeOnce start p x past
+IsMadeOnce start p x (End run ∷ past) = IsMadeOnce start p x past
 
 -- an event that is no crash
 abbrev pub IsNoCrash : Event → Type 0

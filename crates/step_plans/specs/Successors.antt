@@ -6,6 +6,7 @@ use Rattle.folder_files.specs.Careful.{IsRead, WasGivenAway}
 use Rattle.folder_files.specs.Deeds.{Deed, did, Once}
 use Rattle.folder_files.specs.Histories.{own}
 use Rattle.folder_files.specs.Named.{is_number, is_temp_of, is_held_of}
+use Rattle.folder_files.specs.Places.{is_folder}
 use Rattle.folder_files.specs.declared.event.After.{After}
 use Rattle.folder_files.specs.declared.event.Event.{Event}
 use Rattle.folder_files.specs.declared.event.Event.TheVariants.{Act}
@@ -24,9 +25,9 @@ HasRead p held bytes own = Once (λ d older. IsRead p held bytes d) own
 abbrev pub HasMadeSince : Place → List ℕ → List ℕ → Place → List ℕ → List ℕ → List Deed → Type 0
 HasMadeSince p held bytes q temp copy own = Once (λ d older. (d ≡ did (Create q temp copy) Done) × HasRead p held bytes older) own
 
--- the run put the file g into q with the answer Done; it had made it of these bytes after it read the held file
+-- the run put the file g into the folder q with the answer Done; it had made it of these bytes after it read the held file
 pub data WasPutSince (start : World) (run : ℕ) (p : Place) (held bytes : List ℕ) (q : Place) (g : ℕ) (copy : List ℕ) : List Event → Type 0 where
-  now : {temp number : List ℕ} {m : After} {past : List Event} → is_temp_of run (kind_of temp) ≡ true → is_number (kind_of number) ≡ true
+  now : {temp number : List ℕ} {m : After} {past : List Event} → is_folder q ≡ true → is_temp_of run (kind_of temp) ≡ true → is_number (kind_of number) ≡ true
       → HasMadeSince p held bytes q temp copy (own run past) → Leads start past q temp g
       → WasPutSince start run p held bytes q g copy (Act run (Link q temp number) Done m ∷ past)
   on : {e : Event} {past : List Event} → WasPutSince start run p held bytes q g copy past → WasPutSince start run p held bytes q g copy (e ∷ past)

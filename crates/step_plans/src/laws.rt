@@ -1,18 +1,24 @@
 // The laws, each the contract of a function that does nothing.
-ghost use Rattle.std.specs.Prelude.{◌≡◌, ℕ, Bool, true, List, ◌∷◌, length, Some};
+ghost use Rattle.std.specs.Prelude.{◌≡◌, ◌⊎◌, ℕ, Bool, true, List, ◌∷◌, length, Some};
 ghost use Rattle.mh_base.specs.Entries.{kind_of};
+ghost use Rattle.folder_files.specs.Careful.{IsCareful};
 ghost use Rattle.folder_files.specs.CrashImage.{IsCrashImage};
-ghost use Rattle.folder_files.specs.Histories.{IsLegal, AreCareful, AreHonest, AreOrderly, own, world_after};
+ghost use Rattle.folder_files.specs.Deeds.{WasDone};
+ghost use Rattle.folder_files.specs.Directory.{now_in};
+ghost use Rattle.folder_files.specs.Steps.{made};
+ghost use Rattle.folder_files.specs.Histories.{IsLegal, IsLive, AreCareful, AreHonest, AreOrderly, Changes, own, world_after};
 ghost use Rattle.folder_files.specs.Named.{is_committed, is_number};
 ghost use Rattle.folder_files.specs.Worlds.{IsStart, WorldMap};
 ghost use Rattle.folder_files.specs.declared.event.After.{After};
+ghost use Rattle.folder_files.specs.declared.event.After.TheVariants.{Before};
 ghost use Rattle.folder_files.specs.declared.event.Event.{Event};
-ghost use Rattle.folder_files.specs.declared.event.Event.TheVariants.{Act};
+ghost use Rattle.folder_files.specs.declared.event.Event.TheVariants.{Act, Crash};
 ghost use Rattle.folder_files.specs.declared.place.FilePath.{FilePath};
 ghost use Rattle.folder_files.specs.declared.place.Place.{Place};
 ghost use Rattle.folder_files.specs.declared.step.Answer.{Answer};
+ghost use Rattle.folder_files.specs.declared.step.Answer.TheVariants.{Failed};
 ghost use Rattle.folder_files.specs.declared.step.Step.{Step};
-ghost use Rattle.folder_files.specs.declared.step.Step.TheVariants.{CutDrop, Rename};
+ghost use Rattle.folder_files.specs.declared.step.Step.TheVariants.{Create, CutDrop, Rename};
 ghost use Rattle.folder_files.specs.declared.world.World.{World};
 ghost use Rattle.step_plans.specs.Commits.{text_at, HadText, IsBase, IsCommitted, IsSettled, HasTextFirmly, TriesCommit};
 ghost use Rattle.step_plans.specs.Cutting.{IsUncut, AreDurable};
@@ -28,10 +34,15 @@ pub fn no_loss()
     ensures kept { (start : World) (past : List Event) → IsStart start → IsLegal start past → AreCareful past → HasNoneOfTheirs start past → LosesNothing start past }
 {}
 
-/// No step makes a number that leads to a file lead to another.
+/// No careful step makes a number that leads to a file lead to another, nor does one in whose middle the machine stops, in the world that it
+/// would have made.
 pub fn never_taken()
-    ensures { (start : World) (past : List Event) (run : ℕ) (s : Step) (a : Answer) (m : After) → IsLegal start (Act run s a m ∷ past) → AreCareful (Act run s a m ∷ past)
-        → (p : Place) (number : List ℕ) (f g : ℕ) → is_number (kind_of number) ≡ true → Leads start past p number f → Leads start (Act run s a m ∷ past) p number g → f ≡ g }
+    ensures step { (start : World) (past : List Event) (run : ℕ) (s : Step) (a : Answer) (m : After) → IsLegal start (Act run s a m ∷ past)
+        → (p : Place) → (Changes p s → IsCareful run (own run past) s) → (number : List ℕ) (f g : ℕ) → is_number (kind_of number) ≡ true
+        → Leads start past p number f → Leads start (Act run s a m ∷ past) p number g → f ≡ g }
+    ensures within { (start : World) (past : List Event) (run : ℕ) (s : Step) → IsLive run (world_after start past)
+        → (p : Place) → (Changes p s → IsCareful run (own run past) s) → (number : List ℕ) (f g : ℕ) → is_number (kind_of number) ≡ true
+        → Leads start past p number f → now_in ((made (world_after start past) run s).directories p) number ≡ Some g → f ≡ g }
 {}
 
 /// What a run put and synced by its own account is durable from then on, also after the run has ended.
@@ -50,7 +61,8 @@ pub fn cut_drops_are_stored()
 
 /// Under honest locks and with orderly runs each commit is made from the text that it replaces, and nothing else changes that text but a
 /// crash: a folder's sequences, and the context, are the fold of the commits in lock order. A commit that was synced stays until another;
-/// after a crash the text is one that the file had since the last sync.
+/// after a crash the text is one that the file had since the last sync. A commit that failed leaves the text that was there, or its own; one in
+/// whose middle the machine stopped leaves one that the file had since the last sync, or its own.
 pub fn lock_order()
     ensures base { (start : World) (past : List Event) (run : ℕ) (p : Place) (temp name : List ℕ) (a : Answer) (m : After) → IsStart start → IsLegal start (Act run (Rename p temp name) a m ∷ past)
         → AreCareful (Act run (Rename p temp name) a m ∷ past) → HasNoneOfTheirs start (Act run (Rename p temp name) a m ∷ past) → AreHonest start (Act run (Rename p temp name) a m ∷ past)
@@ -64,4 +76,14 @@ pub fn lock_order()
         → is_committed p name ≡ true → IsSettled start p name text past → HasTextFirmly (world_after start past) p name text }
     ensures crash { (start : World) (past : List Event) (p : Place) (name : List ℕ) (v : WorldMap) (acted : ℕ → Bool) → IsStart start → IsLegal start past → AreCareful past → HasNoneOfTheirs start past
         → is_committed p name ≡ true → IsCrashImage (world_after start past) v acted → HadText start p name (text_at v p name) past }
+    ensures failed { (start : World) (past : List Event) (run : ℕ) (p : Place) (temp name text : List ℕ) (m : After) → IsStart start
+        → IsLegal start (Act run (Rename p temp name) Failed m ∷ past) → AreCareful (Act run (Rename p temp name) Failed m ∷ past)
+        → HasNoneOfTheirs start (Act run (Rename p temp name) Failed m ∷ past) → is_committed p name ≡ true → WasDone (Create p temp text) (own run past)
+        → (text_at (world_after start (Act run (Rename p temp name) Failed m ∷ past)) p name ≡ text_at (world_after start past) p name)
+        ⊎ (text_at (world_after start (Act run (Rename p temp name) Failed m ∷ past)) p name ≡ text) }
+    ensures crashed { (start : World) (past : List Event) (v : World) (run : ℕ) (p : Place) (temp name text : List ℕ) → IsStart start
+        → IsLegal start (Act run (Rename p temp name) Failed Before ∷ (Crash v ∷ past)) → AreCareful (Act run (Rename p temp name) Failed Before ∷ (Crash v ∷ past))
+        → HasNoneOfTheirs start (Act run (Rename p temp name) Failed Before ∷ (Crash v ∷ past)) → is_committed p name ≡ true → WasDone (Create p temp text) (own run past)
+        → HadText start p name (text_at (world_after start (Act run (Rename p temp name) Failed Before ∷ (Crash v ∷ past))) p name) past
+        ⊎ (text_at (world_after start (Act run (Rename p temp name) Failed Before ∷ (Crash v ∷ past))) p name ≡ text) }
 {}

@@ -1,7 +1,7 @@
 // Copies of a message that a run has put into folders.
 ghost use Rattle.std.specs.Prelude.{◌≡◌, ◌≢◌, ◌↔◌, IsTrue, MatchOption, List, ℕ};
 ghost use Rattle.folder_files.specs.Annotations.{Annotates};
-ghost use Rattle.folder_files.specs.Careful.{IsRead, IsPutLink, WasCopied, IsCopyPut, WasReadAs, WasCopiedFrom, IsSuccessorPut};
+ghost use Rattle.folder_files.specs.Careful.{IsRead, IsPutLink, WasPutFrom, WasCopied, IsCopyPut, WasReadAs, WasCopiedFrom, IsSuccessorPut};
 ghost use Rattle.folder_files.specs.Deeds.{did, Once};
 ghost use Rattle.folder_files.specs.Seen.{seen, seen_all};
 ghost use Rattle.folder_files.specs.declared.place.Place.{Place};
@@ -10,7 +10,7 @@ ghost use Rattle.folder_files.specs.declared.step.Answer.TheVariants as answer;
 
 use crate::discipline::annotation::annotates;
 use crate::discipline::deed::DeedRef;
-use crate::discipline::named::{is_number, is_temp_of};
+use crate::discipline::named::{is_folder_place, is_number, is_temp_of};
 use crate::{Answer, Place, Step};
 use mh_base::Name;
 
@@ -27,8 +27,29 @@ pub fn put_of<'a>(deed: &DeedRef<'a>, run: u128) -> Option<PutRef<'a>>
 {
     match (deed.step, deed.answer) {
         (Step::Link(place, temp, number), Answer::Done)
-            if is_temp_of(run, temp) && is_number(number) => { Some(PutRef { place, temp }) }
+            if is_folder_place(place) && is_temp_of(run, temp) && is_number(number) => {
+            Some(PutRef { place, temp })
+        }
         _ => None,
+    }
+}
+
+fn is_put_from(deed: &DeedRef, run: u128, put: &PutRef) -> bool
+    ensures { IsTrue result ↔ IsPutLink run put.now.place.now put.now.temp.now (seen deed.now) }
+{
+    match put_of(deed, run) {
+        Some(other) => other.place.same(put.place) && other.temp.same(put.temp),
+        None => false,
+    }
+}
+
+/// Whether the file of this name was put.
+pub fn was_put_from(own: &[DeedRef], run: u128, put: &PutRef) -> bool
+    ensures { IsTrue result ↔ WasPutFrom run put.now.place.now put.now.temp.now (seen_all own.now) }
+{
+    match own.split_first() {
+        None => false,
+        Some((deed, older)) => is_put_from(deed, run, put) || was_put_from(older, run, put),
     }
 }
 

@@ -1,7 +1,7 @@
 // Drops that a run has read and stored.
 ghost use Rattle.std.specs.Prelude.{◌≡◌, ◌≢◌, ◌↔◌, ◌++◌, ◌≤◌, IsTrue, IfOk, MatchOption, List, ℕ, [], length as count, take, drop, map, reverse, true};
 ghost use Rattle.mbox_drop.specs.Drops.{is_drop, messages as messages_of};
-ghost use Rattle.folder_files.specs.Careful.{IsPiece, IsPut, HasStored, MayCut};
+ghost use Rattle.folder_files.specs.Careful.{IsPiece, IsFirstPut, WasPutFrom, WasReady, HasStored, MayCut};
 ghost use Rattle.folder_files.specs.Deeds.{Once, WasDone};
 ghost use Rattle.folder_files.specs.Giving.{GivesPieces};
 ghost use Rattle.folder_files.specs.Seen.{seen, seen_all};
@@ -9,7 +9,7 @@ ghost use Rattle.folder_files.specs.declared.place.Place.{Place};
 ghost use Rattle.folder_files.specs.declared.step.Step.TheVariants as step;
 
 use crate::FilePath;
-use crate::discipline::copies::put_of;
+use crate::discipline::copies::{PutRef, put_of, was_put_from};
 use crate::discipline::deed::DeedRef;
 use crate::discipline::reading::PieceRef;
 use crate::discipline::ready::{was_folder_synced, was_ready};
@@ -68,6 +68,13 @@ fn was_told(own: &[DeedRef], path: &FilePath, length: u64) -> bool
     }
 }
 
+/// Whether the file that was put had these bytes and was not put before.
+fn is_first_put(older: &[DeedRef], run: u128, put: &PutRef, message: &[u8]) -> bool
+    ensures { IsTrue result ↔ (WasReady put.now.place.now put.now.temp.now message.now (seen_all older.now) × (WasPutFrom run put.now.place.now put.now.temp.now (seen_all older.now) → ⊥)) }
+{
+    was_ready(older, put.place, put.temp, message) && !was_put_from(older, run, put)
+}
+
 fn is_stored(
     newer: &[DeedRef],
     deed: &DeedRef,
@@ -75,11 +82,11 @@ fn is_stored(
     run: u128,
     message: &[u8],
 ) -> bool
-    ensures { IsTrue result ↔ ((q : Place) × IsPut run q message.now (seen deed.now) (seen_all older.now) × WasDone (step.SyncFolder q) (seen_all newer.now)) }
+    ensures { IsTrue result ↔ ((q : Place) × IsFirstPut run q message.now (seen deed.now) (seen_all older.now) × WasDone (step.SyncFolder q) (seen_all newer.now)) }
 {
     match put_of(deed, run) {
         Some(put) => {
-            was_ready(older, put.place, put.temp, message) && was_folder_synced(newer, put.place)
+            is_first_put(older, run, &put, message) && was_folder_synced(newer, put.place)
         }
         None => false,
     }

@@ -2,7 +2,7 @@
 ghost use Rattle.std.specs.Prelude.{IfOk};
 ghost use Rattle.folder_files.specs.Rows.{IsMakeRow, IsNewRow, IsOldRow, IsCutRow};
 
-use super::fault::{Found, HostFault, looked_up};
+use super::fault::{Found, HostFault, after_change, changed, looked_up};
 use super::paths::Paths;
 use crate::{Answer, FilePath, Place};
 use mh_base::{Bytes, Name};
@@ -10,7 +10,7 @@ use std::alloc::Global;
 use std::fs;
 use std::fs::{File, OpenOptions};
 use std::io::Write;
-use std::os::unix::fs::OpenOptionsExt;
+use std::os::unix::fs::{MetadataExt, OpenOptionsExt};
 
 /// How deep a path of missing directories may be.
 const DEPTH: u32 = 1024;
@@ -36,32 +36,49 @@ fn sync_parent(rt: &HostRuntime, path: &str) -> Result<(), HostFault> {
     }
 }
 
-/// Makes a directory below one that is there, and syncs that one.
+/// A directory below one that is there, made where it is missing, and safe in the one that holds
+/// it: who made it before may have died before that.
 fn make_one(rt: &HostRuntime, path: &str) -> Result<Found<()>, HostFault> {
-    match looked_up(fs::create_dir(rt, path))? {
-        Found::There(()) => {
-            sync_parent(rt, path)?;
-            Ok(Found::There(()))
+    let found = looked_up(fs::create_dir(rt, path))?;
+    match found {
+        Found::Gone => Ok(Found::Gone),
+        found => {
+            after_change(sync_parent(rt, path))?;
+            Ok(found)
         }
-        other => Ok(other),
     }
 }
 
-/// Makes a directory and its missing parents, each synced in the one that holds it.
+fn is_there(rt: &HostRuntime, path: &str) -> Result<bool, HostFault> {
+    Ok(matches!(looked_up(fs::metadata(rt, path))?, Found::There(_)))
+}
+
+/// A directory and its missing parents. None is made before the one that holds it is safe.
 fn make_all(rt: &HostRuntime, path: &str, depth: u32) -> Result<Found<()>, HostFault> {
-    match make_one(rt, path)? {
-        Found::Gone => {}
-        other => return Ok(other),
+    if is_there(rt, path)? {
+        return make_one(rt, path);
     }
+    let Some(above) = parent(path) else {
+        return make_one(rt, path);
+    };
     if depth == 0 {
         return Err(HostFault::Failed);
     }
+    match make_all(rt, above, depth - 1)? {
+        Found::There(()) => after_change(make_one(rt, path)),
+        _ => make_one(rt, path),
+    }
+}
+
+/// Makes the directories above a folder safe in the ones that hold them, up to the mail directory,
+/// whose path is so long.
+fn sync_above(rt: &HostRuntime, path: &str, mail: usize, depth: u32) -> Result<(), HostFault> {
     match parent(path) {
-        Some(parent) => {
-            let _ = make_all(rt, parent, depth - 1)?;
-            make_one(rt, path)
+        Some(above) if above.len() >= mail && depth > 0 => {
+            sync_parent(rt, above)?;
+            sync_above(rt, above, mail, depth - 1)
         }
-        None => Err(HostFault::Failed),
+        _ => Ok(()),
     }
 }
 
@@ -74,7 +91,10 @@ pub(crate) fn make_folder(
     ensures { IfOk result IsMakeRow }
 {
     let path = paths.place(alloc, place)?;
-    match make_all(rt, path.as_str(), DEPTH)? {
+    let mail = paths.mail_length(alloc, place)?;
+    let made = make_all(rt, path.as_str(), DEPTH)?;
+    after_change(sync_above(rt, path.as_str(), mail, DEPTH))?;
+    match made {
         Found::There(()) => Ok(Answer::Done),
         Found::Exists => Ok(Answer::Exists),
         Found::Gone => Err(HostFault::Failed),
@@ -103,7 +123,7 @@ pub(crate) fn create(
     let path = paths.entry(alloc, place, name)?;
     match create_new(rt, path.as_str())? {
         Found::There(mut file) => {
-            file.write_all(bytes.as_slice())?;
+            changed(file.write_all(bytes.as_slice()))?;
             Ok(Answer::Done)
         }
         Found::Exists => Ok(Answer::Exists),
@@ -122,12 +142,18 @@ fn done_or_gone(there: Found<()>) -> Result<Answer, HostFault>
     }
 }
 
+/// Makes a file or a directory safe; opening a pipe would wait.
 fn sync_path(rt: &HostRuntime, path: &str) -> Result<Answer, HostFault>
     ensures { IfOk result IsOldRow }
 {
+    if let Found::There(what) = looked_up(fs::metadata(rt, path))? {
+        if !what.is_file() && !what.is_dir() {
+            return Err(HostFault::Failed);
+        }
+    }
     match looked_up(File::open(rt, path))? {
         Found::There(file) => {
-            file.sync_all()?;
+            changed(file.sync_all())?;
             Ok(Answer::Done)
         }
         Found::Gone => Ok(Answer::Gone),
@@ -179,6 +205,17 @@ pub(crate) fn link(
     }
 }
 
+/// Whether both names lead to one file. The system leaves both where one is renamed to the other.
+fn are_one_file(rt: &HostRuntime, from: &str, to: &str) -> Result<bool, HostFault> {
+    let Found::There(from) = looked_up(fs::symlink_metadata(rt, from))? else {
+        return Ok(false);
+    };
+    let Found::There(to) = looked_up(fs::symlink_metadata(rt, to))? else {
+        return Ok(false);
+    };
+    Ok(from.dev() == to.dev() && from.ino() == to.ino())
+}
+
 pub(crate) fn rename(
     rt: &HostRuntime,
     alloc: Global,
@@ -189,8 +226,12 @@ pub(crate) fn rename(
 ) -> Result<Answer, HostFault>
     ensures { IfOk result IsOldRow }
 {
+    let is_itself = from.same(to);
     let from = paths.entry(alloc, place, from)?;
     let to = paths.entry(alloc, place, to)?;
+    if !is_itself && are_one_file(rt, from.as_str(), to.as_str())? {
+        return done_or_gone(looked_up(fs::remove_file(rt, from.as_str()))?);
+    }
     done_or_gone(looked_up(fs::rename(rt, from.as_str(), to.as_str()))?)
 }
 
@@ -207,7 +248,7 @@ pub(crate) fn unlink(
     done_or_gone(looked_up(fs::remove_file(rt, path.as_str()))?)
 }
 
-/// Cuts an open drop of this length to nothing, under the lock that mail deliverers take.
+/// Cuts an open drop of this length to nothing, under the system's lock on the file (`flock`).
 fn cut_locked(file: &File, length: u64) -> Result<Answer, HostFault>
     ensures { IfOk result IsCutRow }
 {
@@ -217,8 +258,8 @@ fn cut_locked(file: &File, length: u64) -> Result<Answer, HostFault>
     if file.metadata()?.len() != length {
         return Ok(Answer::Grown);
     }
-    file.set_len(0)?;
-    file.sync_all()?;
+    changed(file.set_len(0))?;
+    changed(file.sync_all())?;
     Ok(Answer::Done)
 }
 
@@ -232,6 +273,11 @@ pub(crate) fn cut_drop(
     ensures { IfOk result IsCutRow }
 {
     let path = paths.file(alloc, path)?;
+    if let Found::There(what) = looked_up(fs::metadata(rt, path.as_str()))? {
+        if !what.is_file() {
+            return Err(HostFault::Failed);
+        }
+    }
     let mut options = OpenOptions::new();
     options.write(true);
     match looked_up(options.open(rt, path.as_str()))? {

@@ -31,6 +31,22 @@ impl From<io::Error> for HostFault {
     }
 }
 
+/// What a call gave that changes something: after an error nobody knows whether it did.
+pub(crate) fn changed<T: Drop>(outcome: io::Result<T>) -> Result<T, HostFault> {
+    match outcome {
+        Ok(value) => Ok(value),
+        Err(_) => Err(HostFault::Failed),
+    }
+}
+
+/// What came after a change: want of memory would say that nothing was made.
+pub(crate) fn after_change<T: Drop>(outcome: Result<T, HostFault>) -> Result<T, HostFault> {
+    match outcome {
+        Ok(value) => Ok(value),
+        Err(_) => Err(HostFault::Failed),
+    }
+}
+
 /// What a call gave, or what its error says of the name.
 #[derive(Drop)]
 pub(crate) enum Found<T> {

@@ -6,6 +6,7 @@ use super::fault::{Found, HostFault, looked_up};
 use super::paths::Paths;
 use crate::{Answer, Place};
 use std::alloc::Global;
+use std::fs;
 use std::fs::{File, OpenOptions, TryLockError};
 use std::os::unix::fs::OpenOptionsExt;
 
@@ -21,7 +22,13 @@ pub(crate) struct HeldLocks {
     held: Vec<HeldLock>,
 }
 
+/// A lock file that is there is a plain file: opening a pipe would wait.
 fn open_lock(rt: &HostRuntime, path: &str) -> Result<Found<File>, HostFault> {
+    if let Found::There(what) = looked_up(fs::metadata(rt, path))? {
+        if !what.is_file() {
+            return Err(HostFault::Failed);
+        }
+    }
     let mut options = OpenOptions::new();
     options.write(true);
     options.create(true);
@@ -42,6 +49,10 @@ impl HeldLocks {
         }
     }
 
+    fn has(&self, path: &str) -> bool {
+        self.held.iter().any(|lock| lock.path.as_str() == path)
+    }
+
     fn keep(&mut self, path: String, file: File) -> Result<Answer, HostFault>
         ensures { IfOk result IsLockRow }
     {
@@ -55,7 +66,7 @@ impl HeldLocks {
         }
     }
 
-    /// Tries once.
+    /// Tries once; a lock that this run has already is got again.
     pub(crate) fn lock(
         &mut self,
         rt: &HostRuntime,
@@ -66,6 +77,9 @@ impl HeldLocks {
         ensures { IfOk result IsLockRow }
     {
         let path = lock_path(alloc, paths, place)?;
+        if self.has(path.as_str()) {
+            return Ok(Answer::Done);
+        }
         match open_lock(rt, path.as_str())? {
             Found::There(file) => self.keep(path, file),
             Found::Gone => Ok(Answer::Gone),

@@ -19,13 +19,31 @@ fn text(bytes: &[u8]) -> Result<&str, HostFault> {
     }
 }
 
+/// A name below a directory; the empty path is the current directory.
 fn below(alloc: Global, base: &str, name: &str) -> Result<String, HostFault> {
-    let mut path = String::from_str(alloc, base)?;
-    if !base.ends_with('/') {
+    let mut path = String::from_str(alloc, if base.is_empty() { "." } else { base })?;
+    if !path.ends_with('/') {
         path.push('/')?;
     }
     path.push_str(name)?;
     Ok(path)
+}
+
+/// The path of a directory with one slash where several stand, and none at its end.
+fn tidied(alloc: Global, path: &str) -> Result<String, HostFault> {
+    let mut tidy = String::new(alloc);
+    if path.starts_with('/') {
+        tidy.push('/')?;
+    }
+    for segment in path.split('/') {
+        if !segment.is_empty() {
+            if !tidy.is_empty() && !tidy.ends_with('/') {
+                tidy.push('/')?;
+            }
+            tidy.push_str(segment)?;
+        }
+    }
+    Ok(tidy)
 }
 
 impl Paths {
@@ -41,14 +59,32 @@ impl Paths {
         }
     }
 
+    /// A mail directory.
+    fn mail(&self, alloc: Global, path: &Bytes) -> Result<String, HostFault> {
+        let path = self.from_home(alloc, text(path.as_slice())?)?;
+        tidied(alloc, path.as_str())
+    }
+
+    /// How long the path of this place's mail directory is; of another place, its own path.
+    pub(crate) fn mail_length(&self, alloc: Global, place: &Place) -> Result<usize, HostFault> {
+        let mail = match place {
+            Place::Folder(path, _) => self.mail(alloc, path)?,
+            other => self.place(alloc, other)?,
+        };
+        Ok(mail.len())
+    }
+
     pub(crate) fn place(&self, alloc: Global, place: &Place) -> Result<String, HostFault> {
         match place {
-            Place::Home => Ok(String::from_str(alloc, text(self.home.as_slice())?)?),
+            Place::Home => tidied(alloc, text(self.home.as_slice())?),
             Place::Work => Ok(String::from_str(alloc, ".")?),
-            Place::Mail(path) => self.from_home(alloc, text(path.as_slice())?),
+            Place::Mail(path) => self.mail(alloc, path),
             Place::Folder(path, name) => {
-                let mail = self.from_home(alloc, text(path.as_slice())?)?;
-                below(alloc, mail.as_str(), name.text().as_str())
+                below(
+                    alloc,
+                    self.mail(alloc, path)?.as_str(),
+                    name.text().as_str(),
+                )
             }
         }
     }

@@ -1,5 +1,5 @@
 // Steps that look.
-ghost use Rattle.std.specs.Prelude.{IfOk, length, ◌≤◌};
+ghost use Rattle.std.specs.Prelude.{IfOk, length as count, ◌≤◌};
 ghost use Rattle.folder_files.specs.Rows.{IsNamesRow, IsReadRow, IsPieceRow};
 
 use super::fault::{Found, HostFault, looked_up};
@@ -58,26 +58,47 @@ pub(crate) fn list(
     }
 }
 
-/// A file's bytes, unless there are more than the limit.
+/// A file that is there, and its length. What is a directory, a pipe, a socket or a device is a
+/// fault before it is opened, since opening a pipe waits for who writes to it.
+fn open_plain(rt: &HostRuntime, path: &str) -> Result<Found<(File, u64)>, HostFault> {
+    let length = match looked_up(fs::metadata(rt, path))? {
+        Found::There(what) if what.is_file() => what.len(),
+        Found::Gone => return Ok(Found::Gone),
+        _ => return Err(HostFault::Failed),
+    };
+    match looked_up(File::open(rt, path))? {
+        Found::There(file) => Ok(Found::There((file, length))),
+        Found::Gone => Ok(Found::Gone),
+        Found::Exists => Err(HostFault::Failed),
+    }
+}
+
+/// At most so many bytes of an open file, from its present place on.
+fn read_most(alloc: Global, file: File, likely: u64, most: u64) -> Result<Bytes, HostFault> {
+    let mut bytes = Vec::with_capacity(alloc, likely as usize)?;
+    file.take(most).read_to_end(&mut bytes)?;
+    Ok(Bytes::from_vec(bytes))
+}
+
+/// A file's bytes, unless there are more than the limit; of a file that grows, no more than one
+/// byte beyond it is read.
 fn read_within(rt: &HostRuntime, alloc: Global, path: &str, limit: u64) -> Result<Answer, HostFault>
     ensures { IfOk result IsReadRow }
 {
-    let mut file = match looked_up(File::open(rt, path))? {
-        Found::There(file) => file,
+    let (file, length) = match open_plain(rt, path)? {
+        Found::There(opened) => opened,
         Found::Gone => return Ok(Answer::Gone),
         Found::Exists => return Err(HostFault::Failed),
     };
-    let length = file.metadata()?.len();
     if length > limit {
         return Ok(Answer::Long(length));
     }
-    let mut bytes = Vec::with_capacity(alloc, length as usize)?;
-    file.read_to_end(&mut bytes)?;
+    let bytes = read_most(alloc, file, length, limit.saturating_add(1))?;
     let length = bytes.len() as u64;
     if length > limit {
         return Ok(Answer::Long(length));
     }
-    Ok(Answer::Content(Bytes::from_vec(bytes)))
+    Ok(Answer::Content(bytes))
 }
 
 pub(crate) fn read(
@@ -107,16 +128,23 @@ pub(crate) fn read_file(
     read_within(rt, alloc, path.as_str(), limit)
 }
 
-/// At most so many bytes of an open file, from its present place on.
-fn read_piece(alloc: Global, file: File, most: u64) -> Result<Bytes, HostFault>
-    ensures { IfOk result (λ piece. length piece ≤ most) }
+/// A piece of an open file of this length, and nothing of what was written behind it since.
+fn read_piece(
+    alloc: Global,
+    mut file: File,
+    from: u64,
+    most: u64,
+    length: u64,
+) -> Result<Bytes, HostFault>
+    ensures { IfOk result (λ piece. count piece ≤ most) }
 {
-    let mut bytes = Vec::new(alloc);
-    file.take(most).read_to_end(&mut bytes)?;
-    if bytes.len() as u64 > most {
+    let wanted = most.min(length.saturating_sub(from));
+    file.seek(SeekFrom::Start(from))?;
+    let piece = read_most(alloc, file, wanted, wanted)?;
+    if piece.len() as u64 > wanted {
         return Err(HostFault::Failed);
     }
-    Ok(Bytes::from_vec(bytes))
+    Ok(piece)
 }
 
 pub(crate) fn read_drop(
@@ -130,15 +158,13 @@ pub(crate) fn read_drop(
     ensures { IfOk result (IsPieceRow most) }
 {
     let path = paths.file(alloc, path)?;
-    let mut file = match looked_up(File::open(rt, path.as_str()))? {
-        Found::There(file) => file,
+    let (file, length) = match open_plain(rt, path.as_str())? {
+        Found::There(opened) => opened,
         Found::Gone => return Ok(Answer::Gone),
         Found::Exists => return Err(HostFault::Failed),
     };
-    let length = file.metadata()?.len();
-    file.seek(SeekFrom::Start(from))?;
     Ok(Answer::Piece {
-        bytes: read_piece(alloc, file, most)?,
+        bytes: read_piece(alloc, file, from, most, length)?,
         length,
     })
 }
