@@ -174,7 +174,9 @@ impl NumSet {
 
     /// The set of this and another. It takes no more steps than the smaller one has runs, and what comes out.
     pub fn join(&self, alloc: Global, other: &NumSet, how: Join) -> Result<NumSet, AllocError>
-        ensures { IfOk result (λ s. (n : ℕ) → has s.runs n ≡ joins how (has self.now.runs n) (has other.now.runs n)) }
+        ensures numbers { IfOk result (λ s. (n : ℕ) → has s.runs n ≡ joins how (has self.now.runs n) (has other.now.runs n)) }
+        ensures valid { IfOk result (λ s. AreRuns s.runs) }
+        ensures valid_self { AreRuns self.now.runs }
     {
         let mut joined = NumSet::new(alloc);
         let mut from = 1;
