@@ -4,16 +4,6 @@ use Rattle.mh_base.specs.Numbers.{IsMsgNum, hex, decimal_of, run_of, number_of}
 use Rattle.mh_base.specs.declared.entry.Entry.{Entry}
 use Rattle.mh_base.specs.declared.entry.Entry.TheVariants.{Number, Backup, Held, Temp, Sequences, LockFile, Other}
 
--- a kind with a name, within the ranges of its parts
-abbrev pub IsEntry : Entry → Type 0
-IsEntry (Number n) = IsMsgNum n
-IsEntry (Backup n) = IsMsgNum n
-IsEntry (Held run n) = (run < 2 ^ 128) × IsMsgNum n
-IsEntry (Temp run k) = (run < 2 ^ 128) × (k < 2 ^ 64)
-IsEntry Sequences = Unit {0}
-IsEntry LockFile = Unit {0}
-IsEntry Other = ⊥
-
 -- the parts of a kind are within their ranges
 abbrev pub IsRanged : Entry → Type 0
 IsRanged (Number n) = IsMsgNum n
@@ -23,6 +13,11 @@ IsRanged (Temp run k) = (run < 2 ^ 128) × (k < 2 ^ 64)
 IsRanged Sequences = Unit {0}
 IsRanged LockFile = Unit {0}
 IsRanged Other = Unit {0}
+
+-- a kind with a name, within the ranges of its parts
+abbrev pub IsEntry : Entry → Type 0
+IsEntry Other = ⊥
+IsEntry e = IsRanged e
 
 -- the name of a kind
 unfoldable pub entry_text : Entry → List ℕ

@@ -1,8 +1,7 @@
 -- Every sequence changed.
-use Rattle.std.proofs.Common.{◌≡◌, ℕ, ◌+◌, ◌<◌, Bool, true, false, List, [], ◌∷◌, ◌++◌, length, take, get_or, refl, sym, ◌∙◌, ap, subst, append_assoc, append-nil}
-use Rattle.std.specs.Prelude.{bytes_eq, ◌&&◌, ◌||◌, ◌==◌, not, if◌then◌else◌}
+use Rattle.std.proofs.Common.{◌≡◌, ℕ, Bool, true, false, List, [], ◌∷◌, ◌++◌, refl, sym, ◌∙◌, ap, subst, append_assoc, append-nil}
+use Rattle.std.specs.Prelude.{bytes_eq, ◌&&◌, ◌||◌, ◌==◌, if◌then◌else◌}
 use Rattle.std.specs.List.{list_any}
-use Rattle.std.proofs.lemmas.List.Folds.{list_any_more}
 use Rattle.mh_sequences.specs.declared.run.Run.{Run}
 use Rattle.mh_sequences.specs.declared.mark.Pair.{Pair}
 use Rattle.mh_sequences.specs.declared.change.Change.{Change}
@@ -79,46 +78,4 @@ no_to (p ∷ ps) n = ap (λ b. b || list_any (λ p. n == p.to && false) ps) (not
 pub change_none : (c : Change) (n : ℕ) → change_of c (has []) n ≡ false
 change_none (Keep l) n = refl
 change_none (Withdraw l) n = refl
-change_none (Move pairs) n = ap (λ b. b || false) (no_to pairs.now n)
-
--- one more pair
-regroup : (a b c : Bool) → (a && not b) && not c ≡ a && not (b || c)
-regroup true true c = refl
-regroup true false c = refl
-regroup false b c = refl
-
-pub one_left : (old : Bool) (now : Bool) (base : Bool) (pairs : List Pair) (i n : ℕ) (p : Pair) → i < length pairs → p ≡ get_or pairs i p → old ≡ base && not (list_any (λ q. n == q.from) (take i pairs)) → now ≡ old && not (n == p.from) → now ≡ base && not (list_any (λ q. n == q.from) (take (i + 1) pairs))
-one_left old now base pairs i n p lt is before step =
-    step
-    ∙ ap (λ b. b && not (n == p.from)) before
-    ∙ regroup base (list_any (λ q. n == q.from) (take i pairs)) (n == p.from)
-    ∙ ap (λ b. base && not b) (ap (λ q. list_any (λ r. n == r.from) (take i pairs) || n == q.from) is ∙ sym (list_any_more (λ q. n == q.from) pairs i p lt))
-
-shuffle : (a b c : Bool) → a || (b || c) ≡ (b || a) || c
-shuffle true true c = refl
-shuffle true false c = refl
-shuffle false true c = refl
-shuffle false false c = refl
-
-pub one_moved : (old : ℕ → Bool) (was now base : Bool) (pairs : List Pair) (i n : ℕ) (p : Pair) → i < length pairs → p ≡ get_or pairs i p → old p.from ≡ true → was ≡ list_any (λ q. n == q.to && old q.from) (take i pairs) || base → now ≡ n == p.to || was → now ≡ list_any (λ q. n == q.to && old q.from) (take (i + 1) pairs) || base
-one_moved old was now base pairs i n p lt is has_it before step =
-    step
-    ∙ ap (λ b. n == p.to || b) before
-    ∙ shuffle (n == p.to) (list_any (λ q. n == q.to && old q.from) (take i pairs)) base
-    ∙ ap (λ b. (list_any (λ q. n == q.to && old q.from) (take i pairs) || b) || base) (only (n == p.to) (old p.from) has_it)
-    ∙ ap (λ b. b || base) (ap (λ q. list_any (λ r. n == r.to && old r.from) (take i pairs) || (n == q.to && old q.from)) is ∙ sym (list_any_more (λ q. n == q.to && old q.from) pairs i p lt))
-  where
-    only : (x y : Bool) → y ≡ true → x ≡ x && y
-    only true y e = sym e
-    only false y e = refl
-
-pub none_moved : (old : ℕ → Bool) (was base : Bool) (pairs : List Pair) (i n : ℕ) (p : Pair) → i < length pairs → p ≡ get_or pairs i p → old p.from ≡ false → was ≡ list_any (λ q. n == q.to && old q.from) (take i pairs) || base → was ≡ list_any (λ q. n == q.to && old q.from) (take (i + 1) pairs) || base
-none_moved old was base pairs i n p lt is lacks before =
-    before
-    ∙ ap (λ b. b || base) (more (list_any (λ q. n == q.to && old q.from) (take i pairs)) (n == p.to) (old p.from) lacks
-    ∙ ap (λ q. list_any (λ r. n == r.to && old r.from) (take i pairs) || (n == q.to && old q.from)) is ∙ sym (list_any_more (λ q. n == q.to && old q.from) pairs i p lt))
-  where
-    more : (x y z : Bool) → z ≡ false → x ≡ x || (y && z)
-    more true y z e = refl
-    more false true z e = sym e
-    more false false z e = refl
+change_none (Move pairs sources) n = ap (λ b. b || false) (no_to pairs.now n)

@@ -22,7 +22,7 @@ use Rattle.mh_sequences.proofs.FieldsBack.{AllEntries, shown, fields_printed, li
 use Rattle.mh_sequences.proofs.ListText.{lists_back, list_unfolded, number_unfolded, number_item, number_read, number_run}
 use Rattle.mh_sequences.proofs.NameLemmas.{name_free}
 use Rattle.mh_sequences.proofs.PlaceLemmas.{same_is, same_by}
-use Rattle.mh_sequences.proofs.ReadingLemmas.{same_turned}
+use Rattle.mh_sequences.proofs.Mentioning.{same_turned}
 
 -- no sequence is named as the current message is
 not_cur : (name : List ℕ) → is_seq_name name ≡ true → bytes_eq name (codes "cur") ≡ false

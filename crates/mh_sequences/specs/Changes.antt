@@ -1,6 +1,8 @@
 -- One change of every sequence.
-use Rattle.std.specs.Prelude.{◌≡◌, ℕ, ◌&&◌, Bool, not, List, [], ◌∷◌, ◌++◌, Option, bytes_eq, IsTrue, if◌then◌else◌}
+use Rattle.std.specs.Prelude.{◌≡◌, ℕ, ◌==◌, ◌&&◌, Bool, not, List, [], ◌∷◌, ◌++◌, Option, bytes_eq, IsTrue, if◌then◌else◌}
+use Rattle.std.specs.List.{list_any}
 use Rattle.mh_sequences.specs.declared.run.Run.{Run}
+use Rattle.mh_sequences.specs.declared.mark.Pair.{Pair}
 use Rattle.mh_sequences.specs.declared.change.Change.{Change}
 use Rattle.mh_sequences.specs.declared.change.Change.TheVariants.{Keep, Withdraw, Move}
 use Rattle.mh_sequences.specs.declared.join.Join.{Join}
@@ -14,7 +16,17 @@ use Rattle.mh_sequences.specs.Sequences.{Marked, Sequence, member, public_of}
 abbrev pub change_of : Change → (ℕ → Bool) → ℕ → Bool
 change_of (Keep listing) old n = old n && has listing.now.runs n
 change_of (Withdraw numbers) old n = old n && not (has numbers.now.runs n)
-change_of (Move pairs) old n = moved pairs.now old n
+change_of (Move pairs sources) old n = moved pairs.now old n
+
+-- the numbers that pairs move
+abbrev pub AreSources : List Pair → List Run → Type 0
+AreSources pairs sources = (n : ℕ) → has sources n ≡ list_any (λ p. n == p.from) pairs
+
+-- a move comes with the numbers that it moves
+abbrev pub IsReady : Change → Type 0
+IsReady (Keep listing) = Unit {0}
+IsReady (Withdraw numbers) = Unit {0}
+IsReady (Move pairs sources) = AreSources pairs.now sources.now.runs
 
 -- one set is another changed
 abbrev pub IsChanged : ((ℕ → Bool) → ℕ → Bool) → List Run → List Run → Type 0

@@ -1,8 +1,10 @@
 pub mod Changes
 pub mod Edits
+pub mod FieldNames
 pub mod Joins
 pub mod Lists
 pub mod Marks
+pub mod Mentions
 pub mod Names
 pub mod Placing
 pub mod Printing

@@ -1,5 +1,6 @@
 -- A sequence put at its place among others.
 use Rattle.std.specs.Prelude.{◌≡◌, ℕ, ◌+◌, ◌<◌, ◌≤◌, Bool, true, slice_index_or, List, [], ◌∷◌, ◌++◌, length, take, drop}
+use Rattle.std.specs.Ordering.{is_lt}
 use Rattle.std.specs.declared.cmp.Ordering.{Ordering}
 use Rattle.std.specs.declared.cmp.Ordering.TheVariants.{Less, Equal, Greater}
 use Rattle.mh_sequences.specs.declared.run.Run.{Run}
@@ -21,6 +22,10 @@ by_order Greater x y z = z
 abbrev pub placed : List ℕ → Bool → List Run → List Sequence → List Sequence
 placed name public runs [] = alone name public runs
 placed name public runs (s ∷ ss) = by_order (order name s.name) (alone name public runs ++ (s ∷ ss)) (alone name public runs ++ ss) (s ∷ placed name public runs ss)
+
+-- the sequence stands before this name
+abbrev pub stands_before : List ℕ → Sequence → Bool
+stands_before name s = is_lt (order s.name name)
 
 -- the sequence of this name stands at this place
 pub record IsAt (name : List ℕ) (ss : List Sequence) (i : ℕ) : Type 0 where

@@ -1,11 +1,12 @@
 -- Sequences as text.
-use Rattle.std.specs.Prelude.{ℕ, ◌==◌, ◌&&◌, Bool, true, false, not, Option, None, Some, List, [], ◌∷◌, ◌++◌, decimal, codes, map, filter, if◌then◌else◌}
-use Rattle.std.specs.List.{flat_map}
+use Rattle.std.specs.Prelude.{◌≡◌, ◌↔◌, ℕ, ◌==◌, ◌&&◌, Bool, true, false, not, Option, None, Some, List, [], ◌∷◌, ◌++◌, decimal, codes, map, filter, if◌then◌else◌}
+use Rattle.std.specs.List.{flat_map, Contains}
 use Rattle.std.specs.Ordering.{is_lt}
 use Rattle.mh_profile.specs.declared.named_value.NamedValue.{NamedValue}
 use Rattle.mh_profile.specs.Printing.{printed}
 use Rattle.mh_sequences.specs.declared.run.Run.{Run}
 use Rattle.mh_sequences.specs.Reading.{attribute}
+use Rattle.mh_sequences.specs.Names.{is_seq_name}
 use Rattle.mh_sequences.specs.Sequences.{Sequence, Marked, order}
 
 -- a run of one number is that number, and any other its first and its last with a dash between
@@ -50,3 +51,11 @@ text_of m = printed (public_entries m)
 -- the private sequences as entries of the context
 abbrev pub private_entries : List ℕ → List Sequence → List NamedValue
 private_entries ending users = map (private_entry ending) (filter is_private users)
+
+-- an entry of a sequence of the folder
+abbrev pub IsSequenceEntry : List ℕ → NamedValue → Type 0
+IsSequenceEntry ending e = (name : List ℕ) × (is_seq_name name ≡ true) × (e.name ≡ attribute ending name)
+
+-- of the folder's sequences the context has just these entries, in whatever order and beside whatever others
+abbrev pub HasJust : List ℕ → List NamedValue → List NamedValue → Type 0
+HasJust ending entries context = (e : NamedValue) → IsSequenceEntry ending e → Contains context e ↔ Contains entries e

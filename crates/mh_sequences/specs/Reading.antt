@@ -1,6 +1,6 @@
 -- What a folder's text and the context say of its sequences.
 use Rattle.std.specs.Prelude.{◌≡◌, ℕ, ◌/◌, ◌%◌, ◌≤◌, ◌==◌, ◌&&◌, ◌||◌, ◌⊎◌, length, slice_get, Bool, true, false, not, nat_le, bytes_eq, IsTrue, Option, None, Some, List, [], ◌∷◌, ◌++◌, codes, if◌then◌else◌}
-use Rattle.std.specs.List.{list_any, flat_map, find}
+use Rattle.std.specs.List.{All, list_any, flat_map, find}
 use Rattle.std.specs.Borrow.{Bor}
 use Rattle.std.specs.Fmt.{digit_glyph}
 use Rattle.std.specs.Str.{encode_utf8_all}
@@ -10,7 +10,9 @@ use Rattle.mh_base.specs.Numbers.{number_of}
 use Rattle.mh_profile.specs.declared.named_value.NamedValue.{NamedValue}
 use Rattle.mh_sequences.specs.Lists.{items, is_listed, lists}
 use Rattle.mh_sequences.specs.Names.{is_seq_name}
-use Rattle.mh_sequences.specs.Sequences.{Marked, member, public_of}
+use Rattle.mh_sequences.specs.declared.mention.Mention.{Mention}
+use Rattle.mh_sequences.specs.Mentions.{given, IsMention, IsMentioned}
+use Rattle.mh_sequences.specs.Sequences.{AreSequences, Marked, Sequence, member, public_of}
 
 -- a field of this name, byte for byte, lists the number
 abbrev pub lists_public : List FieldText → List ℕ → ℕ → Bool
@@ -56,21 +58,16 @@ pub record IsReading (text : List ℕ) (context : List NamedValue) (folder : Lis
   pub public : (name : List ℕ) (n : ℕ) → IsTrue (member read.users name n) → public_of read.users name ≡ has_field (fields_of text) name
   pub cur : read.cur ≡ cur_in (fields_of text)
 
--- a list was noted under a name, where it is a sequence's, and nothing else changed
-pub record IsNoted (name list : List ℕ) (public : Bool) (old new : Marked) : Type 0 where
-  pub members : (s : List ℕ) (n : ℕ) → member new.users s n ≡ (member old.users s n || (is_seq_name s && (bytes_eq name s && lists list n)))
-  pub state : (s : List ℕ) (n : ℕ) → IsTrue (member new.users s n) → public_of new.users s ≡ (if is_seq_name s && bytes_eq name s then public else public_of old.users s)
-  pub cur : new.cur ≡ old.cur
+-- what the fields of a text give sequences was noted
+pub record IsPublicPart (fields : List FieldText) (mentions : List Mention) : Type 0 where
+  pub valid : All IsMention mentions
+  pub given : (name : List ℕ) (n : ℕ) → given mentions name n ≡ (is_seq_name name && lists_public fields name n)
 
--- the sequences of a text's fields
-pub record IsPublicPart (fields : List FieldText) (s : Marked) : Type 0 where
-  pub numbers : (name : List ℕ) (n : ℕ) → member s.users name n ≡ (is_seq_name name && lists_public fields name n)
-  pub public : (name : List ℕ) (n : ℕ) → IsTrue (member s.users name n) → public_of s.users name ≡ true
-
--- and those of the entries besides
-pub record IsBothParts (fields : List FieldText) (entries : List NamedValue) (ending : List ℕ) (s : Marked) : Type 0 where
-  pub numbers : (name : List ℕ) (n : ℕ) → member s.users name n ≡ (is_seq_name name && (lists_public fields name n || lists_private entries ending name n))
-  pub public : (name : List ℕ) (n : ℕ) → IsTrue (member s.users name n) → public_of s.users name ≡ has_field fields name
+-- the sequences of a text's fields and of the context's entries
+pub record AreBothParts (fields : List FieldText) (entries : List NamedValue) (ending : List ℕ) (users : List Sequence) : Type 0 where
+  pub valid : AreSequences users
+  pub numbers : (name : List ℕ) (n : ℕ) → member users name n ≡ (is_seq_name name && (lists_public fields name n || lists_private entries ending name n))
+  pub public : (name : List ℕ) (n : ℕ) → IsTrue (member users name n) → public_of users name ≡ has_field fields name
 
 -- the name stands between `atr-` and the ending
 abbrev pub IsPrivateName : List ℕ → List ℕ → Option (Bor (List ℕ)) → Type 0
@@ -82,11 +79,16 @@ abbrev pub IsEntryAt : List NamedValue → ℕ → Option (Bor (List ℕ) × Bor
 IsEntryAt entries i None = length entries ≤ i
 IsEntryAt entries i (Some p) = slice_get entries i ≡ Some (record { name = p.0.now; value = p.1.now })
 
--- an entry was noted, where it is a private sequence's, as public where the text has its name
-abbrev pub IsEntryNoted : List FieldText → List ℕ → List ℕ → List ℕ → Marked → Marked → Type 0
-IsEntryNoted fields name list ending old new =
-    ((x : List ℕ) × ((s : List ℕ) → bytes_eq name (attribute ending s) ≡ bytes_eq x s) × IsNoted x list (has_field fields x) old new)
+-- an entry was noted, where it is a private sequence's
+abbrev pub IsEntryNoted : List ℕ → List ℕ → List ℕ → List Mention → List Mention → Type 0
+IsEntryNoted name list ending old new =
+    ((x : List ℕ) × ((s : List ℕ) → bytes_eq name (attribute ending s) ≡ bytes_eq x s) × IsMentioned x list old new)
     ⊎ (((s : List ℕ) → bytes_eq name (attribute ending s) ≡ false) × (new ≡ old))
 
-abbrev pub IsPlaceNoted : List FieldText → List NamedValue → ℕ → List ℕ → Marked → Marked → Type 0
-IsPlaceNoted fields entries i ending old new = (e : NamedValue) × (slice_get entries i ≡ Some e) × IsEntryNoted fields e.name e.value ending old new
+abbrev pub IsPlaceNoted : List NamedValue → ℕ → List ℕ → List Mention → List Mention → Type 0
+IsPlaceNoted entries i ending old new = (e : NamedValue) × (slice_get entries i ≡ Some e) × IsEntryNoted e.name e.value ending old new
+
+-- what the entries give private sequences was noted besides
+pub record IsContextNoted (entries : List NamedValue) (ending : List ℕ) (old new : List Mention) : Type 0 where
+  pub valid : All IsMention new
+  pub given : (name : List ℕ) (n : ℕ) → given new name n ≡ (given old name n || (is_seq_name name && lists_private entries ending name n))

@@ -7,6 +7,10 @@ use Rattle.mh_sequences.specs.declared.run.Run.{Run}
 abbrev pub inside : Run → ℕ → Bool
 inside r n = nat_le r.from n && nat_le n r.to
 
+-- it ends where it starts or later
+abbrev pub IsRun : Run → Type 0
+IsRun r = r.from ≤ r.to
+
 -- the number lies in one of the runs
 abbrev pub has : List Run → ℕ → Bool
 has [] n = false

@@ -1,7 +1,8 @@
 // Folders' names in names of entries.
 ghost use Rattle.std.specs.Prelude.{◌≡◌, ◌<◌, ◌∷◌, ◌++◌, [], true, IfOk, OnOk};
-ghost use Rattle.std.specs.List.{flat_map};
+ghost use Rattle.std.specs.List.{flat_map, list_all};
 ghost use Rattle.std.specs.Fmt.{digit_glyph};
+ghost use Rattle.mail_headers.specs.Lines.{is_name_byte};
 ghost use Rattle.mh_sequences.specs.Reading.{escape, is_plain as is_plain_byte, suffix};
 
 use mh_base::{Bytes, FolderName};
@@ -25,7 +26,8 @@ fn hex_digit(digit: u8) -> u8
 }
 
 fn push_escaped(text: &mut Bytes, byte: u8) -> Result<(), AllocError>
-    ensures { OnOk result (text.new ≡ text.old ++ escape byte) }
+    ensures text { OnOk result (text.new ≡ text.old ++ escape byte) }
+    ensures clean { list_all is_name_byte (escape byte) ≡ true }
 {
     if is_plain(byte) {
         text.extend(&[byte])
@@ -37,7 +39,8 @@ fn push_escaped(text: &mut Bytes, byte: u8) -> Result<(), AllocError>
 /// A dash and the folder's name, escaped.
 #[tactic(auto, unfolding(crate::specs::Reading::suffix))]
 pub(crate) fn suffix_of(alloc: Global, folder: &FolderName) -> Result<Bytes, AllocError>
-    ensures { IfOk result (λ b. b ≡ suffix folder.now) }
+    ensures text { IfOk result (λ b. b ≡ suffix folder.now) }
+    ensures clean { IfOk result (λ b. list_all is_name_byte b ≡ true) }
 {
     let mut text = Bytes::from_slice(alloc, b"-")?;
     for byte in folder.text().as_str().as_bytes() {

@@ -1,10 +1,10 @@
 // Ways to join two sets.
-ghost use Rattle.std.specs.Prelude.{◌≡◌};
+ghost use Rattle.std.specs.Prelude.{◌≡◌, true, false};
 ghost use Rattle.mh_sequences.specs.Joins.{joins};
 
 /// Which numbers of two sets stand in a third.
 #[derive(Clone, Copy)]
-pub(crate) enum Join {
+pub enum Join {
     Both,
     Either,
     FirstAlone,
@@ -21,5 +21,19 @@ impl Join {
             Join::FirstAlone => first && !second,
             Join::Second => second,
         }
+    }
+
+    /// Whether what the first set has decides alone.
+    pub(crate) fn is_settled_by_first(self, first: bool) -> bool
+        ensures { result ≡ true → joins self first true ≡ joins self first false }
+    {
+        self.takes(first, true) == self.takes(first, false)
+    }
+
+    /// Whether what the second set has decides alone.
+    pub(crate) fn is_settled_by_second(self, second: bool) -> bool
+        ensures { result ≡ true → joins self true second ≡ joins self false second }
+    {
+        self.takes(true, second) == self.takes(false, second)
     }
 }

@@ -4,10 +4,14 @@
 
 mod change;
 mod escape;
+mod field_names;
+mod gathering;
 mod join;
 mod lists;
 mod mark;
+mod mention;
 mod num_set;
+mod pile;
 mod place;
 mod printing;
 mod reading;
@@ -20,9 +24,11 @@ mod stretch;
 mod tests;
 mod user;
 
+pub use join::Join;
 pub use mark::{Mark, MarkList, Pair, PairList, SeqNameList};
 pub use mh_profile::{EntryList, NamedValue};
 pub use num_set::NumSet;
+pub use pile::Pile;
 pub use run::Run;
 pub use seq_name::{SeqFault, SeqName};
 pub use sequences::Sequences;

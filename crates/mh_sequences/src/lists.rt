@@ -7,7 +7,7 @@ ghost use Rattle.mh_base.specs.Numbers.{number_of};
 ghost use Rattle.mh_sequences.specs.Lists.{between as run_between, items, is_listed as is_listed_item, is_no_dash, lists, run_has, run_in, up_to as run_up_to};
 ghost use Rattle.mh_sequences.specs.Runs.{has};
 
-use crate::{NumSet, Run};
+use crate::{NumSet, Pile, Run};
 use mh_base::MsgNum;
 use std::alloc::{AllocError, Global};
 
@@ -75,11 +75,11 @@ pub(crate) fn first_item(text: &[u8]) -> Option<&[u8]>
 }
 
 /// Adds what an item names.
-fn add_item(numbers: &mut NumSet, item: &[u8]) -> Result<(), AllocError>
-    ensures { OnOk result ((n : ℕ) → has numbers.new.runs n ≡ (run_has (run_in item.now) n || has numbers.old.runs n)) }
+fn add_item(numbers: &mut Pile, item: &[u8]) -> Result<(), AllocError>
+    ensures { OnOk result ((n : ℕ) → has numbers.new n ≡ (run_has (run_in item.now) n || has numbers.old n)) }
 {
     match read_run(item) {
-        Some(run) => numbers.insert_run(run),
+        Some(run) => numbers.add_run(run),
         None => Ok(()),
     }
 }
@@ -88,9 +88,9 @@ fn add_item(numbers: &mut NumSet, item: &[u8]) -> Result<(), AllocError>
 pub(crate) fn read_list(alloc: Global, text: &[u8]) -> Result<NumSet, AllocError>
     ensures { IfOk result (λ s. (n : ℕ) → has s.runs n ≡ lists text.now n) }
 {
-    let mut numbers = NumSet::new(alloc);
+    let mut numbers = Pile::new(alloc);
     for item in text.split(|byte| is_blank(*byte)) {
         add_item(&mut numbers, item)?;
     }
-    Ok(numbers)
+    numbers.into_set()
 }

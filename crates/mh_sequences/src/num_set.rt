@@ -2,11 +2,14 @@
 ghost use Rattle.std.specs.Prelude.{◌≡◌, ◌≤◌, ◌+◌, ◌==◌, ◌&&◌, ◌||◌, not, ℕ, [], length, IfOk, OnOk, OnErr, IsOk, MatchOption, slice_get, None, Some, if◌then◌else◌};
 ghost use Rattle.mh_sequences.specs.Joins.{joins};
 ghost use Rattle.mh_sequences.specs.Runs.{AreRuns, has, inside, numbers_of};
+ghost use Rattle.mh_sequences.specs.Stretches.{IsJoinedStretch};
+ghost use Rattle.mh_base.specs.Numbers.{IsMsgNum};
 
 use crate::Run;
 use crate::join::Join;
 use crate::run::number;
 use crate::runs::{add, number_at, stretch, take_out, total};
+use crate::stretch::Stretch;
 use mh_base::MsgNum;
 use std::alloc::{AllocError, Global};
 use std::marker::Model;
@@ -27,6 +30,28 @@ impl Model for NumSet {
     ghost view = { λ s. set_of s.runs.items (vec_capacity s.runs - vec_len s.runs) };
 
     ghost invariant = { λ s. AreRuns s.runs.items };
+}
+
+/// The stretch of two sets joined that begins at the number, or a front of it.
+fn joined_stretch(first: &[Run], second: &[Run], how: Join, from: u32) -> Stretch
+    requires first { AreRuns first.now }
+    requires second { AreRuns second.now }
+    requires number { IsMsgNum from }
+    ensures { IsJoinedStretch how first.now second.now from result }
+{
+    let first = stretch(first, from);
+    let second = stretch(second, from);
+    let to = if how.is_settled_by_first(first.all) {
+        first.to
+    } else if how.is_settled_by_second(second.all) {
+        second.to
+    } else {
+        first.to.min(second.to)
+    };
+    Stretch {
+        all: how.takes(first.all, second.all),
+        to,
+    }
 }
 
 impl NumSet {
@@ -59,6 +84,7 @@ impl NumSet {
     pub fn insert_run(&mut self, run: Run) -> Result<(), AllocError>
         requires { run.from ≤ run.to }
         ensures ok { OnOk result ((n : ℕ) → has self.new.runs n ≡ (inside run n || has self.old.runs n)) }
+        ensures valid { AreRuns self.new.runs }
         ensures err { OnErr result (self.new ≡ self.old) }
         ensures succeeds { 1 ≤ self.old.spare → IsOk result }
         ensures spare { self.old.spare ≤ self.new.spare + 1 }
@@ -129,6 +155,14 @@ impl NumSet {
         self.runs.as_slice()
     }
 
+    pub(crate) fn into_runs(self) -> Vec<Run>
+        ensures value { result.items ≡ self.runs }
+        ensures valid { AreRuns result.items }
+    {
+        let NumSet { runs } = self;
+        runs
+    }
+
     /// The same set again.
     pub(crate) fn copy(&self, alloc: Global) -> Result<NumSet, AllocError>
         ensures { IfOk result (λ s. s.runs ≡ self.now.runs) }
@@ -138,22 +172,17 @@ impl NumSet {
         })
     }
 
-    /// The set of this and another.
-    pub(crate) fn join(
-        &self,
-        alloc: Global,
-        other: &NumSet,
-        how: Join,
-    ) -> Result<NumSet, AllocError>
-        ensures { IfOk result (λ s. (n : ℕ) → has s.runs n ≡ joins how (has self.now.runs n) (has other.now.runs n)) }
+    /// The set of this and another. It takes no more steps than the smaller one has runs, and what comes out.
+    pub fn join(&self, alloc: Global, other: &NumSet, how: Join) -> Result<NumSet, AllocError>
+        ensures numbers { IfOk result (λ s. (n : ℕ) → has s.runs n ≡ joins how (has self.now.runs n) (has other.now.runs n)) }
+        ensures valid { IfOk result (λ s. AreRuns s.runs) }
+        ensures valid_self { AreRuns self.now.runs }
     {
         let mut joined = NumSet::new(alloc);
         let mut from = 1;
         while from <= 999_999 {
-            let first = stretch(&self.runs, from);
-            let second = stretch(&other.runs, from);
-            let to = first.to.min(second.to);
-            if how.takes(first.all, second.all) {
+            let Stretch { all, to } = joined_stretch(&self.runs, &other.runs, how, from);
+            if all {
                 joined.insert_run(Run {
                     from: number(from),
                     to: number(to),

@@ -1,6 +1,7 @@
 // Where a sequence stands among others.
-ghost use Rattle.std.specs.Prelude.{map};
-ghost use Rattle.mh_sequences.specs.Placing.{IsPlace};
+ghost use Rattle.std.specs.Prelude.{◌≡◌, ◌≤◌, length, map};
+ghost use Rattle.std.specs.List.{prefix_len};
+ghost use Rattle.mh_sequences.specs.Placing.{IsPlace, stands_before};
 ghost use Rattle.mh_sequences.specs.Sequences.{told, AreSequences};
 
 use crate::user::User;
@@ -13,17 +14,25 @@ pub(crate) enum Place {
     Before(usize),
 }
 
+/// How many sequences stand before the name.
+fn passed(users: &[User], name: &[u8]) -> usize
+    requires { AreSequences (map told users.now) }
+    ensures value { result ≡ prefix_len (stands_before name.now) (map told users.now) }
+    ensures within { result ≤ length users.now }
+{
+    users.partition_point(|user| user.name.bytes().cmp(&name) == Ordering::Less)
+}
+
 /// The place of a name among sequences in byte order of their names.
 pub(crate) fn place_of(users: &[User], name: &[u8]) -> Place
     requires { AreSequences (map told users.now) }
     ensures { IsPlace name.now (map told users.now) result }
 {
-    for (i, user) in users.iter().enumerate() {
-        match name.cmp(&user.name.bytes()) {
-            Ordering::Less => return Place::Before(i),
-            Ordering::Equal => return Place::At(i),
-            Ordering::Greater => {}
+    let at = passed(users, name);
+    if let Some(user) = users.get(at) {
+        if user.name.bytes() == name {
+            return Place::At(at);
         }
     }
-    Place::Before(users.len())
+    Place::Before(at)
 }

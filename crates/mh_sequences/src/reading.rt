@@ -1,66 +1,86 @@
 // What a folder's text and the context say.
-ghost use Rattle.std.specs.Prelude.{◌≡◌, ◌≤◌, ◌<◌, ◌++◌, ℕ, List, true, IfOk, OnOk, None, Some, codes, length};
+ghost use Rattle.std.specs.Prelude.{◌≡◌, ◌≤◌, ◌<◌, ◌&&◌, ◌||◌, ◌++◌, ℕ, List, [], bytes_eq, map, IsTrue, IfOk, OnOk, None, Some, codes, length};
+ghost use Rattle.std.specs.List.{All};
 ghost use Rattle.mail_headers.specs.Fields.{FieldText, fields_of};
 ghost use Rattle.mail_headers.specs.Unfolding.{unfolded};
 ghost use Rattle.mh_profile.specs.Validity.{AreEntries};
-ghost use Rattle.mh_sequences.specs.Reading.{cur_in, has_field as has_field_of, suffix, IsBothParts, IsEntryAt, IsEntryNoted, IsNoted, IsPlaceNoted, IsPrivateName, IsPublicPart};
+ghost use Rattle.mh_sequences.specs.Mentions.{AreNoted, IsMention, IsMentioned};
+ghost use Rattle.mh_sequences.specs.Names.{is_seq_name};
+ghost use Rattle.mh_sequences.specs.Reading.{cur_in, suffix, AreBothParts, IsContextNoted, IsEntryAt, IsEntryNoted, IsPlaceNoted, IsPrivateName, IsPublicPart};
+ghost use Rattle.mh_sequences.specs.Runs.{has};
+ghost use Rattle.mh_sequences.specs.Sequences.{told};
 
+use crate::NumSet;
 use crate::escape::suffix_of;
-use crate::join::Join;
+use crate::field_names::FieldNames;
+use crate::gathering::gather;
 use crate::lists::{first_item, read_list};
-use crate::{SeqName, Sequences};
+use crate::mention::Mention;
+use crate::seq_name::is_name;
+use crate::user::User;
 use mail_headers::{Field, Message, unfold};
-use mh_base::{FolderName, MsgNum};
+use mh_base::{FolderName, List, MsgNum};
 use mh_profile::Entries;
 use std::alloc::{AllocError, Global};
 
-/// Whether a text has a field of this name, byte for byte.
-fn has_field(text: &[u8], name: &[u8]) -> bool
-    ensures { result ≡ has_field_of (fields_of text.now) name.now }
-{
-    for field in Message::cut(text).fields() {
-        if field.name == name {
-            return true;
-        }
-    }
-    false
-}
-
-/// Adds the numbers of a list to the sequence of this name, where it is a sequence's name.
-fn note(
-    alloc: Global,
-    sequences: &mut Sequences,
-    name: &[u8],
-    list: &[u8],
-    public: bool,
+/// Notes the runs of a set under a name.
+fn note_runs<'a>(
+    mentions: &mut List<Mention<'a>>,
+    name: &'a [u8],
+    numbers: &NumSet,
 ) -> Result<(), AllocError>
-    ensures { OnOk result (IsNoted name.now list.now public sequences.old sequences.new) }
+    requires name { IsTrue (is_seq_name name.now) }
+    requires mentions { All IsMention mentions.old }
+    ensures { OnOk result (AreNoted name.now numbers.now.runs mentions.old mentions.new) }
 {
-    match SeqName::in_bytes(alloc, name)? {
-        Some(name) => {
-            let numbers = read_list(alloc, list)?;
-            sequences.join(&name, &numbers, Join::Either, Some(public))
-        }
-        None => Ok(()),
+    for run in numbers.as_slice() {
+        mentions.push(Mention { name, run: *run })?;
     }
+    Ok(())
 }
 
-fn note_field(alloc: Global, sequences: &mut Sequences, field: Field<'_>) -> Result<(), AllocError>
-    ensures { OnOk result (IsNoted field.entry.name.now (unfolded field.entry.value.now) true sequences.old sequences.new) }
+/// Notes the runs of a list under a name, where it is a sequence's.
+fn note<'a>(
+    alloc: Global,
+    mentions: &mut List<Mention<'a>>,
+    name: &'a [u8],
+    list: &[u8],
+) -> Result<(), AllocError>
+    requires { All IsMention mentions.old }
+    ensures { OnOk result (IsMentioned name.now list.now mentions.old mentions.new) }
+{
+    if !is_name(name) {
+        return Ok(());
+    }
+    let numbers = read_list(alloc, list)?;
+    note_runs(mentions, name, &numbers)
+}
+
+fn note_field<'a>(
+    alloc: Global,
+    mentions: &mut List<Mention<'a>>,
+    field: Field<'a>,
+) -> Result<(), AllocError>
+    requires { All IsMention mentions.old }
+    ensures { OnOk result (IsMentioned field.entry.name.now (unfolded field.entry.value.now) mentions.old mentions.new) }
 {
     let list = unfold(alloc, field.value)?;
-    note(alloc, sequences, field.name, list.as_slice(), true)
+    note(alloc, mentions, field.name, list.as_slice())
 }
 
-/// The sequences of a folder's text.
-fn read_public(alloc: Global, text: &[u8]) -> Result<Sequences, AllocError>
-    ensures { IfOk result (λ s. IsPublicPart (fields_of text.now) s) }
+/// Notes what a folder's text gives its sequences.
+fn note_public<'a>(
+    alloc: Global,
+    mentions: &mut List<Mention<'a>>,
+    text: &'a [u8],
+) -> Result<(), AllocError>
+    requires { mentions.old ≡ [] }
+    ensures { OnOk result (IsPublicPart (fields_of text.now) mentions.new) }
 {
-    let mut sequences = Sequences::new(alloc);
     for field in Message::cut(text).fields() {
-        note_field(alloc, &mut sequences, field)?;
+        note_field(alloc, mentions, field)?;
     }
-    Ok(sequences)
+    Ok(())
 }
 
 /// What stands between `atr-` and the ending.
@@ -105,57 +125,56 @@ pub(crate) fn read_cur(alloc: Global, text: &[u8]) -> Result<Option<MsgNum>, All
     Ok(None)
 }
 
-/// Notes the entry at a place of the context.
-fn note_entry(
+/// Notes an entry of the context, where it is a private sequence's of the folder.
+fn note_entry<'a>(
     alloc: Global,
-    sequences: &mut Sequences,
-    text: &[u8],
-    name: &[u8],
+    mentions: &mut List<Mention<'a>>,
+    name: &'a [u8],
     list: &[u8],
     ending: &[u8],
 ) -> Result<(), AllocError>
-    ensures { OnOk result (IsEntryNoted (fields_of text.now) name.now list.now ending.now sequences.old sequences.new) }
+    requires { All IsMention mentions.old }
+    ensures { OnOk result (IsEntryNoted name.now list.now ending.now mentions.old mentions.new) }
 {
     match private_name(name, ending) {
-        Some(name) => note(alloc, sequences, name, list, has_field(text, name)),
+        Some(name) => note(alloc, mentions, name, list),
         None => Ok(()),
     }
 }
 
-fn note_at(
+/// Notes the entry at a place of the context.
+fn note_at<'a>(
     alloc: Global,
-    sequences: &mut Sequences,
-    text: &[u8],
-    context: &Entries,
+    mentions: &mut List<Mention<'a>>,
+    context: &'a Entries,
     index: u64,
     ending: &[u8],
 ) -> Result<(), AllocError>
+    requires mentions { All IsMention mentions.old }
     requires valid { AreEntries context.now }
     requires within { index < length context.now }
-    ensures { OnOk result (IsPlaceNoted (fields_of text.now) context.now index ending.now sequences.old sequences.new) }
+    ensures { OnOk result (IsPlaceNoted context.now index ending.now mentions.old mentions.new) }
 {
     match entry_at(context, index)? {
-        Some((name, list)) => note_entry(alloc, sequences, text, name, list, ending),
+        Some((name, list)) => note_entry(alloc, mentions, name, list, ending),
         None => Ok(()),
     }
 }
 
-/// Adds the private sequences of a folder to those of its text.
-fn add_private(
+/// Notes what the context gives the private sequences of a folder, besides what its text gave.
+fn note_private<'a>(
     alloc: Global,
-    sequences: Sequences,
-    text: &[u8],
-    context: &Entries,
+    mentions: &mut List<Mention<'a>>,
+    context: &'a Entries,
     ending: &[u8],
-) -> Result<Sequences, AllocError>
-    requires { IsPublicPart (fields_of text.now) sequences }
-    ensures { IfOk result (λ s. IsBothParts (fields_of text.now) context.now ending.now s) }
+) -> Result<(), AllocError>
+    requires { All IsMention mentions.old }
+    ensures { OnOk result (IsContextNoted context.now ending.now mentions.old mentions.new) }
 {
-    let mut all = sequences;
     for index in 0..context.len() {
-        note_at(alloc, &mut all, text, context, index, ending)?;
+        note_at(alloc, mentions, context, index, ending)?;
     }
-    Ok(all)
+    Ok(())
 }
 
 /// The sequences of a folder's text and of the context.
@@ -164,10 +183,13 @@ pub(crate) fn read_users(
     text: &[u8],
     context: &Entries,
     folder: &FolderName,
-) -> Result<Sequences, AllocError>
-    ensures { IfOk result (λ s. IsBothParts (fields_of text.now) context.now (suffix folder.now) s) }
+) -> Result<Vec<User>, AllocError>
+    ensures { IfOk result (λ users. AreBothParts (fields_of text.now) context.now (suffix folder.now) (map told users.items)) }
 {
-    let public = read_public(alloc, text)?;
+    let mut mentions = List::new(alloc);
+    note_public(alloc, &mut mentions, text)?;
     let ending = suffix_of(alloc, folder)?;
-    add_private(alloc, public, text, context, ending.as_slice())
+    note_private(alloc, &mut mentions, context, ending.as_slice())?;
+    let names = FieldNames::of(alloc, text)?;
+    gather(alloc, mentions, &names)
 }

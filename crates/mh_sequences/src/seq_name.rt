@@ -68,7 +68,7 @@ fn is_short(name: &[u8]) -> bool
 }
 
 #[tactic(auto, unfolding(crate::specs::Names::is_seq_name))]
-fn is_name(name: &[u8]) -> bool
+pub(crate) fn is_name(name: &[u8]) -> bool
     ensures { result ≡ is_seq_name name.now }
 {
     has_letter_first(name) && has_name_bytes(name) && is_short(name) && !is_reserved(name)

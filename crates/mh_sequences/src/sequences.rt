@@ -1,16 +1,19 @@
 // All sequences of a folder.
 ghost use Rattle.std.specs.Prelude.{◌≡◌, ◌≤◌, ◌==◌, ℕ, List, true, [], length, map, slice_get, IfOk, IfSome, OnOk, OnErr, MatchOption, bytes_eq, Bool, if◌then◌else◌, None, Some, IsTrue};
+ghost use Rattle.std.specs.List.{All};
 ghost use Rattle.mh_base.specs.Numbers.{IsMsgNum};
-ghost use Rattle.mh_sequences.specs.Changes.{IsAllChanged, IsCut, IsJoined, change_of};
+ghost use Rattle.mh_profile.specs.declared.named_value.NamedValue.{NamedValue as EntryValue};
+ghost use Rattle.mh_profile.specs.Validity.{IsEntry};
+ghost use Rattle.mh_sequences.specs.Changes.{IsAllChanged, IsCut, IsJoined, IsReady, change_of};
 ghost use Rattle.mh_sequences.specs.Joins.{joins};
 ghost use Rattle.mh_sequences.specs.Marks.{IsMarked, moved, moved_cur, set_to};
 ghost use Rattle.mh_sequences.specs.Placing.{placed};
-ghost use Rattle.mh_sequences.specs.Printing.{private_entries, text_of};
+ghost use Rattle.mh_sequences.specs.Printing.{private_entries, text_of, HasJust};
 ghost use Rattle.mh_sequences.specs.Reading.{IsReading, suffix};
 ghost use Rattle.mh_sequences.specs.Runs.{AreRuns, has};
 ghost use Rattle.mh_sequences.specs.Sequences.{AreSequences, Marked, member, runs_of, public_of, told};
 
-use crate::change::{Change, change_all, new_number};
+use crate::change::{Change, change_all, new_number, sources};
 use crate::escape::suffix_of;
 use crate::join::Join;
 use crate::place::{Place, place_of};
@@ -82,18 +85,6 @@ fn put(
 }
 
 impl Sequences {
-    /// No sequences and no current message.
-    pub(crate) fn new(alloc: Global) -> Sequences
-        ensures users { result.users ≡ [] }
-        ensures cur { result.cur ≡ None }
-    {
-        Sequences {
-            alloc,
-            users: Vec::new(alloc),
-            cur: None,
-        }
-    }
-
     fn read_all(
         alloc: Global,
         public: &[u8],
@@ -103,9 +94,9 @@ impl Sequences {
         ensures reading { IfOk result (λ s. IsReading public.now context.now folder.now s) }
         ensures valid { IfOk result (λ s. AreSequences s.users) }
     {
-        let mut sequences = read_users(alloc, public, context, folder)?;
-        sequences.cur = read_cur(alloc, public)?;
-        Ok(sequences)
+        let users = read_users(alloc, public, context, folder)?;
+        let cur = read_cur(alloc, public)?;
+        Ok(Sequences { alloc, users, cur })
     }
 
     /// The sequences of a folder, by its text and by the context's entries: the one reading of both.
@@ -205,6 +196,7 @@ impl Sequences {
     }
 
     fn change(&mut self, change: Change<'_>) -> Result<(), AllocError>
+        requires { IsReady change }
         ensures valid { AreSequences self.new.users }
         ensures ok { OnOk result (IsAllChanged (change_of change.entry) self.old.users self.new.users) }
         ensures cur { self.new.cur ≡ self.old.cur }
@@ -236,7 +228,8 @@ impl Sequences {
         ensures ok { OnOk result (IsAllChanged (moved pairs.now) self.old.users self.new.users × (self.new.cur ≡ moved_cur pairs.now self.old.cur)) }
         ensures err { OnErr result (self.new ≡ self.old) }
     {
-        self.change(Change::Move(pairs))?;
+        let sources = sources(self.alloc, pairs)?;
+        self.change(Change::Move(pairs, &sources))?;
         self.cur = match self.cur {
             Some(cur) => Some(new_number(pairs, cur)),
             None => None,
@@ -287,22 +280,23 @@ impl Sequences {
         Ok(text)
     }
 
-    /// The public sequences and the current message as the folder's text. With the entries of
-    /// `context_entries` it reads back as these sequences.
+    /// The public sequences and the current message as the folder's text. With any context that has of the
+    /// folder's sequences just the entries of `context_entries` it reads back as these sequences.
     pub fn print(&self, alloc: Global) -> Result<Bytes, AllocError>
         ensures text { IfOk result (λ text. text ≡ text_of self.now) }
-        ensures reads_back { IfOk result (λ text. (folder : List ℕ) → IsReading text (private_entries (suffix folder) self.now.users) folder self.now) }
+        ensures reads_back { IfOk result (λ text. (folder : List ℕ) (context : List EntryValue) → HasJust (suffix folder) (private_entries (suffix folder) self.now.users) context → IsReading text context folder self.now) }
     {
         self.text(alloc)
     }
 
-    /// The private sequences as entries of the context.
+    /// The private sequences as entries of the context, each of which `Entries::set` takes.
     pub fn context_entries(
         &self,
         alloc: Global,
         folder: &FolderName,
     ) -> Result<EntryList, AllocError>
         ensures entries { IfOk result (λ entries. entries ≡ private_entries (suffix folder.now) self.now.users) }
+        ensures valid { IfOk result (λ entries. All IsEntry entries) }
     {
         let ending = suffix_of(alloc, folder)?;
         private_list(alloc, &self.users, ending.as_slice())

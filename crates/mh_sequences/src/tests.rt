@@ -1,7 +1,7 @@
 // Sequences by hand.
 ghost use Rattle.std.specs.Prelude.{◌≡◌, IfOk};
 
-use crate::{Mark, NumSet, Pair, PairList, Run, SeqName, Sequences};
+use crate::{Join, Mark, NumSet, Pair, PairList, Pile, Run, SeqName, Sequences};
 use mh_base::{FolderName, MsgNum, Text};
 use mh_profile::Entries;
 use std::alloc::Global;
@@ -235,6 +235,39 @@ fn neighbours_are_one_run(rt: HostRuntime) -> Result<(), Fail> {
     numbers.insert(number(3)?)?;
     assert_eq!(rt; numbers.runs(), 2);
     assert!(rt; is_run(numbers.run_at(0), 2, 4));
+    Ok(())
+}
+
+#[test]
+fn runs_in_any_order_are_a_set(rt: HostRuntime) -> Result<(), Fail> {
+    let alloc = rt.alloc();
+    let mut pile = Pile::new(alloc);
+    for n in [9, 4, 7, 4] {
+        let from = number(n)?;
+        pile.add_run(Run { from, to: from })?;
+    }
+    pile.add_set(&set(alloc, &[8, 2])?)?;
+    let numbers = pile.into_set()?;
+    assert_eq!(rt; numbers.runs(), 3);
+    assert!(rt; is_run(numbers.run_at(2), 7, 9));
+    Ok(())
+}
+
+/// Whether the two sets joined so are one run.
+fn joins(alloc: Global, how: Join, from: u32, to: u32) -> Result<bool, Fail> {
+    let first = set(alloc, &[2, 3, 4, 9])?;
+    let second = set(alloc, &[4, 5, 6, 7, 8])?;
+    let joined = first.join(alloc, &second, how)?;
+    Ok(joined.runs() == 1 && is_run(joined.run_at(0), from, to))
+}
+
+#[test]
+fn sets_are_joined(rt: HostRuntime) -> Result<(), Fail> {
+    let alloc = rt.alloc();
+    assert!(rt; joins(alloc, Join::Both, 4, 4)?);
+    assert!(rt; joins(alloc, Join::Either, 2, 9)?);
+    assert!(rt; joins(alloc, Join::Second, 4, 8)?);
+    assert!(rt; !joins(alloc, Join::FirstAlone, 2, 3)?);
     Ok(())
 }
 

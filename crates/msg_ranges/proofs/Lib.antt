@@ -1,9 +1,7 @@
 mod Answering
-mod Complements
 mod Cutting
 mod Digits
 mod Forming
-mod Meeting
 mod Parts
 mod Rising
 mod Selections

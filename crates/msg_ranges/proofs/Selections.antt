@@ -56,6 +56,10 @@ select_more f words i w old more new at is here put =
           ∙ sym (list_any-append (λ xs. lists xs n) is.sets (numbers_of more ∷ []));
     })
 
+-- other runs of the same numbers
+pub same_selection : (f : Folder) (words : List (List ℕ)) (old new : List Run) → IsSelection f words old → ((n : ℕ) → has new n ≡ has old n) → IsSelection f words new
+same_selection f words old new is same = record { sets = is.sets; each = is.each; union = λ n. same n ∙ is.union n }
+
 first_refused : (f : Folder) (words : List (List ℕ)) (i j : ℕ) (w : List ℕ) (old : List Run) (fault : SelectFault) → slice_get words i ≡ Some w → IsSelection f (take i words) old → j ≡ i → ComesTo f i w (Err fault) → IsFirstRefused f words j fault
 first_refused f words i j w old fault at is e here = subst (λ k. IsFirstRefused f words k fault) (sym e) (record { sets = is.sets; before = is.each; word = w; at = at; refused = here })
 

@@ -4,7 +4,7 @@ ghost use Rattle.mh_sequences.specs.Runs.{numbers_of};
 ghost use Rattle.msg_ranges.specs.Selection.{counted_members, members as members_of, others as others_of, spotted};
 
 use crate::counting::{take_from, take_up_to};
-use crate::sets::{common, complement};
+use crate::sets::{common, without};
 use crate::{Spot, Way};
 use mh_sequences::{NumSet, SeqName, Sequences};
 use std::alloc::{AllocError, Global};
@@ -38,8 +38,7 @@ pub(crate) fn others(
         Some(set) => set,
         None => &none,
     };
-    let rest = complement(alloc, set)?;
-    common(alloc, listing, &rest)
+    without(alloc, listing, set)
 }
 
 /// So many members from the first on, or up to the last.

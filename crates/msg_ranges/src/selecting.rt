@@ -1,15 +1,15 @@
 // Messages selected by words.
-ghost use Rattle.std.specs.Prelude.{◌≡◌, map, IfOk, IfErr};
+ghost use Rattle.std.specs.Prelude.{◌≡◌, ℕ, map, IfOk, IfErr};
 ghost use Rattle.std.specs.Str.{encode_utf8_all};
-ghost use Rattle.mh_sequences.specs.Runs.{numbers_of};
+ghost use Rattle.mh_sequences.specs.Runs.{has, numbers_of};
+ghost use Rattle.msg_ranges.specs.declared.fault.SelectFault.TheVariants.{Memory};
 ghost use Rattle.msg_ranges.specs.Choosing.{GivesWord};
 ghost use Rattle.msg_ranges.specs.Selecting.{folder_of, IsRefusal, IsSelection};
 
 use crate::choosing::choose;
-use crate::sets::insert_all;
 use crate::{SelectFault, Spec};
 use mh_base::{Text, TextList};
-use mh_sequences::{NumSet, Sequences};
+use mh_sequences::{NumSet, Pile, Sequences};
 use std::alloc::Global;
 
 /// What the word at this place designates, or why it is refused.
@@ -30,6 +30,13 @@ fn select_word(
     }
 }
 
+fn union(selected: Pile) -> Result<NumSet, SelectFault>
+    ensures set { IfOk result (λ s. (n : ℕ) → has s.runs n ≡ has selected n) }
+    ensures memory { IfErr result (λ e. e ≡ Memory) }
+{
+    Ok(selected.into_set()?)
+}
+
 /// The messages that words designate, all together, or the refusal of the first word that is refused.
 /// Where the prefix is empty no word is negated.
 pub fn select(
@@ -42,10 +49,10 @@ pub fn select(
     ensures selection { IfOk result (λ s. IsSelection (folder_of negation.now (numbers_of listing.now.runs) sequences.now) (map encode_utf8_all specs.now) s.runs) }
     ensures refusal { IfErr result (λ e. IsRefusal (folder_of negation.now (numbers_of listing.now.runs) sequences.now) (map encode_utf8_all specs.now) e) }
 {
-    let mut selected = NumSet::new(alloc);
+    let mut selected = Pile::new(alloc);
     for (index, word) in specs.as_slice().iter().enumerate() {
         let set = select_word(alloc, index as u64, word, listing, sequences, negation)?;
-        insert_all(&mut selected, &set)?;
+        selected.add_set(&set)?;
     }
-    Ok(selected)
+    union(selected)
 }

@@ -1,11 +1,10 @@
-// Sets made of sets, run by run.
-ghost use Rattle.std.specs.Prelude.{◌≡◌, ◌≤◌, ◌&&◌, ◌||◌, not, nat_le, nat_lt, ℕ, IfOk, OnOk};
-ghost use Rattle.mh_sequences.specs.Runs.{AreRuns, has, inside, numbers_of};
+// Sets made of sets.
+ghost use Rattle.std.specs.Prelude.{◌≡◌, ◌≤◌, ◌&&◌, ◌||◌, not, nat_le, ℕ, IfOk, OnOk};
+ghost use Rattle.mh_sequences.specs.Runs.{AreRuns, has, numbers_of};
 ghost use Rattle.msg_ranges.specs.Selection.{from as from_number, up_to};
 
-use crate::walk::run_at;
 use mh_base::MsgNum;
-use mh_sequences::{NumSet, Run};
+use mh_sequences::{Join, NumSet, Run};
 use std::alloc::{AllocError, Global};
 
 /// Adds the numbers between two values, both included.
@@ -23,73 +22,22 @@ fn insert_span(set: &mut NumSet, from: u32, to: u32) -> Result<(), AllocError>
     }
 }
 
-/// Adds the numbers of both runs.
-fn insert_common(set: &mut NumSet, first: &Run, second: &Run) -> Result<(), AllocError>
-    ensures { OnOk result ((n : ℕ) → has set.new.runs n ≡ ((inside first.now n && inside second.now n) || has set.old.runs n)) }
-{
-    insert_span(
-        set,
-        first.from.get().max(second.from.get()),
-        first.to.get().min(second.to.get()),
-    )
-}
-
-fn ends_before(first: &Run, second: &Run) -> bool
-    ensures { result ≡ nat_lt first.now.to second.now.to }
-{
-    first.to.get() < second.to.get()
-}
-
 /// The numbers of both sets.
 pub(crate) fn common(alloc: Global, first: &NumSet, second: &NumSet) -> Result<NumSet, AllocError>
     ensures both { IfOk result (λ s. (n : ℕ) → has s.runs n ≡ (has first.now.runs n && has second.now.runs n)) }
     ensures valid { IfOk result (λ s. AreRuns s.runs) }
     ensures valid_first { AreRuns first.now.runs }
 {
-    let mut both = NumSet::new(alloc);
-    let mut i = 0;
-    let mut j = 0;
-    while let Some(x) = run_at(first, i) {
-        let Some(y) = run_at(second, j) else {
-            return Ok(both);
-        };
-        let first_ends = ends_before(&x, &y);
-        insert_common(&mut both, &x, &y)?;
-        if first_ends {
-            i += 1;
-        } else {
-            j += 1;
-        }
-    }
-    Ok(both)
+    first.join(alloc, second, Join::Both)
 }
 
-/// The message numbers that a set doesn't have.
-pub(crate) fn complement(alloc: Global, set: &NumSet) -> Result<NumSet, AllocError>
-    ensures { IfOk result (λ s. (n : ℕ) → has s.runs n ≡ (nat_le 1 n && nat_le n 999999 && not (has set.now.runs n))) }
+/// The numbers of the first set that the second doesn't have.
+pub(crate) fn without(alloc: Global, first: &NumSet, second: &NumSet) -> Result<NumSet, AllocError>
+    ensures rest { IfOk result (λ s. (n : ℕ) → has s.runs n ≡ (has first.now.runs n && not (has second.now.runs n))) }
+    ensures valid { IfOk result (λ s. AreRuns s.runs) }
+    ensures valid_first { AreRuns first.now.runs }
 {
-    let mut left = NumSet::new(alloc);
-    let mut from = 1;
-    let mut i = 0;
-    while let Some(run) = run_at(set, i) {
-        insert_span(&mut left, from, run.from.get() - 1)?;
-        from = run.to.get() + 1;
-        i += 1;
-    }
-    insert_span(&mut left, from, 999_999)?;
-    Ok(left)
-}
-
-/// Adds all numbers of a set.
-pub(crate) fn insert_all(set: &mut NumSet, more: &NumSet) -> Result<(), AllocError>
-    ensures { OnOk result ((n : ℕ) → has set.new.runs n ≡ (has set.old.runs n || has more.now.runs n)) }
-{
-    let mut i = 0;
-    while let Some(run) = run_at(more, i) {
-        set.insert_run(run)?;
-        i += 1;
-    }
-    Ok(())
+    first.join(alloc, second, Join::FirstAlone)
 }
 
 /// The numbers of a set between two values, both included.

@@ -5,4 +5,4 @@ use Rattle.mh_sequences.specs.Runs.{has}
 use Rattle.mh_sequences.proofs.lists.read_list.Given as goal
 
 abbrev pub invariant-loop-item : goal.invariant-loop-item
-invariant-loop-item l = (n : ℕ) → has l.numbers.runs n ≡ list_any (λ item. run_has (run_in item) n) (map (λ i. i.now) l.yielded)
+invariant-loop-item l = (n : ℕ) → has l.numbers n ≡ list_any (λ item. run_has (run_in item) n) (map (λ i. i.now) l.yielded)

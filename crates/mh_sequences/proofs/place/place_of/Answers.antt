@@ -1,22 +1,19 @@
-use Rattle.std.proofs.Common.{map, sym, ◌∙◌, arith}
-use Rattle.mh_sequences.specs.Sequences.{told}
-use Rattle.mh_sequences.proofs.PlaceLemmas.{one_more, found_here, stopped_here, item_at, value_at, told_length}
+use Rattle.std.proofs.Common.{length, sym, arith}
+use Rattle.std.proofs.lemmas.Bool.{ltb-true, ltb-false}
+use Rattle.mh_sequences.proofs.Searching.{at_name, before_name, behind_all}
 use Rattle.mh_sequences.proofs.place.place_of.Goals as goal
 
-pub returns-in-Less : goal.returns-in-Less
-returns-in-Less c =
-    let same = told_length c.args.users.now in
-    stopped_here c.args.name.now (map told c.args.users.now) c.loop-i.i (told c.index-users-i.result)
-    (item_at c.args.users.now c.loop-i.i c.index-users-i.result c.loop-i-test.true c.index-users-i.is) c.loop-i.invariant c.requires (omega arith) (rw (← c.bytes.ensures.value) (sym c.cmp.ensures ∙ c.in-Less.is))
+pub returns-then-eq : goal.returns-then-eq
+returns-then-eq c =
+    let lt = ltb-true c.passed-at.result (length c.args.users.now) (sym c.in-Some.ensures.lookup.0) in
+    at_name c.args.name.now c.args.users.now c.passed-at.result c.passed-at.ensures.value c.in-Some.user.now lt c.in-Some.ensures.lookup.1 (rw (← c.bytes.ensures.value) (sym c.if-eq.ensures))
 
-pub returns-in-Equal : goal.returns-in-Equal
-returns-in-Equal c =
-    let same = told_length c.args.users.now in
-    found_here c.args.name.now (map told c.args.users.now) c.loop-i.i (told c.index-users-i.result)
-    (item_at c.args.users.now c.loop-i.i c.index-users-i.result c.loop-i-test.true c.index-users-i.is) c.loop-i.invariant (omega arith)
-    (value_at c.args.users.now c.loop-i.i c.index-users-i.result c.loop-i-test.true c.index-users-i.is) (rw (← c.bytes.ensures.value) (sym c.cmp.ensures ∙ c.in-Equal.is))
+pub returns-else-eq : goal.returns-else-eq
+returns-else-eq c =
+    let lt = ltb-true c.passed-at.result (length c.args.users.now) (sym c.in-Some.ensures.lookup.0) in
+    before_name c.args.name.now c.args.users.now c.passed-at.result c.passed-at.ensures.value c.requires c.in-Some.user.now lt c.in-Some.ensures.lookup.1 (rw (← c.bytes.ensures.value) (sym c.if-eq.ensures))
 
-pub loop-i-preserved : goal.loop-i-preserved
-loop-i-preserved c =
-    one_more c.args.name.now (map told c.args.users.now) c.loop-i.i (told c.index-users-i.result)
-    (item_at c.args.users.now c.loop-i.i c.index-users-i.result c.loop-i-test.true c.index-users-i.is) c.loop-i.invariant (rw (← c.bytes.ensures.value) (sym c.cmp.ensures ∙ c.in-Greater.is))
+pub returns-in_default : goal.returns-in_default
+returns-in_default c =
+    let ge = ltb-false c.passed-at.result (length c.args.users.now) (sym c.in_default.ensures.lookup.0) in
+    behind_all c.args.name.now c.args.users.now c.passed-at.result c.passed-at.ensures.value (omega arith)

@@ -4,26 +4,31 @@ use Rattle.std.specs.Str.{encode_utf8_all}
 use Rattle.std.proofs.lemmas.Result.{err_from_is_err_and}
 use Rattle.mh_sequences.specs.Runs.{numbers_of}
 use Rattle.msg_ranges.specs.Selecting.{IsSelection, folder_of}
-use Rattle.msg_ranges.proofs.Selections.{word_at, all_taken, none_selected, select_more, refuse}
+use Rattle.mh_sequences.proofs.Bools.{if_ok_then}
+use Rattle.msg_ranges.proofs.Selections.{same_selection, word_at, all_taken, none_selected, select_more, refuse}
 use Rattle.msg_ranges.proofs.selecting.select.Goals as goal
 
 pub loop-index-init : goal.loop-index-init
-loop-index-init c = none_selected _ (map encode_utf8_all c.args.specs.now) c.new-selected.result.runs c.new-selected.ensures
+loop-index-init c = none_selected _ (map encode_utf8_all c.args.specs.now) c.new-selected.result c.new-selected.ensures
 
 pub returns-in_err-set-clause-refusal : goal.returns-in_err-set-clause-refusal
 returns-in_err-set-clause-refusal c =
     let p = err_from_is_err_and c.from_residual.result c.from_residual.ensures.1 in
     let at : slice_get (map encode_utf8_all c.args.specs.now) c.loop-index.index ≡ Some (encode_utf8_all c.word-item.result) =
     word_at encode_utf8_all c.args.specs.now c.loop-index.index c.word-item.result (rw c.as_slice-word-items.ensures at c.loop-index-test.true) (rw c.as_slice-word-items.ensures at c.word-item.is) in
-    rw (p.1, p.2) (refuse _ (map encode_utf8_all c.args.specs.now) c.loop-index.index (encode_utf8_all c.word-item.result) c.loop-index.selected.runs c.in_err-set.field-0.0 at c.loop-index.invariant c.in_err-set.ensures)
+    rw (p.1, p.2) (refuse _ (map encode_utf8_all c.args.specs.now) c.loop-index.index (encode_utf8_all c.word-item.result) c.loop-index.selected c.in_err-set.field-0.0 at c.loop-index.invariant c.in_err-set.ensures)
 
 pub loop-index-preserved : goal.loop-index-preserved
 loop-index-preserved c =
     let at : slice_get (map encode_utf8_all c.args.specs.now) c.loop-index.index ≡ Some (encode_utf8_all c.word-item.result) =
     word_at encode_utf8_all c.args.specs.now c.loop-index.index c.word-item.result (rw c.as_slice-word-items.ensures at c.loop-index-test.true) (rw c.as_slice-word-items.ensures at c.word-item.is) in
-    select_more _ (map encode_utf8_all c.args.specs.now) c.loop-index.index (encode_utf8_all c.word-item.result) c.loop-index.selected.runs c.in_ok-set.set.runs c.insert_all.new.set.runs at c.loop-index.invariant c.in_ok-set.ensures c.in_ok-insert_all.ensures
+    select_more _ (map encode_utf8_all c.args.specs.now) c.loop-index.index (encode_utf8_all c.word-item.result) c.loop-index.selected c.in_ok-set.set.runs c.add_set.new.self at c.loop-index.invariant c.in_ok-set.ensures c.in_ok-add_set.ensures
 
 pub returns-clause-selection : goal.returns-clause-selection
 returns-clause-selection c =
-    subst (λ ws. IsSelection (folder_of c.args.negation.now (numbers_of c.args.listing.now.runs) c.args.sequences.now) ws c.loop-index.selected.runs)
-    (all_taken encode_utf8_all c.args.specs.now c.loop-index.index (rw c.as_slice-word-items.ensures at c.loop-index-test.false)) c.loop-index.invariant
+    let is : IsSelection (folder_of c.args.negation.now (numbers_of c.args.listing.now.runs) c.args.sequences.now) (map encode_utf8_all c.args.specs.now) c.loop-index.selected =
+    subst (λ ws. IsSelection (folder_of c.args.negation.now (numbers_of c.args.listing.now.runs) c.args.sequences.now) ws c.loop-index.selected)
+    (all_taken encode_utf8_all c.args.specs.now c.loop-index.index (rw c.as_slice-word-items.ensures at c.loop-index-test.false)) c.loop-index.invariant in
+    if_ok_then _ _ (λ s. IsSelection (folder_of c.args.negation.now (numbers_of c.args.listing.now.runs) c.args.sequences.now) (map encode_utf8_all c.args.specs.now) s.runs) c.union.result
+    (λ s same whole. same_selection (folder_of c.args.negation.now (numbers_of c.args.listing.now.runs) c.args.sequences.now) (map encode_utf8_all c.args.specs.now) c.loop-index.selected s.runs is same)
+    c.union.ensures.set c.union.ensures.set

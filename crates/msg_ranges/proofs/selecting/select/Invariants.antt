@@ -5,4 +5,4 @@ use Rattle.msg_ranges.specs.Selecting.{IsSelection, folder_of}
 use Rattle.msg_ranges.proofs.selecting.select.Given as goal
 
 abbrev pub invariant-loop-index : goal.invariant-loop-index
-invariant-loop-index l = IsSelection (folder_of l.negation (numbers_of l.listing.runs) l.sequences) (take l.index (map encode_utf8_all l.specs)) l.selected.runs
+invariant-loop-index l = IsSelection (folder_of l.negation (numbers_of l.listing.runs) l.sequences) (take l.index (map encode_utf8_all l.specs)) l.selected
