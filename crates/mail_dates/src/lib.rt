@@ -3,6 +3,7 @@
 
 mod bad_date;
 mod blanks;
+mod days;
 mod mail_date;
 mod named_days;
 mod names;

@@ -1,13 +1,13 @@
 // A date.
-ghost use Rattle.std.specs.Prelude.{◌≡◌, ◌≤◌, ◌<◌, MatchOption, IfSome, Some, None, pos, ◌+ℤ◌, ◌-ℤ◌, ◌*ℤ◌, ◌≤ℤ◌};
-ghost use Rattle.jiff_core.specs.Calendar.{IsBetween, IsWithin};
-ghost use Rattle.jiff_core.specs.Date.{epoch_day};
+ghost use Rattle.std.specs.Prelude.{◌≡◌, ◌≤◌, ◌<◌, ◌/◌, MatchOption, IfSome, Some, None, pos, negsuc, ◌+ℤ◌, ◌-ℤ◌, ◌*ℤ◌, ◌≤ℤ◌};
+ghost use Rattle.jiff.specs.Words.{epoch_day, IsBetween, IsWithin};
 ghost use Rattle.mail_dates.specs.Clocks.{IsMailDate, IsSetting, clock_of, clock_at as clock_on, second_of, day_number, weekday_on};
 ghost use Rattle.mail_dates.specs.Numbers.{IsTime, IsYear};
 ghost use Rattle.mail_dates.specs.Reading.{dated as dated_by};
 
+use crate::days::{date_of, number_of};
 use crate::time::Time;
-use jiff_core::civil::Date;
+use jiff::civil::Date;
 
 /// The civil parts of a moment, and by how many minutes its clock is ahead of UTC.
 #[derive(Clone, Copy, Debug, PartialEq, Eq)]
@@ -58,22 +58,13 @@ pub(crate) fn shifted(now: i64, offset_minutes: i32) -> u64
     (now + i64::from(offset_minutes) * 60 + 86_400) as u64
 }
 
-/// The day of so many days, of which the second is 1970-01-01.
-pub(crate) fn date_of(days: u64) -> Date
-    requires { days ≤ 2932896 }
-    ensures { epoch_day result ≡ pos days -ℤ pos 1 }
+/// The number of the day of shifted seconds.
+fn day_of(seconds: u64) -> i64
+    requires { seconds < 253402200000 }
+    ensures value { result ≡ pos (seconds / 86400) -ℤ pos 1 }
+    ensures bound { IsBetween (negsuc 0) (pos 2932895) result }
 {
-    let Ok(date) = Date::from_unix_epoch_day(days as i64 - 1) else {
-        unreachable!();
-    };
-    date
-}
-
-fn small(number: u8) -> i8
-    requires { number < 100 }
-    ensures { result ≡ pos number }
-{
-    number as i8
+    (seconds / 86_400) as i64 - 1
 }
 
 fn part(number: u64) -> i8
@@ -94,9 +85,9 @@ fn placed(date: Date, second: u64, offset: i16) -> MailDate
     ensures valid { IsMailDate result }
 {
     MailDate {
-        year: date.year,
-        month: small(date.month),
-        day: small(date.day),
+        year: date.year(),
+        month: date.month(),
+        day: date.day(),
         hour: part(second / 3600),
         minute: part(second / 60 % 60),
         second: part(second % 60),
@@ -143,7 +134,7 @@ impl MailDate {
     {
         let seconds = shifted(now, offset_minutes);
         placed(
-            date_of(seconds / 86_400),
+            date_of(day_of(seconds)),
             seconds % 86_400,
             offset_minutes as i16,
         )
@@ -172,7 +163,7 @@ impl MailDate {
         requires { IsMailDate self.now }
         ensures { result ≡ clock_of self.now }
     {
-        let day = i64::from(self.date().to_unix_epoch_day());
+        let day = number_of(self.date());
         clock_at(day, self.second_of_day(), self.offset)
     }
 

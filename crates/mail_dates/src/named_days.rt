@@ -1,10 +1,11 @@
 // Days by their names.
 ghost use Rattle.std.specs.Prelude.{◌≡◌, ◌<◌, ◌≤◌, pos, negsuc, IfSome};
-ghost use Rattle.jiff_core.specs.Calendar.{IsBetween, IsWithin};
+ghost use Rattle.jiff.specs.Words.{IsBetween, IsWithin};
 ghost use Rattle.mail_dates.specs.Clocks.{IsSetting, weekday_on};
 ghost use Rattle.mail_dates.specs.Picking.{IsToday, days_back as back_of, minus_days as minus_days_of, day_named as day_named_of, weekday_before as weekday_before_of, days_before as days_before_of};
 
-use crate::mail_date::{date_of, shifted};
+use crate::days::date_of;
+use crate::mail_date::shifted;
 use crate::names::{Case, same, weekday};
 use crate::numbers::decimal;
 
@@ -43,7 +44,7 @@ fn weekday_of(day: i64) -> u8
     ensures value { result ≡ weekday_on day }
     ensures small { result < 7 }
 {
-    date_of((day + 1) as u64).weekday().to_sunday_zero_offset() as u8
+    date_of(day).weekday().to_sunday_zero_offset() as u8
 }
 
 fn weekday_before(today: i64, weekday: Option<u8>) -> Option<i64>

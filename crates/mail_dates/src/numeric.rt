@@ -1,6 +1,6 @@
 // Dates in digits.
 ghost use Rattle.std.specs.Prelude.{◌≡◌, ◌<◌, length, IfSome};
-ghost use Rattle.jiff_core.specs.Calendar.{IsWithin};
+ghost use Rattle.jiff.specs.Words.{IsWithin};
 ghost use Rattle.mail_dates.specs.Clocks.{IsMailDate};
 ghost use Rattle.mail_dates.specs.Numbers.{IsYear, decimal as decimal_of};
 ghost use Rattle.mail_dates.specs.Picking.{long_year as long_year_of, numeric_date as numeric_date_of};

@@ -1,7 +1,7 @@
 // Dates by which messages are chosen.
 ghost use Rattle.std.specs.Prelude.{◌≡◌, pos, negsuc, IfSome, MatchResult, Some, None};
 ghost use Rattle.std.specs.Str.{encode_utf8_all};
-ghost use Rattle.jiff_core.specs.Calendar.{IsBetween, IsWithin};
+ghost use Rattle.jiff.specs.Words.{IsBetween, IsWithin};
 ghost use Rattle.mail_dates.specs.Clocks.{IsSetting};
 ghost use Rattle.mail_dates.specs.Picking.{midnight_of as midnight_of_day, picked as picked_by, PicksDate};
 

@@ -1,6 +1,6 @@
 // The date of a header's field.
 ghost use Rattle.std.specs.Prelude.{◌≡◌, ◌<◌, drop, IfSome};
-ghost use Rattle.jiff_core.specs.Calendar.{IsWithin};
+ghost use Rattle.jiff.specs.Words.{IsWithin};
 ghost use Rattle.mail_dates.specs.Clocks.{IsMailDate};
 ghost use Rattle.mail_dates.specs.Left.{left};
 ghost use Rattle.mail_dates.specs.Names.{month_in};
@@ -97,7 +97,7 @@ fn next_offset(text: &mut Outside) -> i16
 
 impl MailDate {
     /// Reads the date of a header's field (RFC 5322, section 3.3), with the years of two and three digits and the names of zones
-    /// of older mail (section 4.3).
+    /// of older mail (section 4.3). The value is unfolded: a line end in it is a byte of its word.
     pub fn read(bytes: &[u8]) -> Option<MailDate>
         ensures value { result ≡ date_in bytes.now }
         ensures valid { IfSome result IsMailDate }

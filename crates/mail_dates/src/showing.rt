@@ -1,6 +1,6 @@
 // A date as it is shown.
 ghost use Rattle.std.specs.Prelude.{◌≡◌, ◌<◌, ◌≤◌, ◌∷◌, ◌++◌, [], pos, unsigned_abs, IfOk, OnOk};
-ghost use Rattle.jiff_core.specs.Calendar.{IsBetween, IsWithin};
+ghost use Rattle.jiff.specs.Words.{IsBetween, IsWithin};
 ghost use Rattle.mail_dates.specs.Clocks.{IsMailDate};
 ghost use Rattle.mail_dates.specs.Shown.{weekday_name, month_name, two as two_digits, four as four_digits, sign_of, zone_text, tws_of};
 

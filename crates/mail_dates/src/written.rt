@@ -1,6 +1,6 @@
 // Dates in words.
 ghost use Rattle.std.specs.Prelude.{◌≡◌, ◌<◌, drop, IfSome};
-ghost use Rattle.jiff_core.specs.Calendar.{IsWithin};
+ghost use Rattle.jiff.specs.Words.{IsWithin};
 ghost use Rattle.mail_dates.specs.Clocks.{IsMailDate};
 ghost use Rattle.mail_dates.specs.Numbers.{IsTime, IsYear, short_number as day_in};
 ghost use Rattle.mail_dates.specs.Picking.{long_year as long_year_of, is_blank as is_a_blank, with_offset as with_offset_of, clock_behind as clock_behind_of, clock_in as clock_in_of, dated_at as dated_at_of, written_date as written_date_of, IsClock};

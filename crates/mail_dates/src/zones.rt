@@ -1,6 +1,6 @@
 // Zones.
 ghost use Rattle.std.specs.Prelude.{◌≡◌, ◌≤◌, ◌∷◌, length, IfSome, MatchOption, Some, None, pos, negsuc, ◌≤ℤ◌};
-ghost use Rattle.jiff_core.specs.Calendar.{IsWithin};
+ghost use Rattle.jiff.specs.Words.{IsWithin};
 ghost use Rattle.mail_dates.specs.Numbers.{minutes_of, signed as signed_of, numeric_zone as numeric_zone_of, decimal as decimal_of};
 ghost use Rattle.mail_dates.specs.Names.{named_zone as named_zone_of};
 ghost use Rattle.mail_dates.specs.Reading.{zone_in};

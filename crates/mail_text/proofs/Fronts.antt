@@ -15,12 +15,12 @@ less_test : (a b : ℕ) → a < b → eqb a b ≡ false
 less_test a b lt = grind (arith, nat_tests)
 
 -- all is UTF-8
-whole_up_to : (n : ℕ) (bytes : List ℕ) → utf8_valid_len bytes ≡ length bytes → shown_up_to n bytes ≡ chars bytes
+pub whole_up_to : (n : ℕ) (bytes : List ℕ) → utf8_valid_len bytes ≡ length bytes → shown_up_to n bytes ≡ chars bytes
 whole_up_to zero bytes e = refl
 whole_up_to (suc n) bytes e = rw (equal_test (utf8_valid_len bytes) (length bytes) e) refl
 
 -- a byte stands behind the front that is UTF-8
-part_up_to : (n : ℕ) (bytes : List ℕ) → utf8_valid_len bytes < length bytes →
+pub part_up_to : (n : ℕ) (bytes : List ℕ) → utf8_valid_len bytes < length bytes →
     shown_up_to (suc n) bytes ≡ chars (take (utf8_valid_len bytes) bytes) ++ 63 ∷ shown_up_to n (drop (utf8_valid_len bytes + 1) bytes)
 part_up_to n bytes lt = rw (less_test (utf8_valid_len bytes) (length bytes) lt) refl
 

@@ -3,4 +3,7 @@ mod Fronts
 mod Marking
 mod Parting
 mod Quoted
+mod Showing
+mod Spelling
 mod Wording
+mod Words

@@ -4,10 +4,11 @@ use Rattle.std.specs.List.{position_or_len, before_first, after_first}
 use Rattle.std.proofs.lemmas.List.{drop_more, drop_all, drop-drop}
 use Rattle.mail_text.specs.declared.marks.Inside.{Inside}
 use Rattle.mail_text.specs.declared.marks.Mark.{Mark}
-use Rattle.mail_text.specs.Marks.{inside_behind, marks_from}
+use Rattle.mail_text.specs.declared.marks.Place.{Place}
+use Rattle.mail_text.specs.Marks.{inside_behind, place_of, marks_from}
 
 abbrev mark : Inside → ℕ → Mark
-mark inside c = record { inside = inside; c = c }
+mark inside c = record { place = place_of inside; c = c }
 
 first_marked : (inside : Inside) (c : ℕ) (rest : List ℕ) → marks_from inside (c ∷ rest) ≡ mark inside c ∷ marks_from (inside_behind inside c) rest
 unfolding marks_from
@@ -18,13 +19,14 @@ unfolding marks_from
 none_marked inside = refl
 
 -- one character more
-pub one_marked : (inside next : Inside) (c i : ℕ) (text : List ℕ) (old new all : List Mark) → i < length text → c ≡ get_or text i c → next ≡ inside_behind inside c → new ≡ old ++ mark inside c ∷ [] →
+pub one_marked : (inside next : Inside) (place : Place) (c i : ℕ) (text : List ℕ) (old new all : List Mark) → i < length text → c ≡ get_or text i c → place ≡ place_of inside → next ≡ inside_behind inside c →
+    new ≡ old ++ record { place = place; c = c } ∷ [] →
     old ++ marks_from inside (drop i text) ≡ all → new ++ marks_from next (drop (i + 1) text) ≡ all
-one_marked inside next c i text old new all lt is en ew e =
+one_marked inside next place c i text old new all lt is ep en ew e =
     let cut : drop i text ≡ c ∷ drop (i + 1) text = drop_more text i c lt ∙ ap (λ d. d ∷ drop (i + 1) text) (sym is) in
     let here : marks_from inside (drop i text) ≡ mark inside c ∷ marks_from next (drop (i + 1) text) =
     ap (marks_from inside) cut ∙ first_marked inside c (drop (i + 1) text) ∙ ap (λ n. mark inside c ∷ marks_from n (drop (i + 1) text)) (sym en) in
-    ap (λ x. x ++ marks_from next (drop (i + 1) text)) ew ∙ append_assoc old (mark inside c ∷ []) (marks_from next (drop (i + 1) text)) ∙ ap (λ x. old ++ x) (sym here) ∙ e
+    ap (λ x. x ++ marks_from next (drop (i + 1) text)) (ew ∙ ap (λ p. old ++ record { place = p; c = c } ∷ []) ep) ∙ append_assoc old (mark inside c ∷ []) (marks_from next (drop (i + 1) text)) ∙ ap (λ x. old ++ x) (sym here) ∙ e
 
 -- no character is left
 pub all_marked : (inside : Inside) (i : ℕ) (text : List ℕ) (old all : List Mark) → length text ≤ i → old ++ marks_from inside (drop i text) ≡ all → old ≡ all

@@ -7,7 +7,7 @@ use Rattle.mail_text.specs.declared.charset.Charset.{Charset}
 use Rattle.mail_text.specs.declared.encoding.Encoding.{Encoding}
 use Rattle.mail_text.specs.EncodedWords.{WordText, after, is_inner, is_text, charset_named, encoding_first, closed, word_of, lettered, named, first_word, characters_of, without_gap, decoded_by, decoded_within, decoded}
 
-then_some : {A B : Type 0} (f : A → Option B) (o : Option A) (b : B) → option_and_then f o ≡ Some b → (a : A) × (o ≡ Some a) × (f a ≡ Some b)
+pub then_some : {A B : Type 0} (f : A → Option B) (o : Option A) (b : B) → option_and_then f o ≡ Some b → (a : A) × (o ≡ Some a) × (f a ≡ Some b)
 then_some f None b e = cc e
 then_some f (Some a) b e = (a, refl, e)
 
@@ -83,7 +83,7 @@ by_word None c rest f g one word = ap (λ x. c ∷ x) one
 by_word (Some w) c rest f g one word = ap (λ x. characters_of w ++ x) (word w refl)
 
 -- more steps than characters change nothing
-enough : (m n : ℕ) (text : List ℕ) → length text ≤ m → length text ≤ n → decoded_within m text ≡ decoded_within n text
+pub enough : (m n : ℕ) (text : List ℕ) → length text ≤ m → length text ≤ n → decoded_within m text ≡ decoded_within n text
 enough zero zero text a b = refl
 enough zero (suc n) [] a b = refl
 enough zero (suc n) (c ∷ rest) a b = absurd (omega arith)
@@ -97,7 +97,7 @@ enough (suc m) (suc n) (c ∷ rest) a b =
     let gap = gap_len w.behind in
     enough m n (without_gap w.behind) (omega (arith, word, gap)) (omega (arith, word, gap)))
 
-step : (c : ℕ) (rest : List ℕ) → decoded (c ∷ rest) ≡ decoded_by (first_word (c ∷ rest)) c rest decoded
+pub step : (c : ℕ) (rest : List ℕ) → decoded (c ∷ rest) ≡ decoded_by (first_word (c ∷ rest)) c rest decoded
 unfolding decoded
 step c rest =
     by_word (first_word (c ∷ rest)) c rest (decoded_within (length rest)) (λ t. decoded_within (length t) t) refl
@@ -120,7 +120,7 @@ character_put c rest behind old new all er ew es e =
     let here : decoded rest ≡ c ∷ decoded behind = ap decoded er ∙ step c behind ∙ ap (λ o. decoded_by o c behind decoded) (ap first_word (sym er) ∙ ew) in
     ap (λ x. x ++ decoded behind) es ∙ append_assoc old (c ∷ []) (decoded behind) ∙ ap (λ x. old ++ x) (sym here) ∙ e
 
-none_left : decoded [] ≡ []
+pub none_left : decoded [] ≡ []
 unfolding decoded
 none_left = refl
 

@@ -6,27 +6,27 @@ use Rattle.mail_text.specs.Marks.{marks, is_outside, is_in_quotes, is_in_comment
 
 -- a comma that ends an address
 abbrev pub is_comma : Mark → Bool
-is_comma m = is_outside m.inside && m.c == 44
+is_comma m = is_outside m.place && m.c == 44
 
 -- the angle bracket before an address
 abbrev pub is_bracket : Mark → Bool
-is_bracket m = is_outside m.inside && m.c == 60
+is_bracket m = is_outside m.place && m.c == 60
 
 -- the parenthesis that begins a comment
 abbrev pub opens_comment : Mark → Bool
-opens_comment m = is_outside m.inside && m.c == 40
+opens_comment m = is_outside m.place && m.c == 40
 
 -- the parenthesis that ends a comment which stands in no other
 abbrev pub closes_comment : Mark → Bool
-closes_comment m = is_in_one_comment m.inside && m.c == 41
+closes_comment m = is_in_one_comment m.place && m.c == 41
 
 -- a character of a comment, its parentheses included
 abbrev pub is_of_comment : Mark → Bool
-is_of_comment m = is_in_comment m.inside || opens_comment m
+is_of_comment m = is_in_comment m.place || opens_comment m
 
 -- a quote mark
 abbrev pub is_quote : Mark → Bool
-is_quote m = (is_outside m.inside || is_in_quotes m.inside) && m.c == 34
+is_quote m = (is_outside m.place || is_in_quotes m.place) && m.c == 34
 
 -- a space or a tab
 abbrev pub is_blank : ℕ → Bool

@@ -34,11 +34,14 @@ charset_named name =
     else (if bytes_eq capitals (codes "ISO-8859-1") then Some Latin1
     else (if bytes_eq capitals (codes "US-ASCII") then Some UsAscii else None))
 
--- the encoding of the letter at the front, in either case
+-- the encoding of a letter, in either case
+abbrev pub encoding_of : ℕ → Option Encoding
+encoding_of c = if c == 66 || c == 98 then Some B else (if c == 81 || c == 113 then Some Q else None)
+
+-- the encoding of the letter at the front
 abbrev pub encoding_first : List ℕ → Option Encoding
 encoding_first [] = None
-encoding_first (c ∷ rest) =
-    if c == 66 || c == 98 then Some B else (if c == 81 || c == 113 then Some Q else None)
+encoding_first (c ∷ rest) = encoding_of c
 
 -- a character of a word's text: no question mark, space, tab or line end
 abbrev pub is_text : ℕ → Bool

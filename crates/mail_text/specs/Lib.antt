@@ -5,5 +5,7 @@ pub mod Encodings
 pub mod Marks
 pub mod ShownAddress
 pub mod ShownBytes
+pub mod ShownPieces
 pub mod Stripping
+pub mod WordPieces
 pub mod WordView

@@ -3,6 +3,8 @@ use Rattle.std.specs.Prelude.{ℕ, ◌+◌, ◌-◌, ◌==◌, Bool, true, false
 use Rattle.mail_text.specs.declared.marks.Inside.{Inside}
 use Rattle.mail_text.specs.declared.marks.Inside.TheVariants.{Nothing, Quotes, ProtectedInQuotes, Comments, ProtectedInComments, Brackets}
 use Rattle.mail_text.specs.declared.marks.Mark.{Mark}
+use Rattle.mail_text.specs.declared.marks.Place.{Place}
+use Rattle.mail_text.specs.declared.marks.Place.TheVariants.{Outside, InQuotes, Comment, WithinComment, Elsewhere}
 
 -- where the character behind this one stands: quotes, comments and angle brackets begin outside each other; a backslash
 -- protects the character behind it in quotes and comments; comments nest, here in so many others (RFC 5322, section 3.2)
@@ -18,49 +20,54 @@ inside_behind (Comments depth) c =
 inside_behind (ProtectedInComments depth) c = Comments depth
 inside_behind Brackets c = if c == 62 then Nothing else Brackets
 
+-- what is kept of it
+abbrev pub place_of : Inside → Place
+place_of Nothing = Outside
+place_of Quotes = InQuotes
+place_of ProtectedInQuotes = Elsewhere
+place_of (Comments depth) = if depth == 0 then Comment else WithinComment
+place_of (ProtectedInComments depth) = WithinComment
+place_of Brackets = Elsewhere
+
 -- each character of a text that begins there, with where it stands
 unfoldable pub marks_from : Inside → List ℕ → List Mark
 marks_from inside [] = []
-marks_from inside (c ∷ rest) = record { inside = inside; c = c } ∷ marks_from (inside_behind inside c) rest
+marks_from inside (c ∷ rest) = record { place = place_of inside; c = c } ∷ marks_from (inside_behind inside c) rest
 
 abbrev pub marks : List ℕ → List Mark
 marks text = marks_from Nothing text
 
 -- it stands in no quotes, comments or brackets
-abbrev pub is_outside : Inside → Bool
-is_outside Nothing = true
-is_outside Quotes = false
-is_outside ProtectedInQuotes = false
-is_outside (Comments depth) = false
-is_outside (ProtectedInComments depth) = false
-is_outside Brackets = false
+abbrev pub is_outside : Place → Bool
+is_outside Outside = true
+is_outside InQuotes = false
+is_outside Comment = false
+is_outside WithinComment = false
+is_outside Elsewhere = false
 
 -- it stands in quotes, and isn't protected
-abbrev pub is_in_quotes : Inside → Bool
-is_in_quotes Nothing = false
-is_in_quotes Quotes = true
-is_in_quotes ProtectedInQuotes = false
-is_in_quotes (Comments depth) = false
-is_in_quotes (ProtectedInComments depth) = false
-is_in_quotes Brackets = false
+abbrev pub is_in_quotes : Place → Bool
+is_in_quotes Outside = false
+is_in_quotes InQuotes = true
+is_in_quotes Comment = false
+is_in_quotes WithinComment = false
+is_in_quotes Elsewhere = false
 
 -- it stands in a comment
-abbrev pub is_in_comment : Inside → Bool
-is_in_comment Nothing = false
-is_in_comment Quotes = false
-is_in_comment ProtectedInQuotes = false
-is_in_comment (Comments depth) = true
-is_in_comment (ProtectedInComments depth) = true
-is_in_comment Brackets = false
+abbrev pub is_in_comment : Place → Bool
+is_in_comment Outside = false
+is_in_comment InQuotes = false
+is_in_comment Comment = true
+is_in_comment WithinComment = true
+is_in_comment Elsewhere = false
 
 -- it stands in one comment only, and isn't protected
-abbrev pub is_in_one_comment : Inside → Bool
-is_in_one_comment Nothing = false
-is_in_one_comment Quotes = false
-is_in_one_comment ProtectedInQuotes = false
-is_in_one_comment (Comments depth) = depth == 0
-is_in_one_comment (ProtectedInComments depth) = false
-is_in_one_comment Brackets = false
+abbrev pub is_in_one_comment : Place → Bool
+is_in_one_comment Outside = false
+is_in_one_comment InQuotes = false
+is_in_one_comment Comment = true
+is_in_one_comment WithinComment = false
+is_in_one_comment Elsewhere = false
 
 -- in how many other comments it stands
 abbrev pub depth_of : Inside → ℕ

@@ -1,8 +1,9 @@
 // What an address shows.
 ghost use Rattle.std.specs.Prelude.{◌≡◌, ◌++◌, IfOk};
+ghost use Rattle.mail_text.specs.Marks.{marks as all_marks};
 
 use crate::characters::{characters, is_empty, put, text_of};
-use crate::marks::marks;
+use crate::marks::{Mark, marks};
 use crate::parts::{address, cut, first_address, note, pers};
 use mh_base::{Duplicate, Text};
 use std::alloc::{AllocError, Global};
@@ -16,6 +17,14 @@ pub struct Shown {
     pub note: Text,
 }
 
+/// The marks of a text, whose own characters are let go.
+fn marks_of(alloc: Global, value: &Text) -> Result<Vec<Mark>, AllocError>
+    ensures { IfOk result (λ ms. ms.items ≡ all_marks value.now) }
+{
+    let characters = characters(alloc, value)?;
+    marks(alloc, characters.as_slice())
+}
+
 impl Shown {
     ghost use Rattle.mail_text.specs.ShownAddress.{shown_address, addr_text, friendly_text};
 
@@ -23,8 +32,7 @@ impl Shown {
     pub fn of_address(alloc: Global, value: &Text) -> Result<Shown, AllocError>
         ensures { IfOk result (λ shown. shown ≡ shown_address value.now) }
     {
-        let value = characters(alloc, value)?;
-        let marks = marks(alloc, value.as_slice())?;
+        let marks = marks_of(alloc, value)?;
         let first = first_address(marks.as_slice());
         let address = address(alloc, first)?;
         let (mbox, host) = cut(address.as_slice());

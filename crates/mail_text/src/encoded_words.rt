@@ -3,6 +3,7 @@ ghost use Rattle.std.specs.Prelude.{◌≡◌, ◌≤◌, length, IfOk};
 ghost use Rattle.std.specs.List.{prefix_len};
 ghost use Rattle.mail_text.specs.Addresses.{is_blank as is_a_blank};
 ghost use Rattle.mail_text.specs.EncodedWords.{without_gap as without_gap_of, decoded};
+ghost use Rattle.mail_text.specs.WordPieces.{IsDecodedAs, AsNoOther};
 
 use crate::characters::{blank_len, characters};
 use crate::encoded_word::EncodedWord;
@@ -24,7 +25,9 @@ fn without_gap(text: &[char]) -> &[char]
 /// The text with the characters for which its encoded words stand (RFC 2047, sections 2, 4 and 6.2), in US-ASCII, UTF-8 and
 /// ISO-8859-1.
 pub fn decode_words(alloc: Global, text: &Text) -> Result<Text, AllocError>
-    ensures { IfOk result (λ line. line ≡ decoded text.now) }
+    ensures pieces { IfOk result (λ line. IsDecodedAs text.now line) }
+    ensures alone { IfOk result (λ line. AsNoOther text.now line) }
+    ensures value { IfOk result (λ line. line ≡ decoded text.now) }
 {
     let all = characters(alloc, text)?;
     let mut line = Text::new(alloc);

@@ -1,8 +1,9 @@
 // Where the characters of an address stand.
 ghost use Rattle.std.specs.Prelude.{◌≡◌, ◌+◌, ◌≤◌, ◌<◌, ◌^◌, IfOk};
-ghost use Rattle.mail_text.specs.Marks.{inside_behind, depth_of, marks as marks_of, is_outside as stands_outside, is_in_quotes as stands_in_quotes, is_in_comment as stands_in_comment, is_in_one_comment as stands_in_one_comment};
+ghost use Rattle.mail_text.specs.Marks.{inside_behind, depth_of, place_of, marks as marks_of, is_outside as stands_outside, is_in_quotes as stands_in_quotes, is_in_comment as stands_in_comment, is_in_one_comment as stands_in_one_comment};
 
 use std::alloc::{AllocError, Global};
+use std::mem::size_of;
 
 /// What a character stands in, before it is read.
 #[derive(Clone, Copy, Drop)]
@@ -48,39 +49,17 @@ impl Inside {
         }
     }
 
-    fn is_outside(self) -> bool
-        ensures { result ≡ stands_outside self }
+    /// Where a character stands.
+    fn place(self) -> Place
+        ensures { result ≡ place_of self }
     {
         match self {
-            Inside::Nothing => true,
-            _ => false,
-        }
-    }
-
-    fn is_in_quotes(self) -> bool
-        ensures { result ≡ stands_in_quotes self }
-    {
-        match self {
-            Inside::Quotes => true,
-            _ => false,
-        }
-    }
-
-    fn is_in_comment(self) -> bool
-        ensures { result ≡ stands_in_comment self }
-    {
-        match self {
-            Inside::Comments(_) | Inside::ProtectedInComments(_) => true,
-            _ => false,
-        }
-    }
-
-    fn is_in_one_comment(self) -> bool
-        ensures { result ≡ stands_in_one_comment self }
-    {
-        match self {
-            Inside::Comments(depth) => depth == 0,
-            _ => false,
+            Inside::Nothing => Place::Outside,
+            Inside::Quotes => Place::InQuotes,
+            Inside::ProtectedInQuotes => Place::Elsewhere,
+            Inside::Comments(depth) if depth == 0 => Place::Comment,
+            Inside::Comments(_) | Inside::ProtectedInComments(_) => Place::WithinComment,
+            Inside::Brackets => Place::Elsewhere,
         }
     }
 }
@@ -100,12 +79,66 @@ fn comment_behind(depth: usize, c: char) -> Inside
     }
 }
 
-/// A character, and what it stands in.
+/// What is kept of where a character stands, in one byte.
+#[derive(Clone, Copy, Drop)]
+pub(crate) enum Place {
+    Outside,
+    /// Not protected there.
+    InQuotes,
+    /// In a comment that stands in no other, and not protected.
+    Comment,
+    /// Protected in a comment, or in one that stands in another.
+    WithinComment,
+    /// In brackets, or protected in quotes.
+    Elsewhere,
+}
+
+impl Place {
+    fn is_outside(self) -> bool
+        ensures { result ≡ stands_outside self }
+    {
+        match self {
+            Place::Outside => true,
+            _ => false,
+        }
+    }
+
+    fn is_in_quotes(self) -> bool
+        ensures { result ≡ stands_in_quotes self }
+    {
+        match self {
+            Place::InQuotes => true,
+            _ => false,
+        }
+    }
+
+    fn is_in_comment(self) -> bool
+        ensures { result ≡ stands_in_comment self }
+    {
+        match self {
+            Place::Comment | Place::WithinComment => true,
+            _ => false,
+        }
+    }
+
+    fn is_in_one_comment(self) -> bool
+        ensures { result ≡ stands_in_one_comment self }
+    {
+        match self {
+            Place::Comment => true,
+            _ => false,
+        }
+    }
+}
+
+/// A character, and where it stands.
 #[derive(Clone, Copy, Drop)]
 pub(crate) struct Mark {
-    pub(crate) inside: Inside,
+    pub(crate) place: Place,
     pub(crate) c: char,
 }
+
+const _: () = prove!(size_of::<Mark>() == 8);
 
 impl Mark {
     ghost use Rattle.mail_text.specs.Addresses.{is_comma as is_a_comma, is_bracket as is_a_bracket, opens_comment as opens_a_comment, closes_comment as closes_a_comment, is_of_comment as is_of_a_comment, is_quote as is_a_quote};
@@ -114,39 +147,39 @@ impl Mark {
     pub(crate) fn is_comma(self) -> bool
         ensures { result ≡ is_a_comma self }
     {
-        self.inside.is_outside() && self.c == ','
+        self.place.is_outside() && self.c == ','
     }
 
     /// The angle bracket before an address.
     pub(crate) fn is_bracket(self) -> bool
         ensures { result ≡ is_a_bracket self }
     {
-        self.inside.is_outside() && self.c == '<'
+        self.place.is_outside() && self.c == '<'
     }
 
     pub(crate) fn opens_comment(self) -> bool
         ensures { result ≡ opens_a_comment self }
     {
-        self.inside.is_outside() && self.c == '('
+        self.place.is_outside() && self.c == '('
     }
 
     /// Ends a comment that stands in no other.
     pub(crate) fn closes_comment(self) -> bool
         ensures { result ≡ closes_a_comment self }
     {
-        self.inside.is_in_one_comment() && self.c == ')'
+        self.place.is_in_one_comment() && self.c == ')'
     }
 
     pub(crate) fn is_of_comment(self) -> bool
         ensures { result ≡ is_of_a_comment self }
     {
-        self.inside.is_in_comment() || self.opens_comment()
+        self.place.is_in_comment() || self.opens_comment()
     }
 
     pub(crate) fn is_quote(self) -> bool
         ensures { result ≡ is_a_quote self }
     {
-        (self.inside.is_outside() || self.inside.is_in_quotes()) && self.c == '"'
+        (self.place.is_outside() || self.place.is_in_quotes()) && self.c == '"'
     }
 }
 
@@ -154,10 +187,13 @@ impl Mark {
 pub(crate) fn marks(alloc: Global, text: &[char]) -> Result<Vec<Mark>, AllocError>
     ensures { IfOk result (λ ms. ms.items ≡ marks_of text.now) }
 {
-    let mut marks = Vec::new(alloc);
+    let mut marks = Vec::with_capacity(alloc, text.len())?;
     let mut inside = Inside::Nothing;
     for c in text {
-        marks.push(Mark { inside, c: *c })?;
+        marks.push(Mark {
+            place: inside.place(),
+            c: *c,
+        })?;
         inside = inside.behind(*c);
     }
     Ok(marks)

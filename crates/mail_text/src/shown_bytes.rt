@@ -2,6 +2,7 @@
 ghost use Rattle.std.specs.Prelude.{◌≡◌, ◌++◌, IfOk, OnOk};
 ghost use Rattle.std.specs.Str.{chars, IsUtf8};
 ghost use Rattle.mail_text.specs.ShownBytes.{shown};
+ghost use Rattle.mail_text.specs.ShownPieces.{IsShownAs, AsNoOther};
 
 use mh_base::Text;
 use std::alloc::{AllocError, Global};
@@ -24,7 +25,9 @@ fn put_valid(text: &mut Text, bytes: &[u8]) -> Result<(), AllocError>
 /// The characters of UTF-8 (RFC 3629, section 4). Each byte that is part of no character, looked at from the left, is a question
 /// mark.
 pub fn show_bytes(alloc: Global, bytes: &[u8]) -> Result<Text, AllocError>
-    ensures { IfOk result (λ text. text ≡ shown bytes.now) }
+    ensures pieces { IfOk result (λ text. IsShownAs bytes.now text) }
+    ensures alone { IfOk result (λ text. AsNoOther bytes.now text) }
+    ensures value { IfOk result (λ text. text ≡ shown bytes.now) }
 {
     let mut text = Text::new(alloc);
     let mut rest = bytes;

@@ -1,28 +1,24 @@
 -- Symbols gathered from a text, and decoded as soon as there are enough of them.
-use Rattle.std.proofs.Common.{◌≡◌, ℕ, ◌+◌, ◌*◌, ◌/◌, ◌%◌, ◌<◌, ◌≤◌, true, false, List, [], ◌∷◌, ◌++◌, length, take, drop, get_or, map, filter, refl, sym, ap, ◌∙◌, length-append, append-nil, append_assoc}
-use Rattle.std.proofs.lemmas.List.{length-map, map-append, length-take-le, drop_more, drop_all, take_at, drop_at}
+use Rattle.std.proofs.Common.{◌≡◌, ℕ, ◌+◌, ◌*◌, ◌/◌, ◌%◌, ◌≤◌, List, [], ◌++◌, length, take, drop, map, filter, sym, ap, ◌∙◌, length-append, append-nil, append_assoc, arith}
+use Rattle.std.proofs.lemmas.List.Elements.{filter-append}
+use Rattle.std.proofs.lemmas.List.{length-map, map-append, length-take-le, take-append-drop, take_at, drop_at}
+use Rattle.std.proofs.lemmas.List.Sums.{length-filter, count_by-le-length}
 use Rattle.mime_codes.specs.Base64.{is_symbol, sextet, octets}
 use Rattle.mime_codes.proofs.Octets.{length-octets, octets-append}
 use Rattle.mime_codes.proofs.Writing.{further}
 
-symbol_gathered : (items symbols : List ℕ) (i : ℕ) → i < length items → is_symbol (get_or items i 0) ≡ true →
-    symbols ++ filter is_symbol (drop i items) ≡ (symbols ++ get_or items i 0 ∷ []) ++ filter is_symbol (drop (i + 1) items)
-symbol_gathered items symbols i lt e = rw (append_assoc, drop_more items i 0 lt, e) refl
+-- a front of what is left is looked at
+pub more_taken : (symbols more text behind rest into all : List ℕ) (n count : ℕ) → text ≡ take n rest → behind ≡ drop n rest → more ≡ symbols ++ filter is_symbol text →
+    take count into ++ octets (map sextet (symbols ++ filter is_symbol rest)) ≡ all → take count into ++ octets (map sextet (more ++ filter is_symbol behind)) ≡ all
+more_taken symbols more text behind rest into all n count et eb is front =
+    ap (λ s. take count into ++ octets (map sextet s))
+    (ap (λ s. s ++ filter is_symbol behind) is ∙ append_assoc symbols (filter is_symbol text) (filter is_symbol behind)
+    ∙ ap (λ s. symbols ++ s) (sym (filter-append is_symbol text behind) ∙ ap (filter is_symbol) (ap (λ t. t ++ behind) et ∙ ap (λ t. take n rest ++ t) eb ∙ take-append-drop n rest)))
+    ∙ front
 
-other_passed : (items : List ℕ) (i : ℕ) → i < length items → is_symbol (get_or items i 0) ≡ false → filter is_symbol (drop i items) ≡ filter is_symbol (drop (i + 1) items)
-other_passed items i lt e = rw (drop_more items i 0 lt, e) refl
-
--- another symbol waits
-pub one_waits : (items symbols more into all : List ℕ) (i count : ℕ) → i < length items → is_symbol (get_or items i 0) ≡ true → more ≡ symbols ++ get_or items i 0 ∷ [] →
-    take count into ++ octets (map sextet (symbols ++ filter is_symbol (drop i items))) ≡ all → take count into ++ octets (map sextet (more ++ filter is_symbol (drop (i + 1) items))) ≡ all
-one_waits items symbols more into all i count lt e is front =
-    ap (λ s. take count into ++ octets (map sextet (s ++ filter is_symbol (drop (i + 1) items)))) is ∙ ap (λ s. take count into ++ octets (map sextet s)) (sym (symbol_gathered items symbols i lt e)) ∙ front
-
--- a byte that is no symbol is passed
-pub none_waits : (items symbols into all : List ℕ) (i count : ℕ) → i < length items → is_symbol (get_or items i 0) ≡ false →
-    take count into ++ octets (map sextet (symbols ++ filter is_symbol (drop i items))) ≡ all → take count into ++ octets (map sextet (symbols ++ filter is_symbol (drop (i + 1) items))) ≡ all
-none_waits items symbols into all i count lt e front =
-    ap (λ s. take count into ++ octets (map sextet (symbols ++ s))) (sym (other_passed items i lt e)) ∙ front
+pub some_longer : (symbols more text : List ℕ) → more ≡ symbols ++ filter is_symbol text → length more ≤ length symbols + length text
+some_longer symbols more text is =
+    omega (arith, ap length is, length-append symbols (filter is_symbol text), length-filter is_symbol text, count_by-le-length is_symbol text)
 
 pub bytes_of : (symbols : List ℕ) → length (octets (map sextet symbols)) ≡ length symbols * 3 / 4
 bytes_of symbols = length-octets (map sextet symbols) ∙ ap (λ n. n * 3 / 4) (length-map symbols sextet)
@@ -54,15 +50,11 @@ flushed_behind bytes into initial new count next le is written behind =
     ap (drop next) written ∙ left into bytes (drop next into) count next le is
     ∙ ap (λ n. drop n into) is ∙ further count (length bytes) into initial behind ∙ ap (λ n. drop n initial) (sym is)
 
--- the text is at its end
-pub last_flushed : (items symbols into initial new all : List ℕ) (i count next : ℕ) → length items ≤ i → next ≡ count + length (octets (map sextet symbols)) →
+-- nothing is left of the text
+pub last_flushed : (symbols rest into initial new all : List ℕ) (count next : ℕ) → rest ≡ [] → next ≡ count + length (octets (map sextet symbols)) →
     new ≡ (take count into ++ octets (map sextet symbols)) ++ drop next into → drop count into ≡ drop count initial →
-    take count into ++ octets (map sextet (symbols ++ filter is_symbol (drop i items))) ≡ all → new ≡ all ++ drop next initial
-last_flushed items symbols into initial new all i count next le is written behind front =
-    let none : drop i items ≡ [] = drop_all i items le in
-    let waiting : symbols ++ filter is_symbol (drop i items) ≡ symbols = rw none (append-nil symbols) in
+    take count into ++ octets (map sextet (symbols ++ filter is_symbol rest)) ≡ all → new ≡ all ++ drop next initial
+last_flushed symbols rest into initial new all count next none is written behind front =
+    let waiting : symbols ++ filter is_symbol rest ≡ symbols = rw none (append-nil symbols) in
     written ∙ ap (λ x. x ++ drop next into) (ap (λ s. take count into ++ octets (map sextet s)) (sym waiting) ∙ front)
     ∙ ap (λ x. all ++ x) (ap (λ n. drop n into) is ∙ further count (length (octets (map sextet symbols))) into initial behind ∙ ap (λ n. drop n initial) (sym is))
-
-pub one_longer : (symbols more : List ℕ) (b : ℕ) → more ≡ symbols ++ b ∷ [] → length more ≡ length symbols + 1
-one_longer symbols more b is = ap length is ∙ length-append symbols (b ∷ [])

@@ -7,4 +7,5 @@ mod Octets
 mod Reading
 mod Restoring
 mod Returning
+mod Taking
 mod Writing

@@ -22,6 +22,10 @@ is_digit c = nat_le 48 c && nat_le c 57
 abbrev pub is_symbol : ℕ → Bool
 is_symbol c = is_capital c || is_small c || is_digit c || c == 43 || c == 47
 
+-- how many symbols a byte is
+abbrev pub symbol_count : ℕ → ℕ
+symbol_count c = if is_symbol c then 1 else 0
+
 -- the number of a symbol: its place in the alphabet
 abbrev pub sextet : ℕ → ℕ
 sextet c =

@@ -3,7 +3,7 @@ ghost use Rattle.std.specs.Prelude.{◌≡◌, ◌==◌, ◌++◌, ◌≤◌, no
 ghost use Rattle.std.specs.List.{prefix_len};
 ghost use Rattle.mime_codes.specs.Base64.{b64_decoded};
 
-use crate::symbols::{Symbols, is_symbol};
+use crate::symbols::Symbols;
 
 fn padding_place(text: &[u8]) -> usize
     ensures value { result ≡ prefix_len (λ c. not (c == 61)) text.now }
@@ -29,13 +29,14 @@ pub fn b64_decode(into: &mut [u8], from: &[u8]) -> usize
 {
     let mut symbols = Symbols::new();
     let mut count = 0;
-    for byte in before_padding(from) {
-        if is_symbol(*byte) {
-            symbols.push(*byte);
-            if symbols.is_full() {
-                count = symbols.decode(into, count);
-            }
+    let mut rest = before_padding(from);
+    while !rest.is_empty() {
+        let (text, behind) = rest.split_at(rest.len().min(symbols.room()));
+        symbols.take(text);
+        if symbols.is_full() {
+            count = symbols.decode(into, count);
         }
+        rest = behind;
     }
     symbols.decode(into, count)
 }

@@ -1,15 +1,42 @@
 // Symbols of base64.
-ghost use Rattle.std.specs.Prelude.{◌≡◌, ◌↔◌, ◌+◌, ◌*◌, ◌/◌, ◌%◌, ◌<◌, ◌≤◌, [], ◌∷◌, ◌++◌, length, take, drop, map, IsTrue};
+ghost use Rattle.std.specs.Prelude.{◌≡◌, ◌↔◌, ◌+◌, ◌*◌, ◌/◌, ◌%◌, ◌<◌, ◌≤◌, [], ◌∷◌, ◌++◌, length, take, drop, map, filter, IsTrue};
 ghost use Rattle.std.specs.List.{AllPass};
-ghost use Rattle.mime_codes.specs.Base64.{is_symbol as is_of_alphabet, sextet, octets};
+ghost use Rattle.mime_codes.specs.Base64.{is_symbol as is_of_alphabet, symbol_count, sextet, octets};
 
 use base64::engine::general_purpose::STANDARD;
 use std::marker::Model;
 
-pub(crate) fn is_symbol(byte: u8) -> bool
-    ensures { result ≡ is_of_alphabet byte }
+/// For each byte 1 where it is of the alphabet, and else 0.
+const COUNTS: [u8; 256] = [
+    0, 0, 0, 0, 0, 0, 0, 0, 0, 0, 0, 0, 0, 0, 0, 0, 0, 0, 0, 0, 0, 0, 0, 0, 0, 0, 0, 0, 0, 0, 0, 0,
+    0, 0, 0, 0, 0, 0, 0, 0, 0, 0, 0, 1, 0, 0, 0, 1, 1, 1, 1, 1, 1, 1, 1, 1, 1, 1, 0, 0, 0, 0, 0, 0,
+    0, 1, 1, 1, 1, 1, 1, 1, 1, 1, 1, 1, 1, 1, 1, 1, 1, 1, 1, 1, 1, 1, 1, 1, 1, 1, 1, 0, 0, 0, 0, 0,
+    0, 1, 1, 1, 1, 1, 1, 1, 1, 1, 1, 1, 1, 1, 1, 1, 1, 1, 1, 1, 1, 1, 1, 1, 1, 1, 1, 0, 0, 0, 0, 0,
+    0, 0, 0, 0, 0, 0, 0, 0, 0, 0, 0, 0, 0, 0, 0, 0, 0, 0, 0, 0, 0, 0, 0, 0, 0, 0, 0, 0, 0, 0, 0, 0,
+    0, 0, 0, 0, 0, 0, 0, 0, 0, 0, 0, 0, 0, 0, 0, 0, 0, 0, 0, 0, 0, 0, 0, 0, 0, 0, 0, 0, 0, 0, 0, 0,
+    0, 0, 0, 0, 0, 0, 0, 0, 0, 0, 0, 0, 0, 0, 0, 0, 0, 0, 0, 0, 0, 0, 0, 0, 0, 0, 0, 0, 0, 0, 0, 0,
+    0, 0, 0, 0, 0, 0, 0, 0, 0, 0, 0, 0, 0, 0, 0, 0, 0, 0, 0, 0, 0, 0, 0, 0, 0, 0, 0, 0, 0, 0, 0, 0,
+];
+
+fn count_of(byte: u8) -> usize
+    ensures { result ≡ symbol_count byte }
 {
-    matches!(byte, b'A'..=b'Z' | b'a'..=b'z' | b'0'..=b'9' | b'+' | b'/')
+    usize::from(COUNTS[usize::from(byte)])
+}
+
+/// Puts the symbols of a text behind so many bytes, and says how many bytes there are then. Among mixed bytes no guess is right
+/// which of them are symbols, so no branch asks.
+fn gather(bytes: &mut [u8], len: usize, text: &[u8]) -> usize
+    requires { len + length text.now ≤ length bytes.old }
+    ensures value { take result bytes.new ≡ take len bytes.old ++ filter is_of_alphabet text.now }
+    ensures bound { result ≤ len + length text.now }
+{
+    let mut len = len;
+    for byte in text {
+        bytes[len] = *byte;
+        len += count_of(*byte);
+    }
+    len
 }
 
 /// Decodes groups of four symbols.
@@ -59,13 +86,19 @@ impl Symbols {
         self.len == 1024
     }
 
-    pub(crate) fn push(&mut self, symbol: u8)
-        requires room { length self.old < 1024 }
-        requires symbol { IsTrue (is_of_alphabet symbol) }
-        ensures { self.new ≡ self.old ++ symbol ∷ [] }
+    /// How many symbols more there is room for.
+    pub(crate) fn room(&self) -> usize
+        ensures { length self.now + result ≡ 1024 }
     {
-        self.bytes[self.len] = symbol;
-        self.len += 1;
+        1024 - self.len
+    }
+
+    /// Takes the symbols of a text.
+    pub(crate) fn take(&mut self, text: &[u8])
+        requires { length self.old + length text.now ≤ 1024 }
+        ensures { self.new ≡ self.old ++ filter is_of_alphabet text.now }
+    {
+        self.len = gather(&mut self.bytes, self.len, text);
     }
 
     /// Decodes all symbols that wait, from place `at` on.

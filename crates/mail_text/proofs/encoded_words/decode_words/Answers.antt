@@ -1,6 +1,7 @@
 use Rattle.std.proofs.lemmas.List.{nil_from_length}
 use Rattle.mail_text.specs.WordView.{word_text}
 use Rattle.mail_text.proofs.Wording.{word_put, character_put, ended, shorter}
+use Rattle.mail_text.proofs.Words.{decoded_pieces, decoded_alone}
 use Rattle.mail_text.proofs.encoded_words.decode_words.Goals as goal
 
 pub loop-c-smaller-in-Some-first : goal.loop-c-smaller-in-Some-first
@@ -15,5 +16,11 @@ pub loop-c-preserved : goal.loop-c-preserved
 loop-c-preserved c =
     character_put c.in-Some.c.now c.loop-c.rest.now c.in-Some.behind.now c.loop-c.line c.push.new.self _ c.in-Some.ensures.cases.0 c.in-None.ensures c.in_ok-push-in-None.ensures.ok c.loop-c.invariant
 
-pub returns : goal.returns
-returns c = ended c.loop-c.rest.now c.loop-c.line _ (nil_from_length c.loop-c.rest.now c.in_default.ensures.cases) c.loop-c.invariant
+pub returns-clause-value : goal.returns-clause-value
+returns-clause-value c = ended c.loop-c.rest.now c.loop-c.line _ (nil_from_length c.loop-c.rest.now c.in_default.ensures.cases) c.loop-c.invariant
+
+pub returns-clause-pieces : goal.returns-clause-pieces
+returns-clause-pieces c = decoded_pieces c.args.text.now _ (returns-clause-value c)
+
+pub returns-clause-alone : goal.returns-clause-alone
+returns-clause-alone c = decoded_alone c.args.text.now _ (returns-clause-value c)

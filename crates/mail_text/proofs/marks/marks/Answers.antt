@@ -6,7 +6,7 @@ pub loop-c-preserved : goal.loop-c-preserved
 loop-c-preserved c = record {
   deep = omega (arith, c.behind-inside.ensures.depth, c.loop-c.invariant.deep);
   left =
-      one_marked c.loop-c.inside c.behind-inside.result c.c-item.result c.loop-c.c-index c.args.text.now c.loop-c.marks.items _ _ c.loop-c-test.true c.c-item.is c.behind-inside.ensures.value
+      one_marked c.loop-c.inside c.behind-inside.result c.place.result c.c-item.result c.loop-c.c-index c.args.text.now c.loop-c.marks.items _ _ c.loop-c-test.true c.c-item.is c.place.ensures c.behind-inside.ensures.value
       c.in_ok-push.ensures.items c.loop-c.invariant.left;
 }
 

@@ -1,5 +1,6 @@
 use Rattle.std.proofs.Common.{◌∙◌}
 use Rattle.mail_text.proofs.Fronts.{fault_passed, all_valid}
+use Rattle.mail_text.proofs.Showing.{shown_pieces, shown_alone}
 use Rattle.mail_text.proofs.shown_bytes.show_bytes.Goals as goal
 
 pub loop-fault-preserved : goal.loop-fault-preserved
@@ -8,5 +9,11 @@ loop-fault-preserved c =
     (c.valid_up_to.ensures ∙ c.in-Err.ensures.valid_len) (rw c.valid_up_to.ensures c.in-Err.ensures.cases.1.short) c.split_at.ensures.front c.split_at.ensures.back c.split_at-in-Err.ensures.back
     c.in_ok-put_valid.ensures c.in_ok-push.ensures.ok c.loop-fault.invariant
 
-pub returns : goal.returns
-returns c = all_valid c.loop-fault.rest.now c.loop-fault.text _ _ c.in_default.ensures.cases.1 c.in_ok-put_valid-2.ensures c.loop-fault.invariant
+pub returns-clause-value : goal.returns-clause-value
+returns-clause-value c = all_valid c.loop-fault.rest.now c.loop-fault.text _ _ c.in_default.ensures.cases.1 c.in_ok-put_valid-2.ensures c.loop-fault.invariant
+
+pub returns-clause-pieces : goal.returns-clause-pieces
+returns-clause-pieces c = shown_pieces c.args.bytes.now _ (returns-clause-value c)
+
+pub returns-clause-alone : goal.returns-clause-alone
+returns-clause-alone c = shown_alone c.args.bytes.now _ (returns-clause-value c)

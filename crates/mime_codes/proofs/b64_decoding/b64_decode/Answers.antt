@@ -1,46 +1,41 @@
-use Rattle.std.proofs.Common.{◌≡◌, ◌<◌, ◌≤◌, length, map, filter, sym, ap, ◌∙◌, arith}
-use Rattle.std.proofs.lemmas.Bool.{false≢true}
-use Rattle.mime_codes.specs.Base64.{is_symbol, sextet, octets}
-use Rattle.mime_codes.proofs.Gathering.{one_waits, none_waits, one_longer, bytes_of, flushed_front, flushed_behind, last_flushed}
+use Rattle.std.proofs.Common.{◌≡◌, ◌≤◌, length, sym, ◌∙◌, arith}
+use Rattle.std.proofs.lemmas.Bool.{false≢true, eqb-true}
+use Rattle.std.proofs.lemmas.List.{nil_from_length}
+use Rattle.mime_codes.proofs.Gathering.{more_taken, some_longer, bytes_of, flushed_front, flushed_behind, last_flushed}
 use Rattle.mime_codes.proofs.b64_decoding.b64_decode.Goals as goal
-use Rattle.mime_codes.proofs.b64_decoding.b64_decode.Goals.{then-is_symbol+then-is_full, then-is_symbol+else-is_full, else-is_symbol}
 
-pub loop-byte-preserved : goal.loop-byte-preserved
-loop-byte-preserved c =
-    let i = c.loop-byte.byte-index in
-    let lt : i < length c.before_padding-byte-items.result.now = c.loop-byte-test.true in
-    let le : c.loop-byte.count ≤ length c.loop-byte.into = omega (arith, lt, c.loop-byte.invariant.fits, c.loop-byte.auto.into, c.requires, c.before_padding-byte-items.ensures.inside) in
-    elim c.if-is_symbol.branch [
-      | then-is_symbol+then-is_full w ↦
-          let full : length w.push.new.self ≡ 1024 = w.is_full.ensures.0 w.if-is_full.true in
-          let one = one_longer c.loop-byte.symbols w.push.new.self _ w.push.ensures in
-          let size = bytes_of w.push.new.self in
-          record {
-            room = rw (w.symbols-is, w.decode-count.ensures.empty) (omega arith);
-            fits = rw (w.symbols-is, w.decode-count.ensures.empty, w.count-is) (omega (arith, c.loop-byte.invariant.fits, w.decode-count.ensures.count, size, one, full));
-            front = rw (w.symbols-is, w.decode-count.ensures.empty, w.into-is, w.count-is) (flushed_front w.push.new.self _ c.loop-byte.into w.decode-count.new.into _ c.loop-byte.count w.decode-count.result le (omega (arith, full)) w.decode-count.ensures.count w.decode-count.ensures.written
-                (one_waits _ c.loop-byte.symbols w.push.new.self c.loop-byte.into _ i c.loop-byte.count lt (sym w.if-is_symbol.ensures) w.push.ensures c.loop-byte.invariant.front));
-            behind = rw (w.into-is, w.count-is) (flushed_behind _ c.loop-byte.into c.args.into.now w.decode-count.new.into c.loop-byte.count w.decode-count.result le w.decode-count.ensures.count w.decode-count.ensures.written c.loop-byte.invariant.behind);
-          }
-      | then-is_symbol+else-is_full w ↦
-          let one = one_longer c.loop-byte.symbols w.push.new.self _ w.push.ensures in
-          let not_full : length w.push.new.self ≡ 1024 → ⊥ = λ e. false≢true (sym w.if-is_full.false ∙ w.is_full.ensures.1 e) in
-          record {
-            room = rw w.symbols-is (omega (arith, one, not_full, c.loop-byte.invariant.room));
-            fits = rw (w.symbols-is, w.count-is) (omega (arith, c.loop-byte.invariant.fits, one));
-            front = rw (w.symbols-is, w.into-is, w.count-is) (one_waits _ c.loop-byte.symbols w.push.new.self c.loop-byte.into _ i c.loop-byte.count lt (sym w.if-is_symbol.ensures) w.push.ensures c.loop-byte.invariant.front);
-            behind = rw (w.into-is, w.count-is) c.loop-byte.invariant.behind;
-          }
-      | else-is_symbol w ↦
-          record {
-            room = rw w.symbols-is c.loop-byte.invariant.room;
-            fits = rw (w.symbols-is, w.count-is) (omega (arith, c.loop-byte.invariant.fits));
-            front = rw (w.symbols-is, w.into-is, w.count-is) (none_waits _ c.loop-byte.symbols c.loop-byte.into _ i c.loop-byte.count lt (sym w.if-is_symbol.ensures) c.loop-byte.invariant.front);
-            behind = rw (w.into-is, w.count-is) c.loop-byte.invariant.behind;
-          }
-    ]
+pub decode-count-requires : goal.decode-count-requires
+decode-count-requires c =
+    let longer = some_longer c.loop-rest.symbols c.take.new.self c.split_at.result.0.now c.take.ensures in
+    omega (arith, c.loop-rest.invariant.fits, longer, c.split_at.ensures.front_len, c.split_at.ensures.back_len)
+
+pub loop-rest-preserved-then-is_full : goal.loop-rest-preserved-then-is_full
+loop-rest-preserved-then-is_full c =
+    let longer = some_longer c.loop-rest.symbols c.take.new.self c.split_at.result.0.now c.take.ensures in
+    let full : length c.take.new.self ≡ 1024 = c.is_full.ensures.0 c.if-is_full.true in
+    let size = bytes_of c.take.new.self in
+    let le : c.loop-rest.count ≤ length c.loop-rest.into = omega (arith, c.loop-rest.invariant.fits) in
+    let front = more_taken c.loop-rest.symbols c.take.new.self c.split_at.result.0.now c.split_at.result.1.now c.loop-rest.rest.now c.loop-rest.into _ c.min.result c.loop-rest.count c.split_at.ensures.front c.split_at.ensures.back c.take.ensures c.loop-rest.invariant.front in
+    record {
+      room = rw c.decode-count.ensures.empty (omega arith);
+      fits = rw c.decode-count.ensures.empty (omega (arith, c.loop-rest.invariant.fits, longer, full, size, c.decode-count.ensures.count, c.split_at.ensures.front_len, c.split_at.ensures.back_len));
+      front = rw c.decode-count.ensures.empty (flushed_front c.take.new.self _ c.loop-rest.into c.decode-count.new.into _ c.loop-rest.count c.decode-count.result le (omega (arith, full)) c.decode-count.ensures.count c.decode-count.ensures.written front);
+      behind = flushed_behind _ c.loop-rest.into c.args.into.now c.decode-count.new.into c.loop-rest.count c.decode-count.result le c.decode-count.ensures.count c.decode-count.ensures.written c.loop-rest.invariant.behind;
+    }
+
+pub loop-rest-preserved : goal.loop-rest-preserved
+loop-rest-preserved c =
+    let longer = some_longer c.loop-rest.symbols c.take.new.self c.split_at.result.0.now c.take.ensures in
+    let full : length c.take.new.self ≡ 1024 → ⊥ = λ e. false≢true (sym c.if-is_full.false ∙ c.is_full.ensures.1 e) in
+    record {
+      room = omega (arith, full, longer, c.split_at.ensures.front_len, c.min.ensures, c.room.ensures);
+      fits = omega (arith, c.loop-rest.invariant.fits, longer, c.split_at.ensures.front_len, c.split_at.ensures.back_len);
+      front = more_taken c.loop-rest.symbols c.take.new.self c.split_at.result.0.now c.split_at.result.1.now c.loop-rest.rest.now c.loop-rest.into _ c.min.result c.loop-rest.count c.split_at.ensures.front c.split_at.ensures.back c.take.ensures c.loop-rest.invariant.front;
+      behind = c.loop-rest.invariant.behind;
+    }
 
 pub returns-clause-written : goal.returns-clause-written
 returns-clause-written c =
-    last_flushed _ c.loop-byte.symbols c.loop-byte.into c.args.into.now c.decode.new.into _ c.loop-byte.byte-index c.loop-byte.count c.decode.result c.loop-byte-test.false c.decode.ensures.count c.decode.ensures.written
-    c.loop-byte.invariant.behind (c.loop-byte.invariant.front ∙ ap (λ t. octets (map sextet (filter is_symbol t))) c.before_padding-byte-items.ensures.value)
+    let none = nil_from_length c.loop-rest.rest.now (eqb-true _ 0 (sym c.is_empty.ensures ∙ c.loop-rest-test.false)) in
+    last_flushed c.loop-rest.symbols c.loop-rest.rest.now c.loop-rest.into c.args.into.now c.decode.new.into _ c.loop-rest.count c.decode.result none c.decode.ensures.count c.decode.ensures.written
+    c.loop-rest.invariant.behind c.loop-rest.invariant.front
