@@ -7,7 +7,7 @@ use Rattle.std.proofs.lemmas.List.{take-append-drop}
 use Rattle.std.proofs.Math.Seq.{take-append_seam, drop-append_seam}
 use Rattle.std.proofs.lemmas.Fmt.{first_decimal}
 use Rattle.mh_base.specs.Numbers.{IsMsgNum, hex, decimal_of, run_of, number_of, in_range}
-use Rattle.mh_base.specs.Entries.{IsEntry, IsKind, entry_text, kind_of, number_by, number_in, backup_in, held_after, held_by, held_in, temp_after, temp_by, temp_in, hidden_in}
+use Rattle.mh_base.specs.Entries.{IsRanged, IsEntry, IsKind, entry_text, kind_of, number_by, number_in, backup_in, held_after, held_by, held_in, temp_after, temp_by, temp_in, hidden_in}
 use Rattle.mh_base.specs.declared.entry.Entry.{Entry}
 use Rattle.mh_base.specs.declared.entry.Entry.TheVariants.{Number, Backup, Held, Temp, Sequences, LockFile, Other}
 use Rattle.mh_base.proofs.Decimals.{decimal_of_some, decimal_of_is}
@@ -54,6 +54,16 @@ kind_of-entry_text (Temp run k) ok = temp_text run k ok.0 ok.1
 kind_of-entry_text Sequences ok = refl
 kind_of-entry_text LockFile ok = refl
 kind_of-entry_text Other ok = absurd ok
+
+-- of a kind whose parts are in their ranges, and which is not Other
+pub kind_of_ranged : (e : Entry) (name : List ℕ) → (e ≡ Other → ⊥) → IsRanged e → name ≡ entry_text e → kind_of name ≡ e
+kind_of_ranged Other name never ok is = absurd (never refl)
+kind_of_ranged (Number n) name never ok is = ap kind_of is ∙ kind_of-entry_text (Number n) ok
+kind_of_ranged (Backup n) name never ok is = ap kind_of is ∙ kind_of-entry_text (Backup n) ok
+kind_of_ranged (Held run n) name never ok is = ap kind_of is ∙ kind_of-entry_text (Held run n) ok
+kind_of_ranged (Temp run k) name never ok is = ap kind_of is ∙ kind_of-entry_text (Temp run k) ok
+kind_of_ranged Sequences name never ok is = ap kind_of is ∙ kind_of-entry_text Sequences ok
+kind_of_ranged LockFile name never ok is = ap kind_of is ∙ kind_of-entry_text LockFile ok
 
 -- the name is that of the kind, unless this is Other
 abbrev Fits : List ℕ → Entry → Type 0

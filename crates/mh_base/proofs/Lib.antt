@@ -1,5 +1,5 @@
 pub mod Decimals
-mod EntryKinds
+pub mod EntryKinds
 mod EntryNames
 mod RunDigits
 mod TextLemmas

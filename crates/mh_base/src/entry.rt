@@ -190,7 +190,8 @@ fn text_of(alloc: Global, entry: &Entry) -> Result<Bytes, AllocError>
 /// The name of an entry of this kind.
 pub fn entry_name(alloc: Global, entry: &Entry) -> Result<Name, AllocError>
     requires { entry.now ≢ Entry.Other }
-    ensures { IfOk result (λ n. n ≡ entry_text entry.now) }
+    ensures value { IfOk result (λ n. n ≡ entry_text entry.now) }
+    ensures kind { IfOk result (λ n. kind_of n ≡ entry.now) }
 {
     let text = text_of(alloc, entry)?;
     Ok(Name::new(text).unwrap())
