@@ -1,6 +1,9 @@
-//! Prints how long words take to select messages in a folder of 999,999 messages, and in one of every second number. It
-//! does so only where it is given an argument, since times differ from run to run.
+//! Prints how long words take to select messages in a folder of 999,999 messages, and in one of every second number, and
+//! how the time of long texts and of many words grows with their size. It does so only where it is given an argument,
+//! since times differ from run to run.
 #![tactic(auto)]
+
+mod long;
 
 use mh_base::{FolderName, MsgNum, Text, TextList};
 use mh_profile::Entries;
@@ -90,5 +93,6 @@ fn main(rt: HostRuntime) -> Result<(), Fail> {
     measure_all(&rt, alloc, "one run", &listing, &sequences)?;
     let listing = alternating(alloc)?;
     let sequences = marked(alloc, alternating(alloc)?)?;
-    measure_all(&rt, alloc, "every second number", &listing, &sequences)
+    measure_all(&rt, alloc, "every second number", &listing, &sequences)?;
+    long::measure_all(&rt, alloc)
 }
