@@ -39,7 +39,7 @@ use Rattle.step_plans.proofs.Locks.{gone_crash, gone_within, live_end, honest_be
 use Rattle.step_plans.proofs.Committing.{Spares, commit_of, left_spares, gone_spares, commit_leads, text_spared}
 
 -- a base is of a run that has the lock
-base_lock : {r : ℕ} {p : Place} {x text : List ℕ} {deeds : List Deed} → IsBase r p x text deeds → HasLock p deeds
+pub base_lock : {r : ℕ} {p : Place} {x text : List ℕ} {deeds : List Deed} → IsBase r p x text deeds → HasLock p deeds
 base_lock (found k lock) = still (λ e. let z = sym (ap (λ d. d.step) k.1) ∙ e in cc (z)) lock
 base_lock (missing k lock) = still (λ e. let z = sym (ap (λ d. d.step) k) ∙ e in cc (z)) lock
 base_lock (committed k temp made lock) = still (λ e. let z = sym (ap (λ d. d.step) k) ∙ e in cc (z)) lock
@@ -198,7 +198,7 @@ module _ (start : World) (past : List Event) (o : ℕ) (s : Step) (a : Answer) (
   as_made : (text : List ℕ) {t : Step} → s ≡ t → m ≡ Made → text_at (left w o t a Made) p x ≡ text → text_at v p x ≡ text
   as_made text es em h = subst (λ (z : After). text_at (left w o s a z) p x ≡ text) (sym em) (subst (λ (z : Step). text_at (left w o z a Made) p x ≡ text) (sym es) h)
 
-  after_read : (limit : ℕ) (b : List ℕ) → did s a ≡ did (step.Read p x limit) (Content b) → text_at v p x ≡ b
+  pub after_read : (limit : ℕ) (b : List ℕ) → did s a ≡ did (step.Read p x limit) (Content b) → text_at v p x ≡ b
   after_read limit b e = let es = did_step e in let ea = did_answer e in let f3 = next_fits w o s a m nx (λ k. cc (k, ea)) in
       as_made b es f3.2 (same (text_read w p x limit b (fits_as w o s (step.Read p x limit) a (Content b) es ea f3.1)))
     where
@@ -209,7 +209,7 @@ module _ (start : World) (past : List Event) (o : ℕ) (s : Step) (a : Answer) (
           go None k = k
           go (Some f) k = k
 
-  after_missing : (limit : ℕ) → did s a ≡ did (step.Read p x limit) Gone → text_at v p x ≡ []
+  pub after_missing : (limit : ℕ) → did s a ≡ did (step.Read p x limit) Gone → text_at v p x ≡ []
   after_missing limit e = let es = did_step e in let ea = did_answer e in let f3 = next_fits w o s a m nx (λ k. cc (k, ea)) in
       as_made [] es f3.2 (same (text_gone w p x limit (fits_as w o s (step.Read p x limit) a Gone es ea f3.1)))
     where
@@ -220,7 +220,7 @@ module _ (start : World) (past : List Event) (o : ℕ) (s : Step) (a : Answer) (
           go None k = k
           go (Some f) k = k
 
-  after_commit : (t text : List ℕ) → did s a ≡ did (step.Rename p t x) Done → is_temp_of o (kind_of t) ≡ true → WasDone (step.Create p t text) (own o past) → text_at v p x ≡ text
+  pub after_commit : (t text : List ℕ) → did s a ≡ did (step.Rename p t x) Done → is_temp_of o (kind_of t) ≡ true → WasDone (step.Create p t text) (own o past) → text_at v p x ≡ text
   after_commit t text e temp wrote = let es = did_step e in let ea = did_answer e in let f3 = next_fits w o s a m nx (λ k. cc (k, ea)) in
       let z = commit_leads w p t x o temp c (fits_as w o s (step.Rename p t x) a Done es ea f3.1) in
       as_made text es f3.2 (ap (text_of (left w o (step.Rename p t x) a Made)) z.2 ∙ i.temps o p t z.0 text (committed_lock p x c) temp f3.0 wrote z.1)
@@ -261,7 +261,7 @@ act_base start past r o s a m p x c careful nx i orderly alone rest unfailed tex
     ]
 
 -- under honest locks and with orderly runs, what a live run that hasn't failed has as its base is the text
-base_is : (start : World) (r : ℕ) (p : Place) (x : List ℕ) {past : List Event} → IsStart start → IsLegal start past → AreCareful past → HasNoneOfTheirs start past → AreHonest start past → AreOrderly past → is_committed p x ≡ true
+pub base_is : (start : World) (r : ℕ) (p : Place) (x : List ℕ) {past : List Event} → IsStart start → IsLegal start past → AreCareful past → HasNoneOfTheirs start past → AreHonest start past → AreOrderly past → is_committed p x ≡ true
     → IsLive r (world_after start past) → (HasFailed (own r past) → ⊥) → (text : List ℕ) → IsBase r p x text (own r past) → text_at (world_after start past) p x ≡ text
 unfolding own
 base_is start r p x st begins careful none honest orderly c lv clean text h = absurd (once_none (base_once h))

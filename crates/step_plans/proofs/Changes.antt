@@ -175,7 +175,7 @@ change_below k (Moved a b) s below new n f h = go (bytes_eq b n) (bytes_eq a n) 
     go false true e = absurd (cc (e))
     go false false e = below n f e
 
-lead_below : (k : ℕ) (s : Slots) (cs : List Change) → ((n : List ℕ) (f : ℕ) → s n ≡ Some f → f < k) → AllBelow k cs → (n : List ℕ) (f : ℕ) → lead s cs n ≡ Some f → f < k
+pub lead_below : (k : ℕ) (s : Slots) (cs : List Change) → ((n : List ℕ) (f : ℕ) → s n ≡ Some f → f < k) → AllBelow k cs → (n : List ℕ) (f : ℕ) → lead s cs n ≡ Some f → f < k
 lead_below k s [] below all n f h = below n f h
 lead_below k s (c ∷ cs) below all n f h = change_below k c (lead s cs) (lead_below k s cs below all.1) all.0 n f h
 

@@ -51,23 +51,23 @@ spares_settled x f d opens s u = (s, u)
 spares_settled x f d settles s u = (untouched_lead d.safe d.pending x u ∙ s, tt)
 spares_settled x f d (adds c n) s u = (s, (n, u))
 
-spares_if : (x : List ℕ) (d : DirectoryMap) (c : Change) (u : Option ℕ) → touches c x ≡ false → Spares x d (changed_if d c u)
+pub spares_if : (x : List ℕ) (d : DirectoryMap) (c : Change) (u : Option ℕ) → touches c x ≡ false → Spares x d (changed_if d c u)
 spares_if x d c (Some f) n = adds c n
 spares_if x d c None n = stays
 
-spares_created : (x : List ℕ) (d : DirectoryMap) (n : List ℕ) (k : ℕ) → bytes_eq n x ≡ false → Spares x d (with_created d n k)
+pub spares_created : (x : List ℕ) (d : DirectoryMap) (n : List ℕ) (k : ℕ) → bytes_eq n x ≡ false → Spares x d (with_created d n k)
 spares_created x d n k e = go (is_created d n)
   where
     go : (v : Bool) → Spares x d (if v then changed d (change.Set n k) else d)
     go true = adds (change.Set n k) e
     go false = stays
 
-spares_linked : (x : List ℕ) (d : DirectoryMap) (b : List ℕ) (u v : Option ℕ) → bytes_eq b x ≡ false → Spares x d (linked d b u v)
+pub spares_linked : (x : List ℕ) (d : DirectoryMap) (b : List ℕ) (u v : Option ℕ) → bytes_eq b x ≡ false → Spares x d (linked d b u v)
 spares_linked x d b (Some f) None e = adds (change.Set b f) e
 spares_linked x d b (Some f) (Some g) e = stays
 spares_linked x d b None v e = stays
 
-spares_renamed : (x : List ℕ) (d : DirectoryMap) (a b : List ℕ) → bytes_eq a x ≡ false → bytes_eq b x ≡ false → Spares x d (with_renamed d a b)
+pub spares_renamed : (x : List ℕ) (d : DirectoryMap) (a b : List ℕ) → bytes_eq a x ≡ false → bytes_eq b x ≡ false → Spares x d (with_renamed d a b)
 spares_renamed x d a b n m = go (bytes_eq a b)
   where
     both_apart : (bytes_eq a x || bytes_eq b x) ≡ false
@@ -77,7 +77,7 @@ spares_renamed x d a b n m = go (bytes_eq a b)
     go true = stays
     go false = spares_if x d (change.Moved a b) (now_in d a) both_apart
 
-at_place : (x : List ℕ) (p q : Place) (d e : DirectoryMap) → (q ≡ p → Spares x d e) → Spares x d (if same_place q p then e else d)
+pub at_place : (x : List ℕ) (p q : Place) (d e : DirectoryMap) → (q ≡ p → Spares x d e) → Spares x d (if same_place q p then e else d)
 at_place x p q d e m = go (same_place q p) refl
   where
     go : (v : Bool) → same_place q p ≡ v → Spares x d (if v then e else d)
@@ -105,7 +105,7 @@ sequences_no_backup (Number n) Sequences s b = cc (b)
 sequences_no_backup (Number n) _ s b = cc (s)
 sequences_no_backup _ e s b = cc (b)
 
-backup_uncommitted : (p : Place) (a x : List ℕ) → is_folder p ≡ true → is_committed p x ≡ true → is_backing_up (kind_of a) (kind_of x) ≡ true → ⊥
+pub backup_uncommitted : (p : Place) (a x : List ℕ) → is_folder p ≡ true → is_committed p x ≡ true → is_backing_up (kind_of a) (kind_of x) ≡ true → ⊥
 backup_uncommitted Home a x f c b = cc (f)
 backup_uncommitted Work a x f c b = cc (f)
 backup_uncommitted (Mail path) a x f c b = cc (f)

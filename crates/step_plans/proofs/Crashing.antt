@@ -37,16 +37,16 @@ use Rattle.step_plans.proofs.Once.{at_more, at_goes}
 use Rattle.step_plans.proofs.Committing.{Spares, spares_now, commit_of, step_spares, torn_commit, temp_own, apart_own}
 
 -- the file, where there is one, is there and safe
-abbrev IsFirm : WorldMap → Option ℕ → Type 0
+abbrev pub IsFirm : WorldMap → Option ℕ → Type 0
 IsFirm w None = Unit {0}
 IsFirm w (Some f) = (f < w.next_file) × ((w.files f).safe ≡ true)
 
-at_now : (P : Option ℕ → Type 0) (s : Slots) (cs : List Change) (x : List ℕ) → AtEach P s cs x → P (lead s cs x)
+pub at_now : (P : Option ℕ → Type 0) (s : Slots) (cs : List Change) (x : List ℕ) → AtEach P s cs x → P (lead s cs x)
 at_now P s [] x h = h
 at_now P s (c ∷ cs) x h = h.0
 
 -- the texts of all moments since the last sync were had since then, by safe files
-abbrev HadAll : World → List Event → Place → List ℕ → WorldMap → Type 0
+abbrev pub HadAll : World → List Event → Place → List ℕ → WorldMap → Type 0
 HadAll start past p x w = AtEach (λ o. HadText start p x (text_of w o) past × IsFirm w o) (w.directories p).safe (w.directories p).pending x
 
 firm_left : (w : WorldMap) (r : ℕ) (s : Step) (a : Answer) (m : After) (o : Option ℕ) → IsFirm w o → IsFirm (left w r s a m) o
@@ -61,7 +61,7 @@ firm_image : (w v : WorldMap) (over : ℕ → Bool) (o : Option ℕ) → IsCrash
 firm_image w v over None image z = tt
 firm_image w v over (Some f) image z = (rw image.next_file z.0, image.all_safe f z.0)
 
-text_image : (w v : WorldMap) (over : ℕ → Bool) (o : Option ℕ) → IsCrashImage w v over → IsFirm w o → text_of v o ≡ text_of w o
+pub text_image : (w v : WorldMap) (over : ℕ → Bool) (o : Option ℕ) → IsCrashImage w v over → IsFirm w o → text_of v o ≡ text_of w o
 text_image w v over None image z = refl
 text_image w v over (Some f) image z = image.kept_bytes f z.1
 
@@ -157,7 +157,7 @@ crash_firm start past v over p x image h =
 as_had : (start : World) (past : List Event) (p : Place) (x : List ℕ) (w : WorldMap) → world_after start past ≡ w → HadAll start past p x w → HadAll start past p x (world_after start past)
 as_had start past p x w e h = subst (λ (z : WorldMap). HadAll start past p x z) (sym e) h
 
-had_all : (start : World) (p : Place) (x : List ℕ) {past : List Event} → IsStart start → IsLegal start past → AreCareful past → HasNoneOfTheirs start past → is_committed p x ≡ true → HadAll start past p x (world_after start past)
+pub had_all : (start : World) (p : Place) (x : List ℕ) {past : List Event} → IsStart start → IsLegal start past → AreCareful past → HasNoneOfTheirs start past → is_committed p x ≡ true → HadAll start past p x (world_after start past)
 had_all start p x st begins careful none c = as_had start [] p x (shown start) (world_start start) (had_now start [] p x (shown start) (world_start start) (nothing_pending start st p) (go (((shown start).directories p).safe x) refl))
   where
     go : (u : Option ℕ) → ((shown start).directories p).safe x ≡ u → IsFirm (shown start) u

@@ -30,4 +30,4 @@ pub mod LostByDiscard
 pub mod LostByCut
 pub mod WorkedCommit
 pub mod WorkedDiscard
-mod Sameness
+pub mod Sameness

@@ -59,7 +59,7 @@ pub lock_head : {p : Place} {d : Deed} {older : List Deed} → HasLock p (d ∷ 
 lock_head (last e) = inl e
 lock_head (still n h) = inr (n, h)
 
-lock_once : {p : Place} {deeds : List Deed} → HasLock p deeds → Once (λ d older. Unit {0}) deeds
+pub lock_once : {p : Place} {deeds : List Deed} → HasLock p deeds → Once (λ d older. Unit {0}) deeds
 lock_once (last e) = now tt
 lock_once (still n h) = on (lock_once h)
 

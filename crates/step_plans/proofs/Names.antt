@@ -206,7 +206,7 @@ by_number : (o : Option ℕ) (n : ℕ) → number_by Number o ≡ Number n → o
 by_number None n e = absurd (cc (e))
 by_number (Some m) n e = let z : m ≡ n = cc (e) in ap Some z
 
-number_text : (x : List ℕ) (n : ℕ) → kind_of x ≡ Number n → x ≡ decimal n
+pub number_text : (x : List ℕ) (n : ℕ) → kind_of x ≡ Number n → x ≡ decimal n
 unfolding kind_of
 number_text [] n e = absurd (cc (e))
 number_text (c ∷ rest) n e = go (c == 44) (c == 46) e

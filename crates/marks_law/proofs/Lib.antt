@@ -1,0 +1,16 @@
+pub mod Sounding
+pub mod Views
+pub mod Seeing
+pub mod Stepping
+pub mod Law
+pub mod Imaging
+pub mod Always
+pub mod Withdrawing
+pub mod Knowing
+pub mod Windows
+pub mod Apart
+pub mod ApartImaging
+pub mod Sorting
+pub mod ApartAlways
+pub mod Refiling
+pub mod Settling
