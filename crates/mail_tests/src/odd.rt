@@ -3,11 +3,12 @@ use crate::disk::{
     has, is_created, is_linked, is_locked, is_made, is_renamed, name, new_home, open,
 };
 use crate::given::bytes_of;
-use file_plans::{Reading, ask, ask_read_file};
+use file_plans::{Reading, ask, ask_make_folder, ask_read_file};
 use folder_files::{Answer, FilePath, HostFiles, Place, Step};
 use mh_base::{FolderName, Text};
 use std::alloc::Global;
 use std::fs;
+use std::fs::File;
 use std::process::Abort;
 use std::test::Fail;
 
@@ -78,6 +79,26 @@ fn is_fault(rt: &impl AllocGlobal, files: &mut HostFiles, path: &[u8]) -> Result
         Ok(Reading::Content(_) | Reading::Long(_) | Reading::Gone) => Ok(false),
         Err(_) => Ok(true),
     }
+}
+
+/// A system's own directory, which can't be synced.
+fn syncs(rt: &HostRuntime, path: &str) -> Result<bool, Fail> {
+    Ok(File::open(rt, path)?.sync_all().is_ok())
+}
+
+/// A folder that was there is answered for only once the directory above it is safe.
+#[test]
+fn made_folders_are_safe(rt: HostRuntime) -> Result<(), Fail> {
+    let home = new_home(&rt)?;
+    let mut files = open(&rt, home.as_str())?;
+    let inbox = folder(rt.alloc(), b"Mail", "inbox")?;
+    assert!(rt; is_made(&rt, &mut files, &inbox)?);
+    assert!(rt; !is_made(&rt, &mut files, &inbox)?);
+    let other = folder(rt.alloc(), b"/proc/self", "fd")?;
+    let made = ask_make_folder(rt.alloc(), RUN, &mut files, &other);
+    assert!(rt; made.is_err() || syncs(&rt, "/proc/self")?);
+    fs::remove_dir_all(&rt, home.as_str())?;
+    Ok(())
 }
 
 #[test]
