@@ -1,10 +1,7 @@
-//! Prints how fast a drop of 50 megabytes is read, beside a plain read of its bytes. It does so only where it is given
-//! an argument, since times differ from run to run.
-#![tactic(auto)]
-
+// A drop of 50 megabytes, beside a plain read of its bytes.
+use crate::rates::{bytes_per_second, plain};
 use mbox_drop::{DropCounter, DropCutter, MailDrop};
 use std::alloc::{AllocError, Global};
-use std::env;
 use std::rt::Clock;
 use std::test::Fail;
 use std::time::Instant;
@@ -28,28 +25,17 @@ fn made(alloc: Global) -> Result<Vec<u8>, AllocError> {
     Ok(bytes)
 }
 
-fn plain(bytes: &[u8]) -> u8 {
-    let mut all: u8 = 0;
-    for byte in bytes {
-        all ^= *byte;
-    }
-    all
-}
-
-/// Bytes a second.
-fn rate(bytes: &[u8], micros: u128) -> u64 {
-    let micros = u64::try_from(micros).unwrap_or(u64::MAX).max(1);
-    (bytes.len() as u64).saturating_mul(1_000_000) / micros
-}
-
-fn measure(rt: &(impl Print + Clock), alloc: Global, bytes: &[u8]) -> Result<(), Fail> {
+fn measure_all(rt: &(impl Print + Clock), alloc: Global, bytes: &[u8]) -> Result<(), Fail> {
     let start = Instant::now(rt)?;
     let mut all: u8 = 0;
     for piece in bytes.chunks(PIECE) {
         all ^= plain(piece);
     }
     let taken = start.elapsed(rt)?.as_micros();
-    println!(rt; "plain read: {} bytes a second ({all})", rate(bytes, taken))?;
+    println!(rt;
+        "plain read: {} bytes a second ({all})",
+        bytes_per_second(bytes, taken)
+    )?;
 
     let start = Instant::now(rt)?;
     let count = match MailDrop::cut(bytes) {
@@ -57,7 +43,10 @@ fn measure(rt: &(impl Print + Clock), alloc: Global, bytes: &[u8]) -> Result<(),
         Err(_) => 0,
     };
     let taken = start.elapsed(rt)?.as_micros();
-    println!(rt; "MailDrop: {} bytes a second ({count})", rate(bytes, taken))?;
+    println!(rt;
+        "MailDrop: {} bytes a second ({count})",
+        bytes_per_second(bytes, taken)
+    )?;
 
     let start = Instant::now(rt)?;
     let mut counter = DropCounter::new();
@@ -68,7 +57,7 @@ fn measure(rt: &(impl Print + Clock), alloc: Global, bytes: &[u8]) -> Result<(),
     let taken = start.elapsed(rt)?.as_micros();
     println!(rt;
         "DropCounter: {} bytes a second ({count})",
-        rate(bytes, taken)
+        bytes_per_second(bytes, taken)
     )?;
 
     let start = Instant::now(rt)?;
@@ -80,15 +69,12 @@ fn measure(rt: &(impl Print + Clock), alloc: Global, bytes: &[u8]) -> Result<(),
     let taken = start.elapsed(rt)?.as_micros();
     println!(rt;
         "DropCutter: {} bytes a second ({count} and the last)",
-        rate(bytes, taken)
+        bytes_per_second(bytes, taken)
     )?;
     Ok(())
 }
 
-fn main(rt: HostRuntime) -> Result<(), Fail> {
-    if env::args(&rt)?.count() < 2 {
-        return Ok(());
-    }
-    let bytes = made(rt.alloc())?;
-    measure(&rt, rt.alloc(), bytes.as_slice())
+pub fn measure(rt: &(impl Print + Clock), alloc: Global) -> Result<(), Fail> {
+    let bytes = made(alloc)?;
+    measure_all(rt, alloc, bytes.as_slice())
 }

@@ -1,5 +1,5 @@
 // Long texts and many words: how the time grows with their size.
-use crate::number;
+use crate::ranges::number;
 use mh_base::{Bytes, FolderName, MsgNum, Text, TextList};
 use mh_profile::Entries;
 use mh_sequences::{Mark, NumSet, Pair, PairList, SeqName, Sequences};

@@ -1,10 +1,7 @@
-//! Prints how fast ten megabytes of base64 and of quoted-printable text are read, beside a plain read of their bytes. It does
-//! so only where it is given an argument, since times differ from run to run.
-#![tactic(auto)]
-
+// Base64 and quoted-printable text of ten megabytes, beside a plain read of its bytes.
+use crate::rates::{bytes_per_second, plain};
 use mime_codes::{b64_decode, b64_encode, qp_decode, qp_encode};
 use std::alloc::{AllocError, Global};
-use std::env;
 use std::rt::Clock;
 use std::test::Fail;
 use std::time::Instant;
@@ -33,20 +30,6 @@ fn prose(alloc: Global) -> Result<Vec<u8>, AllocError> {
     Ok(bytes)
 }
 
-fn plain(bytes: &[u8]) -> u8 {
-    let mut all: u8 = 0;
-    for byte in bytes {
-        all ^= *byte;
-    }
-    all
-}
-
-/// Bytes a second.
-fn rate(bytes: &[u8], micros: u128) -> u64 {
-    let micros = u64::try_from(micros).unwrap_or(u64::MAX).max(1);
-    (bytes.len() as u64).saturating_mul(1_000_000) / micros
-}
-
 fn measure_base64(rt: &(impl Print + Clock), alloc: Global) -> Result<(), Fail> {
     let bytes = mixed(alloc)?;
     let start = Instant::now(rt)?;
@@ -54,7 +37,7 @@ fn measure_base64(rt: &(impl Print + Clock), alloc: Global) -> Result<(), Fail> 
     let taken = start.elapsed(rt)?.as_micros();
     println!(rt;
         "b64_encode: {} bytes a second",
-        rate(bytes.as_slice(), taken)
+        bytes_per_second(bytes.as_slice(), taken)
     )?;
 
     let mut into = vec![in alloc; 0u8; text.len()]?;
@@ -63,7 +46,7 @@ fn measure_base64(rt: &(impl Print + Clock), alloc: Global) -> Result<(), Fail> 
     let taken = start.elapsed(rt)?.as_micros();
     println!(rt;
         "b64_decode: {} bytes a second ({count})",
-        rate(text.as_slice(), taken)
+        bytes_per_second(text.as_slice(), taken)
     )?;
     Ok(())
 }
@@ -75,7 +58,7 @@ fn measure_quoted(rt: &(impl Print + Clock), alloc: Global) -> Result<(), Fail> 
     let taken = start.elapsed(rt)?.as_micros();
     println!(rt;
         "qp_encode: {} bytes a second",
-        rate(bytes.as_slice(), taken)
+        bytes_per_second(bytes.as_slice(), taken)
     )?;
 
     let mut into = vec![in alloc; 0u8; text.len()]?;
@@ -84,7 +67,7 @@ fn measure_quoted(rt: &(impl Print + Clock), alloc: Global) -> Result<(), Fail> 
     let taken = start.elapsed(rt)?.as_micros();
     println!(rt;
         "qp_decode: {} bytes a second ({count})",
-        rate(text.as_slice(), taken)
+        bytes_per_second(text.as_slice(), taken)
     )?;
 
     let start = Instant::now(rt)?;
@@ -92,15 +75,12 @@ fn measure_quoted(rt: &(impl Print + Clock), alloc: Global) -> Result<(), Fail> 
     let taken = start.elapsed(rt)?.as_micros();
     println!(rt;
         "plain read: {} bytes a second ({all})",
-        rate(text.as_slice(), taken)
+        bytes_per_second(text.as_slice(), taken)
     )?;
     Ok(())
 }
 
-fn main(rt: HostRuntime) -> Result<(), Fail> {
-    if env::args(&rt)?.count() < 2 {
-        return Ok(());
-    }
-    measure_base64(&rt, rt.alloc())?;
-    measure_quoted(&rt, rt.alloc())
+pub fn measure(rt: &(impl Print + Clock), alloc: Global) -> Result<(), Fail> {
+    measure_base64(rt, alloc)?;
+    measure_quoted(rt, alloc)
 }

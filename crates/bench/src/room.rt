@@ -1,7 +1,4 @@
-//! Prints how long it takes to put 2,000 messages into one folder in memory, step by step. It does so only where it is
-//! given an argument, since times differ from run to run.
-#![tactic(auto)]
-
+// Putting 2,000 messages into one folder in memory, step by step.
 use folder_files::{
     Answer, ChangeList, Directory, DirectoryList, FileList, Files, LockList, OutsideList, Place,
     RunList, SlotList, Step, World,
@@ -9,7 +6,6 @@ use folder_files::{
 use folder_room::{PromptList, Room};
 use mh_base::{Bytes, Duplicate, Entry, FolderName, MsgNum, Name, Text, entry_name};
 use std::alloc::Global;
-use std::env;
 use std::rt::Clock;
 use std::test::Fail;
 use std::time::Instant;
@@ -89,17 +85,10 @@ fn put_all(alloc: Global) -> Result<u32, Fail> {
     Ok(done)
 }
 
-fn measure(rt: &(impl Print + Clock), alloc: Global) -> Result<(), Fail> {
+pub fn measure(rt: &(impl Print + Clock), alloc: Global) -> Result<(), Fail> {
     let start = Instant::now(rt)?;
     let done = put_all(alloc)?;
     let taken = start.elapsed(rt)?.as_millis();
     println!(rt; "put: {MESSAGES} messages, {done} steps done, {taken} ms")?;
     Ok(())
-}
-
-fn main(rt: HostRuntime) -> Result<(), Fail> {
-    if env::args(&rt)?.count() < 2 {
-        return Ok(());
-    }
-    measure(&rt, rt.alloc())
 }

@@ -1,21 +1,16 @@
-//! Prints how long words take to select messages in a folder of 999,999 messages, and in one of every second number, and
-//! how the time of long texts and of many words grows with their size. It does so only where it is given an argument,
-//! since times differ from run to run.
-#![tactic(auto)]
-
-mod long;
-
+// Words that select messages in a folder of 999,999 messages, and in one of every second number; then long texts and many
+// words.
+use crate::long;
 use mh_base::{FolderName, MsgNum, Text, TextList};
 use mh_profile::Entries;
 use mh_sequences::{Mark, NumSet, Run, SeqName, Sequences};
 use msg_ranges::select;
 use std::alloc::Global;
-use std::env;
 use std::rt::Clock;
 use std::test::Fail;
 use std::time::Instant;
 
-fn number(n: u32) -> Result<MsgNum, Fail> {
+pub fn number(n: u32) -> Result<MsgNum, Fail> {
     Ok(MsgNum::new(n).ok_or("no message number")?)
 }
 
@@ -53,7 +48,7 @@ fn marked(alloc: Global, numbers: NumSet) -> Result<Sequences, Fail> {
     Ok(sequences)
 }
 
-fn measure(
+fn measure_word(
     rt: &(impl Print + Clock),
     alloc: Global,
     what: &str,
@@ -70,7 +65,7 @@ fn measure(
     Ok(())
 }
 
-fn measure_all(
+fn measure_words(
     rt: &(impl Print + Clock),
     alloc: Global,
     what: &str,
@@ -78,21 +73,17 @@ fn measure_all(
     sequences: &Sequences,
 ) -> Result<(), Fail> {
     for word in ["all", "4-99", "todo:100", "todo"] {
-        measure(rt, alloc, what, listing, sequences, word)?;
+        measure_word(rt, alloc, what, listing, sequences, word)?;
     }
     Ok(())
 }
 
-fn main(rt: HostRuntime) -> Result<(), Fail> {
-    if env::args(&rt)?.count() < 2 {
-        return Ok(());
-    }
-    let alloc = rt.alloc();
+pub fn measure(rt: &(impl Print + Clock), alloc: Global) -> Result<(), Fail> {
     let listing = whole(alloc)?;
     let sequences = marked(alloc, whole(alloc)?)?;
-    measure_all(&rt, alloc, "one run", &listing, &sequences)?;
+    measure_words(rt, alloc, "one run", &listing, &sequences)?;
     let listing = alternating(alloc)?;
     let sequences = marked(alloc, alternating(alloc)?)?;
-    measure_all(&rt, alloc, "every second number", &listing, &sequences)?;
-    long::measure_all(&rt, alloc)
+    measure_words(rt, alloc, "every second number", &listing, &sequences)?;
+    long::measure_all(rt, alloc)
 }

@@ -1,12 +1,10 @@
-//! Prints how fast ten thousand values of From fields and of Date fields are read, and as many subjects with encoded words. It
-//! does so only where it is given an argument, since times differ from run to run.
-#![tactic(auto)]
-
+// Ten thousand values of From and of Date fields, as many subjects with encoded words, and long texts of beginnings of
+// words.
+use crate::rates::per_second;
 use mail_dates::MailDate;
 use mail_text::{Shown, decode_words};
 use mh_base::Text;
 use std::alloc::{AllocError, Global};
-use std::env;
 use std::rt::Clock;
 use std::test::Fail;
 use std::time::Instant;
@@ -45,11 +43,6 @@ fn subject(alloc: Global, number: u64) -> Result<String, AllocError> {
     }
 }
 
-fn rate(micros: u128) -> u64 {
-    let micros = u64::try_from(micros).unwrap_or(u64::MAX).max(1);
-    COUNT * 1_000_000 / micros
-}
-
 fn measure_addresses(rt: &(impl Print + Clock), alloc: Global) -> Result<(), Fail> {
     let mut values = Vec::new(alloc);
     for number in 0..COUNT {
@@ -64,7 +57,10 @@ fn measure_addresses(rt: &(impl Print + Clock), alloc: Global) -> Result<(), Fai
         }
     }
     let taken = start.elapsed(rt)?.as_micros();
-    println!(rt; "addresses: {} a second ({named})", rate(taken))?;
+    println!(rt;
+        "addresses: {} a second ({named})",
+        per_second(COUNT, taken)
+    )?;
     Ok(())
 }
 
@@ -81,7 +77,7 @@ fn measure_dates(rt: &(impl Print + Clock), alloc: Global) -> Result<(), Fail> {
         }
     }
     let taken = start.elapsed(rt)?.as_micros();
-    println!(rt; "dates: {} a second ({read})", rate(taken))?;
+    println!(rt; "dates: {} a second ({read})", per_second(COUNT, taken))?;
     Ok(())
 }
 
@@ -96,7 +92,10 @@ fn measure_subjects(rt: &(impl Print + Clock), alloc: Global) -> Result<(), Fail
         bytes = bytes.wrapping_add(decode_words(alloc, value)?.as_str().len());
     }
     let taken = start.elapsed(rt)?.as_micros();
-    println!(rt; "subjects: {} a second ({bytes} bytes)", rate(taken))?;
+    println!(rt;
+        "subjects: {} a second ({bytes} bytes)",
+        per_second(COUNT, taken)
+    )?;
     Ok(())
 }
 
@@ -117,13 +116,10 @@ fn measure_beginnings(rt: &(impl Print + Clock), alloc: Global, count: usize) ->
     Ok(())
 }
 
-fn main(rt: HostRuntime) -> Result<(), Fail> {
-    if env::args(&rt)?.count() < 2 {
-        return Ok(());
-    }
-    measure_addresses(&rt, rt.alloc())?;
-    measure_dates(&rt, rt.alloc())?;
-    measure_subjects(&rt, rt.alloc())?;
-    measure_beginnings(&rt, rt.alloc(), 100_000)?;
-    measure_beginnings(&rt, rt.alloc(), 1_000_000)
+pub fn measure(rt: &(impl Print + Clock), alloc: Global) -> Result<(), Fail> {
+    measure_addresses(rt, alloc)?;
+    measure_dates(rt, alloc)?;
+    measure_subjects(rt, alloc)?;
+    measure_beginnings(rt, alloc, 100_000)?;
+    measure_beginnings(rt, alloc, 1_000_000)
 }
