@@ -14,3 +14,4 @@ pub mod Sorting
 pub mod ApartAlways
 pub mod Refiling
 pub mod Settling
+pub mod Disordered
