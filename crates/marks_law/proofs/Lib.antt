@@ -15,3 +15,4 @@ pub mod ApartAlways
 pub mod Refiling
 pub mod Settling
 pub mod Disordered
+pub mod Bearing
