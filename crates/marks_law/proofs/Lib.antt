@@ -14,3 +14,5 @@ pub mod Sorting
 pub mod ApartAlways
 pub mod Refiling
 pub mod Settling
+pub mod Disordered
+pub mod Bearing

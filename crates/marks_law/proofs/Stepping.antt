@@ -38,8 +38,8 @@ use Rattle.step_plans.proofs.Law.{may_made}
 use Rattle.marks_law.specs.Heirs.{IsHeir, Descends, now, on, itself, further}
 use Rattle.marks_law.specs.Bearers.{Marking, in_folder, marks, Bears, set, kept, on}
 use Rattle.marks_law.specs.Sound.{IsSound, IsOwn}
-use Rattle.marks_law.specs.Minding.{Touches, Sees, SeesNoneHeld, Knowing, by_base, KeepsMarks, IsUnmarked, Minds, keeps, replaces, makes, clears, plain, copies, gives_back, gives_above, takes_plain, takes_alone, backs_up, removes, lets_go, commits}
-use Rattle.marks_law.proofs.Sounding.{number_held, absent, sound_marked, sound_set, sound_let_go, sound_removed, sound_taken_plain, sound_taken_alone}
+use Rattle.marks_law.specs.Minding.{Touches, Sees, SeesNoneHeld, Knowing, by_base, KeepsMarks, IsUnmarked, AreAllThere, Minds, keeps, replaces, makes, clears, plain, copies, gives_back, gives_above, takes_plain, takes_alone, backs_up, removes, backs_up_plain, removes_plain, lets_go, commits}
+use Rattle.marks_law.proofs.Sounding.{number_name, number_held, absent, sound_marked, sound_set, sound_let_go, sound_removed, sound_removed_plain, sound_taken_plain, sound_taken_alone}
 use Rattle.marks_law.proofs.Seeing.{left_untouched}
 
 -- what descends goes on to descend
@@ -195,6 +195,14 @@ module _ (start : World) (past : List Event) (r : ℕ) (s : Step) (a : Answer) (
             never z st (e, y) = let may = (commit_of r (own r past) k.folder t x (com_ e) (subst (λ (b : Place). MayRename r b t x (own r past)) e (careful_rename r (own r past) q t x (subst (λ (b : Step). Cares r (own r past) b) es careful (place_lock e (folder_lock k.folder folder)))).1)).1.0 in
                 elim y [ inl b ↦ temp_apart t z (is_temp_any r t may) st b | inr b ↦ not_both (is_standing z) st (subst (λ u. is_standing u ≡ false) b (is_committed_quiet k.folder x (com_ e))) ]
 
+        -- a number that is not marked goes, while each marked number is there
+        removed_plain : {t : Step} → s ≡ t → (n : ℕ) → IsUnmarked k g n (own r past) → AreAllThere k g (own r past)
+            → ((z : List ℕ) → is_standing z ≡ true → (now_in (directory_after w t k.folder) z ≡ now_in d z) ⊎ (now_in (directory_after w t k.folder) z ≡ None))
+            → ((z : List ℕ) (j : ℕ) → kind_of z ≡ Number j → (n ≡ j → ⊥) → Touches k.folder z t → ⊥) → NamesAfter t
+        removed_plain {t = t} es n u all fewer others = sound_removed_plain (λ z. now_in d z) (λ z. now_in (directory_after w t k.folder) z) (marks k v text) (IsOwn start k (Act r s a m ∷ past) text) n
+            (marks_stay text text_below n ∙ unmarked n u) (λ b j ej q. there b (all.2 b j ej (sym (known all.0 all.1 j) ∙ (sym (marks_stay text text_below j) ∙ q)))) fewer
+            (λ z j ej apart. names_stay es z (others z j ej apart)) (same_names h)
+
         by : {t : Step} → Minds r k g (own r past) t → s ≡ t → NamesAfter t
         by (makes {temp = t} {bytes = b}) es = calm es (λ z st q. temp_apart t z (is_temp_any r t (careful_create r (own r past) k.folder t b (subst (λ (q : Step). Cares r (own r past) q) es careful (folder_lock k.folder folder))).1.0) st q.1)
         by (clears {temp = t} is) es = calm es (λ z st q. temp_apart t z is st q.1)
@@ -217,6 +225,13 @@ module _ (start : World) (past : List Event) (r : ℕ) (s : Step) (a : Answer) (
             (λ z st. renamed_one d y b z (bytes_false b z (λ q. not_both (is_standing z) st (subst (λ g. is_standing g ≡ false) q (is_backing_quiet y b is))))) (same_names h)))
         by (removes {number = y} is none) es =
             (rw (place_is k.folder) (sound_removed (λ z. now_in d z) (λ z. now_in (with_unlinked d y) z) (marks k v text) (IsOwn start k (Act r s a m ∷ past) text) (none_held none) (λ z st. unlinked_one d y z) (same_names h)))
+        by (backs_up_plain {number = y} {backup = b} {n = n} e is u all) es = removed_plain es n u all
+            (λ z st. rw (place_is k.folder) (renamed_one d y b z (bytes_false b z (λ q. not_both (is_standing z) st (subst (λ g. is_standing g ≡ false) q (is_backing_quiet y b is))))))
+            (λ z j ej apart q. elim q.1 [
+              | inl i ↦ apart (number_same (sym e ∙ (ap kind_of i ∙ ej)))
+              | inr i ↦ not_both (is_standing z) (number_name z j ej) (subst (λ g. is_standing g ≡ false) i (is_backing_quiet y b is))
+            ])
+        by (removes_plain {number = y} {n = n} e u all) es = removed_plain es n u all (λ z st. rw (place_is k.folder) (unlinked_one d y z)) (λ z j ej apart q. apart (number_same (sym e ∙ (ap kind_of q.1 ∙ ej))))
         by (lets_go {held = y} is) es =
             (rw (place_is k.folder) (sound_let_go (λ z. now_in d z) (λ z. now_in (with_unlinked d y) z) (marks k v text) (IsOwn start k (Act r s a m ∷ past) text) numbers (λ z st. unlinked_one d y z) (same_names h)))
           where
@@ -289,6 +304,8 @@ commit_minds r k g deeds t folder c (takes_alone {number = y} {held = h} e is no
     absurd (not_both (is_standing h) (held_stands h (is_held_any r h (is_taking_held r y h is))) (subst (λ b. is_standing b ≡ false) (sym z.2) (is_committed_quiet k.place k.name c)))
 commit_minds r k g deeds t folder c (backs_up {number = y} {backup = b} is none) es = let z = rename_to es in
     absurd (backup_uncommitted k.place y k.name (subst (λ q. is_folder q ≡ true) z.0 folder) c (subst (λ q. is_backing_up (kind_of y) (kind_of q) ≡ true) z.2 is))
+commit_minds r k g deeds t folder c (backs_up_plain {number = y} {backup = b} e is u all) es = let z = rename_to es in
+    absurd (backup_uncommitted k.place y k.name (subst (λ q. is_folder q ≡ true) z.0 folder) c (subst (λ q. is_backing_up (kind_of y) (kind_of q) ≡ true) z.2 is))
 commit_minds r k g deeds t folder c (commits {temp = u} {base = b} {text = n} known wrote adds) es = let z = rename_to es in
     inl (b, n, known, subst (λ q. WasDone (step.Create k.place q n) deeds) z.1 wrote, adds)
 commit_minds r k g deeds t folder c (keeps {temp = u} h) es = let z = rename_to es in inr (subst (λ q. KeepsMarks r k q deeds) z.1 h)
@@ -300,6 +317,7 @@ commit_minds r k g deeds t folder c (copies is held copied) es = absurd (cc (es)
 commit_minds r k g deeds t folder c (gives_back e f) es = absurd (cc (es))
 commit_minds r k g deeds t folder c (gives_above e f l n) es = absurd (cc (es))
 commit_minds r k g deeds t folder c (removes is n) es = absurd (cc (es))
+commit_minds r k g deeds t folder c (removes_plain e u all) es = absurd (cc (es))
 commit_minds r k g deeds t folder c (lets_go is) es = absurd (cc (es))
 
 -- a commit touches no standing name of the folder

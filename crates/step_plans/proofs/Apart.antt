@@ -1,4 +1,4 @@
--- Two temporary names of a run never lead to one file.
+-- Two temporary names never lead to one file.
 use Rattle.std.proofs.Common.{◌≡◌, ℕ, ◌<◌, ◌≤◌, Bool, true, false, ◌⊎◌, inl, inr, List, [], ◌∷◌, Option, Some, None, is_none, refl, sym, ◌∙◌, ap, subst, arith, if◌then◌else◌}
 use Rattle.mh_base.specs.Entries.{kind_of}
 use Rattle.folder_files.specs.CrashImage.{IsCrashImage}
@@ -46,16 +46,14 @@ created_case d n k f e = go (is_created d n) e
         same e = sym (cc (e))
     go false e = inl e
 
--- a file to which the name leads after an act: it led to it before, or the act made it
-abbrev OldOrNew : World → List Event → Step → Place → List ℕ → ℕ → Type 0
-OldOrNew start past s p x f = HasLed start p x f past ⊎ ((f ≡ (world_after start past).next_file) × ((b : List ℕ) × (s ≡ step.Create p x b)))
+-- the act made the file, under this name
+abbrev pub IsNew : World → List Event → Step → Place → List ℕ → ℕ → Type 0
+IsNew start past s p x f = (f ≡ (world_after start past).next_file) × ((b : List ℕ) × (s ≡ step.Create p x b))
 
-act_led : (start : World) (past : List Event) (o : ℕ) (s : Step) (a : Answer) (m : After) (r : ℕ) (p : Place) (x : List ℕ) (f : ℕ) → IsLockable p → is_temp_of r (kind_of x) ≡ true → Cares o (own o past) s
-    → IsNext (world_after start past) o s a m → HasLed start p x f (Act o s a m ∷ past) → OldOrNew start past s p x f
-act_led start past o s a m r p x f lock temp careful nx z = elim (led_case z) [
-  | inl h ↦ by (subst (λ (k : WorldMap). now_in (k.directories p) x ≡ Some f) (world_next start o s a m past nx) h)
-  | inr y ↦ inl y
-]
+-- a file to which the name leads after an act: it led to it before, or the act made it
+pub act_leads : (start : World) (past : List Event) (o : ℕ) (s : Step) (a : Answer) (m : After) (r : ℕ) (p : Place) (x : List ℕ) (f : ℕ) → IsLockable p → is_temp_of r (kind_of x) ≡ true → Cares o (own o past) s
+    → IsNext (world_after start past) o s a m → Leads start (Act o s a m ∷ past) p x f → Leads start past p x f ⊎ IsNew start past s p x f
+act_leads start past o s a m r p x f lock temp careful nx h = by (subst (λ (k : WorldMap). now_in (k.directories p) x ≡ Some f) (world_next start o s a m past nx) h)
   where
     made_by : (b : List ℕ) → now_in (directory_after (world_after start past) (step.Create p x b) p) x ≡ Some f → (now_in ((world_after start past).directories p) x ≡ Some f) ⊎ (f ≡ (world_after start past).next_file)
     made_by b h = created_case ((world_after start past).directories p) x (world_after start past).next_file f (rw (place_is p) at h)
@@ -65,12 +63,23 @@ act_led start past o s a m r p x f lock temp careful nx z = elim (led_case z) [
     left_by Made b h = made_by b h
     left_by (Torn c) b h = made_by c h
 
-    by : now_in (left_directory (world_after start past) s m p) x ≡ Some f → OldOrNew start past s p x f
+    by : now_in (left_directory (world_after start past) s m p) x ≡ Some f → Leads start past p x f ⊎ IsNew start past s p x f
     by h = elim (arrives (world_after start past).next_file (left_next (world_after start past) s m) (ComesTo s a p) ((world_after start past).directories p) x f (next_goes (world_after start past) o s a m p nx) h) [
-      | inl old ↦ inl (now old)
+      | inl old ↦ inl old
       | inr new ↦ (let k = temp_target o (own o past) s p x lock careful (is_temp_any r x temp) new.0 in
-          elim (left_by m k.bytes (subst (λ (t : Step). now_in (left_directory (world_after start past) t m p) x ≡ Some f) k.is h)) [ inl old ↦ inl (now old) | inr e ↦ inr (e, (k.bytes, k.is)) ])
+          elim (left_by m k.bytes (subst (λ (t : Step). now_in (left_directory (world_after start past) t m p) x ≡ Some f) k.is h)) [ inl old ↦ inl old | inr e ↦ inr (e, (k.bytes, k.is)) ])
     ]
+
+-- the same of a file to which it has led
+abbrev OldOrNew : World → List Event → Step → Place → List ℕ → ℕ → Type 0
+OldOrNew start past s p x f = HasLed start p x f past ⊎ IsNew start past s p x f
+
+act_led : (start : World) (past : List Event) (o : ℕ) (s : Step) (a : Answer) (m : After) (r : ℕ) (p : Place) (x : List ℕ) (f : ℕ) → IsLockable p → is_temp_of r (kind_of x) ≡ true → Cares o (own o past) s
+    → IsNext (world_after start past) o s a m → HasLed start p x f (Act o s a m ∷ past) → OldOrNew start past s p x f
+act_led start past o s a m r p x f lock temp careful nx z = elim (led_case z) [
+  | inl h ↦ elim (act_leads start past o s a m r p x f lock temp careful nx h) [ inl old ↦ inl (now old) | inr new ↦ inr new ]
+  | inr y ↦ inl y
+]
 
 -- each file to which a name led is below the next
 led_now : (start : World) (p : Place) (x : List ℕ) (f : ℕ) {past : List Event} → IsStart start → IsLegal start past → AreCareful past → HasNoneOfTheirs start past → Leads start past p x f → f < (world_after start past).next_file
@@ -79,7 +88,7 @@ led_now start p x f {past = past} st l careful none h = now_below (world_after s
 led_act : (start : World) (past : List Event) (o : ℕ) (s : Step) (a : Answer) (m : After) (f : ℕ) → IsNext (world_after start past) o s a m → f < (world_after start past).next_file → f < (world_after start (Act o s a m ∷ past)).next_file
 led_act start past o s a m f nx h = subst (λ (z : WorldMap). f < z.next_file) (sym (world_next start o s a m past nx)) (let l = left_grows (world_after start past) s m in omega arith)
 
-led_below : (start : World) (p : Place) (x : List ℕ) (f : ℕ) {past : List Event} → IsStart start → IsLegal start past → AreCareful past → HasNoneOfTheirs start past → HasLed start p x f past → f < (world_after start past).next_file
+pub led_below : (start : World) (p : Place) (x : List ℕ) (f : ℕ) {past : List Event} → IsStart start → IsLegal start past → AreCareful past → HasNoneOfTheirs start past → HasLed start p x f past → f < (world_after start past).next_file
 led_below start p x f st begins careful none z = led_now start p x f st begins careful none (led_start z)
 led_below start p x f st (answers o s a {past = past} l lv fits) careful none z = elim (led_case z) [
   | inl h ↦ led_now start p x f st (answers o s a l lv fits) careful none h
@@ -131,12 +140,12 @@ led_below start p x f st (stops o {past = past} l) careful none z = elim (led_ca
 abbrev IsOneName : Place → List ℕ → Place → List ℕ → Type 0
 IsOneName p x q y = (p ≡ q) × (x ≡ y)
 
--- temporary names of one run, in folders or the mail directory
-module _ (start : World) (r : ℕ) (p q : Place) (x y : List ℕ) (f : ℕ) (st : IsStart start) (fresh : HasNoneOf start r) (lock_p : IsLockable p) (lock_q : IsLockable q) (temp_x : is_temp_of r (kind_of x) ≡ true)
-    (temp_y : is_temp_of r (kind_of y) ≡ true) where
+-- temporary names of two runs, or of one, in folders or the mail directory
+module _ (start : World) (r other : ℕ) (p q : Place) (x y : List ℕ) (f : ℕ) (st : IsStart start) (fresh : HasNoneOf start r) (lock_p : IsLockable p) (lock_q : IsLockable q) (temp_x : is_temp_of r (kind_of x) ≡ true)
+    (temp_y : is_temp_of other (kind_of y) ≡ true) where
   apart_act : (past : List Event) (o : ℕ) (s : Step) (a : Answer) (m : After) → IsLegal start past → AreCareful past → HasNoneOfTheirs start past → Cares o (own o past) s → IsNext (world_after start past) o s a m
       → (HasLed start p x f past → HasLed start q y f past → IsOneName p x q y) → HasLed start p x f (Act o s a m ∷ past) → HasLed start q y f (Act o s a m ∷ past) → IsOneName p x q y
-  apart_act past o s a m l careful none cares nx rest u z = go (act_led start past o s a m r p x f lock_p temp_x cares nx u) (act_led start past o s a m r q y f lock_q temp_y cares nx z)
+  apart_act past o s a m l careful none cares nx rest u z = go (act_led start past o s a m r p x f lock_p temp_x cares nx u) (act_led start past o s a m other q y f lock_q temp_y cares nx z)
     where
       never : {A : Type 0} → (g : Place) (n : List ℕ) → HasLed start g n f past → f ≡ (world_after start past).next_file → A
       never g n h e = absurd (let k = led_below start g n f st l careful none h in omega (arith, e))
@@ -167,9 +176,9 @@ module _ (start : World) (r : ℕ) (p q : Place) (x y : List ℕ) (f : ℕ) (st 
       back : (g : Place) (n : List ℕ) → HasLed start g n f (Deliver path b ∷ past) → HasLed start g n f past
       back g n k = elim (led_case k) [ inl h ↦ now (subst (λ (w : WorldMap). now_in (w.directories g) n ≡ Some f) (world_deliver start path b past) h) | inr h ↦ h ]
   apart (crashes v {past = past} l image) careful none u z =
-      apart l careful none (crash_led start past v _ p x image (once start p x lock_p (temp_own r x temp_x) st l careful none) f u) (crash_led start past v _ q y image (once start q y lock_q (temp_own r y temp_y) st l careful none) f z)
+      apart l careful none (crash_led start past v _ p x image (once start p x lock_p (temp_own r x temp_x) st l careful none) f u) (crash_led start past v _ q y image (once start q y lock_q (temp_own other y temp_y) st l careful none) f z)
   apart (crashes_within v o s {past = past} l lv image) careful none u z = let none_b = none_before start o s Failed Before (Crash v ∷ past) none in let cares = careful_back o s v past careful.0 in
-      apart_act past o s Failed Made l careful.1 none_b cares (failed Made lv (may_made s)) (λ h k. apart l careful.1 none_b h k) (back p x lock_p temp_x cares u) (back q y lock_q temp_y cares z)
+      apart_act past o s Failed Made l careful.1 none_b cares (failed Made lv (may_made s)) (λ h k. apart l careful.1 none_b h k) (back r p x lock_p temp_x cares u) (back other q y lock_q temp_y cares z)
     where
       dead : IsNext (world_after start (Crash v ∷ past)) o s Failed Before
       dead = refused (ended_by start v past o (within_ended o v past (made (world_after start past) o s).ended image.ended))
@@ -183,9 +192,9 @@ module _ (start : World) (r : ℕ) (p q : Place) (x y : List ℕ) (f : ℕ) (st 
           shown_leads : now_in ((world_after start (Crash v ∷ past)).directories g) n ≡ Some f → Leads start (Crash v ∷ (Act o s Failed Made ∷ past)) g n f
           shown_leads h = subst (λ (w : WorldMap). now_in (w.directories g) n ≡ Some f) (world_crash start v past ∙ sym (world_crash start v (Act o s Failed Made ∷ past))) h
 
-      back : (g : Place) (n : List ℕ) → IsLockable g → is_temp_of r (kind_of n) ≡ true → Cares o (own o past) s → HasLed start g n f (Act o s Failed Before ∷ (Crash v ∷ past)) → HasLed start g n f (Act o s Failed Made ∷ past)
-      back g n lock temp cares k = crash_led start (Act o s Failed Made ∷ past) v _ g n (image_within start past v o s _ image)
-          (once start g n lock (temp_own r n temp) st (fails o s Made l lv (may_made s)) (cares, careful.1) none) f (as_made g n k)
+      back : (run : ℕ) (g : Place) (n : List ℕ) → IsLockable g → is_temp_of run (kind_of n) ≡ true → Cares o (own o past) s → HasLed start g n f (Act o s Failed Before ∷ (Crash v ∷ past)) → HasLed start g n f (Act o s Failed Made ∷ past)
+      back run g n lock temp cares k = crash_led start (Act o s Failed Made ∷ past) v _ g n (image_within start past v o s _ image)
+          (once start g n lock (temp_own run n temp) st (fails o s Made l lv (may_made s)) (cares, careful.1) none) f (as_made g n k)
   apart (stops o {past = past} l) careful none u z = apart l careful none (back p x u) (back q y z)
     where
       back : (g : Place) (n : List ℕ) → HasLed start g n f (End o ∷ past) → HasLed start g n f past

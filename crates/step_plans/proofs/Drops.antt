@@ -277,7 +277,7 @@ module _ (start : World) (r : ℕ) (f : FilePath) (past : List Event) (st : IsSt
   first_apart : (q : Place) (t : List ℕ) (g : ℕ) (deeds : List Deed) (fs : List ℕ) → is_folder q ≡ true → is_temp_of r (kind_of t) ≡ true → HasLed start q t g past → (WasPutFrom r q t deeds → ⊥) → ArePutFrom start past r deeds fs → IsNoneOf g fs
   first_apart q t g deeds [] folder temp led unput h = tt
   first_apart q t g deeds (k ∷ fs) folder temp led unput h = (
-    λ e. (let one = apart start r q h.0.place t h.0.temp g st lv (folder_lock q folder) (folder_lock h.0.place h.0.folder) temp h.0.is l careful none led (subst (λ (n : ℕ). HasLed start h.0.place h.0.temp n past) (sym e) h.0.led) in
+    λ e. (let one = apart start r r q h.0.place t h.0.temp g st lv (folder_lock q folder) (folder_lock h.0.place h.0.folder) temp h.0.is l careful none led (subst (λ (n : ℕ). HasLed start h.0.place h.0.temp n past) (sym e) h.0.led) in
         unput (subst (λ (n : List ℕ). WasPutFrom r q n deeds) (sym one.1) (subst (λ (n : Place). WasPutFrom r n h.0.temp deeds) (sym one.0) h.0.put))),
     first_apart q t g deeds fs folder temp led unput h.1,
   )
