@@ -2,6 +2,7 @@ mod Emptiness
 mod Fronts
 mod Marking
 mod Parting
+mod PartsWorked
 mod Quoted
 mod Showing
 mod Spelling
