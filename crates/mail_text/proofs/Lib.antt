@@ -2,6 +2,10 @@ mod Emptiness
 mod Fronts
 mod Marking
 mod Parting
+mod PartMarks
+mod PartReading
+mod PartShowing
+mod PartsWorked
 mod Quoted
 mod Showing
 mod Spelling

@@ -1,3 +1,4 @@
+pub mod AddressParts
 pub mod Addresses
 pub mod Charsets
 pub mod EncodedWords

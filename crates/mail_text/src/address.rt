@@ -26,11 +26,14 @@ fn marks_of(alloc: Global, value: &Text) -> Result<Vec<Mark>, AllocError>
 }
 
 impl Shown {
+    ghost use Rattle.mail_text.specs.AddressParts.{Shows, ShowsNoOther};
     ghost use Rattle.mail_text.specs.ShownAddress.{shown_address, addr_text, friendly_text};
 
     /// The parts of the first address of a field's value.
     pub fn of_address(alloc: Global, value: &Text) -> Result<Shown, AllocError>
-        ensures { IfOk result (λ shown. shown ≡ shown_address value.now) }
+        ensures pieces { IfOk result (λ shown. Shows value.now shown) }
+        ensures alone { IfOk result (λ shown. ShowsNoOther value.now shown) }
+        ensures value { IfOk result (λ shown. shown ≡ shown_address value.now) }
     {
         let marks = marks_of(alloc, value)?;
         let first = first_address(marks.as_slice());
