@@ -94,7 +94,7 @@ none_kept : (q : Mark → Bool) (ms : List Mark) → Never q ms → kept q ms �
 none_kept q [] none = refl
 none_kept q (m ∷ ms) none = left_out q m ms none.0 ∙ none_kept q ms none.1
 
--- what is outside no quotes, comments and brackets
+-- signs outside quotes, comments and brackets
 
 abbrev outside : ℕ → Mark → Bool
 outside k m = is_outside m.place && m.c == k
@@ -160,7 +160,7 @@ more_never k (UnclosedComment inside) = unclosed_never (outside k) (not_outside 
 more_never k (Bracketed address free) = never_both (outside k) (map (at Brackets) address) (at Brackets 62 ∷ []) (brackets_never k address) (refl, tt)
 more_never k (UnclosedBracketed address free) = brackets_never k address
 
--- a sign outside is the sign of a part
+-- such a sign is the sign of a part
 
 abbrev has_sign : ℕ → Part → Bool
 has_sign k p = sign p == k
