@@ -1,11 +1,10 @@
 -- Two temporary names never lead to one file.
-use Rattle.std.proofs.Common.{◌≡◌, ℕ, ◌<◌, ◌≤◌, Bool, true, false, ◌⊎◌, inl, inr, List, [], ◌∷◌, Option, Some, None, is_none, refl, sym, ◌∙◌, ap, subst, arith, if◌then◌else◌}
+use Rattle.std.proofs.Common.{◌≡◌, ℕ, ◌<◌, Bool, true, false, ◌⊎◌, inl, inr, List, [], ◌∷◌, Some, sym, ◌∙◌, subst, arith, if◌then◌else◌}
 use Rattle.mh_base.specs.Entries.{kind_of}
-use Rattle.folder_files.specs.CrashImage.{IsCrashImage}
 use Rattle.folder_files.specs.Directory.{DirectoryMap, now_in}
-use Rattle.folder_files.specs.Histories.{world_after, own, IsLive, IsLockable, IsLegal, begins, answers, fails, is_dead, delivers, crashes, crashes_within, stops, AreCareful}
+use Rattle.folder_files.specs.Histories.{world_after, own, IsLockable, IsLegal, begins, answers, fails, is_dead, delivers, crashes, crashes_within, stops, AreCareful}
 use Rattle.folder_files.specs.Named.{is_held, is_temp_of}
-use Rattle.folder_files.specs.Steps.{made, changed, is_created, with_created, torn, directory_after, MayLeave, Fits}
+use Rattle.folder_files.specs.Steps.{made, changed, is_created, with_created, directory_after}
 use Rattle.folder_files.specs.Worlds.{WorldMap, shown, IsStart}
 use Rattle.folder_files.specs.declared.event.After.{After}
 use Rattle.folder_files.specs.declared.event.After.TheVariants.{Before, Made, Torn}
@@ -24,12 +23,11 @@ use Rattle.step_plans.specs.Starts.{HasNoneOf, HasNoneOfTheirs}
 use Rattle.step_plans.proofs.Sameness.{place_is}
 use Rattle.step_plans.proofs.Names.{is_temp_any, bytes_self, temp_owned, or_left}
 use Rattle.step_plans.proofs.Changes.{arrives, now_below}
-use Rattle.step_plans.proofs.Effects.{IsNext, answered, failed, refused, left, left_directory, left_next, left_grows, made_left, ComesTo, next_goes, world_start, world_crash, world_deliver, world_end, world_next}
+use Rattle.step_plans.proofs.Effects.{IsNext, answered, failed, refused, left_directory, left_next, left_grows, made_left, ComesTo, next_goes, world_start, world_crash, world_deliver, world_end, world_next}
 use Rattle.step_plans.proofs.Discipline.{Cares, temp_target}
 use Rattle.step_plans.proofs.Beginning.{nothing_pending}
-use Rattle.step_plans.proofs.Inv.{Inv}
 use Rattle.step_plans.proofs.Crashes.{ended_by}
-use Rattle.step_plans.proofs.Law.{inv, none_now, none_before, may_made, careful_back, image_within, within_ended}
+use Rattle.step_plans.proofs.Law.{inv, none_before, may_made, careful_back, image_within, within_ended}
 use Rattle.step_plans.proofs.Once.{once, led_case, led_start, crash_led}
 
 temp_own : (r : ℕ) (x : List ℕ) → is_temp_of r (kind_of x) ≡ true → is_own x ≡ true

@@ -1,7 +1,7 @@
 -- The base of a commit is the text that the file has.
 use Rattle.std.proofs.Common.{◌≡◌, ℕ, Bool, true, false, ◌⊎◌, inl, inr, List, [], ◌∷◌, length, nat_lt, Option, Some, None, refl, sym, ◌∙◌, ap, subst, bytes_eq, if◌then◌else◌}
 use Rattle.mh_base.specs.Entries.{kind_of}
-use Rattle.folder_files.specs.Careful.{IsCareful, IsKnown, HasBase, HasLock, WasMade, WasSynced}
+use Rattle.folder_files.specs.Careful.{IsKnown, HasBase, HasLock, WasMade, WasSynced}
 use Rattle.folder_files.specs.Deeds.{Deed, did, Once, last, still, WasDone, HasFailed, now, on}
 use Rattle.folder_files.specs.Directory.{now_in}
 use Rattle.folder_files.specs.Histories.{world_after, own, IsLive, IsLegal, begins, answers, fails, is_dead, delivers, crashes, crashes_within, stops, AreCareful, AreHonest, AreOrderly, IsLockable, Changes, after_delivery, after_end}

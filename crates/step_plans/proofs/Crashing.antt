@@ -1,7 +1,6 @@
 -- What a crash leaves of a committed text is one that it had since the last sync.
 use Rattle.std.proofs.Common.{◌≡◌, ℕ, ◌<◌, Bool, true, false, ◌⊎◌, inl, inr, List, [], ◌∷◌, Option, Some, None, refl, sym, ◌∙◌, ap, subst, arith}
 use Rattle.mh_base.specs.Entries.{kind_of}
-use Rattle.folder_files.specs.Careful.{IsCareful}
 use Rattle.folder_files.specs.CrashImage.{IsCrashImage}
 use Rattle.folder_files.specs.Directory.{Slots, DirectoryMap, lead, kept_lead, now_in}
 use Rattle.folder_files.specs.Histories.{world_after, own, IsLive, IsLegal, begins, answers, fails, is_dead, delivers, crashes, crashes_within, stops, AreCareful, after_delivery, after_end}

@@ -1,5 +1,5 @@
 -- Why a drop is cut only at the length at which it was read: a history in which this is not so, and a message is lost.
-use Rattle.std.proofs.Common.{subst, ◌≡◌, ℕ, ◌<◌, true, inl, inr, List, [], ◌∷◌, length, Some, refl, ap, arith, codes}
+use Rattle.std.proofs.Common.{subst, ◌≡◌, ℕ, true, inl, inr, List, [], ◌∷◌, Some, refl, codes}
 use Rattle.mbox_drop.specs.Drops.{messages, parts, sections, lines}
 use Rattle.folder_files.specs.Careful.{IsCareful, looks}
 use Rattle.folder_files.specs.Histories.{world_after, own, IsLegal, begins, answers, delivers, AreCareful}

@@ -2,7 +2,7 @@
 use Rattle.std.proofs.Common.{◌≡◌, ℕ, Bool, true, ◌⊎◌, inl, inr, List, [], ◌∷◌, Option, Some, None, refl, sym, ◌∙◌, ap, subst}
 use Rattle.mh_base.specs.Entries.{kind_of}
 use Rattle.step_plans.proofs.Tried.{tried, careful_then, none_then}
-use Rattle.folder_files.specs.Careful.{IsCareful, WasMade}
+use Rattle.folder_files.specs.Careful.{WasMade}
 use Rattle.folder_files.specs.CrashImage.{IsCrashImage}
 use Rattle.folder_files.specs.Deeds.{WasDone, Deed}
 use Rattle.folder_files.specs.Directory.{Slots, DirectoryMap, lead, now_in}

@@ -1,7 +1,6 @@
 -- A commit that was synced stands until another.
 use Rattle.std.proofs.Common.{◌≡◌, ℕ, Bool, true, ◌⊎◌, inl, inr, List, ◌∷◌, Some, refl, sym, ◌∙◌, ap, subst, arith}
 use Rattle.mh_base.specs.Entries.{kind_of}
-use Rattle.folder_files.specs.Careful.{IsCareful}
 use Rattle.folder_files.specs.CrashImage.{IsCrashImage}
 use Rattle.folder_files.specs.Deeds.{WasDone}
 use Rattle.folder_files.specs.Directory.{now_in}

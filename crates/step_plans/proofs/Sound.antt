@@ -1,7 +1,7 @@
 -- Whatever stands under a number or a held name is safe; so the bytes that a run read under its held name stay.
 use Rattle.std.proofs.Common.{◌≡◌, ℕ, ◌<◌, Bool, true, false, ◌||◌, inl, inr, List, [], ◌∷◌, length, Option, Some, None, refl, sym, ◌∙◌, ap, subst, arith, bytes_eq, if◌then◌else◌}
 use Rattle.mh_base.specs.Entries.{kind_of}
-use Rattle.folder_files.specs.Careful.{IsCareful, WasSynced, changes, Creates, creates}
+use Rattle.folder_files.specs.Careful.{WasSynced, changes, Creates, creates}
 use Rattle.folder_files.specs.CrashImage.{IsCrashImage}
 use Rattle.folder_files.specs.Deeds.{Deed}
 use Rattle.folder_files.specs.Directory.{Slots, DirectoryMap, after_change, lead, kept_lead, now_in}

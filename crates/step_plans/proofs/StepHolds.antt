@@ -1,7 +1,7 @@
 -- Each careful step that was made keeps what should stand.
 use Rattle.std.proofs.Common.{◌≡◌, ℕ, Bool, true, false, ◌||◌, ◌⊎◌, inl, inr, List, ◌∷◌, Option, Some, None, refl, sym, ap, subst, bytes_eq, if◌then◌else◌}
 use Rattle.mh_base.specs.Entries.{kind_of}
-use Rattle.folder_files.specs.Careful.{IsCareful, WasGivenAway}
+use Rattle.folder_files.specs.Careful.{WasGivenAway}
 use Rattle.folder_files.specs.Directory.{DirectoryMap, touches, now_in}
 use Rattle.folder_files.specs.Histories.{world_after, own, IsLive, IsLockable}
 use Rattle.folder_files.specs.Named.{is_number, is_held, is_taking, is_backing_up}

@@ -4,7 +4,7 @@ use Rattle.mh_base.specs.Entries.{kind_of}
 use Rattle.folder_files.specs.Deeds.{Deed}
 use Rattle.folder_files.specs.Careful.{IsCareful}
 use Rattle.folder_files.specs.Directory.{DirectoryMap, now_in}
-use Rattle.folder_files.specs.Histories.{world_after, own, IsLegal, answers, fails, is_dead, crashes_within, AreCareful, IsLive, Changes}
+use Rattle.folder_files.specs.Histories.{world_after, own, IsLegal, answers, fails, is_dead, crashes_within, IsLive, Changes}
 use Rattle.folder_files.specs.Named.{is_number}
 use Rattle.folder_files.specs.Steps.{made, linked, directory_after, torn}
 use Rattle.folder_files.specs.Worlds.{WorldMap}
