@@ -12,7 +12,7 @@ use Rattle.file_plans.specs.Runs.{Exit, Returned, FilesFailed, InFailed, OutFail
 use Rattle.file_plans.specs.Sightings.{Made, events_since, IsFailed}
 use Rattle.file_plans.specs.Text.{said_of}
 use Rattle.file_plans.proofs.Acting.{acts, acts_over, own_append, since_is}
-use Rattle.file_plans.proofs.Finding.{AllSound, legal_sound, sound_front}
+use Rattle.file_plans.proofs.Soundness.{AllSound, legal_sound, sound_front}
 use Rattle.file_plans.proofs.Giving.{Same}
 
 pub said_are : (ts : List Turn) → said_in ts ≡ said_of (deeds_in ts)

@@ -360,11 +360,11 @@ lift_by run from p x y e OfMemory w = went_off run p (λ r. Return (converted fr
 pub record SameCause {E F : Type 0} (cause : E → Cause) (other : F → Cause) (from : E → F) : Type 0 where
   pub same : (e : E) → other (from e) ≡ cause e
 
-lift_ok : {A E F : Type 0} (run : ℕ) (cause : E → Cause) (other : F → Cause) (from : E → F) (p : Plan (Result A E)) (x y : State) (a : A) → Follows run cause p x y (Ok a) → Follows run other (lifted from p) x y (Ok a)
+pub lift_ok : {A E F : Type 0} (run : ℕ) (cause : E → Cause) (other : F → Cause) (from : E → F) (p : Plan (Result A E)) (x y : State) (a : A) → Follows run cause p x y (Ok a) → Follows run other (lifted from p) x y (Ok a)
 unfolding lifted
 lift_ok run cause other from p x y a f = record { went = went_on run p (λ r. Return (converted from r)) x y y (Ok a) (Returned (Ok a)) f.went (went_return run (Ok a) y) }
 
-lift_err : {A E F : Type 0} (run : ℕ) (cause : E → Cause) (other : F → Cause) (from : E → F) (p : Plan (Result A E)) (x y : State) (e : E) (f : F) → SameCause cause other from → f ≡ from e →
+pub lift_err : {A E F : Type 0} (run : ℕ) (cause : E → Cause) (other : F → Cause) (from : E → F) (p : Plan (Result A E)) (x y : State) (e : E) (f : F) → SameCause cause other from → f ≡ from e →
     Follows run cause p x y (Err e) → Follows run other (lifted from p) x y (Err f)
 unfolding lifted
 lift_err run cause other from p x y e f keeps is w = rw is (record { went = rw (keeps.same e) (lift_by run from p x y e (cause e) w.went) })

@@ -1,14 +1,9 @@
 -- What plans give, one after another, and what every run of a plan says and returns then.
-use Rattle.std.proofs.Common.{◌≡◌, ◌⊎◌, inl, inr, ◌++◌, ◌∷◌, [], List, ℕ, Result, refl, sym, ◌∙◌, ap, append_assoc, append-nil}
-use Rattle.folder_files.specs.Deeds as deeds
-use Rattle.folder_files.specs.Deeds.{did}
+use Rattle.std.proofs.Common.{◌≡◌, ◌⊎◌, inl, inr, ◌++◌, ◌∷◌, [], List, ℕ, Result, Ok, Err, refl, sym, ◌∙◌, ap, append_assoc, append-nil}
 use Rattle.folder_files.specs.declared.step.Step.{Step}
 use Rattle.folder_files.specs.declared.step.Answer.{Answer}
 use Rattle.folder_files.specs.Rows.{IsAnswerOf}
 use Rattle.file_plans.specs.Giving.{Table, Gives, FitAll, Gave}
-use Rattle.file_plans.specs.Mailboxes.{Mailbox}
-use Rattle.file_plans.specs.Sightings.{Shows, Agrees}
-use Rattle.file_plans.proofs.Acting.{acts, acts_over}
 use Rattle.file_plans.proofs.Telling.{memory_no, files_no, in_no, out_no}
 use Rattle.file_plans.specs.Plan.{Hand, Plan, Return, Ask, Try, Say, Hear, Recall, Note, bind, after, ◌>>=◌, converted, lifted}
 use Rattle.file_plans.specs.Runs.{Exit, Returned, FilesFailed, InFailed, OutFailed, NoMemory, Deed, Did, Said, Heard, Runs}
@@ -36,6 +31,27 @@ gives_then {S = S} {A = A} {E = E} t s h text from p k P Q f g =
   where
     returned : (z : S) (j : Hand) (left : List ℕ) (r : Result A E) → P z j left r → Gives t z j left (Return (converted from r)) (λ z j left q. Gives t z j left (after k q) Q)
     returned z j left r q = g z j left r q
+
+-- the next plan goes on where the first returned Ok
+pub gives_on : {S A B E : Type 0} (t : Table S) (s : S) (h : Hand) (text : List ℕ) (p : Plan (Result A E)) (k : A → Plan (Result B E)) (P : S → Hand → List ℕ → Result A E → Type 0) (Q : S → Hand → List ℕ → Result B E → Type 0) →
+    Gives t s h text p P → ((z : S) (j : Hand) (left : List ℕ) (a : A) → P z j left (Ok a) → Gives t z j left (k a) Q) → ((z : S) (j : Hand) (left : List ℕ) (e : E) → P z j left (Err e) → Q z j left (Err e)) → Gives t s h text (p >>= k) Q
+unfolding Gives ◌>>=◌
+gives_on {S = S} {A = A} {E = E} t s h text p k P Q f good bad = gives_bind t s h text p (after k) P Q f next
+  where
+    next : (z : S) (j : Hand) (left : List ℕ) (r : Result A E) → P z j left r → Gives t z j left (after k r) Q
+    next z j left (Ok a) g = good z j left a g
+    next z j left (Err e) g = bad z j left e g
+
+-- what holds at the end may be said weaker
+pub gives_more : {S R : Type 0} (t : Table S) (s : S) (h : Hand) (text : List ℕ) (p : Plan R) (P Q : S → Hand → List ℕ → R → Type 0) → Gives t s h text p P → ((z : S) (j : Hand) (left : List ℕ) (r : R) → P z j left r → Q z j left r) → Gives t s h text p Q
+unfolding Gives
+gives_more t s h text (Return r) P Q f g = g s h text r f
+gives_more t s h text (Ask step next) P Q f g = λ a row live fits. gives_more t (t.after s step a) h text (next a) P Q (f a row live fits) g
+gives_more t s h text (Try step next) P Q f g = λ a row fits. gives_more t (t.after s step a) h text (next a) P Q (f a row fits) g
+gives_more t s h text (Say piece next) P Q f g = (f.0, (f.1.0, f.1.1, gives_more t s h f.1.0 next P Q f.1.2 g))
+gives_more t s h text (Hear most next) P Q f g = λ piece short. gives_more t s h text (next piece) P Q (f piece short) g
+gives_more t s h text (Recall next) P Q f g = gives_more t s h text (next h) P Q f g
+gives_more t s h text (Note hand next) P Q f g = gives_more t s hand text next P Q f g
 
 abbrev pub Same : {R : Type 0} → Exit R → Exit R → Type 0
 Same x y = x ≡ y
@@ -122,23 +138,3 @@ run_gives t s z h k text (Hear most next) (Heard piece ∷ ds) exit Q g fit (sho
 run_gives t s z h k text (Recall next) ds exit Q g fit f = run_gives t s z h k text (next h) ds exit Q g fit f
 run_gives t s z h k text (Note hand next) ds exit Q g fit (inl e) = rw e.0 (stopped z k text exit NoMemory Q e.2 memory_no memory_out)
 run_gives t s z h k text (Note hand next) ds exit Q g fit (inr f) = run_gives t s z hand k text next ds exit Q g fit f
-
--- the answers that one mailbox shows
-abbrev pub by_mailbox : Table Mailbox
-by_mailbox = record { fits = Shows; after = λ m s a. m }
-
-agrees_past : (m : Mailbox) (past : List deeds.Deed) (ds : List Deed) → Agrees m (acts_over past ds) → Agrees m past
-agrees_past m past [] f = f
-agrees_past m past (Did s a ∷ ds) f = (agrees_past m (did s a ∷ past) ds f).1
-agrees_past m past (Said piece ∷ ds) f = agrees_past m past ds f
-agrees_past m past (Heard piece ∷ ds) f = agrees_past m past ds f
-
-agrees_over : (m : Mailbox) (past : List deeds.Deed) (ds : List Deed) → Agrees m (acts_over past ds) → FitAll by_mailbox m ds m
-agrees_over m past [] f = refl
-agrees_over m past (Did s a ∷ ds) f = ((λ live. (agrees_past m (did s a ∷ past) ds f).0), agrees_over m (did s a ∷ past) ds f)
-agrees_over m past (Said piece ∷ ds) f = agrees_over m past ds f
-agrees_over m past (Heard piece ∷ ds) f = agrees_over m past ds f
-
--- where a mailbox agrees with the steps of deeds, their answers fit it
-pub agrees_fit : (m : Mailbox) (ds : List Deed) → Agrees m (acts ds) → FitAll by_mailbox m ds m
-agrees_fit m ds f = agrees_over m [] ds f

@@ -147,5 +147,11 @@ cut_drop path length = do
 
 unfoldable pub unlock : Place → Plan (Result Unit Stop)
 unlock place = do
+  answer ← ask (step.Unlock place)
+  Return (Ok tt)
+
+-- the lock falls, and the call goes on, also where that failed
+unfoldable pub attempt_unlock : Place → Plan (Result Unit Stop)
+attempt_unlock place = do
   answer ← attempt (step.Unlock place)
   Return (Ok tt)

@@ -1,7 +1,11 @@
+pub mod Agreeing
 pub mod Alone
 pub mod Asking
+pub mod Contents
 pub mod Follows
+pub mod Framing
 pub mod Giving
+pub mod MailboxChanges
 pub mod Mailboxes
 pub mod Plan
 pub mod Rules
@@ -9,3 +13,4 @@ pub mod Runs
 pub mod Sightings
 pub mod StaysCareful
 pub mod Text
+pub mod Views

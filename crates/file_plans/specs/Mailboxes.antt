@@ -3,6 +3,7 @@ use Rattle.std.specs.Prelude.{ℕ, Bool, ◌&&◌, ◌^◌, nat_le, nat_lt, zero
 use Rattle.mh_base.specs.Entries.{entry_text}
 use Rattle.mh_base.specs.declared.entry.Entry.TheVariants.{Number, Backup, Held, Sequences}
 use Rattle.folder_files.specs.Directory.{DirectoryMap, now_in}
+use Rattle.folder_files.specs.Places.{is_folder, is_mail}
 use Rattle.folder_files.specs.Worlds.{WorldMap}
 use Rattle.folder_files.specs.declared.place.Place.{Place}
 use Rattle.folder_files.specs.declared.place.Place.TheVariants.{Home, Work}
@@ -46,13 +47,21 @@ as_folder w d = record {
 abbrev pub folder_in : WorldMap → DirectoryMap → Option Folder
 folder_in w d = if d.there then Some (as_folder w d) else None
 
+-- what is shown of a folder of a mail directory alone
+abbrev pub where_folder : {A : Type 0} → Place → Option A → Option A
+where_folder p o = if is_folder p then o else None
+
+-- what is shown of a mail directory alone
+abbrev pub where_mail : {A : Type 0} → Place → Option A → Option A
+where_mail p o = if is_mail p then o else None
+
 -- the mailbox that a world shows, by where its names lead after all changes so far
 unfoldable pub mailbox_of : WorldMap → Mailbox
 mailbox_of w = record {
-  folders = λ p. folder_in w (w.directories p);
+  folders = λ p. where_folder p (folder_in w (w.directories p));
   home = λ name. text_in w (w.directories Home) name;
   work = λ name. text_in w (w.directories Work) name;
-  context = λ p. text_in w (w.directories p) (codes "context");
+  context = λ p. where_mail p (text_in w (w.directories p) (codes "context"));
   outside = w.outside;
 }
 

@@ -1,18 +1,14 @@
 -- Plans: what a call asks of the files, says and hears, each chosen by the answers before it.
 use Rattle.std.specs.Prelude.{ℕ, List, Option, None, Result, Ok, Err}
+use Rattle.mh_profile.specs.declared.named_value.NamedValue.{NamedValue}
 use Rattle.folder_files.specs.declared.step.Step.{Step}
 use Rattle.folder_files.specs.declared.step.Answer.{Answer}
-
--- one entry of the context: its name and its value
-pub record Pair : Type 0 where
-  pub name : List ℕ
-  pub value : List ℕ
 
 -- what a run keeps beside the files: the number of its next temporary name, and the context's
 -- entries as it last read or wrote them
 pub record Hand : Type 0 where
   pub next : ℕ
-  pub context : Option (List Pair)
+  pub context : Option (List NamedValue)
 
 -- a run's hand at its start
 abbrev pub fresh : Hand

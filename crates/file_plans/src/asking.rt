@@ -1,5 +1,5 @@
 // Steps asked for, a function for each kind.
-ghost use Rattle.std.specs.Prelude.{◌≡◌, ◌≢◌, ◌≤◌, IfOk};
+ghost use Rattle.std.specs.Prelude.{◌≡◌, ◌≢◌, ◌≤◌, ℕ, List, IfOk, OnOk};
 ghost use Rattle.folder_files.specs.Rows.{IsAnswerOf};
 ghost use Rattle.file_plans.specs.Plan.{Hand, ask as ask_plan, attempt as attempt_plan};
 ghost use Rattle.file_plans.specs.Follows.{Follows, by_hand};
@@ -19,6 +19,7 @@ ghost use Rattle.file_plans.specs.Asking.{
   read_drop as read_drop_plan,
   cut_drop as cut_drop_plan,
   unlock as unlock_plan,
+  attempt_unlock as attempt_unlock_plan,
 };
 
 use crate::answers::{
@@ -29,6 +30,7 @@ use crate::{DropCut, DropPiece, Entered, FolderMade, Listing, Locking, Reading, 
 use folder_files::{Answer, FilePath, Files, Place, Step};
 use mh_base::{Bytes, Duplicate, Name};
 use std::alloc::{AllocError, Global};
+use std::mem;
 use thiserror::Error;
 
 /// Why a step has no answer of its row.
@@ -94,7 +96,7 @@ pub fn attempt<F: Files>(
     attempt_by(alloc, run, files, &step)
 }
 
-fn let_go(_answer: Answer) {}
+fn forget(_answer: Answer) {}
 
 fn list_step(alloc: Global, place: &Place) -> Result<Step, AllocError>
     ensures { IfOk result (λ s. s ≡ Step.List place.now) }
@@ -114,14 +116,27 @@ fn make_folder_step(alloc: Global, place: &Place) -> Result<Step, AllocError>
     Ok(Step::MakeFolder(place.duplicate(alloc)?))
 }
 
-fn create_step(alloc: Global, place: &Place, name: &Name, bytes: &Bytes) -> Result<Step, AllocError>
-    ensures { IfOk result (λ s. s ≡ Step.Create place.now name.now bytes.now) }
+/// The bytes go into the step.
+fn create_step(
+    alloc: Global,
+    place: &Place,
+    name: &Name,
+    bytes: &mut Bytes,
+) -> Result<Step, AllocError>
+    ensures { IfOk result (λ s. s ≡ Step.Create place.now name.now bytes.old) }
 {
-    Ok(Step::Create(
-        place.duplicate(alloc)?,
-        name.duplicate(alloc)?,
-        bytes.duplicate(alloc)?,
-    ))
+    let place = place.duplicate(alloc)?;
+    let name = name.duplicate(alloc)?;
+    Ok(Step::Create(place, name, mem::replace(bytes, Bytes::new(alloc))))
+}
+
+/// The bytes come out of the step again.
+fn give_back(step: Step, bytes: &mut Bytes)
+    ensures { (p : Place) (n b : List ℕ) → step ≡ Step.Create p n b → bytes.new ≡ b }
+{
+    if let Step::Create(_, _, created) = step {
+        *bytes = created;
+    }
 }
 
 fn sync_file_step(alloc: Global, place: &Place, name: &Name) -> Result<Step, AllocError>
@@ -234,19 +249,21 @@ pub fn ask_make_folder<F: Files>(
     Ok(folder_made_from(answer))
 }
 
-/// A name leads to a new file.
+/// A name leads to a new file with these bytes, which stay with the caller.
 pub fn ask_create<F: Files>(
     alloc: Global,
     run: u128,
     files: &mut F,
     place: &Place,
     name: &Name,
-    bytes: &Bytes,
+    bytes: &mut Bytes,
 ) -> Result<Entered, Stop>
-    ensures { (h : Hand) → Follows run stop_cause (create_plan place.now name.now bytes.now) (by_hand h (F.state files.old)) (by_hand h (F.state files.new)) result }
+    ensures plan { (h : Hand) → Follows run stop_cause (create_plan place.now name.now bytes.old) (by_hand h (F.state files.old)) (by_hand h (F.state files.new)) result }
+    ensures kept { OnOk result (bytes.new ≡ bytes.old) }
 {
     let step = create_step(alloc, place, name, bytes)?;
-    let answer = ask(alloc, run, files, step)?;
+    let answer = ask_by(alloc, run, files, &step)?;
+    give_back(step, bytes);
     Ok(entered_from(answer))
 }
 
@@ -386,7 +403,7 @@ pub fn ask_cut_drop<F: Files>(
     Ok(drop_cut_from(answer))
 }
 
-/// The lock of a directory falls; the call goes on, also where this fails.
+/// The lock of a directory falls; where that fails the call ends. For a lock after which the call may change something.
 pub fn ask_unlock<F: Files>(
     alloc: Global,
     run: u128,
@@ -396,7 +413,22 @@ pub fn ask_unlock<F: Files>(
     ensures { (h : Hand) → Follows run stop_cause (unlock_plan place.now) (by_hand h (F.state files.old)) (by_hand h (F.state files.new)) result }
 {
     let place = place.duplicate(alloc)?;
+    let answer = ask(alloc, run, files, Step::Unlock(place))?;
+    forget(answer);
+    Ok(())
+}
+
+/// The lock of a directory falls; the call goes on, also where that fails. For the end of a refusal, which stands in any case.
+pub fn attempt_unlock<F: Files>(
+    alloc: Global,
+    run: u128,
+    files: &mut F,
+    place: &Place,
+) -> Result<(), Stop>
+    ensures { (h : Hand) → Follows run stop_cause (attempt_unlock_plan place.now) (by_hand h (F.state files.old)) (by_hand h (F.state files.new)) result }
+{
+    let place = place.duplicate(alloc)?;
     let answer = attempt(alloc, run, files, Step::Unlock(place))?;
-    let_go(answer);
+    forget(answer);
     Ok(())
 }

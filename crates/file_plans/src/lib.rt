@@ -10,6 +10,6 @@ pub use answers::{DropCut, DropPiece, Entered, FolderMade, Listing, Locking, Rea
 pub use asking::{
     Stop, ask, ask_create, ask_cut_drop, ask_link, ask_list, ask_lock, ask_make_folder, ask_read,
     ask_read_drop, ask_read_file, ask_rename, ask_sync_file, ask_sync_folder, ask_unlink,
-    ask_unlock, attempt,
+    ask_unlock, attempt, attempt_unlock,
 };
 pub use speaking::{hear, say};

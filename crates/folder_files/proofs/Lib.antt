@@ -11,3 +11,8 @@ pub mod Annotating
 pub mod Found
 pub mod Onces
 pub mod Owns
+pub mod Names
+pub mod Sameness
+pub mod Changes
+pub mod Effects
+pub mod Beginning

@@ -1,5 +1,5 @@
 -- Small cases of the definitions, worked out by hand, as facts that compute.
-use Rattle.std.proofs.Common.{◌≡◌, ◌⊎◌, inl, inr, ◌∷◌, [], ℕ, Bool, true, false, List, refl, subst, sym, Some, None, ◌==◌, ◌+◌, ◌||◌, bytes_eq}
+use Rattle.std.proofs.Common.{◌≡◌, inl, inr, ◌∷◌, [], ℕ, Bool, true, false, List, refl, subst, sym, Some, None, ◌==◌, ◌+◌, ◌||◌, bytes_eq}
 use Rattle.std.specs.Prelude.{if◌then◌else◌, is_some, Contains}
 use Rattle.std.proofs.Common.{arith}
 use Rattle.std.proofs.lemmas.Slice.Eq.{bytes_eq-Decides}

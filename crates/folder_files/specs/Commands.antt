@@ -2,7 +2,7 @@
 use Rattle.std.specs.Prelude.{◌≡◌, ◌⊎◌, ◌++◌, ℕ, Bool, true, false, List, Contains}
 use Rattle.mh_base.specs.Entries.{kind_of}
 use Rattle.mh_base.specs.declared.entry.Entry.TheVariants.{Number}
-use Rattle.folder_files.specs.Careful.{Kind, Makes, Creates, Puts, Gives, Takes, Removes, Drops, Discards, Commits, Clears, Cuts, Stores, IsRead, WasReady}
+use Rattle.folder_files.specs.Careful.{Kind, Makes, Creates, Puts, Gives, Takes, Removes, Drops, Discards, Commits, Clears, Stores, IsRead, WasReady}
 use Rattle.folder_files.specs.Deeds.{Deed, Once}
 use Rattle.folder_files.specs.Histories.{Changes}
 use Rattle.folder_files.specs.Named.{is_held}

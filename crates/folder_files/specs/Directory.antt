@@ -1,5 +1,5 @@
 -- A directory: what its names lead to on the disk, and the changes that are not there yet.
-use Rattle.std.specs.Prelude.{◌≡◌, ℕ, Bool, true, ◌||◌, bytes_eq, List, [], ◌∷◌, length, Option, Some, None, if◌then◌else◌}
+use Rattle.std.specs.Prelude.{◌≡◌, ℕ, Bool, true, false, ◌||◌, bytes_eq, List, [], ◌∷◌, length, Option, Some, None, if◌then◌else◌}
 use Rattle.folder_files.specs.declared.world.Change.{Change}
 use Rattle.folder_files.specs.declared.world.Change.TheVariants.{Set, Gone, Moved}
 
@@ -33,6 +33,11 @@ lead s (c ∷ cs) x = after_change c (lead s cs) x
 abbrev pub kept_lead : Slots → List Change → (ℕ → Bool) → Slots
 kept_lead s [] keep x = s x
 kept_lead s (c ∷ cs) keep x = if keep (length cs) then after_change c (kept_lead s cs keep) x else kept_lead s cs keep x
+
+-- no change touches the name
+abbrev pub IsUntouched : List ℕ → List Change → Type 0
+IsUntouched x [] = Unit {0}
+IsUntouched x (c ∷ cs) = (touches c x ≡ false) × IsUntouched x cs
 
 -- what a name leads to now
 abbrev pub now_in : DirectoryMap → Slots

@@ -11,6 +11,7 @@ pub mod Named
 pub mod Places
 pub mod Rows
 pub mod Seen
+pub mod Standing
 pub mod Steps
 pub mod Story
 pub mod Walks

@@ -37,6 +37,13 @@ is_folder Work = false
 is_folder (Mail path) = false
 is_folder (Folder path name) = true
 
+-- a mail directory
+abbrev pub is_mail : Place → Bool
+is_mail Home = false
+is_mail Work = false
+is_mail (Mail path) = true
+is_mail (Folder path name) = false
+
 -- the first text, then a slash, then more
 abbrev pub continues : List ℕ → List ℕ → Bool
 continues [] [] = false

@@ -4,7 +4,7 @@ use file_plans::{
     DropCut, DropPiece, Entered, FolderMade, Listing, Locking, Reading, Touched, ask, ask_create,
     ask_cut_drop, ask_link, ask_list, ask_lock, ask_make_folder, ask_read, ask_read_drop,
     ask_read_file, ask_rename, ask_sync_file, ask_sync_folder, ask_unlink, ask_unlock, attempt,
-    hear, say,
+    attempt_unlock, hear, say,
 };
 use folder_files::{Answer, FilePath, HostFiles, Place, Step};
 use mh_base::{FolderName, Name, PlainSink, PlainSource, Text};
@@ -76,11 +76,9 @@ pub fn is_created(
 ) -> Result<bool, Fail> {
     let alloc = rt.alloc();
     let name = name(alloc, text)?;
-    let bytes = bytes_of(alloc, b"Subject: x\n")?;
-    Ok(matches!(
-        ask_create(alloc, ONE, files, place, &name, &bytes)?,
-        Entered::Done
-    ))
+    let mut bytes = bytes_of(alloc, b"Subject: x\n")?;
+    let entered = ask_create(alloc, ONE, files, place, &name, &mut bytes)?;
+    Ok(matches!(entered, Entered::Done) && bytes.as_slice() == b"Subject: x\n".as_slice())
 }
 
 fn is_file_synced(
@@ -224,6 +222,8 @@ fn locking(
     assert!(rt; !is_locked(rt, TWO, others, home)?);
     ask_unlock(rt.alloc(), ONE, files, home)?;
     assert!(rt; is_locked(rt, TWO, others, home)?);
+    attempt_unlock(rt.alloc(), TWO, others, home)?;
+    assert!(rt; is_locked(rt, ONE, files, home)?);
     assert!(rt; has(rt, files, home, b".mh_lock")?);
     Ok(())
 }

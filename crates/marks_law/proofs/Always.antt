@@ -22,8 +22,8 @@ use Rattle.folder_files.specs.declared.world.Change.{Change}
 use Rattle.folder_files.specs.declared.world.World.{World}
 use Rattle.step_plans.specs.Moments.{IsTriedAt, live, cut}
 use Rattle.step_plans.specs.Starts.{HasNoneOfTheirs}
-use Rattle.step_plans.proofs.Names.{not_both}
-use Rattle.step_plans.proofs.Effects.{IsNext, answered, failed, refused, left, world_deliver, world_end, world_crash, world_next, world_failed}
+use Rattle.folder_files.proofs.Names.{not_both}
+use Rattle.folder_files.proofs.Effects.{IsNext, answered, failed, refused, left, world_deliver, world_end, world_crash, world_next, world_failed}
 use Rattle.step_plans.proofs.Past.{own_crash}
 use Rattle.step_plans.proofs.Inv.{Inv}
 use Rattle.step_plans.proofs.Crashes.{ended_by}

@@ -23,14 +23,14 @@ use Rattle.folder_files.specs.declared.step.Step.TheVariants as step
 use Rattle.folder_files.specs.declared.world.Change.{Change}
 use Rattle.folder_files.specs.declared.world.World.{World}
 use Rattle.step_plans.specs.Commits.{text_of}
-use Rattle.step_plans.specs.Standing.{is_standing}
+use Rattle.folder_files.specs.Standing.{is_standing}
 use Rattle.step_plans.specs.Starts.{HasNoneOfTheirs}
-use Rattle.step_plans.proofs.Names.{num_same, num_apart, not_both, or_left, or_last, number_stands}
+use Rattle.folder_files.proofs.Names.{num_same, num_apart, not_both, or_left, or_last, number_stands}
 use Rattle.step_plans.proofs.Closing.{AtEach}
-use Rattle.step_plans.proofs.Changes.{Goes, AllBelow, lead_below, now_below, goes_below}
+use Rattle.folder_files.proofs.Changes.{Goes, AllBelow, lead_below, now_below, goes_below}
 use Rattle.step_plans.proofs.Once.{at_more, at_goes}
 use Rattle.step_plans.proofs.Crashing.{at_now}
-use Rattle.step_plans.proofs.Effects.{IsNext, answered, failed, refused, left, left_keeps, left_grows, ComesTo, next_goes, world_deliver, world_end, world_next}
+use Rattle.folder_files.proofs.Effects.{IsNext, answered, failed, refused, left, left_keeps, left_grows, ComesTo, next_goes, world_deliver, world_end, world_next}
 use Rattle.step_plans.proofs.Past.{acted}
 use Rattle.step_plans.proofs.Inv.{Inv}
 use Rattle.step_plans.proofs.Crashes.{ended_by}

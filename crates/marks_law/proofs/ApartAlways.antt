@@ -24,7 +24,7 @@ use Rattle.step_plans.specs.Commits.{text_of, HadText}
 use Rattle.step_plans.specs.Starts.{HasNoneOfTheirs}
 use Rattle.step_plans.proofs.Closing.{AtEach}
 use Rattle.step_plans.proofs.Crashing.{IsFirm, HadAll, had_all}
-use Rattle.step_plans.proofs.Effects.{IsNext, answered, failed, refused, left, world_deliver, world_end, world_crash, world_next, world_failed}
+use Rattle.folder_files.proofs.Effects.{IsNext, answered, failed, refused, left, world_deliver, world_end, world_crash, world_next, world_failed}
 use Rattle.step_plans.proofs.Past.{own_crash}
 use Rattle.step_plans.proofs.Crashes.{ended_by}
 use Rattle.step_plans.proofs.Law.{inv, none_before, may_made, careful_back, image_within, within_ended}

@@ -19,14 +19,14 @@ use Rattle.folder_files.specs.declared.step.Step.TheVariants as step
 use Rattle.folder_files.specs.declared.world.World.{World}
 use Rattle.step_plans.specs.Moments.{Leads, HasLed, now, on, IsTriedAt, live, cut}
 use Rattle.step_plans.specs.Starts.{HasNoneOf, HasNoneOfTheirs}
-use Rattle.step_plans.proofs.Sameness.{place_is}
-use Rattle.step_plans.proofs.Names.{not_both, bytes_self, bytes_false, temp_owned, is_temp_run, number_text}
-use Rattle.step_plans.proofs.Changes.{unseen_leads}
-use Rattle.step_plans.proofs.Effects.{IsNext, answered, failed, refused, world_start, world_deliver, world_end, world_next}
+use Rattle.folder_files.proofs.Sameness.{place_is}
+use Rattle.folder_files.proofs.Names.{not_both, bytes_self, bytes_false, temp_owned, is_temp_run, number_text}
+use Rattle.folder_files.proofs.Changes.{unseen_leads}
+use Rattle.folder_files.proofs.Effects.{IsNext, answered, failed, refused, world_start, world_deliver, world_end, world_next}
 use Rattle.step_plans.proofs.Past.{once_more, once_mine}
 use Rattle.step_plans.proofs.Discipline.{Cares, careful_rename, committed_lock}
 use Rattle.step_plans.proofs.Committing.{commit_of, apart_own, temp_own}
-use Rattle.step_plans.proofs.Beginning.{nothing_pending}
+use Rattle.folder_files.proofs.Beginning.{nothing_pending}
 use Rattle.step_plans.proofs.Crashes.{ended_by}
 use Rattle.step_plans.proofs.Law.{inv, none_now, none_before}
 use Rattle.step_plans.proofs.Told.{lives_before}

@@ -22,8 +22,9 @@ use Rattle.folder_files.specs.declared.world.Change.{Change}
 use Rattle.folder_files.specs.declared.world.Change.TheVariants.{Set, Moved}
 use Rattle.folder_files.specs.declared.world.World.{World}
 use Rattle.step_plans.specs.Moments.{Leads, IsTriedAt, live}
-use Rattle.step_plans.proofs.Names.{bytes_true, bytes_false, number_text}
-use Rattle.step_plans.proofs.Stage.{inbox, one, temp, one_is, temp_is, at_all}
+use Rattle.folder_files.proofs.Names.{bytes_true, bytes_false, number_text}
+use Rattle.step_plans.proofs.Stage.{inbox, one, temp, one_is, temp_is}
+use Rattle.folder_files.proofs.Sameness.{at_all}
 use Rattle.marks_law.specs.Heirs.{IsHeir, Descends, itself, further}
 use Rattle.marks_law.specs.Bearers.{Marking, Bears, marks, stood, set, kept, on}
 use Rattle.marks_law.specs.Sound.{IsSound, IsOwn, IsOrdered, AreSound, AreSoundIn}

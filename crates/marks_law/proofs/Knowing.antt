@@ -23,10 +23,10 @@ use Rattle.folder_files.specs.declared.step.Step.TheVariants as step
 use Rattle.folder_files.specs.declared.world.World.{World}
 use Rattle.step_plans.specs.Commits.{IsBase, text_of, text_at}
 use Rattle.step_plans.specs.Starts.{HasNoneOfTheirs}
-use Rattle.step_plans.proofs.Sameness.{place_is}
-use Rattle.step_plans.proofs.Names.{bytes_self}
-use Rattle.step_plans.proofs.Changes.{now_below}
-use Rattle.step_plans.proofs.Effects.{IsNext, answered, failed, refused, left, left_directory, left_keeps, next_fits, fits_as, world_deliver, world_end, world_next}
+use Rattle.folder_files.proofs.Sameness.{place_is}
+use Rattle.folder_files.proofs.Names.{bytes_self}
+use Rattle.folder_files.proofs.Changes.{now_below}
+use Rattle.folder_files.proofs.Effects.{IsNext, answered, failed, refused, left, left_directory, left_keeps, next_fits, fits_as, world_deliver, world_end, world_next}
 use Rattle.step_plans.proofs.Past.{did_both, once_none}
 use Rattle.step_plans.proofs.Inv.{Inv}
 use Rattle.step_plans.proofs.Told.{lives_before}

@@ -22,10 +22,10 @@ use Rattle.folder_files.specs.declared.step.Step.TheVariants as step
 use Rattle.folder_files.specs.declared.world.Change.{Change}
 use Rattle.folder_files.specs.declared.world.World.{World}
 use Rattle.step_plans.specs.Starts.{HasNoneOfTheirs}
-use Rattle.step_plans.proofs.Sameness.{place_same, place_is}
-use Rattle.step_plans.proofs.Names.{num_same, num_apart, not_both, or_left, or_last}
-use Rattle.step_plans.proofs.Changes.{Goes, lead_below, AllBelow, now_below, goes_below}
-use Rattle.step_plans.proofs.Effects.{IsNext, answered, failed, refused, left, left_directory, left_keeps, left_grows, ComesTo, next_goes, world_deliver, world_end, world_next}
+use Rattle.folder_files.proofs.Sameness.{place_same, place_is}
+use Rattle.folder_files.proofs.Names.{num_same, num_apart, not_both, or_left, or_last}
+use Rattle.folder_files.proofs.Changes.{Goes, lead_below, AllBelow, now_below, goes_below}
+use Rattle.folder_files.proofs.Effects.{IsNext, answered, failed, refused, left, left_directory, left_keeps, left_grows, ComesTo, next_goes, world_deliver, world_end, world_next}
 use Rattle.step_plans.proofs.Past.{acted}
 use Rattle.step_plans.proofs.Inv.{Inv}
 use Rattle.step_plans.proofs.Crashes.{ended_by}

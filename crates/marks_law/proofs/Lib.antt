@@ -16,3 +16,5 @@ pub mod Refiling
 pub mod Settling
 pub mod Disordered
 pub mod Bearing
+pub mod Pledging
+pub mod Minded

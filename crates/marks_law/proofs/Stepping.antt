@@ -25,12 +25,12 @@ use Rattle.folder_files.specs.declared.world.Change.TheVariants.{Gone, Moved}
 use Rattle.folder_files.specs.declared.world.World.{World}
 use Rattle.step_plans.specs.Commits.{text_of, text_at, IsBase}
 use Rattle.step_plans.specs.Moments.{live}
-use Rattle.step_plans.specs.Standing.{is_standing, is_own}
+use Rattle.folder_files.specs.Standing.{is_standing, is_own}
 use Rattle.folder_files.proofs.Kinding.{MayRename}
-use Rattle.step_plans.proofs.Sameness.{place_is}
-use Rattle.step_plans.proofs.Names.{num_same, num_itself, both, not_both, or_left, is_number_unheld, is_committed_unown, bytes_self, bytes_true, bytes_false, is_temp_any, is_held_any, is_temp_quiet, is_taking_held, is_backing_quiet, is_committed_quiet, held_stands}
-use Rattle.step_plans.proofs.Changes.{now_below}
-use Rattle.step_plans.proofs.Effects.{IsNext, answered, failed, refused, left, left_directory, left_keeps}
+use Rattle.folder_files.proofs.Sameness.{place_is}
+use Rattle.folder_files.proofs.Names.{num_same, num_itself, both, not_both, or_left, is_number_unheld, is_committed_unown, bytes_self, bytes_true, bytes_false, is_temp_any, is_held_any, is_temp_quiet, is_taking_held, is_backing_quiet, is_committed_quiet, held_stands}
+use Rattle.folder_files.proofs.Changes.{now_below}
+use Rattle.folder_files.proofs.Effects.{IsNext, answered, failed, refused, left, left_directory, left_keeps}
 use Rattle.step_plans.proofs.Inv.{Inv}
 use Rattle.step_plans.proofs.Discipline.{careful_create, careful_rename, Cares, place_lock, committed_lock}
 use Rattle.step_plans.proofs.Committing.{commit_of, apart_own, temp_own, backup_uncommitted, left_spares, spares_now}

@@ -7,7 +7,6 @@ use Rattle.folder_files.specs.Directory.{Slots, DirectoryMap, now_in}
 use Rattle.folder_files.specs.Histories.{world_after, own, IsLive, IsLegal, begins, answers, fails, is_dead, delivers, crashes, crashes_within, stops, AreCareful, AreHonest, AreOrderly, Changes, after_delivery, after_end}
 use Rattle.folder_files.specs.Named.{is_committed}
 use Rattle.folder_files.specs.Places.{is_folder}
-use Rattle.folder_files.specs.Steps.{directory_after}
 use Rattle.folder_files.specs.Steps as steps
 use Rattle.folder_files.specs.Worlds.{WorldMap, IsStart}
 use Rattle.folder_files.specs.declared.event.After.{After}
@@ -21,13 +20,13 @@ use Rattle.folder_files.specs.declared.step.Step.{Step}
 use Rattle.folder_files.specs.declared.step.Step.TheVariants as step
 use Rattle.folder_files.specs.declared.world.World.{World}
 use Rattle.step_plans.specs.Commits.{IsBase, text_at}
-use Rattle.step_plans.specs.Standing.{is_standing}
+use Rattle.folder_files.specs.Standing.{is_standing}
 use Rattle.step_plans.specs.Starts.{HasNoneOfTheirs}
-use Rattle.step_plans.proofs.Sameness.{place_is}
+use Rattle.folder_files.proofs.Sameness.{place_is}
 use Rattle.step_plans.proofs.Closing.{AtEach}
-use Rattle.step_plans.proofs.Changes.{now_below, goes_below}
+use Rattle.folder_files.proofs.Changes.{now_below, goes_below}
 use Rattle.step_plans.proofs.Once.{at_more, at_goes}
-use Rattle.step_plans.proofs.Effects.{IsNext, answered, failed, refused, left, left_directory, left_grows, ComesTo, next_goes, next_fits, world_deliver, world_end, world_next}
+use Rattle.folder_files.proofs.Effects.{IsNext, answered, failed, refused, left, left_directory, left_grows, ComesTo, next_goes, next_fits, world_deliver, world_end, world_next}
 use Rattle.step_plans.proofs.Past.{did_step, did_answer, once_none}
 use Rattle.step_plans.proofs.Inv.{Inv}
 use Rattle.step_plans.proofs.Told.{lives_before}

@@ -4,3 +4,4 @@ pub mod Sound
 pub mod Minding
 pub mod Always
 pub mod Apart
+pub mod Pledging

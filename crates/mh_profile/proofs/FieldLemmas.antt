@@ -26,7 +26,7 @@ named name None f e = cc
 named name (Some v) f e = let g : record { name = name; value = Rattle.mail_headers.specs.Lines.without_end v } ≡ f = cc in ap (λ x. x.name) g
 
 -- the name of a field is a field's name
-field_valid : (text : List ℕ) (f : FieldText) → field_in text ≡ Some f → IsFieldName f.name
+pub field_valid : (text : List ℕ) (f : FieldText) → field_in text ≡ Some f → IsFieldName f.name
 unfolding field_in
 field_valid text f e = ⊎_elim
     (λ t. let h : None ≡ Some f = sym (ap (λ b. if b then None else field_by (name_in text) (after_colon (from_colon text))) t) ∙ e in cc)

@@ -1,8 +1,9 @@
-mod EntryLemmas
-mod FieldLemmas
+pub mod EntryLemmas
+pub mod FieldLemmas
 pub mod KeyLemmas
 pub mod LineLemmas
 mod MapLemmas
 pub mod PrintLemmas
 mod ReadLemmas
 pub mod UnfoldingLemmas
+pub mod ValidLemmas

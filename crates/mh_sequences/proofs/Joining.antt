@@ -16,7 +16,7 @@ joins_none Either = refl
 joins_none FirstAlone = refl
 joins_none Second = refl
 
-above_from : (low : ℕ) (rs : List Run) → AreRunsFrom low rs → (n : ℕ) → 999999 < n → has rs n ≡ false
+pub above_from : (low : ℕ) (rs : List Run) → AreRunsFrom low rs → (n : ℕ) → 999999 < n → has rs n ≡ false
 above_from low [] h n lt = refl
 above_from low (r ∷ rs) h n lt =
     let first : inside r n ≡ false = grind (arith, nat_tests) in

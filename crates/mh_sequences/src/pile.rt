@@ -1,7 +1,7 @@
 // Many runs put in order at once.
 ghost use Rattle.std.specs.Prelude.{◌≡◌, ◌≤◌, ◌||◌, ℕ, [], IfOk, OnOk};
 ghost use Rattle.std.specs.List.{All};
-ghost use Rattle.mh_sequences.specs.Runs.{has, inside, IsRun};
+ghost use Rattle.mh_sequences.specs.Runs.{AreRuns, has, inside, IsRun};
 
 use crate::{NumSet, Run};
 use std::alloc::{AllocError, Global};
@@ -95,7 +95,8 @@ impl Pile {
 
     /// The set of all numbers that were added.
     pub fn into_set(self) -> Result<NumSet, AllocError>
-        ensures { IfOk result (λ s. (n : ℕ) → has s.runs n ≡ has self n) }
+        ensures numbers { IfOk result (λ s. (n : ℕ) → has s.runs n ≡ has self n) }
+        ensures valid { IfOk result (λ s. AreRuns s.runs) }
     {
         let Pile { alloc, mut runs } = self;
         set_of(alloc, &mut runs)

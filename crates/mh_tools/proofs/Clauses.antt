@@ -1,303 +1,370 @@
--- The promises of the top call, from its plan.
-use Rattle.std.proofs.Common.{◌≡◌, ◌≢◌, ◌⊎◌, inl, inr, ◌++◌, ℕ, ◌+◌, List, [], ◌∷◌, Option, Some, None, Result, Ok, Err, length, refl, sym, ◌∙◌, ap, subst, append-nil}
+-- The promises of the top call, from the plan that it followed.
+use Rattle.std.proofs.Common.{◌≡◌, ◌≢◌, ◌⊎◌, inl, inr, ◌++◌, ◌<◌, ◌^◌, ℕ, ◌+◌, Bool, true, false, List, [], Option, Some, None, Result, Ok, Err, length, refl, sym, ◌∙◌, ap, subst, append-nil}
 use Rattle.mh_base.specs.Counts.{Rose}
-use Rattle.mh_base.specs.Streams.{SourceState, SinkState, Adds}
-use Rattle.folder_files.specs.Commands.{Looking}
+use Rattle.mh_base.specs.Streams.{Adds, AddsPart}
 use Rattle.folder_files.specs.Deeds as deeds
-use Rattle.folder_files.specs.Deeds.{did}
 use Rattle.folder_files.specs.Histories.{own, past_of}
-use Rattle.folder_files.specs.Story.{Story, FilesState, Grows, GrowsBy}
-use Rattle.folder_files.specs.Steps.{Fits}
-use Rattle.folder_files.specs.Worlds.{WorldMap}
+use Rattle.folder_files.specs.Story.{Story, Grows, GrowsBy}
 use Rattle.folder_files.specs.declared.place.Place.{Place}
 use Rattle.folder_files.specs.declared.refusal.Refusal.{Refusal}
+use Rattle.folder_files.specs.declared.refusal.Which.{Which}
 use Rattle.folder_files.specs.declared.refusal.Which.TheVariants.{Files, Source, Out}
-use Rattle.folder_files.specs.declared.step.Step.{Step}
-use Rattle.folder_files.specs.declared.step.Step.TheVariants as step
-use Rattle.folder_files.specs.declared.step.Answer.{Answer}
-use Rattle.folder_files.specs.declared.step.Answer.TheVariants as answer
-use Rattle.file_plans.specs.Alone.{first_of, mailbox_at}
-use Rattle.file_plans.specs.Follows.{Went, all, filed_in, deeds_in}
+use Rattle.file_plans.specs.Agreeing.{MailboxAgrees, AgreesWith, is_first_met, numbers_put}
+use Rattle.file_plans.specs.Alone.{first_of, world_at, mailbox_at}
+use Rattle.file_plans.specs.Contents.{Contents, contents_of, mailbox_in}
+use Rattle.file_plans.specs.Follows.{Went, filed_in, deeds_in}
 use Rattle.file_plans.specs.Giving as giving
-use Rattle.file_plans.specs.Mailboxes.{Mailbox, mailbox_of}
-use Rattle.file_plans.specs.Plan.{fresh}
-use Rattle.file_plans.specs.Rules.{Kept}
-use Rattle.file_plans.specs.Runs.{Exit, Returned, FilesFailed, InFailed, OutFailed, exit_of}
-use Rattle.file_plans.specs.Sightings.{AreMade, Agrees, Made, events_since, IsFailed}
-use Rattle.file_plans.specs.StaysCareful.{StaysCareful}
+use Rattle.file_plans.specs.Mailboxes.{Mailbox}
+use Rattle.file_plans.specs.Plan.{Hand, fresh}
+use Rattle.file_plans.specs.Runs.{Exit, Returned, OutFailed, OfPlan, Runs, exit_by, exit_of}
+use Rattle.file_plans.specs.Sightings.{AreMade, Made, events_since, IsFailed}
 use Rattle.file_plans.specs.Text.{said_of}
+use Rattle.file_plans.specs.Views.{View, first_view}
 use Rattle.file_plans.proofs.Acting.{acts, acts_made}
-use Rattle.file_plans.proofs.Consecutive.{lone}
-use Rattle.file_plans.proofs.Failing.{said_are, failed_made, made_failed, run_failed, sound_since}
-use Rattle.file_plans.proofs.Finding.{find}
-use Rattle.file_plans.proofs.Giving.{run_gives, by_mailbox, agrees_fit}
-use Rattle.file_plans.proofs.Keeping.{run_keeps}
-use Rattle.file_plans.proofs.Standing.{AllFit, world_agrees, made_fits, listed_not_gone}
+use Rattle.file_plans.proofs.Beside.{lone_changes}
+use Rattle.file_plans.proofs.Both.{GaveSeen, seen_gave, alone_gave, possible_agrees}
+use Rattle.file_plans.proofs.Contents.{mailbox_is}
+use Rattle.file_plans.proofs.Existing.{puts_in}
+use Rattle.file_plans.proofs.Failing.{said_are, failed_made, made_failed, run_failed}
+use Rattle.step_plans.specs.CommandFaults.{command_cause}
+use Rattle.step_plans.specs.Pledges.{Pledge}
+use Rattle.step_plans.specs.Promises.{Promises}
+use Rattle.step_plans.specs.declared.command_fault.CommandFault.{CommandFault}
+use Rattle.step_plans.specs.declared.command_fault.CommandFault.TheVariants as fault
+use Rattle.command_stages.specs.Works.{Work}
+use Rattle.command_line.specs.Causes.{ShowsCommandFault}
+use Rattle.command_line.specs.Command.{command}
+use Rattle.command_line.specs.Ended.{ended_cause}
+use Rattle.command_line.specs.Outcomes.{work_of}
+use Rattle.command_line.specs.declared.ended.Ended.{Ended}
+use Rattle.command_line.proofs.Ending.{EndsAs, run_ends, never_hears}
+use Rattle.command_line.proofs.Giving.{IsLateEnd, DecidesEnd, ByFault, CommandEnds, command_gives}
+use Rattle.command_line.proofs.MindsMarks.{command_keeps_sequences}
+use Rattle.command_line.proofs.Pledging.{command_keeps}
+use Rattle.command_line.proofs.Unlinked.{command_first}
+use Rattle.mh_tools.proofs.Told.{adds_none, fault_undone}
 use Rattle.mh_tools.specs.AnswersAlone.{HasOutcome, IsUnfaulted, HasOutcomeAlone, AloneIfTold, AnswersAlone}
-use Rattle.mh_tools.specs.Command.{command}
-use Rattle.mh_tools.specs.Faults.{command_cause}
-use Rattle.mh_tools.specs.IsCaused.{IsCaused, IsListing, IsMeddled, IsDecided, ShowsRefusal}
-use Rattle.mh_tools.specs.Outcome.{outcome_of, output_of, verdict_of, error_of}
-use Rattle.mh_tools.specs.Setting.{SettingParts}
-use Rattle.mh_tools.specs.Status.{status_of}
-use Rattle.mh_tools.specs.TellsWhatItSaw.{TellsWhatItSaw, IsVerdict, DecidesIfTold}
-use Rattle.mh_tools.specs.Top.{TellsStatus, FollowsItsPlan}
-use Rattle.mh_tools.specs.declared.fault.CommandFault.{CommandFault}
-use Rattle.mh_tools.specs.declared.fault.CommandFault.TheVariants as fault
+use Rattle.mh_tools.specs.Calls.{Call, begins, ends, MadeBy}
+use Rattle.mh_tools.specs.FollowsItsPlan.{TellsStatus, FollowsItsPlan}
+use Rattle.mh_tools.specs.IsCaused.{IsCaused}
+use Rattle.mh_tools.specs.KeepsMail.{KeepsMail, KeepsMarks}
+use Rattle.mh_tools.specs.Lines.{error_line_of}
+use Rattle.mh_tools.specs.Outcome.{error_of, answered, outcome_of}
+use Rattle.mh_tools.specs.Status.{fault_status, ended_status, ended_word, IsVerdict}
+use Rattle.mh_tools.specs.TellsWhatItSaw.{SomeAgrees, IsLate, TellsWhatItSaw}
 use Rattle.mh_tools.specs.declared.status.Status.{Status}
 use Rattle.mh_tools.specs.declared.status.Status.TheVariants.{Done, Refused, Faulted, Locked, Meddled, NoMemory}
-use Rattle.file_plans.proofs.Looking.{follows_looks}
-use Rattle.file_plans.proofs.Messages.{once, NoFailure}
-use Rattle.mh_tools.proofs.Once.{EndsAs, command_keeps}
-use Rattle.mh_tools.proofs.Shown.{Ends, command_gives}
 
--- the outcome's status, where the call didn't want memory for its line
-settle : (outcome : Result Unit CommandFault) (status x : Status) → (status ≡ status_of outcome) ⊎ (status ≡ NoMemory) → status ≡ x → (NoMemory ≡ x → ⊥) → status_of outcome ≡ x
-settle outcome status x (inl e) q never = sym e ∙ q
-settle outcome status x (inr e) q never = absurd (never (sym e ∙ q))
+-- the fault of a status
+fault_refused : (k : CommandFault) (r : Refusal) → fault_status k ≡ Refused r → k ≡ fault.Refused r
+fault_refused (fault.Refused q) r e = cc
+fault_refused (fault.Faulted w) r e = cc
+fault_refused (fault.Locked p) r e = cc
+fault_refused (fault.Meddled p x) r e = cc
+fault_refused fault.Memory r e = cc
 
-module _ (run : ℕ) (words : List (List ℕ)) (setting : SettingParts) (f g : FilesState) (n : SourceState) (o u : SinkState) where
-  abbrev Ran : Exit (Result Unit CommandFault) → Type 0
-  Ran exit = Went run (command words) (all fresh f n o) (all fresh g n u) exit
+fault_faulted : (k : CommandFault) (w : Which) → fault_status k ≡ Faulted w → k ≡ fault.Faulted w
+fault_faulted (fault.Refused q) w e = cc
+fault_faulted (fault.Faulted v) w e = cc
+fault_faulted (fault.Locked p) w e = cc
+fault_faulted (fault.Meddled p x) w e = cc
+fault_faulted fault.Memory w e = cc
 
-  abbrev steps : (exit : Exit (Result Unit CommandFault)) → Ran exit → List deeds.Deed
-  steps exit w = acts (deeds_in w.log)
+fault_locked : (k : CommandFault) (q : Place) → fault_status k ≡ Locked q → k ≡ fault.Locked q
+fault_locked (fault.Refused r) q e = cc
+fault_locked (fault.Faulted w) q e = cc
+fault_locked (fault.Locked p) q e = cc
+fault_locked (fault.Meddled p x) q e = cc
+fault_locked fault.Memory q e = cc
 
-  kept : (exit : Exit (Result Unit CommandFault)) (w : Ran exit) → Kept once [] (deeds_in w.log) fresh exit EndsAs
-  kept exit w = run_keeps once [] fresh (command words) (deeds_in w.log) fresh exit EndsAs (command_keeps words fresh) w.runs
+fault_meddled : (k : CommandFault) (q : Place) (y : List ℕ) → fault_status k ≡ Meddled q y → k ≡ fault.Meddled q y
+fault_meddled (fault.Refused r) q y e = cc
+fault_meddled (fault.Faulted w) q y e = cc
+fault_meddled (fault.Locked p) q y e = cc
+fault_meddled (fault.Meddled p x) q y e = cc
+fault_meddled fault.Memory q y e = cc
 
-  given : (exit : Exit (Result Unit CommandFault)) (w : Ran exit) (m : Mailbox) → Agrees m (steps exit w) → giving.Gave m fresh (output_of words m) (said_of (deeds_in w.log)) exit (Ends (verdict_of words m))
-  given exit w m agrees = run_gives by_mailbox m m fresh fresh (output_of words m) (command words) (deeds_in w.log) exit (Ends (verdict_of words m)) (command_gives m words fresh) (agrees_fit m (deeds_in w.log) agrees) w.runs
+verdict_at : (s t : Status) → s ≡ t → IsVerdict t → IsVerdict s
+verdict_at s t e v = rw e v
 
-  no_failure : (outcome : Result Unit CommandFault) (w : Ran (exit_of command_cause outcome)) → IsVerdict (status_of outcome) → NoFailure (steps (exit_of command_cause outcome) w)
-  no_failure (Ok t) w v = (kept (Returned (Ok t)) w).gave
-  no_failure (Err (fault.Refused r)) w v = (kept (Returned (Err (fault.Refused r))) w).gave.1
-  no_failure (Err (fault.Faulted which)) w v = absurd v
-  no_failure (Err (fault.Locked p)) w v = absurd v
-  no_failure (Err (fault.Meddled p x)) w v = absurd v
-  no_failure (Err fault.Memory) w v = absurd v
+-- how the plan's run ended
+exit_fault : (e : Ended) (k : CommandFault) → e.fault ≡ k → exit_of ended_cause (Err e) ≡ exit_by {T = Unit {0}} e (command_cause k)
+exit_fault e k is = ap (λ f. exit_by {T = Unit {0}} e (command_cause f)) is
 
-  -- a verdict is the one of each mailbox that agrees, and all of its text was said
-  record IsThere (outcome : Result Unit CommandFault) (m : Mailbox) : Type 0 where
-    verdict : status_of outcome ≡ verdict_of words m
-    text : Adds o.told u.told (output_of words m)
+exit_verdict : (r : Result Unit Ended) → IsVerdict (ended_status r) → exit_of ended_cause r ≡ Returned r
+exit_verdict (Ok tt) v = refl
+exit_verdict (Err e) v = go e.fault v
+  where
+    go : (k : CommandFault) → IsVerdict (fault_status k) → exit_by {T = Unit {0}} e (command_cause k) ≡ Returned (Err e)
+    go (fault.Refused r) v = refl
+    go (fault.Faulted w) v = absurd v
+    go (fault.Locked p) v = absurd v
+    go (fault.Meddled p x) v = absurd v
+    go fault.Memory v = absurd v
 
-  all_said : (said left text : List ℕ) → said ++ left ≡ text → left ≡ [] → Adds o.told u.told said → Adds o.told u.told text
-  all_said said left text e none adds = subst (Adds o.told u.told) (sym (append-nil said) ∙ (ap (λ t. said ++ t) (sym none) ∙ e)) adds
+module _ (c : Call) (plan : FollowsItsPlan c) where
+  abbrev run : ℕ
+  run = c.setting.run
 
-  is_there : (outcome : Result Unit CommandFault) (w : Ran (exit_of command_cause outcome)) → IsVerdict (status_of outcome) → (m : Mailbox) → Agrees m (steps (exit_of command_cause outcome) w) → IsThere outcome m
-  is_there (Ok t) w v m agrees =
-      let k = given (Returned (Ok t)) w m agrees in
-      let e = k.returned (Ok t) refl in
-      record { verdict = e.1; text = all_said (said_of (deeds_in w.log)) k.left (output_of words m) k.prefix e.0 (rw said_are at w.adds) }
-  is_there (Err (fault.Refused r)) w v m agrees =
-      let k = given (Returned (Err (fault.Refused r))) w m agrees in
-      let e = k.returned (Err (fault.Refused r)) refl in
-      record { verdict = e.1; text = all_said (said_of (deeds_in w.log)) k.left (output_of words m) k.prefix e.0 (rw said_are at w.adds) }
-  is_there (Err (fault.Faulted which)) w v m agrees = absurd v
-  is_there (Err (fault.Locked p)) w v m agrees = absurd v
-  is_there (Err (fault.Meddled p x)) w v m agrees = absurd v
-  is_there (Err fault.Memory) w v m agrees = absurd v
+  abbrev outcome : Result Unit Ended
+  outcome = plan.outcome
 
-  -- causes
-  verdict_at : (s t : Status) → s ≡ t → IsVerdict t → IsVerdict s
-  verdict_at s t e v = rw e v
+  abbrev exit : Exit (Result Unit Ended)
+  exit = exit_of ended_cause outcome
 
-  files_at : (outcome : Result Unit CommandFault) (w : Ran (exit_of command_cause outcome)) → status_of outcome ≡ Faulted Files → Rose f.faults g.faults × Made IsFailed (steps (exit_of command_cause outcome) w)
-  files_at (Ok t) w e = absurd (cc (e))
-  files_at (Err (fault.Refused r)) w e = absurd (cc (e))
-  files_at (Err (fault.Faulted Files)) w e = (w.files_cause refl, failed_made (deeds_in w.log) (run_failed (command words) fresh (deeds_in w.log) fresh FilesFailed w.runs refl))
-  files_at (Err (fault.Faulted Source)) w e = absurd (cc (e))
-  files_at (Err (fault.Faulted Out)) w e = absurd (cc (e))
-  files_at (Err (fault.Locked p)) w e = absurd (cc (e))
-  files_at (Err (fault.Meddled p x)) w e = absurd (cc (e))
-  files_at (Err fault.Memory) w e = absurd (cc (e))
+  abbrev went : Went run (command run c.words) (begins c fresh) (ends c plan.left) exit
+  went = plan.follows.went
 
-  no_source : (outcome : Result Unit CommandFault) (w : Ran (exit_of command_cause outcome)) → status_of outcome ≡ Faulted Source → ⊥
-  no_source (Ok t) w e = absurd (cc (e))
-  no_source (Err (fault.Refused r)) w e = absurd (cc (e))
-  no_source (Err (fault.Faulted Files)) w e = absurd (cc (e))
-  no_source (Err (fault.Faulted Source)) w e = (kept InFailed w).gave
-  no_source (Err (fault.Faulted Out)) w e = absurd (cc (e))
-  no_source (Err (fault.Locked p)) w e = absurd (cc (e))
-  no_source (Err (fault.Meddled p x)) w e = absurd (cc (e))
-  no_source (Err fault.Memory) w e = absurd (cc (e))
+  abbrev steps : List deeds.Deed
+  steps = acts (deeds_in went.log)
 
-  out_at : (outcome : Result Unit CommandFault) (w : Ran (exit_of command_cause outcome)) → status_of outcome ≡ Faulted Out → Rose o.faults u.faults × ((m : Mailbox) → Agrees m (steps (exit_of command_cause outcome) w) → output_of words m ≢ [])
-  out_at (Ok t) w e = absurd (cc (e))
-  out_at (Err (fault.Refused r)) w e = absurd (cc (e))
-  out_at (Err (fault.Faulted Files)) w e = absurd (cc (e))
-  out_at (Err (fault.Faulted Source)) w e = absurd (cc (e))
-  out_at (Err (fault.Faulted Out)) w e = (w.out_cause refl, λ m agrees. (given OutFailed w m agrees).cut refl)
-  out_at (Err (fault.Locked p)) w e = absurd (cc (e))
-  out_at (Err (fault.Meddled p x)) w e = absurd (cc (e))
-  out_at (Err fault.Memory) w e = absurd (cc (e))
+  made : MadeBy c steps
+  made = acts_made run c.before.files.story c.after.files.story went.log went.grows
 
-  no_lock : (outcome : Result Unit CommandFault) (w : Ran (exit_of command_cause outcome)) (place : Place) → status_of outcome ≡ Locked place → ⊥
-  no_lock (Ok t) w place e = absurd (cc (e))
-  no_lock (Err (fault.Refused r)) w place e = absurd (cc (e))
-  no_lock (Err (fault.Faulted which)) w place e = absurd (cc (e))
-  no_lock (Err (fault.Locked p)) w place e = (kept (Returned (Err (fault.Locked p))) w).gave
-  no_lock (Err (fault.Meddled p x)) w place e = absurd (cc (e))
-  no_lock (Err fault.Memory) w place e = absurd (cc (e))
+  said : List ℕ
+  said = said_of (deeds_in went.log)
 
-  meddled_at : (outcome : Result Unit CommandFault) (w : Ran (exit_of command_cause outcome)) (place : Place) (name : List ℕ) → status_of outcome ≡ Meddled place name → IsMeddled place name (steps (exit_of command_cause outcome) w)
-  meddled_at (Ok t) w place name e = absurd (cc (e))
-  meddled_at (Err (fault.Refused r)) w place name e = absurd (cc (e))
-  meddled_at (Err (fault.Faulted which)) w place name e = absurd (cc (e))
-  meddled_at (Err (fault.Locked p)) w place name e = absurd (cc (e))
-  meddled_at (Err (fault.Meddled p x)) w place name e =
-      let where_ : p ≡ place = cc in
-      let what : x ≡ name = cc in
-      rw (← where_, ← what) (kept (Returned (Err (fault.Meddled p x))) w).gave
-  meddled_at (Err fault.Memory) w place name e = absurd (cc (e))
+  said_adds : Adds c.before.out.told c.after.out.told (said_of (deeds_in went.log))
+  said_adds = rw said_are at went.adds
 
-  refused_at : (outcome : Result Unit CommandFault) (w : Ran (exit_of command_cause outcome)) (r : Refusal) → status_of outcome ≡ Refused r → ShowsRefusal r (steps (exit_of command_cause outcome) w)
-  refused_at (Ok t) w r e = absurd (cc (e))
-  refused_at (Err (fault.Refused q)) w r e = let same : q ≡ r = cc in rw (← same) (kept (Returned (Err (fault.Refused q))) w).gave.0
-  refused_at (Err (fault.Faulted which)) w r e = absurd (cc (e))
-  refused_at (Err (fault.Locked p)) w r e = absurd (cc (e))
-  refused_at (Err (fault.Meddled p x)) w r e = absurd (cc (e))
-  refused_at (Err fault.Memory) w r e = absurd (cc (e))
-
-  memory_not : (x : Status) → IsVerdict x → NoMemory ≡ x → ⊥
-  memory_not x v e = verdict_at NoMemory x e v
-
-  pub caused : (outcome : Result Unit CommandFault) (w : Ran (exit_of command_cause outcome)) (status : Status) → (status ≡ status_of outcome) ⊎ (status ≡ NoMemory) → IsCaused run words setting f g n o u status
-  unfolding outcome_of
-  caused outcome w status ends =
-      record {
-        deeds = acts (deeds_in w.log);
-        made = acts_made run f.story g.story w.log w.grows;
-        done = λ q. no_failure outcome w (verdict_at (status_of outcome) Done (settle outcome status Done ends q (λ e. cc (e))) tt);
-        refused = λ r q.
-            let is : status_of outcome ≡ Refused r = settle outcome status (Refused r) ends q (λ e. cc (e)) in
-            let v : IsVerdict (status_of outcome) = verdict_at (status_of outcome) (Refused r) is tt in
-            ((λ m agrees. sym (is_there outcome w v m agrees).verdict ∙ is), refused_at outcome w r is, no_failure outcome w v);
-        files = λ q. files_at outcome w (settle outcome status (Faulted Files) ends q (λ e. cc (e)));
-        source = λ q. no_source outcome w (settle outcome status (Faulted Source) ends q (λ e. cc (e)));
-        out = λ q. out_at outcome w (settle outcome status (Faulted Out) ends q (λ e. cc (e)));
-        locked = λ place q. no_lock outcome w place (settle outcome status (Locked place) ends q (λ e. cc (e)));
-        meddled = λ place name q. meddled_at outcome w place name (settle outcome status (Meddled place name) ends q (λ e. cc (e)));
-      }
-
-  -- a refusal that all mailboxes give is answered
-  decided : (deeds : List deeds.Deed) (status : Status) (m : Mailbox) → Agrees m deeds → (IsVerdict status → status ≡ (outcome_of words m setting n.left).status) → (r : Refusal) → IsDecided words setting n.left deeds r → (status ≡ Refused r) ⊎ (IsVerdict status → ⊥)
-  decided deeds Done m agrees same r all = absurd (let e : Done ≡ Refused r = same tt ∙ all m agrees in cc)
-  decided deeds (Refused q) m agrees same r all = inl (same tt ∙ all m agrees)
-  decided deeds (Faulted which) m agrees same r all = inr (λ v. v)
-  decided deeds (Locked p) m agrees same r all = inr (λ v. v)
-  decided deeds (Meddled p x) m agrees same r all = inr (λ v. v)
-  decided deeds NoMemory m agrees same r all = inr (λ v. v)
-
-  decides : (status : Status) (exit : Exit (Result Unit CommandFault)) (w : Ran exit) → ((m : Mailbox) → Agrees m (steps exit w) → IsVerdict status → status ≡ (outcome_of words m setting n.left).status) →
-      (old new : Option Story) → GrowsBy run old new (filed_in w.log) → AreMade run old new (steps exit w) → DecidesIfTold words setting n.left old (steps exit w) status
-  decides status exit w same None None grows made = tt
-  decides status exit w same None (Some new) grows made = absurd grows
-  decides status exit w same (Some old) None grows made = absurd grows
-  decides status exit w same (Some old) (Some new) grows made = λ possible.
-      let sound = rw (← made) at (sound_since run old new (filed_in w.log) grows possible) in
-      let m = find run (steps exit w) (kept exit w).holds sound in
-      record { mailbox = m.0; agrees = m.1; refuses = decided (steps exit w) status m.0 m.1 (same m.0 m.1) }
-
-  verdict_of_status : (outcome : Result Unit CommandFault) (status : Status) → (status ≡ status_of outcome) ⊎ (status ≡ NoMemory) → IsVerdict status → IsVerdict (status_of outcome) × (status ≡ status_of outcome)
-  verdict_of_status outcome status (inl e) v = (rw e at v, e)
-  verdict_of_status outcome status (inr e) v = absurd (rw e at v)
-
-  pub tells : (outcome : Result Unit CommandFault) (w : Ran (exit_of command_cause outcome)) (status : Status) → (status ≡ status_of outcome) ⊎ (status ≡ NoMemory) → TellsWhatItSaw run words setting f g n o u status
-  unfolding outcome_of
-  tells outcome w status ends =
-      let made = acts_made run f.story g.story w.log w.grows in
-      let verdict : (m : Mailbox) → Agrees m (acts (deeds_in w.log)) → IsVerdict status → status ≡ verdict_of words m =
-      λ m agrees v. let s = verdict_of_status outcome status ends v in s.1 ∙ (is_there outcome w s.0 m agrees).verdict
-      in
-      record {
-        deeds = acts (deeds_in w.log);
-        made = made;
-        decides = decides status (exit_of command_cause outcome) w verdict f.story g.story w.grows made;
-        prefix = λ m agrees. let k = given (exit_of command_cause outcome) w m agrees in (said_of (deeds_in w.log), k.left, k.prefix, rw said_are at w.adds);
-        whole = λ m agrees v. (is_there outcome w (verdict_of_status outcome status ends v).0 m agrees).text;
-        verdict = verdict;
-      }
-
-  -- alone
-  adds_none : (t : Option (List ℕ)) → Adds t t []
-  adds_none None = tt
-  adds_none (Some t) = sym (append-nil t)
-
-  same_adds : (e d : SinkState) → d ≡ e → Adds e.told d.told []
-  same_adds e d is = rw is (adds_none e.told)
-
-  error_told : (e d : SinkState) (status : Status) → IsVerdict status → TellsStatus words e d status → (Rose e.faults d.faults → ⊥) → Adds e.told d.told (error_of words status)
-  error_told e d Done v t never = same_adds e d t
-  error_told e d (Refused r) v (inl t) never = t
-  error_told e d (Refused r) v (inr t) never = absurd (never t.1)
-  error_told e d (Faulted which) v t never = absurd v
-  error_told e d (Locked p) v t never = absurd v
-  error_told e d (Meddled p x) v t never = absurd v
-  error_told e d NoMemory v t never = absurd v
-
-  -- what a listed message is in the same world
-  never_lost : (w : WorldMap) (place : Place) (name : List ℕ) (ds : List deeds.Deed) → AllFit w run ds → IsMeddled place name ds → ⊥
-  never_lost w place name ds fits k =
-      let both : AllFit w run (did (step.Read place name k.limit) answer.Gone ∷ k.before) = rw k.read at fits in
-      let l = made_fits (IsListing place name) w run k.before k.listed both.1 in
-      listed_not_gone w run place l.2.0 name l.2.1 k.limit (as_fits l.0 (step.List place) l.1 (answer.Names l.2.0) l.2.2 l.2.3 l.3) l.2.4 l.2.5 both.0
+  -- the status, where the call did not want memory for its line
+  settle : (x : Status) → c.status ≡ x → (NoMemory ≡ x → ⊥) → ended_status outcome ≡ x
+  settle x q never = go plan.ends_so
     where
-      as_fits : (s t : Step) (a b : Answer) → s ≡ t → a ≡ b → Fits w run s a → Fits w run t b
-      as_fits s t a b p q fit = rw (p, q) at fit
+      go : (c.status ≡ ended_status outcome) ⊎ (c.status ≡ NoMemory) → ended_status outcome ≡ x
+      go (inl e) = sym e ∙ q
+      go (inr e) = absurd (never (sym e ∙ q))
 
-  -- the outcome at the mailbox of the one world
-  answers_by : (outcome : Result Unit CommandFault) (w : Ran (exit_of command_cause outcome)) (e d : SinkState) (status : Status) (m after : Mailbox) → status ≡ status_of outcome → IsVerdict (status_of outcome) → Agrees m (steps (exit_of command_cause outcome) w) → after ≡ m → TellsStatus words e d status →
-      HasOutcome (outcome_of words m setting n.left) after o u e d status
-  unfolding outcome_of
-  answers_by outcome w e d status m after is v agrees same told =
-      let k = is_there outcome w v m agrees in
-      let at : status ≡ verdict_of words m = is ∙ k.verdict in
-      record { verdict = verdict_at status (status_of outcome) is v; ends = at; output = k.text; mailbox = same; error = λ never. subst (λ s. Adds e.told d.told (error_of words s)) at (error_told e d status (verdict_at status (status_of outcome) is v) told never) }
-
-  -- a call that ran alone, without a fault
-  alone_told : (outcome : Result Unit CommandFault) (w : Ran (exit_of command_cause outcome)) (m : SourceState) (e d : SinkState) (status : Status) → status ≡ status_of outcome → TellsStatus words e d status → IsUnfaulted f g n m o u →
-      (old new : Story) → Grows run old new (filed_in w.log) → steps (exit_of command_cause outcome) w ≡ own run (past_of (events_since old new)) → HasOutcomeAlone run words setting n o u e d status old new
-  alone_told outcome w m e d status is told unfaulted old new grows made = λ added asked possible alone.
-      let clean : Made IsFailed (steps (exit_of command_cause outcome) w) → ⊥ = λ failed. unfaulted.files (w.failed_cause (made_failed (deeds_in w.log) failed)) in
-      let l = lone run old new (filed_in w.log) added grows asked possible alone (rw made at (kept (exit_of command_cause outcome) w).holds) (rw made at clean) in
-      let fits : AllFit l.world run (steps (exit_of command_cause outcome) w) = rw made l.fits in
-      by_outcome outcome w status is told l.world fits
-      (world_agrees l.world run (steps (exit_of command_cause outcome) w) (kept (exit_of command_cause outcome) w).holds fits)
-      (mailbox_at new (first_of (length old.history) added)) (mailbox_at new (first_of (length old.history) added + length added)) (ap mailbox_of l.before) (ap mailbox_of (l.now ∙ sym l.before))
+  verdict_so : IsVerdict c.status → IsVerdict (ended_status outcome) × (c.status ≡ ended_status outcome)
+  verdict_so v = go plan.ends_so
     where
-      by_outcome : (outcome : Result Unit CommandFault) (w : Ran (exit_of command_cause outcome)) (status : Status) → status ≡ status_of outcome → TellsStatus words e d status → (world : WorldMap) → AllFit world run (steps (exit_of command_cause outcome) w) → Agrees (mailbox_of world) (steps (exit_of command_cause outcome) w) →
-          (first after : Mailbox) → first ≡ mailbox_of world → after ≡ first → (status ≡ NoMemory) ⊎ HasOutcome (outcome_of words first setting n.left) after o u e d status
-      by_outcome (Ok t) w status is told world fits agrees first after same kept_ = inr (answers_by (Ok t) w e d status first after is tt (rw same agrees) kept_ told)
-      by_outcome (Err (fault.Refused r)) w status is told world fits agrees first after same kept_ = inr (answers_by (Err (fault.Refused r)) w e d status first after is tt (rw same agrees) kept_ told)
-      by_outcome (Err (fault.Faulted Files)) w status is told world fits agrees first after same kept_ = absurd (unfaulted.files (w.files_cause refl))
-      by_outcome (Err (fault.Faulted Source)) w status is told world fits agrees first after same kept_ = absurd (no_source (Err (fault.Faulted Source)) w refl)
-      by_outcome (Err (fault.Faulted Out)) w status is told world fits agrees first after same kept_ = absurd (unfaulted.out (w.out_cause refl))
-      by_outcome (Err (fault.Locked p)) w status is told world fits agrees first after same kept_ = absurd (no_lock (Err (fault.Locked p)) w p refl)
-      by_outcome (Err (fault.Meddled p x)) w status is told world fits agrees first after same kept_ =
-          absurd (never_lost world p x (steps (exit_of command_cause (Err (fault.Meddled p x))) w) fits (meddled_at (Err (fault.Meddled p x)) w p x refl))
-      by_outcome (Err fault.Memory) w status is told world fits agrees first after same kept_ = inl is
+      go : (c.status ≡ ended_status outcome) ⊎ (c.status ≡ NoMemory) → IsVerdict (ended_status outcome) × (c.status ≡ ended_status outcome)
+      go (inl e) = (rw e at v, e)
+      go (inr e) = absurd (rw e at v)
 
-  pub answers_alone : (outcome : Result Unit CommandFault) (w : Ran (exit_of command_cause outcome)) (m : SourceState) (e d : SinkState) (status : Status) → (status ≡ status_of outcome) ⊎ (status ≡ NoMemory) → TellsStatus words e d status → AnswersAlone run words setting f g n m o u e d status
-  answers_alone outcome w m e d status ends told = record { answers = λ unfaulted. by_story f.story g.story w.grows (acts_made run f.story g.story w.log w.grows) unfaulted ends }
-    where
-      by_story : (old new : Option Story) → GrowsBy run old new (filed_in w.log) → AreMade run old new (steps (exit_of command_cause outcome) w) → IsUnfaulted f g n m o u → (status ≡ status_of outcome) ⊎ (status ≡ NoMemory) → AloneIfTold run words setting n o u e d status old new
-      by_story None None grows made unfaulted end = tt
-      by_story None (Some new) grows made unfaulted end = absurd grows
-      by_story (Some old) None grows made unfaulted end = absurd grows
-      by_story (Some old) (Some new) grows made unfaulted (inl is) = alone_told outcome w m e d status is told unfaulted old new grows made
-      by_story (Some old) (Some new) grows made unfaulted (inr is) = λ added asked possible alone. inl is
+  -- what is shown where the plan returned
+  shown_at : (r : Result Unit Ended) → outcome ≡ r → exit ≡ Returned r → EndsAs run (deeds_in went.log) plan.left r
+  shown_at r is e = run_ends run c.words (deeds_in went.log) plan.left r (subst (λ x. Runs (command run c.words) fresh (deeds_in went.log) plan.left x) e went.runs)
 
--- each promise, by the plan that the call followed
-pub careful_by : {run : ℕ} {words : List (List ℕ)} {f g : FilesState} {n : SourceState} {o u : SinkState} {status : Status} → FollowsItsPlan run words f g n o u status → StaysCareful run Looking f g
-careful_by {run = run} {words = words} {f = f} {g = g} {n = n} {o = o} {u = u} p = follows_looks run Looking command_cause (command words) (all fresh f n o) (all fresh g n u) p.outcome once EndsAs (λ past s look. look) (command_keeps words fresh) p.follows
+  no_failure : (r : Result Unit Ended) → EndsAs run (deeds_in went.log) plan.left r → Made IsFailed steps → ⊥
+  no_failure (Ok tt) s = s
+  no_failure (Err e) s = s.1
 
-pub caused_by : {run : ℕ} {words : List (List ℕ)} {setting : SettingParts} {f g : FilesState} {n : SourceState} {o u : SinkState} {status : Status} → FollowsItsPlan run words f g n o u status → IsCaused run words setting f g n o u status
-caused_by {run = run} {words = words} {setting = setting} {f = f} {g = g} {n = n} {o = o} {u = u} {status = status} p = caused run words setting f g n o u p.outcome p.follows.went status p.ends
+  clean_verdict : IsVerdict (ended_status outcome) → Made IsFailed steps → ⊥
+  clean_verdict v = no_failure outcome (shown_at outcome refl (exit_verdict outcome v))
 
-pub seen_by : {run : ℕ} {words : List (List ℕ)} {setting : SettingParts} {f g : FilesState} {n : SourceState} {o u : SinkState} {status : Status} → FollowsItsPlan run words f g n o u status → TellsWhatItSaw run words setting f g n o u status
-seen_by {run = run} {words = words} {setting = setting} {f = f} {g = g} {n = n} {o = o} {u = u} {status = status} p = tells run words setting f g n o u p.outcome p.follows.went status p.ends
+  -- a fault of the plan is shown
+  fault_shown : (r : Result Unit Ended) (s : Status) (k : CommandFault) → outcome ≡ r → ended_status r ≡ s → (s ≡ Done → ⊥) → ((f : CommandFault) → fault_status f ≡ s → f ≡ k) → command_cause k ≡ OfPlan → ShowsCommandFault run k steps × (Made IsFailed steps → ⊥)
+  fault_shown (Ok tt) s k is e never only cause = absurd (never (sym e))
+  fault_shown (Err x) s k is e never only cause =
+      let f : x.fault ≡ k = only x.fault e in
+      let at : exit ≡ Returned (Err x) = ap (exit_of ended_cause) is ∙ (exit_fault x k f ∙ ap (exit_by {T = Unit {0}} x) cause) in
+      let shows = shown_at (Err x) is at in
+      (subst (λ j. ShowsCommandFault run j steps) f shows.0, shows.1)
 
-pub alone_by : {run : ℕ} {words : List (List ℕ)} {f g : FilesState} {n m : SourceState} {o u : SinkState} {status : Status} (setting : SettingParts) (e d : SinkState) → FollowsItsPlan run words f g n o u status → TellsStatus words e d status → AnswersAlone run words setting f g n m o u e d status
-alone_by {run = run} {words = words} {f = f} {g = g} {n = n} {m = m} {o = o} {u = u} {status = status} setting e d p told = answers_alone run words setting f g n o u p.outcome p.follows.went m e d status p.ends told
+  -- a fault of the surroundings
+  faulted : (r : Result Unit Ended) (w : Which) → outcome ≡ r → ended_status r ≡ Faulted w → (e : Ended) × (exit ≡ exit_by {T = Unit {0}} e (command_cause (fault.Faulted w)))
+  faulted (Ok tt) w is e = absurd (cc (e))
+  faulted (Err x) w is e = (x, ap (exit_of ended_cause) is ∙ exit_fault x (fault.Faulted w) (fault_faulted x.fault w e))
+
+  files_at : ended_status outcome ≡ Faulted Files → Rose c.before.files.faults c.after.files.faults × Made IsFailed steps
+  files_at e =
+      let x = faulted outcome Files refl e in
+      (went.files_cause x.1, failed_made (deeds_in went.log) (run_failed (command run c.words) fresh (deeds_in went.log) plan.left exit went.runs x.1))
+
+  no_source : ended_status outcome ≡ Faulted Source → ⊥
+  no_source e = let x = faulted outcome Source refl e in never_hears run c.words (deeds_in went.log) plan.left exit went.runs x.1
+
+  out_fault : ended_status outcome ≡ Faulted Out → exit ≡ OutFailed
+  out_fault e = (faulted outcome Out refl e).1
+
+  module _ (few : run < 2 ^ 128) where
+    abbrev work : Mailbox → Work Ended
+    work m = work_of c.words m
+
+    -- by contents that agree
+    seen : (d : Contents) → AgreesWith d steps → GaveSeen plan.left (work (mailbox_in d)).text (said_of (deeds_in went.log)) exit (CommandEnds false (work (mailbox_in d)))
+    seen d agrees =
+        seen_gave (command run c.words) fresh plan.left (deeds_in went.log) exit (work (mailbox_in d)).text (CommandEnds false (work (mailbox_in d))) d agrees went.runs
+        (command_gives false run d few c.words (first_view d (numbers_put steps []) (is_first_met steps)) refl (λ beside. command_first run c.words d (numbers_put steps []) fresh plan.left (deeds_in went.log) exit went.runs))
+
+    -- what an end says of the work
+    ends_verdict : (alone : Bool) (w : Work Ended) (z : View) (j : Hand) (left : List ℕ) (r : Result Unit Ended) → IsVerdict (ended_status r) → CommandEnds alone w z j left r → (left ≡ []) × DecidesEnd alone w z r
+    ends_verdict alone w z j left (Ok tt) v e = e
+    ends_verdict alone w z j left (Err x) v e = go x.fault v e
+      where
+        go : (k : CommandFault) → IsVerdict (fault_status k) → ByFault alone w z left x k → (left ≡ []) × DecidesEnd alone w z (Err x)
+        go (fault.Refused r) v e = e
+        go (fault.Faulted which) v e = absurd v
+        go (fault.Locked p) v e = absurd v
+        go (fault.Meddled p y) v e = absurd v
+        go fault.Memory v e = absurd v
+
+    all_said : (said left text : List ℕ) → said ++ left ≡ text → left ≡ [] → Adds c.before.out.told c.after.out.told said → Adds c.before.out.told c.after.out.told text
+    all_said said left text e none adds = subst (Adds c.before.out.told c.after.out.told) (sym (append-nil said) ∙ (ap (λ t. said ++ t) (sym none) ∙ e)) adds
+
+    late_status : (r : Result Unit Ended) → IsLateEnd r → IsLate (ended_status r)
+    late_status r (inl is) = inl (ap ended_status is)
+    late_status r (inr is) = inr (is.0, ap ended_status is.1)
+
+    -- a verdict is the one of each mailbox that agrees, and all of its text was said
+    record IsThere (m : Mailbox) : Type 0 where
+      verdict : (ended_status outcome ≡ ended_status (work m).end) ⊎ (IsLate (ended_status outcome) × IsLate (ended_status (work m).end))
+      text : Adds c.before.out.told c.after.out.told (work m).text
+
+    there_in : (d : Contents) → AgreesWith d steps → IsVerdict (ended_status outcome) → IsThere (mailbox_in d)
+    there_in d agrees v =
+        let g = seen d agrees in
+        let e = ends_verdict false (work (mailbox_in d)) g.view plan.left g.gave.left outcome v (g.gave.returned outcome (exit_verdict outcome v)) in
+        record { verdict = by g.view e.1; text = all_said (said_of (deeds_in went.log)) g.gave.left (work (mailbox_in d)).text g.gave.prefix e.0 said_adds }
+      where
+        by : (z : View) → DecidesEnd false (work (mailbox_in d)) z outcome → (ended_status outcome ≡ ended_status (work (mailbox_in d)).end) ⊎ (IsLate (ended_status outcome) × IsLate (ended_status (work (mailbox_in d)).end))
+        by z (inl is) = inl (ap ended_status (sym is.0))
+        by z (inr late) = inr (late_status outcome late.1.1, late_status (work (mailbox_in d)).end late.1.0)
+
+    is_there : (m : Mailbox) → MailboxAgrees m steps → IsVerdict (ended_status outcome) → IsThere m
+    is_there m agrees v = subst IsThere agrees.shown (there_in agrees.contents agrees.agrees v)
+
+    part_said : (m : Mailbox) → MailboxAgrees m steps → AddsPart c.before.out.told c.after.out.told (work m).text
+    part_said m agrees =
+        subst (λ n. AddsPart c.before.out.told c.after.out.told (work n).text) agrees.shown
+        (let g = (seen agrees.contents agrees.agrees).gave in (said_of (deeds_in went.log), g.left, g.prefix, said_adds))
+
+    some_text : (m : Mailbox) → MailboxAgrees m steps → exit ≡ OutFailed → (work m).text ≢ []
+    some_text m agrees e = subst (λ n. (work n).text ≢ []) agrees.shown ((seen agrees.contents agrees.agrees).gave.cut e)
+
+    pub caused : IsCaused c
+    unfolding outcome_of
+    caused =
+        record {
+          deeds = steps;
+          made = made;
+          done = λ q. clean_verdict (verdict_at (ended_status outcome) Done (settle Done q (λ e. cc (e))) tt);
+          refused = λ r q. fault_shown outcome (Refused r) (fault.Refused r) refl (settle (Refused r) q (λ e. cc (e))) (λ e. cc (e)) (λ f e. fault_refused f r e) refl;
+          files = λ q. files_at (settle (Faulted Files) q (λ e. cc (e)));
+          source = λ q. no_source (settle (Faulted Source) q (λ e. cc (e)));
+          out = λ q. let e = out_fault (settle (Faulted Out) q (λ e. cc (e))) in (went.out_cause e, λ m agrees. some_text m agrees e);
+          locked = λ place q. fault_shown outcome (Locked place) (fault.Locked place) refl (settle (Locked place) q (λ e. cc (e))) (λ e. cc (e)) (λ f e. fault_locked f place e) refl;
+          meddled = λ place name q. fault_shown outcome (Meddled place name) (fault.Meddled place name) refl (settle (Meddled place name) q (λ e. cc (e))) (λ e. cc (e)) (λ f e. fault_meddled f place name e) refl;
+        }
+
+    some_agrees : (old new : Option Story) → GrowsBy run old new (filed_in went.log) → AreMade run old new steps → SomeAgrees old steps
+    some_agrees None None grows made_ = tt
+    some_agrees None (Some new) grows made_ = absurd grows
+    some_agrees (Some old) None grows made_ = absurd grows
+    some_agrees (Some old) (Some new) grows made_ = λ possible. possible_agrees run old new (filed_in went.log) (deeds_in went.log) grows possible (sym made_)
+
+    pub tells : TellsWhatItSaw c
+    unfolding outcome_of
+    tells =
+        record {
+          deeds = steps;
+          made = made;
+          exists = some_agrees c.before.files.story c.after.files.story went.grows made;
+          prefix = λ m agrees. part_said m agrees;
+          whole = λ m agrees v. (is_there m agrees (verdict_so v).0).text;
+          verdict = λ m agrees v. so m agrees (verdict_so v);
+        }
+      where
+        so : (m : Mailbox) → MailboxAgrees m steps → IsVerdict (ended_status outcome) × (c.status ≡ ended_status outcome) → (c.status ≡ ended_status (work m).end) ⊎ (IsLate c.status × IsLate (ended_status (work m).end))
+        so m agrees s = by (is_there m agrees s.0).verdict
+          where
+            by : (ended_status outcome ≡ ended_status (work m).end) ⊎ (IsLate (ended_status outcome) × IsLate (ended_status (work m).end)) → (c.status ≡ ended_status (work m).end) ⊎ (IsLate c.status × IsLate (ended_status (work m).end))
+            by (inl is) = inl (s.1 ∙ is)
+            by (inr late) = inr (subst IsLate (sym s.1) late.0, late.1)
+
+    pub keeps : KeepsMail c
+    keeps =
+        let k = command_keeps run few c.words (begins c fresh) (ends c plan.left) outcome plan.follows in
+        record { path = k.path; deeds = k.own; made = k.made; begun = k.begun; finished = λ q. k.finished (is_done outcome (settle Done q (λ e. cc (e)))); promises = moved k.promises }
+      where
+        moved : {w : Pledge} → Promises w (begins c fresh) (ends c plan.left) → Promises w (begins c fresh) (ends c fresh)
+        moved p = record { careful = p.careful; as_pledged = p.as_pledged; by_bases = p.by_bases; safe = p.safe; in_order = p.in_order }
+
+        is_done : (r : Result Unit Ended) → ended_status r ≡ Done → r ≡ Ok tt
+        is_done (Ok tt) e = refl
+        is_done (Err x) e = absurd (fault_undone x.fault e)
+
+    pub marks : KeepsMarks c
+    marks = command_keeps_sequences run few c.words (begins c fresh) (ends c plan.left) outcome plan.follows
+
+    -- alone
+    error_told : (r : Result Unit Ended) (s : Status) → s ≡ ended_status r → IsVerdict s → TellsStatus (ended_word r) c.before.err c.after.err s → (Rose c.before.err.faults c.after.err.faults → ⊥) → Adds c.before.err.told c.after.err.told (error_of r)
+    error_told (Ok tt) s is v told never = silent (subst (λ x. TellsStatus None c.before.err c.after.err x) is told)
+      where
+        silent : c.after.err ≡ c.before.err → Adds c.before.err.told c.after.err.told []
+        silent e = rw e (adds_none c.before.err.told)
+    error_told (Err x) s is v told never = go (fault_status x.fault) (subst IsVerdict is v) (subst (λ y. TellsStatus x.word c.before.err c.after.err y) is told) refl
+      where
+        go : (y : Status) → IsVerdict y → TellsStatus x.word c.before.err c.after.err y → fault_status x.fault ≡ y → Adds c.before.err.told c.after.err.told (error_line_of x.word (fault_status x.fault))
+        go Done v told e = absurd (fault_undone x.fault e)
+        go (Refused r) v (inl t) e = subst (λ y. Adds c.before.err.told c.after.err.told (error_line_of x.word y)) (sym e) t
+        go (Refused r) v (inr t) e = absurd (never t.1)
+        go (Faulted which) v told e = absurd v
+        go (Locked p) v told e = absurd v
+        go (Meddled p y) v told e = absurd v
+        go NoMemory v told e = absurd v
+
+    module _ (unfaulted : IsUnfaulted c) (is : c.status ≡ ended_status outcome) where
+      -- the outcome on the mailbox that the call came upon
+      answers_by : (w : Work Ended) (z : View) (j : Hand) (left : List ℕ) (after : Mailbox) → mailbox_in z.contents ≡ after → said_of (deeds_in went.log) ++ left ≡ w.text → IsVerdict (ended_status outcome) → CommandEnds true w z j left outcome → HasOutcome (answered w) after c
+      answers_by w z j left after there prefix v e =
+          let k = ends_verdict true w z j left outcome v e in
+          let d = surely k.1 in
+          let at : c.status ≡ ended_status w.end = is ∙ ap ended_status (sym d.0) in
+          record {
+            verdict = verdict_at c.status (ended_status outcome) is v;
+            ends = at;
+            output = all_said (said_of (deeds_in went.log)) left w.text prefix k.0 said_adds;
+            mailbox = sym there ∙ d.1 refl;
+            error = λ never. subst (λ r. Adds c.before.err.told c.after.err.told (error_of r)) (sym d.0) (error_told outcome c.status is (verdict_at c.status (ended_status outcome) is v) plan.told never);
+          }
+        where
+          surely : DecidesEnd true w z outcome → (w.end ≡ outcome) × (true ≡ true → mailbox_in z.contents ≡ w.mailbox)
+          surely (inl d) = d
+          surely (inr late) = absurd (let e : true ≡ false = late.0 in cc)
+
+      by_end : (w : Work Ended) (z : View) (j : Hand) (after : Mailbox) → mailbox_in z.contents ≡ after → (g : giving.Gave z j w.text (said_of (deeds_in went.log)) exit (CommandEnds true w)) → (r : Result Unit Ended) → outcome ≡ r → (c.status ≡ NoMemory) ⊎ HasOutcome (answered w) after c
+      by_end w z j after there g (Ok tt) same =
+          let v : IsVerdict (ended_status outcome) = subst (λ r. IsVerdict (ended_status r)) (sym same) tt in
+          inr (answers_by w z j g.left after there g.prefix v (g.returned outcome (exit_verdict outcome v)))
+      by_end w z j after there g (Err x) same = go x.fault refl
+        where
+          at : (k : CommandFault) → x.fault ≡ k → exit ≡ exit_by {T = Unit {0}} x (command_cause k)
+          at k e = ap (exit_of ended_cause) same ∙ exit_fault x k e
+
+          ended_at : (k : CommandFault) → x.fault ≡ k → command_cause k ≡ OfPlan → ByFault true w z g.left x k
+          ended_at k e cause = subst (λ f. ByFault true w z g.left x f) e (g.returned (Err x) (at k e ∙ ap (exit_by {T = Unit {0}} x) cause))
+
+          go : (k : CommandFault) → x.fault ≡ k → (c.status ≡ NoMemory) ⊎ HasOutcome (answered w) after c
+          go (fault.Refused r) e =
+              let v : IsVerdict (ended_status outcome) = subst (λ q. IsVerdict (ended_status q)) (sym same) (subst (λ f. IsVerdict (fault_status f)) (sym e) tt) in
+              inr (answers_by w z j g.left after there g.prefix v (g.returned outcome (exit_verdict outcome v)))
+          go (fault.Faulted Files) e = absurd (unfaulted.files (went.files_cause (at (fault.Faulted Files) e)))
+          go (fault.Faulted Source) e = absurd (never_hears run c.words (deeds_in went.log) plan.left exit went.runs (at (fault.Faulted Source) e))
+          go (fault.Faulted Out) e = absurd (unfaulted.out (went.out_cause (at (fault.Faulted Out) e)))
+          go (fault.Locked p) e = absurd (ended_at (fault.Locked p) e refl refl)
+          go (fault.Meddled p y) e = absurd (ended_at (fault.Meddled p y) e refl refl)
+          go fault.Memory e = inl (is ∙ (ap ended_status same ∙ ap fault_status e))
+
+      alone_told : (old new : Story) → Grows run old new (filed_in went.log) → AreMade run (Some old) (Some new) steps → HasOutcomeAlone c old new
+      unfolding outcome_of
+      alone_told old new grows made_ = λ added asked start possible alone.
+          let never : Made IsFailed (own run (past_of (events_since old new))) → ⊥ = λ failed. unfaulted.files (went.failed_cause (made_failed (deeds_in went.log) (rw (← made_) at failed))) in
+          let first = first_of (length old.history) added in
+          let d = contents_of (world_at new first) in
+          let w = work (mailbox_in d) in
+          let g = alone_gave (λ p x. false) run old new added (command run c.words) fresh plan.left (deeds_in went.log) exit w.text (CommandEnds true w) (lone_changes run old new (filed_in went.log) added grows asked start possible alone never) (sym made_) went.runs
+          (command_gives true run d few c.words (first_view d (puts_in (deeds_in went.log)) (λ p x. false)) refl (λ beside. absurd (cc (beside)))) in
+          subst (λ m. (c.status ≡ NoMemory) ⊎ HasOutcome (answered (work m)) (mailbox_at new (first + length added)) c) (sym (mailbox_is (world_at new first)))
+          (by_end w g.view plan.left (mailbox_at new (first + length added)) (ap mailbox_in g.contents ∙ sym (mailbox_is (world_at new (first + length added)))) g.gave outcome refl)
+
+    pub answers_alone : AnswersAlone c
+    answers_alone = record { answers = λ unfaulted. by_story c.before.files.story c.after.files.story went.grows made unfaulted plan.ends_so }
+      where
+        by_story : (old new : Option Story) → GrowsBy run old new (filed_in went.log) → AreMade run old new steps → IsUnfaulted c → (c.status ≡ ended_status outcome) ⊎ (c.status ≡ NoMemory) → AloneIfTold c old new
+        by_story None None grows made_ unfaulted e = tt
+        by_story None (Some new) grows made_ unfaulted e = absurd grows
+        by_story (Some old) None grows made_ unfaulted e = absurd grows
+        by_story (Some old) (Some new) grows made_ unfaulted (inl is) = alone_told unfaulted is old new grows made_
+        by_story (Some old) (Some new) grows made_ unfaulted (inr is) = λ added asked start possible alone. inl is

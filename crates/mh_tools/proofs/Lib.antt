@@ -1,9 +1,3 @@
-mod Causes
-mod Clauses
-mod Numbers
-mod Once
-mod Texts
-mod Worked
-mod Showing
-mod Shown
-mod Sorted
+pub mod Clauses
+pub mod Texts
+pub mod Told

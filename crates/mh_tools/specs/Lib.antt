@@ -1,12 +1,10 @@
 pub mod AnswersAlone
-pub mod Command
-pub mod Faults
+pub mod Calls
+pub mod FollowsItsPlan
 pub mod IsCaused
+pub mod KeepsMail
 pub mod Lines
-pub mod MessageLine
 pub mod Outcome
-pub mod Scan
 pub mod Setting
 pub mod Status
 pub mod TellsWhatItSaw
-pub mod Top

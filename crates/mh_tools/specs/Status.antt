@@ -1,7 +1,8 @@
 -- The status of a call.
-use Rattle.std.specs.Prelude.{ℕ, Result, Ok, Err}
-use Rattle.mh_tools.specs.declared.fault.CommandFault.{CommandFault}
-use Rattle.mh_tools.specs.declared.fault.CommandFault.TheVariants as fault
+use Rattle.std.specs.Prelude.{ℕ, List, Option, None, Result, Ok, Err}
+use Rattle.step_plans.specs.declared.command_fault.CommandFault.{CommandFault}
+use Rattle.step_plans.specs.declared.command_fault.CommandFault.TheVariants as fault
+use Rattle.command_line.specs.declared.ended.Ended.{Ended}
 use Rattle.mh_tools.specs.declared.status.Status.{Status}
 use Rattle.mh_tools.specs.declared.status.Status.TheVariants.{Done, Refused, Faulted, Locked, Meddled, NoMemory}
 
@@ -14,11 +15,29 @@ exit_of_status (Locked place) = 3
 exit_of_status (Meddled place name) = 4
 exit_of_status NoMemory = 5
 
--- the status of a command's outcome
-abbrev pub status_of : Result Unit CommandFault → Status
-status_of (Ok u) = Done
-status_of (Err (fault.Refused refusal)) = Refused refusal
-status_of (Err (fault.Faulted which)) = Faulted which
-status_of (Err (fault.Locked place)) = Locked place
-status_of (Err (fault.Meddled place name)) = Meddled place name
-status_of (Err fault.Memory) = NoMemory
+-- the status of a fault
+abbrev pub fault_status : CommandFault → Status
+fault_status (fault.Refused refusal) = Refused refusal
+fault_status (fault.Faulted which) = Faulted which
+fault_status (fault.Locked place) = Locked place
+fault_status (fault.Meddled place name) = Meddled place name
+fault_status fault.Memory = NoMemory
+
+-- the status of how a command ended
+abbrev pub ended_status : Result Unit Ended → Status
+ended_status (Ok u) = Done
+ended_status (Err e) = fault_status e.fault
+
+-- the word of which its error line speaks
+abbrev pub ended_word : Result Unit Ended → Option (List ℕ)
+ended_word (Ok u) = None
+ended_word (Err e) = e.word
+
+-- Done or a refusal
+abbrev pub IsVerdict : Status → Type 0
+IsVerdict Done = Unit {0}
+IsVerdict (Refused r) = Unit {0}
+IsVerdict (Faulted w) = ⊥
+IsVerdict (Locked p) = ⊥
+IsVerdict (Meddled p name) = ⊥
+IsVerdict NoMemory = ⊥

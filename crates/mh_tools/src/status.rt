@@ -1,10 +1,10 @@
 // How a call ends.
 ghost use Rattle.std.specs.Prelude.{◌≡◌};
-ghost use Rattle.mh_tools.specs.Status.{exit_of_status, status_of};
+ghost use Rattle.mh_tools.specs.Status.{exit_of_status};
 
-use crate::CommandFault;
 use folder_files::{Place, Refusal, Which};
 use mh_base::Name;
+use step_plans::CommandFault;
 
 /// How a command ended.
 #[derive(Drop)]
@@ -36,15 +36,18 @@ impl Status {
     }
 }
 
-pub(crate) fn status_from(outcome: Result<(), CommandFault>) -> Status
-    ensures { result ≡ status_of outcome }
-{
-    match outcome {
-        Ok(()) => Status::Done,
-        Err(CommandFault::Refused(refusal)) => Status::Refused(refusal),
-        Err(CommandFault::Faulted(which)) => Status::Faulted(which),
-        Err(CommandFault::Locked(place)) => Status::Locked(place),
-        Err(CommandFault::Meddled(place, name)) => Status::Meddled(place, name),
-        Err(CommandFault::Memory) => Status::NoMemory,
+impl From<CommandFault> for Status {
+    ghost use Rattle.mh_tools.specs.Status.{fault_status};
+
+    ghost from_gives = { λ fault status. status ≡ fault_status fault };
+
+    fn from(fault: CommandFault) -> Self {
+        match fault {
+            CommandFault::Refused(refusal) => Status::Refused(refusal),
+            CommandFault::Faulted(which) => Status::Faulted(which),
+            CommandFault::Locked(place) => Status::Locked(place),
+            CommandFault::Meddled(place, name) => Status::Meddled(place, name),
+            CommandFault::Memory => Status::NoMemory,
+        }
     }
 }

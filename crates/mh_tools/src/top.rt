@@ -1,27 +1,26 @@
 // The top call.
 ghost use Rattle.std.specs.Prelude.{◌≡◌, ◌⊎◌, map, option_map};
 ghost use Rattle.std.specs.String.{string_bytes};
-ghost use Rattle.file_plans.specs.StaysCareful.{StaysCareful};
-ghost use Rattle.folder_files.specs.Commands.{Looking};
 ghost use Rattle.mh_tools.specs.AnswersAlone.{AnswersAlone};
+ghost use Rattle.mh_tools.specs.Calls.{around, called};
+ghost use Rattle.mh_tools.specs.FollowsItsPlan.{FollowsItsPlan, TellsStatus, told_status};
 ghost use Rattle.mh_tools.specs.IsCaused.{IsCaused};
+ghost use Rattle.mh_tools.specs.KeepsMail.{KeepsMail, KeepsMarks};
+ghost use Rattle.mh_tools.specs.Status.{ended_status, ended_word, fault_status};
 ghost use Rattle.mh_tools.specs.TellsWhatItSaw.{TellsWhatItSaw};
-ghost use Rattle.mh_tools.specs.Top.{FollowsItsPlan, TellsStatus, told_status, first_word as first_word_of};
 
-use crate::command::run_command;
 use crate::lines::error_line;
-use crate::status::status_from;
 use crate::{Setting, Status};
+use command_line::{Ended, run_command};
 use folder_files::Files;
-use mh_base::{Sink, SinkFault, Source};
+use mh_base::{Bytes, Sink, SinkFault, Source};
 use std::alloc::Global;
 
-/// The word that a refusal of the command's name speaks of.
-fn first_word(words: &[String]) -> Option<&[u8]>
-    ensures { option_map (λ w. w.now) result ≡ first_word_of (map string_bytes words.now) }
+fn word_of(word: &Option<Bytes>) -> Option<&[u8]>
+    ensures { option_map (λ w. w.now) result ≡ word.now }
 {
-    match words.first() {
-        Some(word) => Some(word.as_str().as_bytes()),
+    match word {
+        Some(word) => Some(word.as_slice()),
         None => None,
     }
 }
@@ -36,17 +35,26 @@ fn told(outcome: Result<(), SinkFault>, status: Status) -> Status
     }
 }
 
-/// Writes the line of a status. A fault of the error output changes nothing.
-fn report<E: Sink>(alloc: Global, words: &[String], err: &mut E, status: Status) -> Status
-    ensures ends { (result ≡ status) ⊎ (result ≡ Status.NoMemory) }
-    ensures told { TellsStatus (map string_bytes words.now) (E.state err.old) (E.state err.new) result }
+/// Writes the line of what ended a command. A fault of the error output changes nothing.
+fn report_end<E: Sink>(alloc: Global, err: &mut E, ended: Ended) -> Status
+    ensures ends { (result ≡ fault_status ended.fault) ⊎ (result ≡ Status.NoMemory) }
+    ensures told { TellsStatus ended.word (E.state err.old) (E.state err.new) result }
 {
-    if let Status::Done = status {
-        return Status::Done;
-    }
-    match error_line(alloc, first_word(words), &status) {
+    let Ended { fault, word } = ended;
+    let status = Status::from(fault);
+    match error_line(alloc, word_of(&word), &status) {
         Ok(line) => told(err.put(line.as_slice()), status),
         Err(_) => Status::NoMemory,
+    }
+}
+
+fn report<E: Sink>(alloc: Global, err: &mut E, outcome: Result<(), Ended>) -> Status
+    ensures ends { (result ≡ ended_status outcome) ⊎ (result ≡ Status.NoMemory) }
+    ensures told { TellsStatus (ended_word outcome) (E.state err.old) (E.state err.new) result }
+{
+    match outcome {
+        Ok(()) => Status::Done,
+        Err(ended) => report_end(alloc, err, ended),
     }
 }
 
@@ -61,14 +69,14 @@ pub fn mh<F: Files, I: Source, O: Sink, E: Sink>(
     out: &mut O,
     err: &mut E,
 ) -> Status
-    ensures plan { FollowsItsPlan setting.now.run (map string_bytes words.now.items) (F.state files.old) (F.state files.new) (I.state input.old) (O.state out.old) (O.state out.new) result }
-    ensures caused { IsCaused setting.now.run (map string_bytes words.now.items) setting.now (F.state files.old) (F.state files.new) (I.state input.old) (O.state out.old) (O.state out.new) result }
-    ensures seen { TellsWhatItSaw setting.now.run (map string_bytes words.now.items) setting.now (F.state files.old) (F.state files.new) (I.state input.old) (O.state out.old) (O.state out.new) result }
-    ensures alone { AnswersAlone setting.now.run (map string_bytes words.now.items) setting.now (F.state files.old) (F.state files.new) (I.state input.old) (I.state input.new) (O.state out.old) (O.state out.new) (E.state err.old) (E.state err.new) result }
-    ensures careful { StaysCareful setting.now.run Looking (F.state files.old) (F.state files.new) }
+    ensures plan { FollowsItsPlan (called (map string_bytes words.now.items) setting.now (around (F.state files.old) (I.state input.old) (O.state out.old) (E.state err.old)) (around (F.state files.new) (I.state input.new) (O.state out.new) (E.state err.new)) result) }
+    ensures caused { IsCaused (called (map string_bytes words.now.items) setting.now (around (F.state files.old) (I.state input.old) (O.state out.old) (E.state err.old)) (around (F.state files.new) (I.state input.new) (O.state out.new) (E.state err.new)) result) }
+    ensures seen { TellsWhatItSaw (called (map string_bytes words.now.items) setting.now (around (F.state files.old) (I.state input.old) (O.state out.old) (E.state err.old)) (around (F.state files.new) (I.state input.new) (O.state out.new) (E.state err.new)) result) }
+    ensures alone { AnswersAlone (called (map string_bytes words.now.items) setting.now (around (F.state files.old) (I.state input.old) (O.state out.old) (E.state err.old)) (around (F.state files.new) (I.state input.new) (O.state out.new) (E.state err.new)) result) }
+    ensures keeps { KeepsMail (called (map string_bytes words.now.items) setting.now (around (F.state files.old) (I.state input.old) (O.state out.old) (E.state err.old)) (around (F.state files.new) (I.state input.new) (O.state out.new) (E.state err.new)) result) }
+    ensures marks { KeepsMarks (called (map string_bytes words.now.items) setting.now (around (F.state files.old) (I.state input.old) (O.state out.old) (E.state err.old)) (around (F.state files.new) (I.state input.new) (O.state out.new) (E.state err.new)) result) }
     ensures input { I.state input.new ≡ I.state input.old }
-    ensures told { TellsStatus (map string_bytes words.now.items) (E.state err.old) (E.state err.new) result }
 {
     let outcome = run_command(alloc, words.as_slice(), setting.run(), files, out);
-    report(alloc, words.as_slice(), err, status_from(outcome))
+    report(alloc, err, outcome)
 }

@@ -7,3 +7,4 @@ mod ReadingLemmas
 mod StepLemmas
 mod SwitchLemmas
 mod TextLemmas
+mod WholeLemmas

@@ -6,3 +6,4 @@ pub mod Outcomes
 pub mod Readings
 pub mod Steps
 pub mod Switches
+pub mod Whole

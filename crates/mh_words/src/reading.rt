@@ -5,6 +5,7 @@ ghost use Rattle.mh_words.specs.Items.{IsItemOf};
 ghost use Rattle.mh_words.specs.Lines.{IsWordAt, words_of};
 ghost use Rattle.mh_words.specs.Readings.{Reads, Fails};
 ghost use Rattle.mh_words.specs.Steps.{IsComponentStep, IsReading, IsStep, IsSwitchStep, IsValueAfter};
+ghost use Rattle.mh_words.specs.Whole.{IsWhole, read_in};
 ghost use Rattle.mh_words.specs.Outcomes.{IsFault, IsReadAs, IsRefusedAs};
 
 use crate::fault::fault_at;
@@ -163,6 +164,9 @@ pub fn read_words(
     // Where the words are read or refused, the result says so, unless memory runs out.
     ensures admits { (items : List Item) → Reads table.now 0 (profile_words.now ++ words.now) items → IsReadAs items result }
     ensures fails { (bad : ℕ) (why : WordWhy) → Fails table.now 0 (profile_words.now ++ words.now) bad why → IsRefusedAs bad why result }
+
+    // The same as one value.
+    ensures whole { IsWhole (read_in table.now 0 (profile_words.now ++ words.now)) result }
 {
     // No memory holds so many words.
     if profile_words.len().checked_add(words.len()).is_none() {

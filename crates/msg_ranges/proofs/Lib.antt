@@ -3,9 +3,11 @@ mod Cutting
 mod Digits
 mod Forming
 mod Parts
-mod Rising
+pub mod Rising
+pub mod Selected
 mod Selections
 mod SetLists
 mod Spans
 mod Sums
 mod Walking
+pub mod Within

@@ -3,6 +3,7 @@ pub mod Forms
 pub mod Plain
 pub mod Reading
 pub mod Runs
+pub mod Selected
 pub mod Selecting
 pub mod Selection
 pub mod Words

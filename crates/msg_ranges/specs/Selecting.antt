@@ -8,7 +8,7 @@ use Rattle.msg_ranges.specs.declared.fault.SelectFault.{SelectFault}
 use Rattle.msg_ranges.specs.declared.fault.SelectFault.TheVariants.{BadSpec, Absent, EmptyRange, EmptySequence, Memory}
 use Rattle.msg_ranges.specs.declared.spec.Spec.{Spec}
 use Rattle.msg_ranges.specs.Words.{Reads}
-use Rattle.msg_ranges.specs.Selection.{chosen}
+use Rattle.msg_ranges.specs.Selection.{Marks, marks_of, chosen}
 
 -- the word has none of the forms
 abbrev pub IsBad : List ℕ → List ℕ → Type 0
@@ -18,15 +18,15 @@ IsBad prefix word = (spec : Spec) → Reads prefix word spec → ⊥
 pub record Folder : Type 0 where
   pub prefix : List ℕ
   pub numbers : List ℕ
-  pub marked : Marked
+  pub marks : Marks
 
 abbrev pub folder_of : List ℕ → List ℕ → Marked → Folder
-folder_of prefix numbers marked = record { prefix = prefix; numbers = numbers; marked = marked }
+folder_of prefix numbers marked = record { prefix = prefix; numbers = numbers; marks = marks_of marked }
 
 -- the word at this place comes to this: what its form designates, or a refusal
 abbrev pub ComesTo : Folder → ℕ → List ℕ → Result (List ℕ) SelectFault → Type 0
 ComesTo f k word result =
-    ((spec : Spec) × Reads f.prefix word spec × (chosen k f.numbers f.marked spec ≡ result))
+    ((spec : Spec) × Reads f.prefix word spec × (chosen k f.numbers f.marks spec ≡ result))
     ⊎ (IsBad f.prefix word × (result ≡ Err (BadSpec k)))
 
 -- each word from this place on designates the numbers beside it

@@ -14,6 +14,14 @@ use Rattle.msg_ranges.specs.declared.spec.Spec.TheVariants.{One, Range, Count, A
 
 -- In all of this `xs` are the numbers of the folder's messages, ascending, and `k` is the place of the word.
 
+-- what sequences mark: which numbers the sequence of a name has, and the current number
+pub record Marks : Type 0 where
+  pub has : List ℕ → ℕ → Bool
+  pub cur : Option ℕ
+
+abbrev pub marks_of : Marked → Marks
+marks_of marked = record { has = member marked.users; cur = marked.cur }
+
 -- the numbers that are at least this
 abbrev pub from : ℕ → List ℕ → List ℕ
 from a xs = filter (λ x. nat_le a x) xs
@@ -98,12 +106,12 @@ unless_void k true (x ∷ xs) other = other
 unless_void k false xs other = other
 
 -- the members of a sequence that exist
-abbrev pub members : List ℕ → Marked → List ℕ → List ℕ
-members xs marked s = filter (λ x. member marked.users s x) xs
+abbrev pub members : List ℕ → Marks → List ℕ → List ℕ
+members xs marks s = filter (λ x. marks.has s x) xs
 
 -- and the messages that are no members
-abbrev pub others : List ℕ → Marked → List ℕ → List ℕ
-others xs marked s = filter (λ x. not (member marked.users s x)) xs
+abbrev pub others : List ℕ → Marks → List ℕ → List ℕ
+others xs marks s = filter (λ x. not (marks.has s x)) xs
 
 -- so many members from the first on, or up to the last
 abbrev pub counted_members : Way → ℕ → List ℕ → List ℕ
@@ -119,12 +127,12 @@ spotted cur NextSpot xs = take 1 (from (cur + 1) xs)
 spotted cur PrevSpot xs = take_last 1 (up_to (cur - 1) xs)
 
 -- the numbers that a form designates, or why it is refused
-abbrev pub chosen : ℕ → List ℕ → Marked → Spec → Result (List ℕ) SelectFault
-chosen k xs marked (One a) = unless_void k (is_end a) xs (one k xs (named xs marked.cur a))
-chosen k xs marked (Range a b) = unless_void k (is_end a || is_end b) xs (between k xs (named xs marked.cur a) (named xs marked.cur b))
-chosen k xs marked (Count a way n) = unless_void k (is_end a) xs (counted k xs (named xs marked.cur a) (goes_up a way) n)
-chosen k xs marked All = some_or (EmptyRange k) xs
-chosen k xs marked (Sequence s) = some_or (EmptySequence k) (members xs marked s)
-chosen k xs marked (SequenceCount s way n) = some_or (EmptySequence k) (counted_members way n (members xs marked s))
-chosen k xs marked (SequenceSpot s spot) = some_or (EmptySequence k) (spotted (current marked.cur) spot (members xs marked s))
-chosen k xs marked (Negated s) = some_or (EmptySequence k) (others xs marked s)
+abbrev pub chosen : ℕ → List ℕ → Marks → Spec → Result (List ℕ) SelectFault
+chosen k xs marks (One a) = unless_void k (is_end a) xs (one k xs (named xs marks.cur a))
+chosen k xs marks (Range a b) = unless_void k (is_end a || is_end b) xs (between k xs (named xs marks.cur a) (named xs marks.cur b))
+chosen k xs marks (Count a way n) = unless_void k (is_end a) xs (counted k xs (named xs marks.cur a) (goes_up a way) n)
+chosen k xs marks All = some_or (EmptyRange k) xs
+chosen k xs marks (Sequence s) = some_or (EmptySequence k) (members xs marks s)
+chosen k xs marks (SequenceCount s way n) = some_or (EmptySequence k) (counted_members way n (members xs marks s))
+chosen k xs marks (SequenceSpot s spot) = some_or (EmptySequence k) (spotted (current marks.cur) spot (members xs marks s))
+chosen k xs marks (Negated s) = some_or (EmptySequence k) (others xs marks s)

@@ -2,7 +2,7 @@
 ghost use Rattle.std.specs.Prelude.{◌≡◌, ◌||◌};
 ghost use Rattle.mh_sequences.specs.Runs.{numbers_of};
 ghost use Rattle.msg_ranges.specs.Choosing.{Gives};
-ghost use Rattle.msg_ranges.specs.Selection.{between, chosen, counted as counted_from, goes_up as goes_up_by, is_end as is_end_name, named as named_number, one as one_of, unless_void};
+ghost use Rattle.msg_ranges.specs.Selection.{between, chosen, counted as counted_from, goes_up as goes_up_by, is_end as is_end_name, named as named_number, one as one_of, unless_void, marks_of};
 
 use crate::members::{count_members, member_at, members, others};
 use crate::naming::{current, goes_up, is_end, named};
@@ -81,7 +81,7 @@ pub(crate) fn choose(
     listing: &NumSet,
     sequences: &Sequences,
 ) -> Result<NumSet, SelectFault>
-    ensures { Gives index (chosen index (numbers_of listing.now.runs) sequences.now spec.now) result }
+    ensures { Gives index (chosen index (numbers_of listing.now.runs) (marks_of sequences.now) spec.now) result }
 {
     let set = match spec {
         Spec::One(name) => return choose_one(alloc, index, listing, sequences, name),

@@ -1,7 +1,7 @@
 // Members of sequences.
 ghost use Rattle.std.specs.Prelude.{◌≡◌, ◌≤◌, IfOk};
 ghost use Rattle.mh_sequences.specs.Runs.{numbers_of};
-ghost use Rattle.msg_ranges.specs.Selection.{counted_members, members as members_of, others as others_of, spotted};
+ghost use Rattle.msg_ranges.specs.Selection.{counted_members, members as members_of, others as others_of, spotted, marks_of};
 
 use crate::counting::{take_from, take_up_to};
 use crate::sets::{common, without};
@@ -16,7 +16,7 @@ pub(crate) fn members(
     sequences: &Sequences,
     name: &SeqName,
 ) -> Result<NumSet, AllocError>
-    ensures { IfOk result (λ s. numbers_of s.runs ≡ members_of (numbers_of listing.now.runs) sequences.now name.now) }
+    ensures { IfOk result (λ s. numbers_of s.runs ≡ members_of (numbers_of listing.now.runs) (marks_of sequences.now) name.now) }
 {
     match sequences.get(name) {
         Some(set) => common(alloc, listing, set),
@@ -31,7 +31,7 @@ pub(crate) fn others(
     sequences: &Sequences,
     name: &SeqName,
 ) -> Result<NumSet, AllocError>
-    ensures { IfOk result (λ s. numbers_of s.runs ≡ others_of (numbers_of listing.now.runs) sequences.now name.now) }
+    ensures { IfOk result (λ s. numbers_of s.runs ≡ others_of (numbers_of listing.now.runs) (marks_of sequences.now) name.now) }
 {
     let none = NumSet::new(alloc);
     let set = match sequences.get(name) {

@@ -2,7 +2,7 @@
 ghost use Rattle.std.specs.Prelude.{◌≡◌, ◌≤◌, ◌==◌, ◌||◌, not, filter, find, take, IfOk};
 ghost use Rattle.mh_sequences.specs.Sequences.{member};
 ghost use Rattle.msg_ranges.specs.Plain.{GivesList};
-ghost use Rattle.msg_ranges.specs.Selection.{between, chosen, counted as counted_from, counted_members, from as from_number, goes_up as goes_up_by, is_end as is_end_name, members as members_of, named as named_number, one as one_of, others as others_of, some_or as some_numbers_or, spotted, take_last as last_of, unless_void, up_to as up_to_number};
+ghost use Rattle.msg_ranges.specs.Selection.{between, chosen, counted as counted_from, counted_members, from as from_number, goes_up as goes_up_by, is_end as is_end_name, members as members_of, named as named_number, one as one_of, others as others_of, some_or as some_numbers_or, spotted, take_last as last_of, unless_void, up_to as up_to_number, marks_of};
 
 use crate::naming::{current, goes_up, is_end};
 use crate::{Base, SelectFault, Spec, Spot, Way};
@@ -74,7 +74,7 @@ fn members(
     sequences: &Sequences,
     name: &SeqName,
 ) -> Result<Vec<MsgNum>, AllocError>
-    ensures { IfOk result (λ v. v.items ≡ members_of numbers.now sequences.now name.now) }
+    ensures { IfOk result (λ v. v.items ≡ members_of numbers.now (marks_of sequences.now) name.now) }
 {
     numbers
         .iter()
@@ -89,7 +89,7 @@ fn others(
     sequences: &Sequences,
     name: &SeqName,
 ) -> Result<Vec<MsgNum>, AllocError>
-    ensures { IfOk result (λ v. v.items ≡ others_of numbers.now sequences.now name.now) }
+    ensures { IfOk result (λ v. v.items ≡ others_of numbers.now (marks_of sequences.now) name.now) }
 {
     numbers
         .iter()
@@ -289,7 +289,7 @@ pub(crate) fn choose_plainly(
     numbers: &[MsgNum],
     sequences: &Sequences,
 ) -> Result<List<MsgNum>, SelectFault>
-    ensures { GivesList index (chosen index numbers.now sequences.now spec.now) result }
+    ensures { GivesList index (chosen index numbers.now (marks_of sequences.now) spec.now) result }
 {
     match spec {
         Spec::One(name) => choose_one(alloc, index, numbers, sequences, name),

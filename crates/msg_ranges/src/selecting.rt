@@ -1,9 +1,10 @@
 // Messages selected by words.
 ghost use Rattle.std.specs.Prelude.{◌≡◌, ℕ, map, IfOk, IfErr};
 ghost use Rattle.std.specs.Str.{encode_utf8_all};
-ghost use Rattle.mh_sequences.specs.Runs.{has, numbers_of};
+ghost use Rattle.mh_sequences.specs.Runs.{AreRuns, has, numbers_of};
 ghost use Rattle.msg_ranges.specs.declared.fault.SelectFault.TheVariants.{Memory};
 ghost use Rattle.msg_ranges.specs.Choosing.{GivesWord};
+ghost use Rattle.msg_ranges.specs.Selected.{IsSelected, selected as selected_of};
 ghost use Rattle.msg_ranges.specs.Selecting.{folder_of, IsRefusal, IsSelection};
 
 use crate::choosing::choose;
@@ -32,6 +33,7 @@ fn select_word(
 
 fn union(selected: Pile) -> Result<NumSet, SelectFault>
     ensures set { IfOk result (λ s. (n : ℕ) → has s.runs n ≡ has selected n) }
+    ensures valid { IfOk result (λ s. AreRuns s.runs) }
     ensures memory { IfErr result (λ e. e ≡ Memory) }
 {
     Ok(selected.into_set()?)
@@ -48,6 +50,9 @@ pub fn select(
 ) -> Result<NumSet, SelectFault>
     ensures selection { IfOk result (λ s. IsSelection (folder_of negation.now (numbers_of listing.now.runs) sequences.now) (map encode_utf8_all specs.now) s.runs) }
     ensures refusal { IfErr result (λ e. IsRefusal (folder_of negation.now (numbers_of listing.now.runs) sequences.now) (map encode_utf8_all specs.now) e) }
+
+    // The same as one value.
+    ensures whole { IsSelected (selected_of (folder_of negation.now (numbers_of listing.now.runs) sequences.now) (map encode_utf8_all specs.now)) result }
 {
     let mut selected = Pile::new(alloc);
     for (index, word) in specs.as_slice().iter().enumerate() {

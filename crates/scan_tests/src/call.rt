@@ -1,21 +1,27 @@
-// One call of `mh` over a mailbox in memory, and what it left. The tests see this and not `mh`
+// Calls of `mh` over a mailbox in memory, and what they left. The tests see this and not `mh`
 // itself: its contract over a mailbox in memory is long, and each test would be proved beside it.
-use crate::given::Mailbox;
-use folder_files::{Files, Refusal, Which, World};
+use crate::counted::{locks_of, steps_of};
+use crate::given::{Mailbox, bytes_of, name};
+use file_plans::{Reading, ask_read};
+use folder_files::{Files, Place, Refusal, Which};
 use folder_room::{PromptList, Room};
 use mh_base::{Bytes, MemSink, NumberList, PlainSink, PlainSource, Text, WordWhy};
 use mh_tools::{Setting, Status, mh};
 use std::alloc::Global;
 use std::test::Fail;
 
-/// How a call ended, without what its status names.
+/// How a call ended, without the text of what its status names.
 #[derive(Clone, Copy, Debug, PartialEq, Eq)]
 pub enum Ending {
     Done,
-    NoCommand,
+    /// The word at this place is wrong.
+    BadWord(u64, WordWhy),
     BadFolder,
     NoFolder,
+    BadSpec,
+    Absent,
     EmptyRange,
+    EmptySequence,
     TooLarge,
     OtherRefusal,
     FaultOfFiles,
@@ -26,24 +32,28 @@ pub enum Ending {
     NoMemory,
 }
 
-/// What a call left.
+/// What calls left: how the last ended and what it wrote, the context's text then, and how many steps
+/// the last asked for and how many of them were locks.
 #[derive(Drop)]
 pub struct Left {
     pub exit: u8,
     pub ending: Ending,
     pub out: Bytes,
     pub err: Bytes,
+    pub context: Bytes,
+    pub steps: usize,
+    pub locks: usize,
 }
 
 fn refused(refusal: &Refusal) -> Ending {
     match refusal {
-        Refusal::BadSwitch {
-            place: 0,
-            why: WordWhy::NoCommand,
-        } => Ending::NoCommand,
+        Refusal::BadSwitch { place, why } => Ending::BadWord(*place, *why),
         Refusal::BadFolder(_) => Ending::BadFolder,
         Refusal::NoFolder(_) => Ending::NoFolder,
+        Refusal::BadSpec(_) => Ending::BadSpec,
+        Refusal::Absent(_) => Ending::Absent,
         Refusal::EmptyRange(_) => Ending::EmptyRange,
+        Refusal::EmptySequence(_) => Ending::EmptySequence,
         Refusal::TooLarge { .. } => Ending::TooLarge,
         _ => Ending::OtherRefusal,
     }
@@ -69,17 +79,41 @@ fn ended(status: &Status) -> Ending {
 }
 
 fn left_by(alloc: Global, status: &Status, out: &[u8], err: &[u8]) -> Result<Left, Fail> {
-    let out = Bytes::from_slice(alloc, out)?;
-    let err = Bytes::from_slice(alloc, err)?;
     Ok(Left {
         exit: status.exit(),
         ending: ended(status),
-        out,
-        err,
+        out: bytes_of(alloc, out)?,
+        err: bytes_of(alloc, err)?,
+        context: Bytes::new(alloc),
+        steps: 0,
+        locks: 0,
     })
 }
 
-/// Over any files; `failing` has the numbers of the pieces of output that fail.
+fn setting(alloc: Global, run: u128) -> Result<Setting, Fail> {
+    let user = Text::from_str(alloc, "bob")?;
+    Ok(Setting::new(run, 1_780_394_400, 0, user).ok_or("setting")?)
+}
+
+/// The words of a line.
+fn words(alloc: Global, line: &str) -> Result<Vec<String>, Fail> {
+    let mut words = Vec::new(alloc);
+    for word in line.split(' ') {
+        if !word.is_empty() {
+            words.push(String::from_str(alloc, word)?)?;
+        }
+    }
+    Ok(words)
+}
+
+fn numbers(alloc: Global, all: &[u64]) -> Result<NumberList, Fail> {
+    let mut numbers = NumberList::new(alloc);
+    for number in all {
+        numbers.push(*number)?;
+    }
+    Ok(numbers)
+}
+
 fn call_over<F: Files>(
     alloc: Global,
     files: &mut F,
@@ -94,41 +128,69 @@ fn call_over<F: Files>(
     left_by(alloc, &status, out.bytes(), err.bytes())
 }
 
-fn call_in_room(
+fn call_line<F: Files>(
     alloc: Global,
-    world: World,
-    prompts: PromptList,
-    words: &Vec<String>,
-    setting: &Setting,
-    failing: NumberList,
+    files: &mut F,
+    run: u128,
+    line: &str,
+    failing: &[u64],
 ) -> Result<Left, Fail> {
-    let mut room = Room::new(alloc, world, prompts)?;
-    call_over(alloc, &mut room, words, setting, failing)
+    let words = words(alloc, line)?;
+    let setting = setting(alloc, run)?;
+    let failing = numbers(alloc, failing)?;
+    call_over(alloc, files, &words, &setting, failing)
 }
 
-fn setting(alloc: Global) -> Result<Setting, Fail> {
-    let user = Text::from_str(alloc, "bob")?;
-    Ok(Setting::new(1, 1_780_394_400, 0, user).ok_or("setting")?)
-}
+/// The run that looks at the context after the calls.
+const LOOKER: u128 = 99;
 
-fn words(alloc: Global, all: &[&str]) -> Result<Vec<String>, Fail> {
-    let mut words = Vec::new(alloc);
-    for word in all {
-        words.push(String::from_str(alloc, *word)?)?;
+fn context_in<F: Files>(alloc: Global, files: &mut F, mail: &Place) -> Result<Bytes, Fail> {
+    let name = name(alloc, b"context")?;
+    match ask_read(alloc, LOOKER, files, mail, &name, 999)? {
+        Reading::Content(bytes) => Ok(bytes),
+        _ => bytes_of(alloc, b"none"),
     }
-    Ok(words)
 }
 
-/// Calls `mh` with these words over this mailbox, while the script runs.
+/// Each line is a call by a run of its own, numbered from 1; the last call's output fails at these
+/// pieces.
+fn call_each<F: Files>(
+    alloc: Global,
+    files: &mut F,
+    mail: &Place,
+    earlier: &[&str],
+    last: &str,
+    failing: &[u64],
+) -> Result<Left, Fail> {
+    let mut run = 1u128;
+    for line in earlier {
+        call_line(alloc, files, run, line, &[])?;
+        run = run.wrapping_add(1);
+    }
+    let mut left = call_line(alloc, files, run, last, failing)?;
+    left.context = context_in(alloc, files, mail)?;
+    Ok(left)
+}
+
+fn counted(left: Result<Left, Fail>, room: &Room, run: u128) -> Result<Left, Fail> {
+    let mut left = left?;
+    left.steps = steps_of(room.history(), run);
+    left.locks = locks_of(room.history(), run);
+    Ok(left)
+}
+
+/// Calls `mh` with the words of each earlier line and then of the last over this mailbox, while the
+/// script runs. The pieces of the last call's output that have these numbers fail.
 pub fn call(
     alloc: Global,
     mailbox: Mailbox,
     prompts: PromptList,
-    all: &[&str],
-    failing: NumberList,
+    earlier: &[&str],
+    last: &str,
+    failing: &[u64],
 ) -> Result<Left, Fail> {
-    let world = mailbox.world(alloc)?;
-    let words = words(alloc, all)?;
-    let setting = setting(alloc)?;
-    call_in_room(alloc, world, prompts, &words, &setting, failing)
+    let mail = mailbox.mail(alloc)?;
+    let mut room = Room::new(alloc, mailbox.world(alloc), prompts)?;
+    let left = call_each(alloc, &mut room, &mail, earlier, last, failing);
+    counted(left, &room, (earlier.len() as u128).saturating_add(1))
 }

@@ -4,10 +4,24 @@
 #[cfg(test)]
 mod call;
 #[cfg(test)]
+mod contexts;
+#[cfg(test)]
+mod counted;
+#[cfg(test)]
+mod endings;
+#[cfg(test)]
 mod given;
+#[cfg(test)]
+mod lines;
+#[cfg(test)]
+mod profiles;
 #[cfg(test)]
 mod prompts;
 #[cfg(test)]
-mod scan;
+mod rows;
+#[cfg(test)]
+mod selections;
 #[cfg(test)]
 mod settings;
+#[cfg(test)]
+mod words;

@@ -1,1 +1,3 @@
-mod Silence
+pub mod OtherEntries
+pub mod Sequences
+pub mod Silence

@@ -1,1 +1,2 @@
+pub mod KeepsSequences
 pub mod SequenceMarks

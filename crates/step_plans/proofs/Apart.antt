@@ -18,14 +18,14 @@ use Rattle.folder_files.specs.declared.step.Step.TheVariants as step
 use Rattle.folder_files.specs.declared.world.Change.TheVariants.{Set}
 use Rattle.folder_files.specs.declared.world.World.{World}
 use Rattle.step_plans.specs.Moments.{Leads, HasLed, now, on}
-use Rattle.step_plans.specs.Standing.{is_own}
+use Rattle.folder_files.specs.Standing.{is_own}
 use Rattle.step_plans.specs.Starts.{HasNoneOf, HasNoneOfTheirs}
-use Rattle.step_plans.proofs.Sameness.{place_is}
-use Rattle.step_plans.proofs.Names.{is_temp_any, bytes_self, temp_owned, or_left}
-use Rattle.step_plans.proofs.Changes.{arrives, now_below}
-use Rattle.step_plans.proofs.Effects.{IsNext, answered, failed, refused, left_directory, left_next, left_grows, made_left, ComesTo, next_goes, world_start, world_crash, world_deliver, world_end, world_next}
+use Rattle.folder_files.proofs.Sameness.{place_is}
+use Rattle.folder_files.proofs.Names.{is_temp_any, bytes_self, temp_owned, or_left}
+use Rattle.folder_files.proofs.Changes.{arrives, now_below}
+use Rattle.folder_files.proofs.Effects.{IsNext, answered, failed, refused, left_directory, left_next, left_grows, made_left, ComesTo, next_goes, world_start, world_crash, world_deliver, world_end, world_next}
 use Rattle.step_plans.proofs.Discipline.{Cares, temp_target}
-use Rattle.step_plans.proofs.Beginning.{nothing_pending}
+use Rattle.folder_files.proofs.Beginning.{nothing_pending}
 use Rattle.step_plans.proofs.Crashes.{ended_by}
 use Rattle.step_plans.proofs.Law.{inv, none_before, may_made, careful_back, image_within, within_ended}
 use Rattle.step_plans.proofs.Once.{once, led_case, led_start, crash_led}

@@ -20,16 +20,16 @@ use Rattle.folder_files.specs.declared.step.Answer.TheVariants.{Done, Content, G
 use Rattle.folder_files.specs.declared.step.Step.{Step}
 use Rattle.folder_files.specs.declared.step.Step.TheVariants as step
 use Rattle.folder_files.specs.declared.world.World.{World}
-use Rattle.step_plans.proofs.Sameness.{place_same, place_is}
+use Rattle.folder_files.proofs.Sameness.{place_same, place_is}
 use Rattle.step_plans.specs.Commits.{TriesCommit, text_of, text_at, IsBase, found, missing, committed, on}
 use Rattle.step_plans.specs.Moments.{IsTriedAt, live, cut, IsNoCrash}
 use Rattle.step_plans.specs.Starts.{HasNoneOfTheirs}
-use Rattle.step_plans.proofs.Names.{not_both, bytes_true, bytes_self}
-use Rattle.step_plans.proofs.Effects.{IsNext, answered, failed, refused, left, next_fits, fits_as, world_deliver, world_end, world_next}
+use Rattle.folder_files.proofs.Names.{not_both, bytes_true, bytes_self}
+use Rattle.folder_files.proofs.Effects.{IsNext, answered, failed, refused, left, next_fits, fits_as, world_deliver, world_end, world_next}
 use Rattle.step_plans.proofs.Past.{did_step, did_answer, did_both, once_none}
 use Rattle.step_plans.proofs.Inv.{Inv, read_gives}
 use Rattle.step_plans.proofs.Discipline.{Cares, committed_lock, careful_rename}
-use Rattle.step_plans.proofs.Changes.{IsBelow}
+use Rattle.folder_files.proofs.Changes.{IsBelow}
 use Rattle.step_plans.proofs.Crashes.{ended_by}
 use Rattle.step_plans.proofs.Law.{inv, none_before, within_ended}
 use Rattle.step_plans.proofs.Told.{lives_before}
@@ -312,6 +312,16 @@ base_law start past r p t x a m st l careful none honest orderly c moment tr =
     let same = base_is start r p x st k.legal (careful_then tr careful.1) (none_then tr (none_before start r (step.Rename p t x) a m past none)) (honest_then tr (honest_before start (Act r (step.Rename p t x) a m) past honest)) (orderly_then tr orderly.1) c
     k.lives (subst (λ (ds : List Deed). HasFailed ds → ⊥) k.deeds may.0) base.0 (subst (λ (ds : List Deed). IsBase r p x base.0 ds) k.deeds base.1) in
     subst (λ (b : List ℕ). IsBase r p x b (own r past)) (sym same) base.1
+
+-- the text that a commit replaces is whatever base its run has
+pub base_text : (start : World) (past : List Event) (r : ℕ) (p : Place) (t x : List ℕ) (a : Answer) (m : After) → IsStart start → IsLegal start (Act r (step.Rename p t x) a m ∷ past) → AreCareful (Act r (step.Rename p t x) a m ∷ past)
+    → HasNoneOfTheirs start (Act r (step.Rename p t x) a m ∷ past) → AreHonest start (Act r (step.Rename p t x) a m ∷ past) → AreOrderly (Act r (step.Rename p t x) a m ∷ past) → is_committed p x ≡ true
+    → (moment : List Event) → IsTriedAt start r moment past → (text : List ℕ) → IsBase r p x text (own r past) → text_at (world_after start moment) p x ≡ text
+base_text start past r p t x a m st l careful none honest orderly c moment tr text base =
+    let k = tried start r (step.Rename p t x) l tr in
+    let may = careful_rename r (own r past) p t x (careful.0 (committed_lock p x c)) in
+    base_is start r p x st k.legal (careful_then tr careful.1) (none_then tr (none_before start r (step.Rename p t x) a m past none)) (honest_then tr (honest_before start (Act r (step.Rename p t x) a m) past honest)) (orderly_then tr orderly.1) c
+    k.lives (subst (λ (ds : List Deed). HasFailed ds → ⊥) k.deeds may.0) text (subst (λ (ds : List Deed). IsBase r p x text ds) k.deeds base)
 
 -- nothing but a commit changes the text, and a crash
 act_stays : (start : World) (past : List Event) (o : ℕ) (s : Step) (a : Answer) (m : After) (p : Place) (x : List ℕ) → is_committed p x ≡ true → Cares o (own o past) s → IsNext (world_after start past) o s a m → IsBelow (world_after start past).next_file ((world_after start past).directories p)

@@ -1,19 +1,14 @@
 -- What a closed set of changes leaves.
 use Rattle.std.proofs.Common.{◌≡◌, ℕ, Bool, true, false, ◌⊎◌, inl, inr, List, [], ◌∷◌, length, Option, Some, refl, sym, ◌∙◌, ap, subst, bytes_eq, if◌then◌else◌}
 use Rattle.mh_base.specs.Entries.{kind_of}
-use Rattle.folder_files.specs.Directory.{touches, Slots, after_change, lead, kept_lead, AllKept, IsClosed}
+use Rattle.folder_files.specs.Directory.{touches, Slots, after_change, lead, kept_lead, AllKept, IsClosed, IsUntouched}
 use Rattle.folder_files.specs.Named.{is_held}
 use Rattle.folder_files.specs.declared.world.Change.{Change}
 use Rattle.folder_files.specs.declared.world.Change.TheVariants.{Set, Gone, Moved}
-use Rattle.step_plans.specs.Anchors.{IsUntouched, IsMovedOn, here, on, IsAnchor}
-use Rattle.step_plans.specs.Standing.{is_standing}
-use Rattle.step_plans.proofs.Names.{or_false, or_right, not_both, bytes_self, held_stands}
-
--- a change leaves what it doesn't touch
-pub untouched_change : (c : Change) (s : Slots) (x : List ℕ) → touches c x ≡ false → after_change c s x ≡ s x
-untouched_change (Set n f) s x h = rw h refl
-untouched_change (Gone n) s x h = rw h refl
-untouched_change (Moved a b) s x h = let p = or_false (bytes_eq a x) (bytes_eq b x) h in rw (p.1, p.0) refl
+use Rattle.step_plans.specs.Anchors.{IsMovedOn, here, on, IsAnchor}
+use Rattle.folder_files.specs.Standing.{is_standing}
+use Rattle.folder_files.proofs.Changes.{untouched_change, untouched_lead}
+use Rattle.folder_files.proofs.Names.{or_right, not_both, bytes_self, held_stands}
 
 moved_touches_from : (a b : List ℕ) → touches (Moved a b) a ≡ true
 moved_touches_from a b = rw (bytes_self a) refl
@@ -31,10 +26,6 @@ untouched_kept s (c ∷ cs) keep x u = go (keep (length cs)) (untouched_kept s c
     go : (k : Bool) → kept_lead s cs keep x ≡ s x → (if k then after_change c (kept_lead s cs keep) x else kept_lead s cs keep x) ≡ s x
     go true rest = untouched_change c (kept_lead s cs keep) x u.0 ∙ rest
     go false rest = rest
-
-pub untouched_lead : (s : Slots) (cs : List Change) (x : List ℕ) → IsUntouched x cs → lead s cs x ≡ s x
-untouched_lead s [] x u = refl
-untouched_lead s (c ∷ cs) x u = untouched_change c (lead s cs) x u.0 ∙ untouched_lead s cs x u.1
 
 -- no change that touches x is kept
 abbrev NoneKept : List ℕ → List Change → (ℕ → Bool) → Type 0

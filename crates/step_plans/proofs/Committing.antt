@@ -5,7 +5,7 @@ use Rattle.mh_base.specs.declared.entry.Entry.{Entry}
 use Rattle.mh_base.specs.declared.entry.Entry.TheVariants.{Number, Sequences}
 use Rattle.folder_files.specs.Careful.{MayCommit}
 use Rattle.folder_files.specs.Deeds.{Deed}
-use Rattle.folder_files.specs.Directory.{DirectoryMap, touches, lead, now_in}
+use Rattle.folder_files.specs.Directory.{DirectoryMap, touches, lead, now_in, IsUntouched}
 use Rattle.folder_files.specs.Histories.{IsLive}
 use Rattle.folder_files.specs.Named.{is_temp_of, is_held, is_sequences, is_backing_up, is_committed, is_work}
 use Rattle.folder_files.specs.Places.{same_place, is_parent, is_folder}
@@ -22,14 +22,12 @@ use Rattle.folder_files.specs.declared.step.Step.TheVariants as step
 use Rattle.folder_files.specs.declared.world.Change.{Change}
 use Rattle.folder_files.specs.declared.world.Change.TheVariants as change
 use Rattle.folder_files.proofs.Kinding.{MayLink, MayRename, MayUnlink}
-use Rattle.step_plans.proofs.Sameness.{place_same, place_is}
-use Rattle.step_plans.specs.Anchors.{IsUntouched}
+use Rattle.folder_files.proofs.Sameness.{place_same, place_is}
 use Rattle.step_plans.specs.Commits.{text_of, text_at}
-use Rattle.step_plans.specs.Standing.{is_standing, is_own}
-use Rattle.step_plans.proofs.Names.{not_both, or_left, bytes_true, bytes_self, bytes_false, number_stands, held_stands, is_temp_any, is_held_any, is_taking_number, is_taking_held, is_backing_number, is_committed_quiet, is_committed_unown}
-use Rattle.step_plans.proofs.Closing.{untouched_change, untouched_lead}
-use Rattle.step_plans.proofs.Changes.{IsBelow, now_below}
-use Rattle.step_plans.proofs.Effects.{IsNext, answered, failed, refused, left, left_directory, left_keeps}
+use Rattle.folder_files.specs.Standing.{is_standing, is_own}
+use Rattle.folder_files.proofs.Names.{not_both, or_left, bytes_true, bytes_self, bytes_false, number_stands, held_stands, is_temp_any, is_held_any, is_taking_number, is_taking_held, is_backing_number, is_committed_quiet, is_committed_unown}
+use Rattle.folder_files.proofs.Changes.{untouched_change, untouched_lead, IsBelow, now_below}
+use Rattle.folder_files.proofs.Effects.{IsNext, answered, failed, refused, left, left_directory, left_keeps}
 use Rattle.step_plans.proofs.Discipline.{Cares, place_lock, committed_lock, careful_create, careful_link, careful_rename, careful_unlink}
 
 -- a directory's change that spares the name

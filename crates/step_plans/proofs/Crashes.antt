@@ -18,16 +18,16 @@ use Rattle.step_plans.specs.Leaving.{IsRemoved, IsDiscarded, backed_up, unlinked
 use Rattle.step_plans.specs.MailInvariant.{IsLetGo}
 use Rattle.step_plans.specs.Moments.{Leads, IsTriedAt, live, cut, Tries}
 use Rattle.step_plans.specs.Spending.{IsSpent, IsClear, now, on}
-use Rattle.step_plans.specs.Standing.{is_standing}
+use Rattle.folder_files.specs.Standing.{is_standing}
 use Rattle.step_plans.specs.Successors.{WasPutSince, now, on}
-use Rattle.step_plans.proofs.Names.{not_both, or_left, or_false}
+use Rattle.folder_files.proofs.Names.{not_both, or_left, or_false}
 use Rattle.step_plans.proofs.Closing.{untouched_kept, anchor_fresh}
-use Rattle.step_plans.proofs.Changes.{IsUnseen, kept_below}
-use Rattle.step_plans.proofs.Effects.{refused, left, world_start, world_crash, world_deliver, world_end, world_next}
+use Rattle.folder_files.proofs.Changes.{IsUnseen, kept_below}
+use Rattle.folder_files.proofs.Effects.{refused, left, world_start, world_crash, world_deliver, world_end, world_next}
 use Rattle.step_plans.proofs.Past.{once_none, acted, since_read, put_case, ever_case, durable_case, since_case, spent_case, clear_case, let_go_on}
 use Rattle.step_plans.proofs.Holds.{crash_holds}
 use Rattle.step_plans.proofs.Inv.{Inv, InvAt, IsSafeAs}
-use Rattle.step_plans.proofs.Beginning.{nothing_pending, all_safe, all_known}
+use Rattle.folder_files.proofs.Beginning.{nothing_pending, all_safe, all_known}
 
 since_none : {P : Deed → List Deed → Type 0} {E : Deed → Type 0} → Since P E [] → ⊥
 since_none z = elim z [ ]

@@ -20,16 +20,16 @@ use Rattle.folder_files.specs.declared.step.Step.TheVariants as step
 use Rattle.folder_files.specs.declared.world.Change.{Change}
 use Rattle.folder_files.specs.declared.world.Change.TheVariants.{Moved}
 use Rattle.folder_files.specs.declared.world.World.{World}
-use Rattle.step_plans.proofs.Sameness.{place_same, place_is}
+use Rattle.folder_files.proofs.Sameness.{place_same, place_is}
 use Rattle.step_plans.specs.Commits.{text_of, text_at, IsNoSync, HadText, now, on}
 use Rattle.step_plans.specs.Starts.{HasNoneOfTheirs}
-use Rattle.step_plans.proofs.Names.{not_both, bytes_self}
+use Rattle.folder_files.proofs.Names.{not_both, bytes_self}
 use Rattle.step_plans.proofs.Closing.{AtEach, kept_moment}
-use Rattle.step_plans.proofs.Changes.{now_below}
-use Rattle.step_plans.proofs.Effects.{IsNext, answered, failed, refused, left, left_directory, left_next, left_grows, left_keeps, ComesTo, next_goes, world_start, world_crash, world_deliver, world_end, world_next}
+use Rattle.folder_files.proofs.Changes.{now_below}
+use Rattle.folder_files.proofs.Effects.{IsNext, answered, failed, refused, left, left_directory, left_next, left_grows, left_keeps, ComesTo, next_goes, world_start, world_crash, world_deliver, world_end, world_next}
 use Rattle.step_plans.proofs.Inv.{Inv}
 use Rattle.step_plans.proofs.Discipline.{careful_rename, Cares, committed_lock}
-use Rattle.step_plans.proofs.Beginning.{nothing_pending, all_safe, all_known}
+use Rattle.folder_files.proofs.Beginning.{nothing_pending, all_safe, all_known}
 use Rattle.step_plans.proofs.Crashes.{ended_by}
 use Rattle.step_plans.proofs.Law.{inv, none_before, may_made, careful_back, image_within, within_ended}
 use Rattle.step_plans.proofs.Once.{at_more, at_goes}

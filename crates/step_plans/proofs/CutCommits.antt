@@ -19,7 +19,7 @@ use Rattle.folder_files.specs.declared.step.Step.TheVariants as step
 use Rattle.folder_files.specs.declared.world.World.{World}
 use Rattle.step_plans.specs.Commits.{text_of, text_at, HadText, now, on}
 use Rattle.step_plans.specs.Starts.{HasNoneOfTheirs}
-use Rattle.step_plans.proofs.Effects.{IsNext, answered, failed, refused, left, left_directory, world_crash, world_next}
+use Rattle.folder_files.proofs.Effects.{IsNext, answered, failed, refused, left, left_directory, world_crash, world_next}
 use Rattle.step_plans.proofs.Inv.{Inv}
 use Rattle.step_plans.proofs.Crashes.{ended_by}
 use Rattle.step_plans.proofs.Law.{inv, none_before, may_made, careful_back, image_within, within_ended}

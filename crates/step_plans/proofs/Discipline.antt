@@ -11,9 +11,9 @@ use Rattle.folder_files.specs.declared.place.FilePath.{FilePath}
 use Rattle.folder_files.specs.declared.step.Step.{Step}
 use Rattle.folder_files.specs.declared.step.Step.TheVariants as step
 use Rattle.folder_files.proofs.Kinding.{creates_kind, MayLink, links_kind, MayRename, renames_kind, MayUnlink, unlinks_kind, cuts_kind}
-use Rattle.step_plans.specs.Standing.{is_standing, is_own}
-use Rattle.step_plans.proofs.Names.{not_both, or_left, or_last, is_temp_any, is_held_any, is_temp_unheld, is_temp_unnumbered, is_number_unheld, is_number_unown, is_other_unown, is_taking_held, is_backing_unown, is_committed_unown, original_both, number_stands, is_backing_quiet, is_committed_quiet, is_other_quiet}
-use Rattle.step_plans.proofs.Changes.{IsTarget}
+use Rattle.folder_files.specs.Standing.{is_standing, is_own}
+use Rattle.folder_files.proofs.Names.{not_both, or_left, or_last, is_temp_any, is_held_any, is_temp_unheld, is_temp_unnumbered, is_number_unheld, is_number_unown, is_other_unown, is_taking_held, is_backing_unown, is_committed_unown, original_both, number_stands, is_backing_quiet, is_committed_quiet, is_other_quiet}
+use Rattle.folder_files.proofs.Changes.{IsTarget}
 
 pub careful_create : (r : ℕ) (own : List Deed) (p : Place) (t b : List ℕ) → IsCareful r own (step.Create p t b) → (HasFailed own → ⊥) × MayCreate r p t own
 careful_create r own p t b (looks l) = absurd l

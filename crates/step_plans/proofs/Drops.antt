@@ -22,13 +22,13 @@ use Rattle.folder_files.specs.declared.step.Answer.TheVariants.{Done, Piece, Bus
 use Rattle.folder_files.specs.declared.step.Step.{Step}
 use Rattle.folder_files.specs.declared.step.Step.TheVariants as step
 use Rattle.folder_files.specs.declared.world.World.{World}
-use Rattle.step_plans.proofs.Sameness.{path_same}
+use Rattle.folder_files.proofs.Sameness.{path_same}
 use Rattle.step_plans.specs.Cutting.{IsCut, IsUncut, read, on, AreStoredAs, IsNoneOf, AreApart, AreDurable}
 use Rattle.step_plans.specs.Durable.{IsDurable}
 use Rattle.step_plans.specs.Moments.{HasLed, IsTriedAt, live, cut}
 use Rattle.step_plans.specs.Starts.{HasNoneOf, HasNoneOfTheirs}
-use Rattle.step_plans.proofs.Names.{num_same, num_apart, not_both, or_left, or_false}
-use Rattle.step_plans.proofs.Effects.{IsNext, answered, failed, refused, next_fits, fits_as, world_act, world_crash, world_deliver, world_end}
+use Rattle.folder_files.proofs.Names.{num_same, num_apart, not_both, or_left, or_false}
+use Rattle.folder_files.proofs.Effects.{IsNext, answered, failed, refused, next_fits, fits_as, world_act, world_crash, world_deliver, world_end}
 use Rattle.step_plans.proofs.Past.{did_step, did_answer, acted, folder_lock}
 use Rattle.step_plans.proofs.Discipline.{careful_cut}
 use Rattle.step_plans.proofs.Crashes.{ended_by}

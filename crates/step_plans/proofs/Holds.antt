@@ -23,11 +23,11 @@ use Rattle.step_plans.specs.Anchors.{IsAnchor}
 use Rattle.step_plans.specs.Durable.{WasPut, IsDurable, on}
 use Rattle.step_plans.specs.MailInvariant.{IsLetGo}
 use Rattle.step_plans.specs.Spending.{IsSpent, IsClear, on}
-use Rattle.step_plans.specs.Standing.{is_standing}
-use Rattle.step_plans.proofs.Names.{not_both, bytes_true, bytes_self, bytes_false, number_stands, held_stands, is_number_unheld}
-use Rattle.step_plans.proofs.Closing.{untouched_change, anchor_stays, anchor_taken, anchor_fresh, anchor_kept, end_leads, end_stands}
-use Rattle.step_plans.proofs.Changes.{IsUnseen, unseen_leads}
-use Rattle.step_plans.proofs.Effects.{link_done}
+use Rattle.folder_files.specs.Standing.{is_standing}
+use Rattle.folder_files.proofs.Names.{not_both, bytes_true, bytes_self, bytes_false, number_stands, held_stands, is_number_unheld}
+use Rattle.step_plans.proofs.Closing.{anchor_stays, anchor_taken, anchor_fresh, anchor_kept, end_leads, end_stands}
+use Rattle.folder_files.proofs.Changes.{untouched_change, IsUnseen, unseen_leads}
+use Rattle.folder_files.proofs.Effects.{link_done}
 use Rattle.step_plans.proofs.Past.{spent_case, clear_case, put_case, durable_case, clear_spent, spent_held, let_go_on}
 
 pub record HasSolid (start : World) (p : Place) (d : DirectoryMap) (past : List Event) (f : ℕ) : Type 0 where

@@ -20,14 +20,14 @@ use Rattle.folder_files.specs.declared.step.Answer.TheVariants.{Done, Content, L
 use Rattle.folder_files.specs.declared.step.Step.{Step}
 use Rattle.folder_files.specs.declared.step.Step.TheVariants as step
 use Rattle.folder_files.specs.declared.world.World.{World}
-use Rattle.step_plans.proofs.Sameness.{place_same, place_is}
+use Rattle.folder_files.proofs.Sameness.{place_same, place_is}
 use Rattle.step_plans.specs.Durable.{WasPut, HasBeenPut, IsDurable, now, on}
 use Rattle.step_plans.specs.Spending.{IsSpent, IsClear, now, on}
 use Rattle.step_plans.specs.Starts.{HasNoneOf}
 use Rattle.step_plans.specs.Successors.{HasRead, HasMadeSince, WasPutSince, now, on}
-use Rattle.step_plans.proofs.Names.{not_both, num_itself, is_temp_any, is_temp_quiet, is_temp_run, is_held_any, is_held_run, is_taking_held, taking_same, held_owned}
-use Rattle.step_plans.proofs.Changes.{IsTarget, IsUnseen, unseen_leads, Goes, arrives, unseen_stays, IsBelow, now_below, goes_below}
-use Rattle.step_plans.proofs.Effects.{IsNext, answered, failed, refused, left, left_directory, left_file, left_grows, left_keeps, link_done, ComesTo, next_goes, next_fits, fits_as, created_leads, created_bytes, world_next}
+use Rattle.folder_files.proofs.Names.{not_both, num_itself, is_temp_any, is_temp_quiet, is_temp_run, is_held_any, is_held_run, is_taking_held, taking_same, held_owned}
+use Rattle.folder_files.proofs.Changes.{IsTarget, IsUnseen, unseen_leads, Goes, arrives, unseen_stays, IsBelow, now_below, goes_below}
+use Rattle.folder_files.proofs.Effects.{IsNext, answered, failed, refused, left, left_directory, left_file, left_grows, left_keeps, link_done, ComesTo, next_goes, next_fits, fits_as, created_leads, created_bytes, world_next}
 use Rattle.step_plans.proofs.Past.{own_case, own_mine, did_step, did_answer, did_both, once_map, once_more, once_case, once_mine, spent_case, put_case, ever_case, durable_case, folder_lock, since_case, made_created, made_read, since_read}
 use Rattle.step_plans.proofs.Holds.{Holds, calm_same, calm_holds, plain_news, idle_news}
 use Rattle.step_plans.proofs.Discipline.{Cares, place_lock, careful_create, IsTake, held_target, IsMaking, temp_target, put_ready}

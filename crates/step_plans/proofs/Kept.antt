@@ -12,7 +12,7 @@ use Rattle.step_plans.specs.Leaving.{IsDiscarded}
 use Rattle.step_plans.specs.NoLoss.{Stands, StandsFirm, IsKept, removed, stands, discarded, HasSuccessor, IsTrueSuccessor, LosesNothing}
 use Rattle.step_plans.specs.Starts.{HasNoneOfTheirs}
 use Rattle.step_plans.specs.Successors.{IsSuccessor, now, on}
-use Rattle.step_plans.proofs.Names.{held_stands}
+use Rattle.folder_files.proofs.Names.{held_stands}
 use Rattle.step_plans.proofs.Closing.{anchor_kept, end_leads, end_stands}
 use Rattle.step_plans.proofs.Past.{durable_lock}
 use Rattle.step_plans.proofs.Holds.{HasAnchor, AnchorOr, directory_in}

@@ -26,8 +26,8 @@ use Rattle.step_plans.specs.Leaving.{IsDiscarded, on}
 use Rattle.step_plans.specs.Moments.{IsTriedAt, live, cut, Tries}
 use Rattle.step_plans.specs.Starts.{HasNoneOf, HasNoneOfTheirs}
 use Rattle.step_plans.specs.Successors.{HasMadeSince, WasPutSince, IsSuccessor, now, on}
-use Rattle.step_plans.proofs.Names.{not_both, num_itself, or_left, or_last, is_held_any, is_temp_unheld, is_number_unheld}
-use Rattle.step_plans.proofs.Effects.{answered, failed, refused, link_done, fits_as, world_failed}
+use Rattle.folder_files.proofs.Names.{not_both, num_itself, or_left, or_last, is_held_any, is_temp_unheld, is_number_unheld}
+use Rattle.folder_files.proofs.Effects.{answered, failed, refused, link_done, fits_as, world_failed}
 use Rattle.step_plans.proofs.Past.{own_crash, did_step, did_answer, once_head, once_none, once_case, discard_case, successor_case}
 use Rattle.step_plans.proofs.Inv.{Inv, IsUnsynced, inv_act}
 use Rattle.step_plans.proofs.Discipline.{Cares, careful_unlink}

@@ -16,9 +16,9 @@ use Rattle.folder_files.specs.declared.step.Answer.TheVariants.{Done, Busy, Fail
 use Rattle.folder_files.specs.declared.step.Step.{Step}
 use Rattle.folder_files.specs.declared.step.Step.TheVariants as step
 use Rattle.folder_files.specs.declared.world.World.{World}
-use Rattle.step_plans.proofs.Sameness.{place_same, place_is}
-use Rattle.step_plans.proofs.Names.{num_same, num_apart, num_itself, not_both, both, or_left, or_last, or_false}
-use Rattle.step_plans.proofs.Effects.{IsNext, answered, failed, refused, next_fits, fits_as, world_act, world_crash, world_deliver, world_end}
+use Rattle.folder_files.proofs.Sameness.{place_same, place_is}
+use Rattle.folder_files.proofs.Names.{num_same, num_apart, num_itself, not_both, both, or_left, or_last, or_false}
+use Rattle.folder_files.proofs.Effects.{IsNext, answered, failed, refused, next_fits, fits_as, world_act, world_crash, world_deliver, world_end}
 use Rattle.step_plans.proofs.Past.{did_step, did_answer, once_none, acted}
 use Rattle.step_plans.proofs.Crashes.{ended_by}
 use Rattle.step_plans.proofs.Law.{within_ended}

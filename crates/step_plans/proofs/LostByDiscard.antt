@@ -17,14 +17,14 @@ use Rattle.folder_files.specs.declared.place.Place.{Place}
 use Rattle.folder_files.specs.declared.step.Answer.TheVariants.{Done, Content, Failed}
 use Rattle.folder_files.specs.declared.step.Step.TheVariants.{Read, Create, SyncFile, Rename, Link, Unlink}
 use Rattle.folder_files.specs.declared.world.World.{World}
-use Rattle.step_plans.proofs.Sameness.{place_same}
+use Rattle.folder_files.proofs.Sameness.{place_same}
 use Rattle.step_plans.specs.Durable.{IsDurable, stood, on}
 use Rattle.step_plans.specs.Leaving.{IsRemoved, on}
 use Rattle.step_plans.specs.NoLoss.{IsKept, removed, stands, discarded, LosesNothing}
-use Rattle.step_plans.specs.Standing.{is_standing, is_own_of}
+use Rattle.folder_files.specs.Standing.{is_standing, is_own_of}
 use Rattle.step_plans.specs.Starts.{HasNoneOfTheirs}
 use Rattle.step_plans.specs.Successors.{WasPutSince, IsSuccessor, on}
-use Rattle.step_plans.proofs.Names.{not_both, bytes_true}
+use Rattle.folder_files.proofs.Names.{not_both, bytes_true}
 use Rattle.step_plans.proofs.Past.{successor_case, since_case, durable_case, once_head, once_none}
 use Rattle.step_plans.proofs.Kept.{loses_nothing}
 use Rattle.step_plans.proofs.Stage.{inbox, out, one, two, held, temp, one_is, two_is, held_is, temp_is, removed_case, unfailed, done_is_no_failure}

@@ -20,13 +20,14 @@ use Rattle.folder_files.specs.declared.world.World.{World}
 use Rattle.step_plans.specs.Durable.{IsDurable, stood, on}
 use Rattle.step_plans.specs.Leaving.{IsRemoved, on}
 use Rattle.step_plans.specs.NoLoss.{IsKept, removed, stands, discarded, LosesNothing}
-use Rattle.step_plans.specs.Standing.{is_standing, is_own_of}
+use Rattle.folder_files.specs.Standing.{is_standing, is_own_of}
 use Rattle.step_plans.specs.Starts.{HasNoneOfTheirs}
 use Rattle.step_plans.specs.Successors.{WasPutSince, IsSuccessor, on}
-use Rattle.step_plans.proofs.Names.{not_both, bytes_true}
+use Rattle.folder_files.proofs.Names.{not_both, bytes_true}
 use Rattle.step_plans.proofs.Past.{successor_case, since_case, once_head, once_none}
 use Rattle.step_plans.proofs.Kept.{loses_nothing}
-use Rattle.step_plans.proofs.Stage.{inbox, two, three, held, two_is, three_is, held_is, removed_case, at_all}
+use Rattle.step_plans.proofs.Stage.{inbox, two, three, held, two_is, three_is, held_is, removed_case}
+use Rattle.folder_files.proofs.Sameness.{at_all}
 
 -- message 2 is file 7
 abbrev pub begun : World

@@ -5,7 +5,7 @@ use Rattle.step_plans.proofs.Tried.{tried, careful_then, none_then}
 use Rattle.folder_files.specs.Careful.{WasMade}
 use Rattle.folder_files.specs.CrashImage.{IsCrashImage}
 use Rattle.folder_files.specs.Deeds.{WasDone, Deed}
-use Rattle.folder_files.specs.Directory.{Slots, DirectoryMap, lead, now_in}
+use Rattle.folder_files.specs.Directory.{Slots, DirectoryMap, lead, now_in, IsUntouched}
 use Rattle.folder_files.specs.Histories.{world_after, own, IsLegal, begins, answers, fails, is_dead, delivers, crashes, crashes_within, stops, AreCareful, IsLockable}
 use Rattle.folder_files.specs.Named.{is_temp, is_temp_of, is_held, is_taking}
 use Rattle.folder_files.specs.Steps.{made, next_after, directory_after}
@@ -21,20 +21,19 @@ use Rattle.folder_files.specs.declared.step.Step.{Step}
 use Rattle.folder_files.specs.declared.step.Step.TheVariants as step
 use Rattle.folder_files.specs.declared.world.Change.{Change}
 use Rattle.folder_files.specs.declared.world.World.{World}
-use Rattle.step_plans.specs.Anchors.{IsUntouched}
 use Rattle.step_plans.specs.MailInvariant.{MailInvariant}
 use Rattle.step_plans.specs.Moments.{Leads, HasLed, now, on, IsTriedAt, WouldMake, IsMadeOnce}
-use Rattle.step_plans.specs.Standing.{is_own}
+use Rattle.folder_files.specs.Standing.{is_own}
 use Rattle.step_plans.specs.Starts.{HasNoneOf, HasNoneOfTheirs}
-use Rattle.step_plans.proofs.Names.{own_cases, temp_owned, held_owned, is_taking_held}
+use Rattle.folder_files.proofs.Names.{own_cases, temp_owned, held_owned, is_taking_held}
 use Rattle.step_plans.proofs.Closing.{AtEach, kept_moment, end_stands}
-use Rattle.step_plans.proofs.Changes.{IsTarget, IsUnseen, unseen_leads, Goes, stays, opens, takes_on, settles, arrives, step_goes}
-use Rattle.step_plans.proofs.Effects.{IsNext, answered, failed, refused, left_next, ComesTo, next_goes, world_start, world_crash, world_deliver, world_end, world_next, made_left}
+use Rattle.folder_files.proofs.Changes.{IsTarget, IsUnseen, unseen_leads, Goes, stays, opens, takes_on, settles, arrives, step_goes}
+use Rattle.folder_files.proofs.Effects.{IsNext, answered, failed, refused, left_next, ComesTo, next_goes, world_start, world_crash, world_deliver, world_end, world_next, made_left}
 use Rattle.step_plans.proofs.Past.{once_map, once_more, put_lock, durable_lock}
 use Rattle.step_plans.proofs.Holds.{directory_in, Stood}
 use Rattle.step_plans.proofs.Inv.{Inv, WasFailed, WasMakingFailed}
 use Rattle.step_plans.proofs.Discipline.{held_target, temp_target, Cares}
-use Rattle.step_plans.proofs.Beginning.{nothing_pending}
+use Rattle.folder_files.proofs.Beginning.{nothing_pending}
 use Rattle.step_plans.proofs.Crashes.{ended_by}
 use Rattle.step_plans.proofs.Law.{inv, none_now, none_before, may_made, careful_back, image_within, within_ended, heir, heirs}
 

@@ -26,7 +26,7 @@ use Rattle.step_plans.specs.MailInvariant.{IsLetGo}
 use Rattle.step_plans.specs.Moments.{Leads, Tries}
 use Rattle.step_plans.specs.Spending.{IsSpent, IsClear, now, on}
 use Rattle.step_plans.specs.Successors.{HasRead, HasMadeSince, WasPutSince, IsSuccessor, now, on}
-use Rattle.step_plans.proofs.Names.{num_same, num_itself, or_left, or_last}
+use Rattle.folder_files.proofs.Names.{num_same, num_itself, or_left, or_last}
 
 -- one more event, and the run's own deeds
 pub own_case : (r q : ℕ) (s : Step) (a : Answer) (m : After) (past : List Event)

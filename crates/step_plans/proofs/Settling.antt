@@ -3,7 +3,7 @@ use Rattle.std.proofs.Common.{◌≡◌, ℕ, Bool, true, ◌⊎◌, inl, inr, L
 use Rattle.mh_base.specs.Entries.{kind_of}
 use Rattle.folder_files.specs.CrashImage.{IsCrashImage}
 use Rattle.folder_files.specs.Deeds.{WasDone}
-use Rattle.folder_files.specs.Directory.{now_in}
+use Rattle.folder_files.specs.Directory.{now_in, IsUntouched}
 use Rattle.folder_files.specs.Histories.{world_after, own, IsLegal, begins, answers, fails, is_dead, delivers, crashes, crashes_within, stops, AreCareful}
 use Rattle.folder_files.specs.Named.{is_committed, is_temp_of}
 use Rattle.folder_files.specs.Steps.{made, directory_after}
@@ -18,14 +18,13 @@ use Rattle.folder_files.specs.declared.step.Answer.TheVariants.{Done, Failed}
 use Rattle.folder_files.specs.declared.step.Step.{Step}
 use Rattle.folder_files.specs.declared.step.Step.TheVariants as step
 use Rattle.folder_files.specs.declared.world.World.{World}
-use Rattle.step_plans.proofs.Sameness.{place_is}
-use Rattle.step_plans.specs.Anchors.{IsUntouched}
+use Rattle.folder_files.proofs.Sameness.{place_is}
 use Rattle.step_plans.specs.Commits.{TriesCommit, text_of, text_at, IsCommitted, IsSettled, HasTextFirmly, now, on}
 use Rattle.step_plans.specs.Moments.{live}
 use Rattle.step_plans.specs.Starts.{HasNoneOfTheirs}
-use Rattle.step_plans.proofs.Closing.{untouched_lead, untouched_kept}
-use Rattle.step_plans.proofs.Changes.{now_below}
-use Rattle.step_plans.proofs.Effects.{IsNext, answered, failed, refused, left, left_directory, left_grows, left_keeps, next_fits, fits_as, world_crash, world_deliver, world_end, world_next}
+use Rattle.step_plans.proofs.Closing.{untouched_kept}
+use Rattle.folder_files.proofs.Changes.{untouched_lead, now_below}
+use Rattle.folder_files.proofs.Effects.{IsNext, answered, failed, refused, left, left_directory, left_grows, left_keeps, next_fits, fits_as, world_crash, world_deliver, world_end, world_next}
 use Rattle.step_plans.proofs.Inv.{Inv, IsSafeAs}
 use Rattle.step_plans.proofs.Discipline.{Cares, committed_lock, careful_rename}
 use Rattle.step_plans.proofs.Crashes.{ended_by, tries_cut}

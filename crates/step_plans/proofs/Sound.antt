@@ -23,18 +23,18 @@ use Rattle.folder_files.specs.declared.world.Change.{Change}
 use Rattle.folder_files.specs.declared.world.Change.TheVariants.{Set, Gone, Moved}
 use Rattle.folder_files.specs.declared.world.World.{World}
 use Rattle.folder_files.proofs.Kinding.{MayLink, MayRename}
-use Rattle.step_plans.proofs.Sameness.{place_same}
+use Rattle.folder_files.proofs.Sameness.{place_same}
 use Rattle.step_plans.specs.Moments.{Leads, IsTriedAt, live, cut}
-use Rattle.step_plans.specs.Standing.{is_standing}
+use Rattle.folder_files.specs.Standing.{is_standing}
 use Rattle.step_plans.specs.Starts.{HasNoneOf, HasNoneOfTheirs}
 use Rattle.step_plans.specs.Successors.{WasPutSince, IsSuccessor, on}
-use Rattle.step_plans.proofs.Names.{not_both, bytes_true, number_stands, held_stands, is_temp_any, is_temp_quiet, is_held_any, is_other_quiet, is_taking_number, is_backing_quiet, is_committed_quiet, original_both}
-use Rattle.step_plans.proofs.Changes.{now_below}
-use Rattle.step_plans.proofs.Effects.{IsNext, answered, failed, refused, left, left_directory, left_grows, left_keeps, world_start, world_crash, world_deliver, world_end, world_next}
+use Rattle.folder_files.proofs.Names.{not_both, bytes_true, number_stands, held_stands, is_temp_any, is_temp_quiet, is_held_any, is_other_quiet, is_taking_number, is_backing_quiet, is_committed_quiet, original_both}
+use Rattle.folder_files.proofs.Changes.{now_below}
+use Rattle.folder_files.proofs.Effects.{IsNext, answered, failed, refused, left, left_directory, left_grows, left_keeps, world_start, world_crash, world_deliver, world_end, world_next}
 use Rattle.step_plans.proofs.Past.{since_read, successor_case}
 use Rattle.step_plans.proofs.Inv.{Inv, In, IsSafeAs}
 use Rattle.step_plans.proofs.Discipline.{Cares, place_lock, careful_create, careful_link, careful_rename}
-use Rattle.step_plans.proofs.Beginning.{nothing_pending, all_safe, all_known}
+use Rattle.folder_files.proofs.Beginning.{nothing_pending, all_safe, all_known}
 use Rattle.step_plans.proofs.Crashes.{ended_by}
 use Rattle.step_plans.proofs.Law.{inv, none_now, none_before, may_made, careful_back, image_within, within_ended, uncrash, IsMoment, at_moment, within_moment}
 

@@ -1,12 +1,11 @@
 -- The names and the folder of the worked histories, and what such a history has no deed of.
-use Rattle.std.proofs.Common.{◌≡◌, ℕ, Bool, true, false, ◌⊎◌, inl, inr, List, [], ◌∷◌, refl, subst, codes}
+use Rattle.std.proofs.Common.{◌≡◌, ℕ, true, ◌⊎◌, inl, inr, List, [], ◌∷◌, refl, codes}
 use Rattle.std.specs.Fmt.{digits}
 use Rattle.mh_base.specs.Entries.{kind_of}
 use Rattle.mh_base.specs.Numbers.{decimal_of, run_of, hex}
 use Rattle.mh_base.specs.declared.entry.Entry.TheVariants.{Number, Held, Temp}
 use Rattle.folder_files.specs.Deeds.{Deed, HasFailed}
 use Rattle.folder_files.specs.Named.{is_number, is_backing_up}
-use Rattle.folder_files.specs.Places.{same_place}
 use Rattle.folder_files.specs.declared.event.After.{After}
 use Rattle.folder_files.specs.declared.event.Event.{Event}
 use Rattle.folder_files.specs.declared.event.Event.TheVariants.{Act}
@@ -17,7 +16,6 @@ use Rattle.folder_files.specs.declared.step.Answer.TheVariants.{Done, Failed}
 use Rattle.folder_files.specs.declared.step.Step.{Step}
 use Rattle.folder_files.specs.declared.step.Step.TheVariants.{Rename, Unlink}
 use Rattle.folder_files.specs.declared.world.World.{World}
-use Rattle.step_plans.proofs.Sameness.{place_same}
 use Rattle.step_plans.proofs.Past.{once_head, once_none}
 use Rattle.step_plans.specs.Leaving.{IsRemoved, backed_up, unlinked, on}
 
@@ -81,11 +79,3 @@ unfailed (d ∷ older) u w = elim (once_head w) [ inl e ↦ u.0 e | inr z ↦ un
 
 pub done_is_no_failure : Done ≡ Failed → ⊥
 done_is_no_failure e = cc (e)
-
--- what holds of one place and where it is not, holds of all
-pub at_all : (q : Place) (P : Place → Type 0) → P q → ((p : Place) → same_place q p ≡ false → P p) → (p : Place) → P p
-at_all q P here elsewhere p = go (same_place q p) refl
-  where
-    go : (v : Bool) → same_place q p ≡ v → P p
-    go true e = subst P (place_same q p e) here
-    go false e = elsewhere p e

@@ -19,13 +19,13 @@ use Rattle.folder_files.specs.declared.world.Change.{Change}
 use Rattle.folder_files.specs.declared.world.Change.TheVariants.{Set, Gone, Moved}
 use Rattle.folder_files.specs.declared.world.World.{World}
 use Rattle.folder_files.proofs.Kinding.{MayLink, MayRename, MayUnlink}
-use Rattle.step_plans.proofs.Sameness.{place_same, place_is}
+use Rattle.folder_files.proofs.Sameness.{place_same, place_is}
 use Rattle.step_plans.specs.Leaving.{backed_up, unlinked, now}
 use Rattle.step_plans.specs.Moments.{live}
 use Rattle.step_plans.specs.Spending.{IsSpent, IsClear}
-use Rattle.step_plans.specs.Standing.{is_standing}
-use Rattle.step_plans.proofs.Names.{not_both, or_case, bytes_true, bytes_false, number_stands, is_temp_any, is_temp_quiet, is_held_any, is_other_quiet, is_taking_number, is_taking_held, is_backing_quiet, is_committed_quiet, original_both}
-use Rattle.step_plans.proofs.Changes.{IsUnseen}
+use Rattle.folder_files.specs.Standing.{is_standing}
+use Rattle.folder_files.proofs.Names.{not_both, or_case, bytes_true, bytes_false, number_stands, is_temp_any, is_temp_quiet, is_held_any, is_other_quiet, is_taking_number, is_taking_held, is_backing_quiet, is_committed_quiet, original_both}
+use Rattle.folder_files.proofs.Changes.{IsUnseen}
 use Rattle.step_plans.proofs.Holds.{Holds, Calm, calm_same, calm_change, NoNews, calm_holds, plain_news, directory_in, fill_holds, sync_holds, lose_holds, take_holds}
 use Rattle.step_plans.proofs.Discipline.{Cares, place_lock, careful_create, careful_link, careful_rename, careful_unlink}
 

@@ -19,10 +19,10 @@ use Rattle.folder_files.specs.declared.step.Step.{Step}
 use Rattle.folder_files.specs.declared.step.Step.TheVariants.{Link}
 use Rattle.folder_files.specs.declared.step.Step.TheVariants as step
 use Rattle.folder_files.specs.declared.world.World.{World}
-use Rattle.step_plans.proofs.Sameness.{place_is}
+use Rattle.folder_files.proofs.Sameness.{place_is}
 use Rattle.step_plans.specs.Moments.{Leads}
-use Rattle.step_plans.proofs.Changes.{arrives, IsTarget}
-use Rattle.step_plans.proofs.Effects.{IsNext, answered, failed, refused, left_directory, left_next, ComesTo, next_goes, world_next, world_failed}
+use Rattle.folder_files.proofs.Changes.{arrives, IsTarget}
+use Rattle.folder_files.proofs.Effects.{IsNext, answered, failed, refused, left_directory, left_next, ComesTo, next_goes, world_next, world_failed}
 use Rattle.step_plans.proofs.Discipline.{number_target}
 use Rattle.step_plans.proofs.Crashes.{ended_by}
 use Rattle.step_plans.proofs.Law.{within_ended, may_made}

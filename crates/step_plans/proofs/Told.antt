@@ -19,8 +19,8 @@ use Rattle.folder_files.specs.declared.world.World.{World}
 use Rattle.step_plans.specs.Durable.{WasPut, IsDurable, HasPut, HasPutAndSynced, now, on}
 use Rattle.step_plans.specs.Moments.{HasLed, now, on}
 use Rattle.step_plans.specs.Starts.{HasNoneOfTheirs}
-use Rattle.step_plans.proofs.Names.{not_both, or_left, or_false, is_temp_any}
-use Rattle.step_plans.proofs.Effects.{IsNext, answered, failed, refused, link_done, fits_as, world_deliver, world_crash, world_end, world_next}
+use Rattle.folder_files.proofs.Names.{not_both, or_left, or_false, is_temp_any}
+use Rattle.folder_files.proofs.Effects.{IsNext, answered, failed, refused, link_done, fits_as, world_deliver, world_crash, world_end, world_next}
 use Rattle.step_plans.proofs.Past.{did_step, did_answer, once_none, once_case, acted, folder_lock}
 use Rattle.step_plans.proofs.Inv.{Inv}
 use Rattle.step_plans.proofs.Crashes.{ended_by}

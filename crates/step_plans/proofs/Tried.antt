@@ -10,7 +10,7 @@ use Rattle.folder_files.specs.declared.step.Step.{Step}
 use Rattle.folder_files.specs.declared.world.World.{World}
 use Rattle.step_plans.specs.Moments.{IsTriedAt, live, cut}
 use Rattle.step_plans.specs.Starts.{HasNoneOfTheirs}
-use Rattle.step_plans.proofs.Names.{not_both}
+use Rattle.folder_files.proofs.Names.{not_both}
 use Rattle.step_plans.proofs.Past.{own_crash}
 use Rattle.step_plans.proofs.Crashes.{ended_by}
 use Rattle.step_plans.proofs.Law.{within_ended, uncrash}

@@ -16,12 +16,13 @@ use Rattle.folder_files.specs.declared.step.Step.TheVariants.{Lock, Read, Create
 use Rattle.folder_files.specs.declared.world.World.{World}
 use Rattle.step_plans.specs.Commits.{IsBase, IsSettled, HasTextFirmly, now, on}
 use Rattle.step_plans.specs.Moments.{live}
-use Rattle.step_plans.specs.Standing.{is_own_of}
+use Rattle.folder_files.specs.Standing.{is_own_of}
 use Rattle.step_plans.specs.Starts.{HasNoneOfTheirs}
 use Rattle.step_plans.proofs.Past.{once_head, once_none}
 use Rattle.step_plans.proofs.Bases.{base_law}
 use Rattle.step_plans.proofs.Settling.{settled_law}
-use Rattle.step_plans.proofs.Stage.{inbox, temp, temp_is, unfailed, done_is_no_failure, at_all}
+use Rattle.step_plans.proofs.Stage.{inbox, temp, temp_is, unfailed, done_is_no_failure}
+use Rattle.folder_files.proofs.Sameness.{at_all}
 
 abbrev pub sequences : List ℕ
 sequences = codes ".mh_sequences"

@@ -1,16 +1,11 @@
 -- Anchors: how a closed set of changes cannot lose a file.
-use Rattle.std.specs.Prelude.{◌≡◌, ◌⊎◌, ℕ, true, false, List, [], ◌∷◌, Some}
+use Rattle.std.specs.Prelude.{◌≡◌, ◌⊎◌, ℕ, true, false, List, ◌∷◌, Some}
 use Rattle.mh_base.specs.Entries.{kind_of}
-use Rattle.folder_files.specs.Directory.{Slots, touches}
+use Rattle.folder_files.specs.Directory.{Slots, touches, IsUntouched}
 use Rattle.folder_files.specs.Named.{is_held}
 use Rattle.folder_files.specs.declared.world.Change.{Change}
 use Rattle.folder_files.specs.declared.world.Change.TheVariants.{Moved}
-use Rattle.step_plans.specs.Standing.{is_standing}
-
--- no change touches the name
-abbrev pub IsUntouched : List ℕ → List Change → Type 0
-IsUntouched x [] = Unit {0}
-IsUntouched x (c ∷ cs) = (touches c x ≡ false) × IsUntouched x cs
+use Rattle.folder_files.specs.Standing.{is_standing}
 
 -- the first change that touches x moves it to y, and no later one touches y
 pub data IsMovedOn (x y : List ℕ) : List Change → Type 0 where

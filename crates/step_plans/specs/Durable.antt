@@ -15,7 +15,7 @@ use Rattle.folder_files.specs.declared.step.Answer.TheVariants.{Done}
 use Rattle.folder_files.specs.declared.step.Step.TheVariants.{Create, Link, SyncFolder}
 use Rattle.folder_files.specs.declared.world.World.{World}
 use Rattle.step_plans.specs.Moments.{Leads, IsNoCrash}
-use Rattle.step_plans.specs.Standing.{is_standing}
+use Rattle.folder_files.specs.Standing.{is_standing}
 
 -- the file, of these bytes, was put since the last crash: a number was linked to its temporary name with the answer Done, in a folder
 pub data WasPut (start : World) (p : Place) (f : ℕ) (bytes : List ℕ) : List Event → Type 0 where

@@ -9,7 +9,7 @@ use Rattle.step_plans.specs.Durable.{WasPut, HasBeenPut, IsDurable}
 use Rattle.step_plans.specs.Leaving.{IsRemoved, IsDiscarded}
 use Rattle.step_plans.specs.Moments.{Leads, HasLed, IsMadeOnce}
 use Rattle.step_plans.specs.Spending.{IsSpent, IsClear}
-use Rattle.step_plans.specs.Standing.{is_standing, is_own}
+use Rattle.folder_files.specs.Standing.{is_standing, is_own}
 use Rattle.step_plans.specs.Successors.{IsSuccessor}
 
 -- the file was removed or discarded

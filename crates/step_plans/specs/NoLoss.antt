@@ -10,7 +10,7 @@ use Rattle.folder_files.specs.declared.place.Place.{Place}
 use Rattle.folder_files.specs.declared.world.World.{World}
 use Rattle.step_plans.specs.Durable.{IsDurable}
 use Rattle.step_plans.specs.Leaving.{IsRemoved, IsDiscarded}
-use Rattle.step_plans.specs.Standing.{is_standing}
+use Rattle.folder_files.specs.Standing.{is_standing}
 use Rattle.step_plans.specs.Successors.{IsSuccessor}
 
 -- in this world a number or a held name of the directory leads to the file, and the file has these bytes

@@ -5,7 +5,7 @@ use Rattle.folder_files.specs.Worlds.{shown}
 use Rattle.folder_files.specs.declared.event.Event.{Event}
 use Rattle.folder_files.specs.declared.place.Place.{Place}
 use Rattle.folder_files.specs.declared.world.World.{World}
-use Rattle.step_plans.specs.Standing.{is_own_of}
+use Rattle.folder_files.specs.Standing.{is_own_of}
 
 -- the start holds no temporary and no held name of this run
 abbrev pub HasNoneOf : World → ℕ → Type 0

@@ -1,6 +1,23 @@
-//! The laws of careful runs: no message is lost, whatever they do and wherever the machine stops.
+//! Careful changes of a mailbox, step by step, and their laws: no message is lost, whatever careful
+//! runs do and wherever the machine stops.
 #![tactic(auto)]
 
+mod change;
+mod clearing;
+mod command_fault;
+mod context;
+mod fault;
+mod hand;
+mod keeping;
 mod laws;
+mod locking;
+mod meddling;
+mod replacing;
+mod writing;
 
+pub use change::{ChangeEntry, ChangeEntryList};
+pub use command_fault::CommandFault;
+pub use context::commit_context;
+pub use fault::PlanFault;
+pub use hand::Hand;
 pub use laws::{cut_drops_are_stored, durable_by_own_steps, lock_order, never_taken, no_loss};

@@ -1,19 +1,23 @@
 use Rattle.file_plans.proofs.Following.{beside}
-use Rattle.mh_tools.proofs.Clauses.{careful_by, caused_by, seen_by, alone_by}
+use Rattle.mh_tools.proofs.Clauses.{caused, tells, answers_alone, keeps, marks}
 use Rattle.mh_tools.proofs.top.mh.Goals as goal
 
 pub returns-clause-plan : goal.returns-clause-plan
 returns-clause-plan g c =
-    record { outcome = c.run_command-outcome.result; follows = beside (rw (c.run.ensures, c.as_slice.ensures.value) at c.run_command-outcome.ensures); ends = rw c.status_from.ensures at c.report.ensures.ends }
-
-pub returns-clause-careful : goal.returns-clause-careful
-returns-clause-careful g c = careful_by (returns-clause-plan g c)
+    let ran = rw (c.run.ensures, c.as_slice.ensures.value) at c.run_command-outcome.ensures in
+    record { outcome = c.run_command-outcome.result; left = ran.0; follows = beside ran.1; ends_so = c.report.ensures.ends; told = c.report.ensures.told }
 
 pub returns-clause-caused : goal.returns-clause-caused
-returns-clause-caused g c = caused_by (returns-clause-plan g c)
+returns-clause-caused g c = caused _ (returns-clause-plan g c) (rw c.run.ensures at c.run.type_inv)
 
 pub returns-clause-seen : goal.returns-clause-seen
-returns-clause-seen g c = seen_by (returns-clause-plan g c)
+returns-clause-seen g c = tells _ (returns-clause-plan g c) (rw c.run.ensures at c.run.type_inv)
 
 pub returns-clause-alone : goal.returns-clause-alone
-returns-clause-alone g c = alone_by c.args.setting.now (g.E.Sink.state c.args.err.now) (g.E.Sink.state c.report.new.err) (returns-clause-plan g c) (rw c.as_slice-2.ensures.value at c.report.ensures.told)
+returns-clause-alone g c = answers_alone _ (returns-clause-plan g c) (rw c.run.ensures at c.run.type_inv)
+
+pub returns-clause-keeps : goal.returns-clause-keeps
+returns-clause-keeps g c = keeps _ (returns-clause-plan g c) (rw c.run.ensures at c.run.type_inv)
+
+pub returns-clause-marks : goal.returns-clause-marks
+returns-clause-marks g c = marks _ (returns-clause-plan g c) (rw c.run.ensures at c.run.type_inv)

@@ -3,6 +3,7 @@ use Rattle.std.proofs.lemmas.Result.{err_from_is_err_and}
 use Rattle.mh_words.proofs.ItemLemmas.{items_of}
 use Rattle.mh_words.proofs.OutcomeLemmas.{fault_admits, fault_fails}
 use Rattle.mh_words.proofs.ReadingLemmas.{reads_same, reads_fails}
+use Rattle.mh_words.proofs.WholeLemmas.{whole_is, whole_read}
 use Rattle.mh_words.proofs.reading.read_words.Goals as goal
 
 pub returns-in_err-items-clause-admits : goal.returns-in_err-items-clause-admits
@@ -31,3 +32,12 @@ pub returns-clause-known : goal.returns-clause-known
 returns-clause-known c =
     let read = rw (c.as_slice.ensures, c.as_slice-2.ensures) at c.in_ok-items.ensures in
     items_of c.args.table.now read
+
+pub returns-in_err-items-clause-whole : goal.returns-in_err-items-clause-whole
+returns-in_err-items-clause-whole c =
+    whole_is c.args.table.now (c.args.profile_words.now ++ c.args.words.now) _ (returns-in_err-items-clause-admits c) (returns-in_err-items-clause-fails c)
+
+pub returns-clause-whole : goal.returns-clause-whole
+returns-clause-whole c =
+    let read = rw (c.as_slice.ensures, c.as_slice-2.ensures) at c.in_ok-items.ensures in
+    whole_read c.args.table.now _ _ read

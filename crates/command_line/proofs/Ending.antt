@@ -1,0 +1,221 @@
+-- How a command ends, and what shows it.
+use Rattle.std.proofs.Common.{◌≡◌, ◌++◌, inl, inr, ◌^◌, ◌∷◌, [], ℕ, Bool, true, false, List, Option, Some, None, Result, Ok, Err, nat_lt, bytes_eq, refl, subst}
+use Rattle.std.specs.Prelude.{codes, map, if◌then◌else◌}
+use Rattle.std.specs.Str.{chars}
+use Rattle.mh_base.specs.Folders.{is_folder_name, without_plus}
+use Rattle.mh_profile.specs.declared.named_value.NamedValue.{NamedValue}
+use Rattle.mh_profile.specs.Reading.{entries_in}
+use Rattle.mh_words.specs.Whole.{Wrong, read_in}
+use Rattle.mh_words.specs.declared.item.Item.{Item}
+use Rattle.folder_files.specs.Careful.{WasMade}
+use Rattle.folder_files.specs.Deeds.{Deed, did, now, on}
+use Rattle.folder_files.specs.Directory.{now_in}
+use Rattle.folder_files.specs.declared.place.Place.{Place}
+use Rattle.folder_files.specs.declared.place.Place.TheVariants.{Home, Mail}
+use Rattle.folder_files.specs.declared.refusal.Refusal.TheVariants as refusal
+use Rattle.folder_files.specs.declared.step.Step.TheVariants as step
+use Rattle.folder_files.specs.declared.step.Answer.{Answer}
+use Rattle.folder_files.specs.declared.step.Answer.TheVariants as answer
+use Rattle.file_plans.specs.Plan.{Hand, Plan, Return, Recall, fresh, ◌>>=◌, lifted}
+use Rattle.file_plans.specs.Rules.{Keeps}
+use Rattle.file_plans.specs.Runs as runs
+use Rattle.file_plans.specs.Runs.{Exit, Returned, InFailed, Runs}
+use Rattle.file_plans.proofs.Acting.{acts}
+use Rattle.file_plans.proofs.Soundness.{IsSound, AllSound, long_above}
+use Rattle.file_plans.proofs.Keeping.{run_keeps}
+use Rattle.step_plans.specs.ContextCommit.{context_name, LIMIT_BYTES}
+use Rattle.step_plans.specs.Hands.{temp_name}
+use Rattle.step_plans.specs.declared.command_fault.CommandFault.{CommandFault}
+use Rattle.step_plans.specs.declared.command_fault.CommandFault.TheVariants as fault
+use Rattle.step_plans.proofs.Coming.{Comes, comes_to, comes_on, comes_stop, comes_more, comes_then, comes_lifted, comes_clean, comes_keeps, NoneFailed, anything}
+use Rattle.step_plans.proofs.Going.{Outcome}
+use Rattle.step_plans.proofs.Past.{did_step}
+use Rattle.command_stages.specs.Texts.{too_large, text_read}
+use Rattle.mh_looks.specs.Scan.{entries_seen, scan}
+use Rattle.mh_looks.proofs.Ending.{ScanShows, no_folder, bad_spec, absent, empty_range, empty_sequence, long_file, long_text, held, meddled, TextEnds, text_comes, comes_recall, comes_at, ScanEnds, scan_comes}
+use Rattle.command_line.specs.Causes.{IsAboveLimit, ShowsCommandFault}
+use Rattle.command_line.specs.Command.{profile_name, path_of, stored_of, folder_of, context_seen, context_entered, job_of, scan_begun, scan_by, no_command, command_by, command}
+use Rattle.command_line.specs.Ended.{plain, wrong_word}
+use Rattle.command_line.specs.ScanWords.{one_folder, folders, with_folder, folder_said, words_of, items_said, scan_said}
+use Rattle.command_line.specs.Words.{scan_table, profile_words}
+use Rattle.command_line.specs.declared.ended.Ended.{Ended}
+use Rattle.command_line.specs.declared.scan_words.ScanWords.{ScanWords}
+
+-- what shows the end of `scan` shows that of a command
+scan_shows : (run : ℕ) (mail folder : List ℕ) (e : CommandFault) (own : List Deed) → ScanShows run mail folder e own → ShowsCommandFault run e own
+scan_shows run mail folder _ _ (no_folder {older = older}) = (mail, older, refl)
+scan_shows run mail folder _ _ (bad_spec {names = names} {a = a} {older = older}) = (mail, folder, names, a, older, refl)
+scan_shows run mail folder _ _ (absent {names = names} {a = a} {older = older}) = (mail, folder, names, a, older, refl)
+scan_shows run mail folder _ _ (empty_range {names = names} {a = a} {older = older}) = (mail, folder, names, a, older, refl)
+scan_shows run mail folder _ _ (empty_sequence {names = names} {a = a} {older = older}) = (mail, folder, names, a, older, refl)
+scan_shows run mail folder _ _ (long_file {place = place} {name = name} {older = older}) = (refl, inl (place, name, (older, refl)))
+scan_shows run mail folder _ _ (long_text is) = (refl, inr (mail, folder, is))
+scan_shows run mail folder _ _ (held is) = (mail, refl, is)
+scan_shows run mail folder _ _ (meddled is) = is
+
+read_above : (run : ℕ) (p : Place) (x : List ℕ) (limit l : ℕ) → IsSound run (did (step.Read p x limit) (answer.Long l)) → nat_lt limit l ≡ true
+read_above run p x limit l (inl e) = cc
+read_above run p x limit l (inr f) = long_above f.0 limit (now_in (f.0.directories p) x) l f.1
+
+-- where the answers are those of some world, a length that is refused is above the limit
+pub refused_above : (run l : ℕ) (own : List Deed) → AllSound run own → IsAboveLimit l own → nat_lt LIMIT_BYTES l ≡ true
+refused_above run l own s (inl f) = read_above run f.0 f.1 LIMIT_BYTES l (subst (AllSound run) f.2.1 s).0
+refused_above run l own s (inr f) = f.2.above
+
+-- the deeds after the profile was read, and after the context was
+abbrev after_profile : Answer → List Deed
+after_profile a = did (step.Read Home profile_name LIMIT_BYTES) a ∷ []
+
+abbrev after_context : List ℕ → Answer → Answer → List Deed
+after_context mail a b = did (step.Read (Mail mail) context_name LIMIT_BYTES) b ∷ after_profile a
+
+not_created : (p q : Place) (x y bytes : List ℕ) (limit : ℕ) (a : Answer) → did (step.Read q y limit) a ≡ did (step.Create p x bytes) answer.Done → ⊥
+not_created p q x y bytes limit a e = let same : step.Read q y limit ≡ step.Create p x bytes = did_step e in cc
+
+-- no name was made
+none_made : (p : Place) (x mail : List ℕ) (a b : Answer) → WasMade p x (after_context mail a b) → ⊥
+none_made p x mail a b (now w) = not_created p (Mail mail) x context_name w.0 LIMIT_BYTES b w.1
+none_made p x mail a b (on (now w)) = not_created p Home x profile_name w.0 LIMIT_BYTES a w.1
+none_made p x mail a b (on (on z)) = elim z [ ]
+
+module _ (run : ℕ) where
+  -- how a plan of a command ends: what shows its fault
+  abbrev Faults : {A : Type 0} → Outcome (Result A CommandFault)
+  Faults later j (Ok a) = Unit {0}
+  Faults later j (Err e) = ShowsCommandFault run e later
+
+  abbrev CommandEnds : Outcome (Result Unit Ended)
+  CommandEnds later j (Ok u) = Unit {0}
+  CommandEnds later j (Err e) = ShowsCommandFault run e.fault later
+
+  long_shows : (p : Place) (x : List ℕ) (own later : List Deed) (l : ℕ) (e : CommandFault) → e ≡ too_large l → later ≡ did (step.Read p x LIMIT_BYTES) (answer.Long l) ∷ own → ShowsCommandFault run e later
+  long_shows p x own later l e is at = rw (is, at) (refl, inl (p, x, (own, refl)))
+
+  -- the context is read
+  abbrev EnterEnds : List ℕ → Answer → Outcome (Result Unit CommandFault)
+  EnterEnds mail a later j (Ok u) = (b : Answer) × (later ≡ after_context mail a b) × (j.next ≡ 0)
+  EnterEnds mail a later j (Err e) = ShowsCommandFault run e later
+
+  seen_comes : (mail : List ℕ) (a b : Answer) (es : List NamedValue) → Comes (after_context mail a b) fresh (context_seen es) (EnterEnds mail a)
+  unfolding Comes context_seen
+  seen_comes mail a b es = (b, refl, refl)
+
+  entered_comes : (mail : List ℕ) (a : Answer) → Comes (after_profile a) fresh (context_entered (Mail mail)) (EnterEnds mail a)
+  unfolding context_entered
+  entered_comes mail a =
+      comes_then (after_profile a) fresh (text_read (Mail mail) context_name) _ (TextEnds (Mail mail) context_name (after_profile a) fresh) (EnterEnds mail a) (text_comes (Mail mail) context_name (after_profile a) fresh)
+      (λ later j text q. comes_at later (after_context mail a q.0) j fresh _ (EnterEnds mail a) q.1 q.2 (seen_comes mail a q.0 (entries_in text)))
+      (λ later j e q. long_shows (Mail mail) context_name (after_profile a) later q.0 e q.1 q.2)
+
+  -- the folder acted on, and `scan`
+  begun_comes : (profile : List NamedValue) (words : ScanWords) (a b : Answer) (j : Hand) → j.next ≡ 0
+      → Comes (after_context (path_of profile) a b) j (Recall (λ h. Return (folder_of words.folder (entries_seen h.context) profile)) >>= (λ folder. scan run (path_of profile) (job_of folder words profile))) Faults
+  begun_comes profile words a b j first = comes_recall own j _ rest Faults (go words.folder)
+    where
+      own : List Deed
+      own = after_context (path_of profile) a b
+
+      rest : List ℕ → Plan (Result Unit CommandFault)
+      rest folder = scan run (path_of profile) (job_of folder words profile)
+
+      numbered : nat_lt j.next (2 ^ 64) ≡ true
+      numbered = rw first refl
+
+      shows : (folder : List ℕ) (later : List Deed) (i : Hand) (r : Result Unit CommandFault) → ScanEnds run (path_of profile) (job_of folder words profile) j numbered later i r → Faults later i r
+      shows folder later i (Ok u) q = tt
+      shows folder later i (Err e) q = scan_shows run (path_of profile) folder e later q
+
+      scanned : (folder : List ℕ) → Comes own j (rest folder) Faults
+      scanned folder =
+          comes_more own j (rest folder) (ScanEnds run (path_of profile) (job_of folder words profile) j numbered) Faults (shows folder)
+          (scan_comes run (path_of profile) (job_of folder words profile) j numbered own (λ z. none_made (Mail (path_of profile)) (temp_name run j.next) (path_of profile) a b z))
+
+      stored : List ℕ
+      stored = stored_of (entries_seen j.context) profile
+
+      by_name : (c : Bool) → Comes own j (Return (if c then Ok (without_plus stored) else Err (fault.Refused (refusal.BadFolder stored))) >>= rest) Faults
+      by_name true = comes_on own j (without_plus stored) rest Faults (scanned (without_plus stored))
+      by_name false = comes_stop own j (fault.Refused (refusal.BadFolder stored)) rest Faults (inr (path_of profile, a, b, refl))
+
+      go : (folder : Option (List ℕ)) → Comes own j (Return (folder_of folder (entries_seen j.context) profile) >>= rest) Faults
+      go (Some name) = comes_on own j name rest Faults (scanned name)
+      go None = by_name (is_folder_name (without_plus stored))
+
+  scan_begun_comes : (profile : List NamedValue) (words : ScanWords) (a : Answer) → Comes (after_profile a) fresh (scan_begun run profile words) Faults
+  unfolding scan_begun
+  scan_begun_comes profile words a =
+      comes_then (after_profile a) fresh (context_entered (Mail (path_of profile))) _ (EnterEnds (path_of profile) a) Faults (entered_comes (path_of profile) a)
+      (λ later j u q. comes_at later (after_context (path_of profile) a q.0) j j _ Faults q.1 refl (begun_comes profile words a q.0 j q.2)) (λ later j e q. q)
+
+  -- the words
+  module _ (profile : List NamedValue) (a : Answer) where
+    abbrev own : List Deed
+    own = after_profile a
+
+    refused : (wrong : Wrong) (word : Option (List ℕ)) → Comes own fresh (Return (Err (wrong_word wrong word))) CommandEnds
+    refused wrong word = comes_to own fresh (Err (wrong_word wrong word)) CommandEnds (a, refl)
+
+    begun : (words : ScanWords) → Comes own fresh (scan_by run profile (Ok words)) CommandEnds
+    begun words = comes_lifted own fresh plain (scan_begun run profile words) Faults CommandEnds (scan_begun_comes profile words a) (λ later j u q. tt) (λ later j e q. q)
+
+    with_word : (items : List Item) (word : List ℕ) (b : Bool) → Comes own fresh (scan_by run profile (with_folder items (if b then Ok (without_plus word) else Err (fault.Refused (refusal.BadFolder word))))) CommandEnds
+    with_word items word true = begun (words_of (Some (without_plus word)) items)
+    with_word items word false = comes_to own fresh (Err (plain (fault.Refused (refusal.BadFolder word)))) CommandEnds (inl (a, refl))
+
+    with_one : (words : List (List ℕ)) (items : List Item) (r : Result (Option (List ℕ)) Wrong) → Comes own fresh (scan_by run profile (folder_said words items r)) CommandEnds
+    with_one words items (Ok None) = begun (words_of None items)
+    with_one words items (Ok (Some word)) = with_word items word (is_folder_name (without_plus word))
+    with_one words items (Err wrong) = refused wrong _
+
+    with_items : (words : List (List ℕ)) (r : Result (List Item) Wrong) → Comes own fresh (scan_by run profile (items_said words r)) CommandEnds
+    with_items words (Ok items) = with_one words items (one_folder (folders items))
+    with_items words (Err wrong) = refused wrong _
+
+    by_words : (words : List (List ℕ)) → Comes own fresh (command_by run profile words) CommandEnds
+    by_words [] = refused _ None
+    by_words (name ∷ words) = go (bytes_eq name (codes "scan"))
+      where
+        go : (b : Bool) → Comes own fresh (if b then scan_by run profile (scan_said profile (map chars words)) else Return (Err (no_command (Some name)))) CommandEnds
+        go true = with_items (profile_words (codes "scan") profile ++ map chars words) (read_in scan_table 0 (profile_words (codes "scan") profile ++ map chars words))
+        go false = refused _ (Some name)
+
+  -- the profile
+  abbrev ProfileEnds : Outcome (Result (List ℕ) Ended)
+  ProfileEnds later j (Ok text) = (a : Answer) × (later ≡ after_profile a) × (j ≡ fresh)
+  ProfileEnds later j (Err e) = ShowsCommandFault run e.fault later
+
+  profile_comes : Comes [] fresh (lifted plain (text_read Home profile_name)) ProfileEnds
+  profile_comes =
+      comes_lifted [] fresh plain (text_read Home profile_name) (TextEnds Home profile_name [] fresh) ProfileEnds (text_comes Home profile_name [] fresh) (λ later j text q. q)
+      (λ later j e q. long_shows Home profile_name [] later q.0 e q.1 q.2)
+
+  command_comes : (words : List (List ℕ)) → Comes [] fresh (command run words) CommandEnds
+  unfolding command
+  command_comes words =
+      comes_then [] fresh (lifted plain (text_read Home profile_name)) (λ text. command_by run (entries_in text) words) ProfileEnds CommandEnds profile_comes
+      (λ later j text q. comes_at later (after_profile q.0) j fresh (command_by run (entries_in text) words) CommandEnds q.1 q.2 (by_words (entries_in text) q.0 words)) (λ later j e q. q)
+
+  -- where the plan of a command returns, no step of the call has failed, and its deeds show the fault, if there is one
+  abbrev pub EndsAs : List runs.Deed → Hand → Result Unit Ended → Type 0
+  EndsAs past h (Ok u) = NoneFailed (acts past)
+  EndsAs past h (Err e) = ShowsCommandFault run e.fault (acts past) × NoneFailed (acts past)
+
+  pub command_ends : (words : List (List ℕ)) → Keeps anything [] fresh (command run words) EndsAs
+  command_ends words =
+      comes_keeps [] [] fresh (command run words) Ends refl (comes_more [] fresh (command run words) (λ later j r. NoneFailed later × CommandEnds later j r) Ends both (comes_clean [] fresh (command run words) CommandEnds (λ m. m) (command_comes words)))
+    where
+      Ends : Outcome (Result Unit Ended)
+      Ends later j (Ok u) = NoneFailed later
+      Ends later j (Err e) = ShowsCommandFault run e.fault later × NoneFailed later
+
+      both : (later : List Deed) (j : Hand) (r : Result Unit Ended) → NoneFailed later × CommandEnds later j r → Ends later j r
+      both later j (Ok u) q = q.0
+      both later j (Err e) q = (q.1, q.0)
+
+  -- so does each run of it
+  pub run_ends : (words : List (List ℕ)) (ds : List runs.Deed) (j : Hand) (r : Result Unit Ended) → Runs (command run words) fresh ds j (Returned r) → EndsAs ds j r
+  run_ends words ds j r f = (run_keeps anything [] fresh (command run words) ds j (Returned r) EndsAs (command_ends words) f).gave
+
+  -- and none of them reads the input
+  pub never_hears : (words : List (List ℕ)) (ds : List runs.Deed) (j : Hand) (exit : Exit (Result Unit Ended)) → Runs (command run words) fresh ds j exit → exit ≡ InFailed → ⊥
+  never_hears words ds j exit f is = (run_keeps anything [] fresh (command run words) ds j InFailed EndsAs (command_ends words) (subst (λ x. Runs (command run words) fresh ds j x) is f)).gave

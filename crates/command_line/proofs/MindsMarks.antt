@@ -1,0 +1,114 @@
+-- A command that keeps the context by naming the current folder minds the marks of all sequences.
+use Rattle.std.proofs.Common.{◌≡◌, inl, inr, ◌<◌, ◌^◌, ℕ, false, List, Option, Some, None, Result, refl, sym, ◌∙◌, ap, subst}
+use Rattle.mh_profile.specs.Names.{is_attribute}
+use Rattle.folder_files.specs.Commands.{IsMadeIn}
+use Rattle.folder_files.specs.Deeds.{Deed}
+use Rattle.folder_files.specs.Histories.{Changes}
+use Rattle.folder_files.specs.Story.{GrowsBy, Story}
+use Rattle.folder_files.specs.declared.place.Place.{Place}
+use Rattle.folder_files.specs.declared.place.Place.TheVariants.{Folder, Mail}
+use Rattle.folder_files.specs.declared.step.Step.{Step}
+use Rattle.folder_files.specs.declared.step.Step.TheVariants as step
+use Rattle.file_plans.specs.Asking.{reading_of}
+use Rattle.file_plans.specs.Follows.{filed_in, State, Follows}
+use Rattle.file_plans.specs.StaysCareful.{IsOwnStep, only_looks, careful}
+use Rattle.step_plans.specs.ContextCommit.{changed}
+use Rattle.step_plans.specs.Pledges.{IsMarked, MayAsk}
+use Rattle.step_plans.proofs.FirstAnswer.{answered}
+use Rattle.step_plans.proofs.KeptPledges.{look_changes}
+use Rattle.step_plans.proofs.StoryMay.{goes_may}
+use Rattle.marks_law.specs.Apart.{by_text}
+use Rattle.marks_law.specs.Minding.{KeepsMarks, Minds}
+use Rattle.marks_law.proofs.Minded.{Considerate, MindfulApart}
+use Rattle.marks_law.proofs.Pledging.{pledged_minds}
+use Rattle.sequence_marks.specs.KeepsSequences.{KeepsSequences}
+use Rattle.sequence_marks.specs.SequenceMarks.{private_marks, says_private}
+use Rattle.sequence_marks.proofs.OtherEntries.{marks_same}
+use Rattle.sequence_marks.proofs.Sequences.{MindsSequences, SameStart, sequences_kept}
+use Rattle.sequence_marks.proofs.Silence.{private_committed}
+use Rattle.mh_looks.specs.Current.{current_name}
+use Rattle.mh_looks.specs.ScanPledge.{MarksCurrent, scan_pledge}
+use Rattle.mh_looks.proofs.FolderLines.{current_valid}
+use Rattle.command_line.specs.Command.{command}
+use Rattle.command_line.specs.CommandPledge.{path_by}
+use Rattle.command_line.specs.Ended.{ended_cause}
+use Rattle.command_line.specs.declared.ended.Ended.{Ended}
+use Rattle.command_line.proofs.Pledging.{Ends, answered_goes, command_answers, first, next_by}
+
+-- a step in the mail directory changes no folder
+other_place : (mail path folder : List ℕ) (p : Place) → Mail mail ≡ p → Folder path folder ≡ p → ⊥
+other_place mail path folder p e f = cc
+
+mail_changes : (mail path folder : List ℕ) (s : Step) → IsMadeIn (Mail mail) s → Changes (Folder path folder) s → ⊥
+mail_changes mail path folder (step.List p) m c = c
+mail_changes mail path folder (step.Read p n limit) m c = c
+mail_changes mail path folder (step.MakeFolder p) m c = c
+mail_changes mail path folder (step.Create p n b) m c = other_place mail path folder p m c
+mail_changes mail path folder (step.SyncFile p n) m c = c
+mail_changes mail path folder (step.SyncFolder p) m c = c
+mail_changes mail path folder (step.Link p a b) m c = other_place mail path folder p m c
+mail_changes mail path folder (step.Rename p a b) m c = other_place mail path folder p m c
+mail_changes mail path folder (step.Unlink p a) m c = other_place mail path folder p m c
+mail_changes mail path folder (step.Lock p) m c = c
+mail_changes mail path folder (step.Unlock p) m c = c
+mail_changes mail path folder (step.ReadFile f limit) m c = c
+mail_changes mail path folder (step.ReadDrop f from most) m c = c
+mail_changes mail path folder (step.CutDrop f length_) m c = c
+
+module _ (run : ℕ) (mail : List ℕ) where
+  no_change : (before : List Deed) (s : Step) (path folder : List ℕ) → IsOwnStep run (scan_pledge run mail).manner before s → Changes (Folder path folder) s → ⊥
+  no_change before s path folder (only_looks l) c = look_changes (Folder path folder) s l c
+  no_change before s path folder (careful f kind k makes orderly) c = mail_changes mail path folder s makes.1 c
+
+  -- the current folder is no sequence's
+  plain_name : is_attribute current_name ≡ false
+  plain_name = refl
+
+  same_marks : (folder sequence old new : List ℕ) (before : List Deed) (p : Place) (name : List ℕ) (n : ℕ) → MarksCurrent mail before p name old new → says_private folder sequence new n ≡ says_private folder sequence old n
+  unfolding changed
+  same_marks folder sequence old new before p name n m =
+      let valid = current_valid m.0 m.1 in
+      ap (λ z. says_private folder sequence z n) m.3.2 ∙ marks_same folder sequence current_name _ old n plain_name valid.0.0 valid.0.1
+
+  -- a commit of the context marks what its base marks
+  marked_at : (path folder sequence temp : List ℕ) (before : List Deed) → MayAsk (scan_pledge run mail) before (step.Rename (Mail path) temp (private_marks path folder sequence).name) → IsMarked (scan_pledge run mail) (Mail path) temp (private_marks path folder sequence).name before
+  marked_at path folder sequence temp before may = may.marks (private_committed path folder sequence)
+
+  keeps_private : (path folder sequence temp : List ℕ) (before : List Deed) → MayAsk (scan_pledge run mail) before (step.Rename (Mail path) temp (private_marks path folder sequence).name) → KeepsMarks run (private_marks path folder sequence) temp before
+  keeps_private path folder sequence temp before may =
+      let m = marked_at path folder sequence temp before may in
+      (m.old, m.new, m.is_base, m.created, λ n. same_marks folder sequence m.old m.new before (Mail path) (private_marks path folder sequence).name n m.made)
+
+  minds_commit : (path folder sequence temp : List ℕ) (before : List Deed) → MayAsk (scan_pledge run mail) before (step.Rename (Mail path) temp (private_marks path folder sequence).name)
+      → Minds run (private_marks path folder sequence) (by_text run (private_marks path folder sequence)) before (step.Rename (Mail path) temp (private_marks path folder sequence).name)
+  minds_commit path folder sequence temp before may =
+      let m = marked_at path folder sequence temp before may in
+      pledged_minds (scan_pledge run mail) (private_marks path folder sequence) (by_text run (private_marks path folder sequence)) temp before m (λ n. same_marks folder sequence m.old m.new before (Mail path) (private_marks path folder sequence).name n m.made)
+
+  may_private : (path folder sequence : List ℕ) (before : List Deed) (s : Step) → MayAsk (scan_pledge run mail) before s → MindfulApart (private_marks path folder sequence) run before s
+  may_private path folder sequence before s may (inl c) = absurd (no_change before s path folder may.is_own c)
+  may_private path folder sequence before s may (inr c) =
+      subst (λ z. Minds run (private_marks path folder sequence) (by_text run (private_marks path folder sequence)) before z) (sym c.1) (minds_commit path folder sequence c.0 before (subst (λ z. MayAsk (scan_pledge run mail) before z) c.1 may))
+
+  may_consider : (path folder sequence : List ℕ) (before : List Deed) (s : Step) → MayAsk (scan_pledge run mail) before s → Considerate (private_marks path folder sequence) run before s
+  may_consider path folder sequence before s may temp e = inr (keeps_private path folder sequence temp before (subst (λ z. MayAsk (scan_pledge run mail) before z) e may))
+
+  -- each step that `scan` may ask for minds the marks of all sequences
+  pub minds_sequences : MindsSequences (scan_pledge run mail)
+  minds_sequences = record {
+    public = λ path folder sequence before s may c. absurd (no_change before s path folder may.is_own c);
+    private = λ path folder sequence before s may. (may_private path folder sequence before s may, may_consider path folder sequence before s may);
+  }
+
+-- a call that follows a command keeps the marks of all sequences
+pub command_keeps_sequences : (run : ℕ) → run < 2 ^ 128 → (words : List (List ℕ)) (x y : State) (result : Result Unit Ended) → Follows run ended_cause (command run words) x y result → KeepsSequences run x.files.story y.files.story
+command_keeps_sequences run few words x y result f =
+    let c = command_answers run few words x y result f in
+    sequences_kept (scan_pledge run (path_by c.answer)) (minds_sequences run (path_by c.answer)) x.files.story y.files.story (start_same x.files.story y.files.story f.went.grows)
+    (goes_may (scan_pledge run (path_by c.answer)) ended_cause (answered (first run few words) (λ a. next_by run few words (reading_of a)) c.answer) x y result (Ends run few words c.answer) (answered_goes run few words x.hand c.answer) c.follows)
+  where
+    start_same : (old new : Option Story) → GrowsBy run old new (filed_in f.went.log) → SameStart old new
+    start_same None None g = tt
+    start_same (Some old) (Some new) g = g.start
+    start_same None (Some new) g = absurd g
+    start_same (Some old) None g = absurd g

@@ -1,0 +1,9 @@
+use Rattle.std.proofs.Common.{refl}
+use Rattle.file_plans.proofs.Following.{no_room}
+use Rattle.command_line.proofs.command.read_profile.Goals as goal
+
+pub returns-in_err-name : goal.returns-in_err-name
+returns-in_err-name g c = λ h. no_room _ c.from_residual.ensures refl
+
+pub returns : goal.returns
+returns g c = λ h. rw c.in_ok-name.ensures at (c.read_text.ensures h)

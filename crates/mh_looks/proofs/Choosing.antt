@@ -1,0 +1,37 @@
+-- Values that decide how a plan goes on.
+use Rattle.std.proofs.Common.{◌≡◌, ℕ, List, refl}
+use Rattle.std.specs.Prelude.{Result, Ok, Err, IsErr, IsErrAnd}
+use Rattle.file_plans.specs.Plan.{Hand, Plan, Return, Recall, bind, after, ◌>>=◌}
+use Rattle.file_plans.specs.Follows.{State, Follows}
+use Rattle.file_plans.proofs.Following.{recalled, refuses, no_room_at}
+use Rattle.step_plans.specs.CommandFaults.{command_cause}
+use Rattle.step_plans.specs.declared.command_fault.CommandFault.{CommandFault}
+use Rattle.step_plans.specs.declared.command_fault.CommandFault.TheVariants as fault
+use Rattle.command_stages.specs.Chosen.{IsValue}
+use Rattle.mh_looks.specs.Values.{IsListed}
+
+pub refused_value : (value : Result (List ℕ) CommandFault) (e : CommandFault) → IsValue value (Err e) → IsListed value (Err e)
+refused_value value (fault.Refused r) is = is
+refused_value value (fault.Faulted w) is = is
+refused_value value (fault.Locked p) is = is
+refused_value value (fault.Meddled p x) is = is
+refused_value value fault.Memory is = tt
+
+module _ {run : ℕ} (value : Hand → Result (List ℕ) CommandFault) (k : List ℕ → Plan (Result Unit CommandFault)) {x : State} where
+  -- the plan goes on with the numbers
+  pub chosen_on : {y : State} {r : Result Unit CommandFault} (numbers : List ℕ) → value x.hand ≡ Ok numbers → Follows run command_cause (k numbers) x y r → Follows run command_cause (Recall (λ h. Return (value h)) >>= k) x y r
+  unfolding ◌>>=◌ bind
+  chosen_on {y = y} {r = r} numbers is f = recalled (λ h. after k (value h)) (rw is f)
+
+  -- or ends with the refusal
+  off : (e : CommandFault) → IsListed (value x.hand) (Err e) → Follows run command_cause (Recall (λ h. Return (value h)) >>= k) x x (Err e)
+  unfolding ◌>>=◌ bind
+  off (fault.Refused r) is = recalled (λ h. after k (value h)) (rw is (refuses _ refl))
+  off (fault.Faulted w) is = absurd is
+  off (fault.Locked p) is = absurd is
+  off (fault.Meddled p y) is = absurd is
+  off fault.Memory is = no_room_at refl
+
+  pub chosen_off : (e : CommandFault) (r : Result Unit CommandFault) → IsListed (value x.hand) (Err e) → IsErr r × IsErrAnd r (λ f. f ≡ e) → Follows run command_cause (Recall (λ h. Return (value h)) >>= k) x x r
+  chosen_off e (Ok u) is err = absurd (let no = err.0 in cc)
+  chosen_off e (Err f) is err = rw err.1 (off e is)

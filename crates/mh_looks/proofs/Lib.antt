@@ -1,0 +1,13 @@
+pub mod AllShown
+pub mod Apart
+pub mod Choosing
+pub mod Ending
+pub mod FolderLines
+pub mod Folders
+pub mod LooksLeave
+pub mod Marking
+pub mod Numbers
+pub mod Pledging
+pub mod Reading
+pub mod Scanning
+pub mod Showing

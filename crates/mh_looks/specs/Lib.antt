@@ -1,0 +1,6 @@
+pub mod Current
+pub mod MessageLine
+pub mod Outcomes
+pub mod Scan
+pub mod ScanPledge
+pub mod Values

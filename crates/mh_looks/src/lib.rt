@@ -1,0 +1,12 @@
+//! The commands that look at messages.
+#![tactic(auto)]
+
+mod current;
+mod job;
+mod line;
+mod looking;
+mod sequences;
+
+pub use job::ScanJob;
+pub use line::{message_line, shown};
+pub use looking::scan;

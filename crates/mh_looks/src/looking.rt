@@ -1,0 +1,148 @@
+// `scan`: a line for each chosen message of a folder.
+ghost use Rattle.std.specs.Prelude.{◌≡◌, ◌++◌, ℕ, Result, Ok, IfOk, reverse};
+ghost use Rattle.mh_base.specs.Entries.{entry_text};
+ghost use Rattle.folder_files.specs.Story.{FilesState};
+ghost use Rattle.file_plans.specs.Plan.{Hand as Kept};
+ghost use Rattle.file_plans.specs.Follows.{Follows, by_out};
+ghost use Rattle.step_plans.specs.CommandFaults.{command_cause};
+ghost use Rattle.mh_looks.specs.Scan.{
+  shown_by,
+  one_shown,
+  all_shown,
+  ordered as ordered_of,
+  entries_seen,
+  chosen_by,
+  scan as scan_plan,
+};
+ghost use Rattle.mh_looks.specs.Values.{IsListed};
+
+use crate::ScanJob;
+use crate::current::make_current;
+use crate::line::message_line;
+use crate::sequences::{read_sequences, sequences_in};
+use command_stages::{LIMIT, choose, list_folder, listed_numbers, numbers};
+use file_plans::{Reading, ask_read, say};
+use folder_files::{Files, Place, Refusal};
+use mh_base::{Bytes, Duplicate, Entry, FolderName, MsgNum, NameList, Sink, entry_name};
+use std::alloc::{AllocError, Global};
+use step_plans::{CommandFault, Hand};
+
+fn meddled(alloc: Global, place: &Place, number: MsgNum) -> Result<CommandFault, AllocError>
+    ensures { IfOk result (λ fault. fault ≡ CommandFault.Meddled place.now (entry_text (Entry.Number number))) }
+{
+    let name = entry_name(alloc, &Entry::Number(number))?;
+    Ok(CommandFault::Meddled(place.duplicate(alloc)?, name))
+}
+
+/// Writes the line of a message, by what reading it gave.
+fn show<O: Sink>(
+    alloc: Global,
+    out: &mut O,
+    place: &Place,
+    number: MsgNum,
+    reading: Reading,
+) -> Result<(), CommandFault>
+    ensures { (run : ℕ) (h : Kept) (f : FilesState) → Follows run command_cause (shown_by place.now number reading) (by_out h f (O.state out.old)) (by_out h f (O.state out.new)) result }
+{
+    match reading {
+        Reading::Content(bytes) => {
+            let line = message_line(alloc, number, bytes.as_slice())?;
+            say(out, line.as_slice())?;
+            Ok(())
+        }
+        Reading::Long(length) => Err(CommandFault::Refused(Refusal::TooLarge {
+            length,
+            limit: LIMIT,
+        })),
+        Reading::Gone => Err(meddled(alloc, place, number)?),
+    }
+}
+
+fn show_one<F: Files, O: Sink>(
+    alloc: Global,
+    run: u128,
+    files: &mut F,
+    out: &mut O,
+    place: &Place,
+    number: MsgNum,
+) -> Result<(), CommandFault>
+    ensures { (h : Kept) → Follows run command_cause (one_shown place.now number) (by_out h (F.state files.old) (O.state out.old)) (by_out h (F.state files.new) (O.state out.new)) result }
+{
+    let name = entry_name(alloc, &Entry::Number(number))?;
+    let reading = ask_read(alloc, run, files, place, &name, LIMIT)?;
+    show(alloc, out, place, number, reading)
+}
+
+fn show_all<F: Files, O: Sink>(
+    alloc: Global,
+    run: u128,
+    files: &mut F,
+    out: &mut O,
+    place: &Place,
+    numbers: &[MsgNum],
+) -> Result<(), CommandFault>
+    ensures { (h : Kept) → Follows run command_cause (all_shown place.now numbers.now) (by_out h (F.state files.old) (O.state out.old)) (by_out h (F.state files.new) (O.state out.new)) result }
+{
+    for number in numbers {
+        show_one(alloc, run, files, out, place, *number)?;
+    }
+    Ok(())
+}
+
+/// The messages that the job's words choose, in the order of their numbers.
+fn chosen(
+    alloc: Global,
+    hand: &Hand,
+    job: &ScanJob,
+    names: &NameList,
+    text: &Bytes,
+) -> Result<Vec<MsgNum>, CommandFault>
+    ensures { IsListed (chosen_by job.now names.now text.now (entries_seen hand.now.kept.context)) result }
+{
+    let listing = listed_numbers(alloc, names.as_slice())?;
+    let sequences = sequences_in(alloc, text.as_slice(), hand, &job.folder)?;
+    let set = choose(
+        alloc,
+        &job.specs,
+        &listing,
+        &sequences,
+        job.negation.as_slice(),
+    )?;
+    Ok(numbers(alloc, &set)?)
+}
+
+/// Descending where asked.
+fn ordered(numbers: &mut Vec<MsgNum>, reverse: bool)
+    ensures { numbers.new.items ≡ ordered_of reverse numbers.old.items }
+{
+    if reverse {
+        numbers.reverse();
+    }
+}
+
+fn folder_place(alloc: Global, hand: &Hand, folder: &FolderName) -> Result<Place, AllocError>
+    ensures { IfOk result (λ place. place ≡ Place.Folder hand.now.mail folder.now) }
+{
+    Ok(Place::Folder(hand.mail().duplicate(alloc)?, folder.duplicate(alloc)?))
+}
+
+/// Writes a line for each chosen message, and makes the folder the current one.
+pub fn scan<F: Files, O: Sink>(
+    alloc: Global,
+    hand: &mut Hand,
+    files: &mut F,
+    out: &mut O,
+    job: &ScanJob,
+) -> Result<(), CommandFault>
+    ensures plan { Follows hand.old.run command_cause (scan_plan hand.old.run hand.old.mail job.now) (by_out hand.old.kept (F.state files.old) (O.state out.old)) (by_out hand.new.kept (F.state files.new) (O.state out.new)) result }
+    ensures run { hand.new.run ≡ hand.old.run }
+    ensures mail { hand.new.mail ≡ hand.old.mail }
+{
+    let place = folder_place(alloc, hand, &job.folder)?;
+    let names = list_folder(alloc, hand.run(), files, &place, &job.folder)?;
+    let text = read_sequences(alloc, hand.run(), files, &place)?;
+    let mut found = chosen(alloc, hand, job, &names, &text)?;
+    ordered(&mut found, job.reverse);
+    show_all(alloc, hand.run(), files, out, &place, found.as_slice())?;
+    make_current(alloc, hand, files, &job.folder)
+}
