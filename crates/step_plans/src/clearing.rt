@@ -14,8 +14,8 @@ use folder_files::{Files, Place};
 use mh_base::{Entry, Name, entry_of};
 use std::alloc::Global;
 
-/// A name that this run made or saw is unlinked.
-pub(crate) fn remove<F: Files>(
+/// A name that this run made or saw is unlinked; it was changed meanwhile where it is gone.
+pub fn unlink<F: Files>(
     alloc: Global,
     run: u128,
     files: &mut F,
@@ -48,7 +48,7 @@ fn clear_one<F: Files>(
     ensures { (h : Hand) → Follows run plan_cause (cleared_one place.now name.now) (by_hand h (F.state files.old)) (by_hand h (F.state files.new)) result }
 {
     if is_temp(name) {
-        remove(alloc, run, files, place, name)
+        unlink(alloc, run, files, place, name)
     } else {
         Ok(())
     }
@@ -86,7 +86,7 @@ fn clear_listed<F: Files>(
 }
 
 /// The temporary names of the directory are unlinked.
-pub(crate) fn clear_temps<F: Files>(
+pub fn clear_temps<F: Files>(
     alloc: Global,
     run: u128,
     files: &mut F,

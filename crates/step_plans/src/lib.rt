@@ -16,8 +16,12 @@ mod replacing;
 mod writing;
 
 pub use change::{ChangeEntry, ChangeEntryList};
+pub use clearing::{clear_temps, unlink};
 pub use command_fault::CommandFault;
 pub use context::commit_context;
 pub use fault::PlanFault;
 pub use hand::Hand;
 pub use laws::{cut_drops_are_stored, durable_by_own_steps, lock_order, never_taken, no_loss};
+pub use locking::{let_go, lock};
+pub use meddling::{hold_to, meddled, place_gone};
+pub use replacing::sync;

@@ -13,7 +13,7 @@ use mh_base::Duplicate;
 use std::alloc::Global;
 
 /// This run holds the directory's lock, after at most so many tries.
-pub(crate) fn lock<F: Files>(
+pub fn lock<F: Files>(
     alloc: Global,
     run: u128,
     files: &mut F,
@@ -33,7 +33,7 @@ pub(crate) fn lock<F: Files>(
 }
 
 /// The lock falls; where that fails the plan ends.
-pub(crate) fn let_go<F: Files>(
+pub fn let_go<F: Files>(
     alloc: Global,
     run: u128,
     files: &mut F,

@@ -12,14 +12,14 @@ use mh_base::{Duplicate, Entry, Name, entry_name};
 use std::alloc::{AllocError, Global};
 
 /// This name was changed meanwhile.
-pub(crate) fn meddled(alloc: Global, place: &Place, name: &Name) -> Result<PlanFault, AllocError>
+pub fn meddled(alloc: Global, place: &Place, name: &Name) -> Result<PlanFault, AllocError>
     ensures { IfOk result (λ fault. fault ≡ PlanFault.Meddled place.now name.now) }
 {
     Ok(PlanFault::Meddled(place.duplicate(alloc)?, name.duplicate(alloc)?))
 }
 
 /// This directory is gone.
-pub(crate) fn place_gone(alloc: Global, place: &Place) -> Result<PlanFault, AllocError>
+pub fn place_gone(alloc: Global, place: &Place) -> Result<PlanFault, AllocError>
     ensures { IfOk result (λ fault. fault ≡ PlanFault.Meddled place.now lock_name) }
 {
     let name = entry_name(alloc, &Entry::LockFile)?;
@@ -27,7 +27,7 @@ pub(crate) fn place_gone(alloc: Global, place: &Place) -> Result<PlanFault, Allo
 }
 
 /// Of a name that is there, unless it was changed meanwhile.
-pub(crate) fn hold_to(
+pub fn hold_to(
     alloc: Global,
     place: &Place,
     name: &Name,
@@ -42,7 +42,7 @@ pub(crate) fn hold_to(
 }
 
 /// Of a name that is not yet there, unless it was changed meanwhile.
-pub(crate) fn enter_once(
+pub fn enter_once(
     alloc: Global,
     place: &Place,
     name: &Name,

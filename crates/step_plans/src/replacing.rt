@@ -15,7 +15,7 @@ use mh_base::{Bytes, Name};
 use std::alloc::Global;
 
 /// The directory's changes are made safe; the name is the last that the call made there.
-pub(crate) fn sync<F: Files>(
+pub fn sync<F: Files>(
     alloc: Global,
     run: u128,
     files: &mut F,

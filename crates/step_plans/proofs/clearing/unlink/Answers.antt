@@ -1,7 +1,7 @@
 use Rattle.file_plans.proofs.Following.{go_from, stop_from}
 use Rattle.step_plans.proofs.Faulting.{stop_same}
 use Rattle.step_plans.specs.Locking.{removed}
-use Rattle.step_plans.proofs.clearing.remove.Goals as goal
+use Rattle.step_plans.proofs.clearing.unlink.Goals as goal
 
 pub returns-in_err-touched : goal.returns-in_err-touched
 unfolding removed

@@ -1,0 +1,13 @@
+pub mod GivingBack
+pub mod Homecoming
+pub mod Inserting
+pub mod Linking
+pub mod LoneSettling
+pub mod Numbers
+pub mod PairLemmas
+pub mod Restored
+pub mod Shown
+pub mod Telling
+pub mod Tops
+pub mod Unique
+pub mod Upward

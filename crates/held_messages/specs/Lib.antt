@@ -1,0 +1,4 @@
+pub mod HeldPairs
+pub mod Highest
+pub mod Settle
+pub mod SettledAlone

@@ -1,0 +1,13 @@
+//! Messages that are held aside: which ones a folder holds, and how they are put back.
+#![tactic(auto)]
+
+mod held;
+mod homing;
+mod pairs;
+mod putting_back;
+#[cfg(test)]
+mod tests;
+
+pub use held::HeldPair;
+pub use pairs::held_pairs;
+pub use putting_back::{HomeList, Settled, put_back};
