@@ -65,7 +65,7 @@ unfolding dropped
 no_pairs p ks = refl
 
 pub drops_end : (run : ℕ) (p : Place) (l : List HeldPair) (ends : List (Option ℕ)) (i : ℕ) {x : State} → min (length l) (length ends) ≤ i → Follows run plan_cause (dropped p (drop i l) (drop i ends)) x x (Ok tt)
-drops_end run p l ends i h = elim (either (length l) (length ends) i h) [ | inl e ↦ by_pairs e | inr e ↦ by_ends e ]
+drops_end run p l ends i h = elim (either (length l) (length ends) i h) [ inl e ↦ by_pairs e | inr e ↦ by_ends e ]
   where
     either : (a b i : ℕ) → min a b ≤ i → (a ≤ i) ⊎ (b ≤ i)
     either a b i h = grind (arith, nat_tests)

@@ -92,18 +92,12 @@ fn sort(pairs: &mut Vec<HeldPair>)
     ensures { IsPermutation pairs.old.items pairs.new.items }
 {
     pairs.sort_unstable_by(|one, other| {
-        one.number
-            .cmp(&other.number)
-            .then(one.run.cmp(&other.run))
+        one.number.cmp(&other.number).then(one.run.cmp(&other.run))
     });
 }
 
 /// What other runs than this hold aside, by the names of a folder: by number, then by run, each once.
-pub fn held_pairs(
-    alloc: Global,
-    run: u128,
-    names: &[Name],
-) -> Result<Vec<HeldPair>, AllocError>
+pub fn held_pairs(alloc: Global, run: u128, names: &[Name]) -> Result<Vec<HeldPair>, AllocError>
     ensures { IfOk result (λ pairs. pairs.items ≡ held_pairs_in run names.now) }
 {
     let mut found = found(alloc, run, names)?;

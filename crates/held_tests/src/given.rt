@@ -1,7 +1,7 @@
 // What tests are given: a folder with files, and scripts of one prompt.
 use folder_files::{
-    After, ChangeList, Directory, DirectoryList, File, FileList, LockList, OutsideList, Place, RunList, Slot, SlotList,
-    Step, World,
+    After, ChangeList, Directory, DirectoryList, File, FileList, LockList, OutsideList, Place,
+    RunList, Slot, SlotList, Step, World,
 };
 use folder_room::{Happening, Keep, KeepList, Prompt, PromptList};
 use mh_base::{Bytes, FolderName, Name, NumberList, Text};
@@ -127,5 +127,13 @@ pub fn crashes(alloc: Global, at: u64, kept: Kept, made: bool) -> Result<PromptL
             })?;
         }
     }
-    script(alloc, at, Happening::Crash { keep, fill: 63, made })
+    script(
+        alloc,
+        at,
+        Happening::Crash {
+            keep,
+            fill: 63,
+            made,
+        },
+    )
 }

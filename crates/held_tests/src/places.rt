@@ -34,11 +34,7 @@ fn row(
     Ok(())
 }
 
-fn alone(
-    rt: &(impl Abort + AllocGlobal),
-    given: &[Given],
-    shown: &[u8],
-) -> Result<(), Fail> {
+fn alone(rt: &(impl Abort + AllocGlobal), given: &[Given], shown: &[u8]) -> Result<(), Fail> {
     let wanted = Wanted {
         ending: Ending::Done,
         shown,
@@ -49,7 +45,9 @@ fn alone(
 const TWO_OF_TWO: &[Given] = &[(FIVE, b"X"), (NINE, b"Y"), (b"1", b"A"), (b"3", b"C")];
 
 #[test]
-fn the_first_goes_to_its_number_and_the_next_above_the_highest(rt: HostRuntime) -> Result<(), Fail> {
+fn the_first_goes_to_its_number_and_the_next_above_the_highest(
+    rt: HostRuntime,
+) -> Result<(), Fail> {
     alone(&rt, TWO_OF_TWO, b"1=A 2=X 3=C 4=Y ")
 }
 
@@ -108,7 +106,11 @@ fn a_held_name_is_gone_meanwhile(rt: HostRuntime) -> Result<(), Fail> {
     let give = Step::Link(inbox(alloc)?, name(alloc, FIVE)?, name(alloc, b"2")?);
     and_other(&mut prompts, 2, give)?;
     and_other(&mut prompts, 2, Step::SyncFolder(inbox(alloc)?))?;
-    and_other(&mut prompts, 2, Step::Unlink(inbox(alloc)?, name(alloc, FIVE)?))?;
+    and_other(
+        &mut prompts,
+        2,
+        Step::Unlink(inbox(alloc)?, name(alloc, FIVE)?),
+    )?;
     let wanted = Wanted {
         ending: Ending::Meddled,
         shown: b".mh_held_00000000000000000000000000000009_2=Y 1=A 2=X 3=C ",

@@ -27,12 +27,7 @@ pub fn place_gone(alloc: Global, place: &Place) -> Result<PlanFault, AllocError>
 }
 
 /// Of a name that is there, unless it was changed meanwhile.
-pub fn hold_to(
-    alloc: Global,
-    place: &Place,
-    name: &Name,
-    touched: Touched,
-) -> Result<(), PlanFault>
+pub fn hold_to(alloc: Global, place: &Place, name: &Name, touched: Touched) -> Result<(), PlanFault>
     ensures { (run : ℕ) (x : State) → Follows run plan_cause (held_to place.now name.now touched) x x result }
 {
     match touched {
