@@ -1,0 +1,5 @@
+pub mod Cutting
+pub mod Marking
+pub mod Reading
+pub mod RunsOfAll
+pub mod Together
