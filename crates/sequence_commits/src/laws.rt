@@ -1,5 +1,6 @@
 // Why these functions of texts and marks are the relations that they stand for: each law is the contract of a function that does nothing.
-ghost use Rattle.std.specs.Prelude.{◌≡◌, ℕ, List, IsTrue};
+ghost use Rattle.std.specs.Prelude.{◌≡◌, ◌↔◌, ℕ, List, IsTrue, IfSome};
+ghost use Rattle.mh_base.specs.Numbers.{IsMsgNum};
 ghost use Rattle.mh_profile.specs.declared.named_value.NamedValue.{NamedValue};
 ghost use Rattle.mh_sequences.specs.Changes.{IsCut};
 ghost use Rattle.mh_sequences.specs.Marks.{IsMarked};
@@ -10,6 +11,7 @@ ghost use Rattle.mh_sequences.specs.declared.run.Run.{Run};
 ghost use Rattle.sequence_commits.specs.Cutting.{cut_to};
 ghost use Rattle.sequence_commits.specs.Marking.{IsValidMark, marked_by};
 ghost use Rattle.sequence_commits.specs.Reading.{sequences_in};
+ghost use Rattle.sequence_commits.specs.Telling.{same_told};
 
 /// Sequences with the same members, public alike, and with the same current message are the same.
 pub fn told_by_numbers()
@@ -37,4 +39,10 @@ pub fn cut_is_one()
     ensures valid { (listing : List Run) (old : Marked) → AreSequences (cut_to listing old).users }
     ensures cut { (listing : List Run) (old : Marked) → AreSequences old.users → IsCut listing old (cut_to listing old) }
     ensures alone { (listing : List Run) (old other : Marked) → AreSequences other.users → IsCut listing old other → other ≡ cut_to listing old }
+{}
+
+/// A folder's text and its private entries are alike just where the sequences are the same: a commit makes no step just where nothing changes.
+pub fn told_alike()
+    ensures { (folder : List ℕ) (old new : Marked) → AreSequences old.users → AreSequences new.users → IfSome old.cur IsMsgNum → IfSome new.cur IsMsgNum
+        → IsTrue (same_told folder old new) ↔ (old ≡ new) }
 {}
