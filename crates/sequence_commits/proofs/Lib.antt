@@ -1,0 +1,13 @@
+pub mod ChangesTo
+pub mod CommitPlans
+pub mod CutOnce
+pub mod EntriesAlike
+pub mod EntriesSet
+pub mod Gathering
+pub mod ListedNumbers
+pub mod MarkedOnce
+pub mod MarksInTurn
+pub mod ReadOnce
+pub mod RunTests
+pub mod ToldAlike
+pub mod ToldAll

@@ -1,0 +1,9 @@
+pub mod Committing
+pub mod Cutting
+pub mod FolderEntries
+pub mod Marking
+pub mod PrivateChanges
+pub mod Reading
+pub mod RunsOfAll
+pub mod Telling
+pub mod Together

@@ -1,0 +1,99 @@
+// Commits of a folder's sequences.
+ghost use Rattle.std.specs.Prelude.{◌≡◌, OnOk};
+ghost use Rattle.std.specs.List.{All};
+ghost use Rattle.mh_profile.specs.Validity.{IsEntry};
+ghost use Rattle.mh_sequences.specs.Reading.{suffix};
+ghost use Rattle.file_plans.specs.Follows.{Follows, by_hand};
+ghost use Rattle.step_plans.specs.Hands.{mail_place};
+ghost use Rattle.step_plans.specs.PlanFaults.{plan_cause};
+ghost use Rattle.sequence_commits.specs.Committing.{entries_committed, marks_committed, sequences_replaced, told_committed};
+ghost use Rattle.sequence_commits.specs.Marking.{marked_by_all};
+
+use crate::changes::changes_seen;
+use crate::marking::mark_all;
+use crate::telling::Told;
+use folder_files::{Files, Place};
+use mh_base::{Bytes, Entry, FolderName, entry_name};
+use mh_profile::NamedValue;
+use mh_sequences::{Mark, Sequences};
+use std::alloc::Global;
+use step_plans::{Hand, PlanFault, commit_context, replace_file};
+
+/// The greatest text that is written, in bytes.
+const LIMIT: u64 = 67_108_864;
+
+/// The text takes the place of the folder's, where it is not too long.
+fn replace_sequences<F: Files>(
+    alloc: Global,
+    hand: &mut Hand,
+    files: &mut F,
+    place: &Place,
+    text: &mut Bytes,
+) -> Result<(), PlanFault>
+    ensures plan { Follows hand.old.run plan_cause (sequences_replaced hand.old.run place.now text.old) (by_hand hand.old.kept (F.state files.old)) (by_hand hand.new.kept (F.state files.new)) result }
+    ensures same { (hand.new.run ≡ hand.old.run) × (hand.new.mail ≡ hand.old.mail) }
+{
+    let length = text.len() as u64;
+    if LIMIT < length {
+        return Err(PlanFault::TooLarge(length));
+    }
+    let name = entry_name(alloc, &Entry::Sequences)?;
+    replace_file(alloc, hand, files, place, &name, text)
+}
+
+/// The context says of the folder's private sequences just these entries.
+fn commit_entries<F: Files>(
+    alloc: Global,
+    hand: &mut Hand,
+    files: &mut F,
+    folder: &FolderName,
+    entries: &[NamedValue],
+) -> Result<(), PlanFault>
+    requires { All IsEntry entries.now }
+    ensures plan { Follows hand.old.run plan_cause (entries_committed hand.old.run (mail_place hand.old) (suffix folder.now) entries.now) (by_hand hand.old.kept (F.state files.old)) (by_hand hand.new.kept (F.state files.new)) result }
+    ensures same { (hand.new.run ≡ hand.old.run) × (hand.new.mail ≡ hand.old.mail) }
+{
+    let changes = changes_seen(alloc, entries, hand, folder)?;
+    commit_context(alloc, hand, files, &changes)
+}
+
+/// The folder's text, and then the context.
+fn commit_told<F: Files>(
+    alloc: Global,
+    hand: &mut Hand,
+    files: &mut F,
+    place: &Place,
+    folder: &FolderName,
+    told: &mut Told,
+) -> Result<(), PlanFault>
+    requires { All IsEntry told.old.entries }
+    ensures plan { Follows hand.old.run plan_cause (told_committed hand.old.run place.now (mail_place hand.old) (suffix folder.now) told.old.text told.old.entries) (by_hand hand.old.kept (F.state files.old)) (by_hand hand.new.kept (F.state files.new)) result }
+    ensures same { (hand.new.run ≡ hand.old.run) × (hand.new.mail ≡ hand.old.mail) }
+{
+    replace_sequences(alloc, hand, files, place, &mut told.text)?;
+    commit_entries(alloc, hand, files, folder, told.entries.as_slice())
+}
+
+/// Does what these marks say with the sequences of a folder, and commits what they are then: the text of the folder at this place,
+/// and then the private ones in the context of the run's mail directory, under its lock. No step where the marks change nothing.
+pub fn commit_sequences<F: Files>(
+    alloc: Global,
+    hand: &mut Hand,
+    files: &mut F,
+    place: &Place,
+    folder: &FolderName,
+    sequences: &mut Sequences,
+    marks: &[Mark],
+) -> Result<(), PlanFault>
+    ensures plan { Follows hand.old.run plan_cause (marks_committed hand.old.run place.now (mail_place hand.old) folder.now sequences.old marks.now) (by_hand hand.old.kept (F.state files.old)) (by_hand hand.new.kept (F.state files.new)) result }
+    ensures marked { OnOk result (sequences.new ≡ marked_by_all marks.now sequences.old) }
+    ensures same { (hand.new.run ≡ hand.old.run) × (hand.new.mail ≡ hand.old.mail) }
+{
+    let old = Told::of(alloc, sequences, folder)?;
+    mark_all(sequences, marks)?;
+    let mut new = Told::of(alloc, sequences, folder)?;
+    if old.same(&new) {
+        return Ok(());
+    }
+    commit_told(alloc, hand, files, place, folder, &mut new)
+}
