@@ -1,0 +1,4 @@
+mod ByteLemmas
+mod FinishLemmas
+mod FitLemmas
+mod PlaceLemmas

@@ -1,0 +1,17 @@
+//! Expressions that pick messages: patterns of text, and tests joined by `and`, `or` and `not`.
+#![tactic(auto)]
+
+mod atom;
+mod byte_set;
+mod element;
+mod halves;
+mod matching;
+mod member;
+mod pattern;
+mod places;
+
+pub use atom::Atom;
+pub use byte_set::ByteSet;
+pub use element::Element;
+pub use member::Member;
+pub use pattern::Pattern;
