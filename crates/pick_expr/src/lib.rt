@@ -3,7 +3,10 @@
 
 mod atom;
 mod byte_set;
+mod class;
 mod element;
+mod elements;
+mod fault;
 mod halves;
 mod matching;
 mod member;
@@ -13,5 +16,6 @@ mod places;
 pub use atom::Atom;
 pub use byte_set::ByteSet;
 pub use element::Element;
+pub use fault::PatternFault;
 pub use member::Member;
 pub use pattern::Pattern;

@@ -1,9 +1,13 @@
 // Patterns of lines.
-ghost use Rattle.std.specs.Prelude.{◌↔◌, IsTrue};
+ghost use Rattle.std.specs.Prelude.{◌≡◌, ◌≤◌, ◌↔◌, IfOk, IsErrOf, IsTrue, length, None, Some};
+ghost use Rattle.std.specs.Str.{encode_utf8_all};
+ghost use Rattle.pick_expr.specs.Reading.{pattern_in};
 
-use crate::Element;
+use crate::elements::{ReadElements, read_elements};
 use crate::matching::{found, reaches_start};
-use mh_base::List;
+use crate::{Element, PatternFault};
+use mh_base::{List, Text};
+use std::alloc::Global;
 use std::marker::Model;
 
 /// A pattern, which contracts see as its atoms with their stars, and whether the piece of a line that
@@ -26,8 +30,35 @@ impl Model for Pattern {
     ghost invariant = { λ p. length p.elements ≤ 127 };
 }
 
+fn shaped(read: ReadElements, from_start: bool) -> Pattern
+    requires { length read.elements ≤ 127 }
+    ensures { result ≡ record { elements = read.elements; from_start = from_start; to_end = read.to_end } }
+{
+    Pattern {
+        elements: read.elements,
+        from_start,
+        to_end: read.to_end,
+    }
+}
+
 impl Pattern {
     ghost use Rattle.pick_expr.specs.Fitting.{Matches};
+
+    /// Reads a pattern, by the bytes of the text.
+    pub fn read(alloc: Global, text: &Text) -> Result<Pattern, PatternFault>
+        ensures pattern { IfOk result (λ p. pattern_in (encode_utf8_all text.now) ≡ Some p) }
+        ensures bad { IsErrOf result PatternFault.Bad → pattern_in (encode_utf8_all text.now) ≡ None }
+    {
+        let bytes = text.as_str().as_bytes();
+        let (from_start, elements) = match bytes.split_first() {
+            Some((b'^', elements)) => (true, elements),
+            _ => (false, bytes),
+        };
+        match read_elements(alloc, elements)? {
+            Some(read) => Ok(shaped(read, from_start)),
+            None => Err(PatternFault::Bad),
+        }
+    }
 
     /// Whether some piece of the line fits. Takes time linear in the line, and no memory.
     pub fn matches(&self, line: &[u8]) -> bool
