@@ -26,10 +26,10 @@ in_set : (p : ℕ → Bool) (b n count : ℕ) → n ≤ b → b < n + count → 
 in_set p b n zero from to = absurd (omega arith)
 in_set p b n (suc count) from to =
     elim (cases_eq n b) [
-    inl e ↦ (let hit : (n == b) ≡ true = eq-eqb n b e in
-    sym (step_by p b n (filter p (numbers_from (suc n) count)) false (none_below p b (suc n) count (omega arith))) ∙ rw hit (alone (p n)) ∙ ap p e)
-    | inr ne ↦ (let miss : (n == b) ≡ false = ne_eqb n b ne in
-    sym (step_by p b n (filter p (numbers_from (suc n) count)) (p b) (in_set p b (suc n) count (omega arith) (omega arith))) ∙ rw miss refl)
+      | inl e ↦ (let hit : (n == b) ≡ true = eq-eqb n b e in
+          sym (step_by p b n (filter p (numbers_from (suc n) count)) false (none_below p b (suc n) count (omega arith))) ∙ rw hit (alone (p n)) ∙ ap p e)
+      | inr ne ↦ (let miss : (n == b) ≡ false = ne_eqb n b ne in
+          sym (step_by p b n (filter p (numbers_from (suc n) count)) (p b) (in_set p b (suc n) count (omega arith) (omega arith))) ∙ rw miss refl)
     ]
   where
     alone : (t : Bool) → (t || false) ≡ t
@@ -54,4 +54,3 @@ range_more low byte b other from = grind (arith, nat_tests)
 -- and the whole of it
 pub range_all : (low high byte b : ℕ) → high + 1 ≤ byte → (low ≤ high + 1 → byte ≤ high + 1) → (high < low → byte ≡ low) → (nat_le low b && nat_lt b byte) ≡ (nat_le low b && nat_le b high)
 range_all low high byte b over to none = grind (arith, nat_tests)
-

@@ -70,16 +70,18 @@ more_read text at b behind front new m len now within is_b is_behind goes_on is_
     record {
       inside = omega (arith, length-drop (at + 1) text);
       rest = now.rest ∙ ap (λ z. joined front (members_in (at == 0) z)) split ∙ ap (joined front) (one_member (at == 0) b behind goes_on)
-        ∙ joined_more front (first_member b behind) (members_in false (drop (member_len (first_member b behind)) (b ∷ behind)))
-        ∙ (λ i. joined (((λ j. front ++ sym is_m j ∷ []) ∙ sym is_new) i) (members_in (sym later i) (left i)))
+          ∙ joined_more front (first_member b behind) (members_in false (drop (member_len (first_member b behind)) (b ∷ behind)))
+          ∙ (λ i. joined (((λ j. front ++ sym is_m j ∷ []) ∙ sym is_new) i) (members_in (sym later i) (left i)));
     }
 
 pub all_read : (text : List ℕ) (at b : ℕ) (front : List Member) → AreRead text at front → at < length text → b ≡ get_or text at 0 → closes (at == 0) b ≡ true
     → (members_in true text ≡ Some (record { members = front; behind = drop (at + 1) text })) × (at + 1 ≤ length text)
 all_read text at b front now within is_b close =
-    let split : drop at text ≡ b ∷ drop (at + 1) text = drop_more text at 0 within ∙ (λ i. sym is_b i ∷ drop (at + 1) text) in
-    (now.rest ∙ ap (λ z. joined front (members_in (at == 0) z)) split ∙ ap (joined front) (class_closes (at == 0) b (drop (at + 1) text) close)
-    ∙ ap (λ z. Some (record { members = z; behind = drop (at + 1) text })) (append-nil front), omega arith)
+    let split : drop at text ≡ b ∷ drop (at + 1) text = drop_more text at 0 within ∙ (λ i. sym is_b i ∷ drop (at + 1) text) in (
+      now.rest ∙ ap (λ z. joined front (members_in (at == 0) z)) split ∙ ap (joined front) (class_closes (at == 0) b (drop (at + 1) text) close)
+          ∙ ap (λ z. Some (record { members = z; behind = drop (at + 1) text })) (append-nil front),
+      omega arith,
+    )
 
 pub none_read : (text : List ℕ) (at : ℕ) (front : List Member) → AreRead text at front → length text ≤ at → members_in true text ≡ None
 none_read text at front now over = now.rest ∙ ap (λ z. joined front (members_in (at == 0) z)) (drop_all at text over)

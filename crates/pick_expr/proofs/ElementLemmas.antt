@@ -62,10 +62,10 @@ more_read most text at b behind front new e len next now within is_b is_behind m
       inside = omega (arith, length-drop (at + 1) text);
       few = omega arith;
       rest = now.rest
-        ∙ (λ i. joined front (elements_in (count i) (split i)))
-        ∙ ap (joined front) (element_left (most - length new) b behind more ∙ ap (with_next (elements_in (most - length new))) is_e)
-        ∙ joined_more front e (elements_in (most - length new) (drop len behind))
-        ∙ (λ i. joined (sym is_new i) (elements_in (most - length new) (left i)))
+          ∙ (λ i. joined front (elements_in (count i) (split i)))
+          ∙ ap (joined front) (element_left (most - length new) b behind more ∙ ap (with_next (elements_in (most - length new))) is_e)
+          ∙ joined_more front e (elements_in (most - length new) (drop len behind))
+          ∙ (λ i. joined (sym is_new i) (elements_in (most - length new) (left i)));
     }
 
 pub ended : (most : ℕ) (text : List ℕ) (at : ℕ) (front : List Element) → AreRead most text at front → length text ≤ at → elements_in most text ≡ Some (record { elements = front; to_end = false })

@@ -36,18 +36,18 @@ next_more elements to_end byte old at k element next new flag now above there is
   inside = (let inside = now.inside in omega arith);
   before = (λ i low. let miss : (i == k) ≡ false = ne_eqb i k (λ e. absurd (omega arith)) in is_new i ∙ rw (miss, now.before i (omega arith)) refl);
   behind = (λ line ready i from to. elim (cases_eq i k) [
-    inl e ↦ (let inside = now.inside in
-    let hit : (i == k) ≡ true = eq-eqb i k e in
-    let split : drop i elements ≡ element ∷ drop (k + 1) elements = ap (λ z. drop z elements) e ∙ drop_more elements k element (omega arith) ∙ ap (λ z. z ∷ drop (k + 1) elements) (sym there) in
-    let split_k : drop k elements ≡ element ∷ drop (k + 1) elements = ap (λ z. drop z elements) (sym e) ∙ split in
-    let split_at : drop at elements ≡ drop (k + 1) elements = ap (λ z. drop z elements) above in
-    let on = element_on element (drop (k + 1) elements) to_end byte line (has_place old k) (has_place old at) (has_place next at)
-      (ready k (omega arith) ∙ ap (λ z. finishes z to_end line) split_k)
-      (ready at inside ∙ ap (λ z. finishes z to_end line) split_at)
-      (now.behind line ready at (omega arith) inside ∙ ap (λ z. finishes z to_end (byte ∷ line)) split_at) in
-    is_new i ∙ rw (hit, now.before i (omega arith)) (or_false flag) ∙ is_flag ∙ on ∙ ap (λ z. finishes z to_end (byte ∷ line)) (sym split))
+    | inl e ↦ (let inside = now.inside in
+        let hit : (i == k) ≡ true = eq-eqb i k e in
+        let split : drop i elements ≡ element ∷ drop (k + 1) elements = ap (λ z. drop z elements) e ∙ drop_more elements k element (omega arith) ∙ ap (λ z. z ∷ drop (k + 1) elements) (sym there) in
+        let split_k : drop k elements ≡ element ∷ drop (k + 1) elements = ap (λ z. drop z elements) (sym e) ∙ split in
+        let split_at : drop at elements ≡ drop (k + 1) elements = ap (λ z. drop z elements) above in
+        let on = element_on element (drop (k + 1) elements) to_end byte line (has_place old k) (has_place old at) (has_place next at)
+        (ready k (omega arith) ∙ ap (λ z. finishes z to_end line) split_k)
+        (ready at inside ∙ ap (λ z. finishes z to_end line) split_at)
+        (now.behind line ready at (omega arith) inside ∙ ap (λ z. finishes z to_end (byte ∷ line)) split_at) in
+        is_new i ∙ rw (hit, now.before i (omega arith)) (or_false flag) ∙ is_flag ∙ on ∙ ap (λ z. finishes z to_end (byte ∷ line)) (sym split))
     | inr ne ↦ (let miss : (i == k) ≡ false = ne_eqb i k ne in is_new i ∙ rw miss refl ∙ now.behind line ready i (omega arith) to)
-    ])
+  ]);
 }
   where
     or_false : (t : Bool) → (t || false) ≡ t
@@ -66,7 +66,7 @@ found_first elements to_end line places found last is_found =
     record {
       inside = omega arith;
       ready = rw none (last to_end);
-      answer = rw none (is_found ∙ last to_end 0 (omega arith))
+      answer = rw none (is_found ∙ last to_end 0 (omega arith));
     }
 
 pub found_more : (elements : List Element) (to_end : Bool) (line : List ℕ) (at k : ℕ) (byte : ℕ) (old new : Places) (found here next : Bool)
@@ -81,7 +81,7 @@ found_more elements to_end line at k byte old new found here next now above ther
     record {
       inside = omega arith;
       ready = rw split ready;
-      answer = rw split (is_next ∙ (λ i. (is_here ∙ ready 0 (omega arith)) i || now.answer i))
+      answer = rw split (is_next ∙ (λ i. (is_here ∙ ready 0 (omega arith)) i || now.answer i));
     }
 
 pub started_more : (elements : List Element) (to_end : Bool) (line : List ℕ) (at k : ℕ) (byte : ℕ) (old new : Places)

@@ -26,7 +26,7 @@ one_more rest a to_end b line ok s = record {
   behind = s.behind;
   split = ap (λ z. b ∷ z) s.split;
   fits = (b ∷ s.fits.0, s.fits.1, ap (λ z. b ∷ z) s.fits.2, and_from (admits a b) (list_all (admits a) s.fits.0) ok s.fits.3, s.fits.4);
-  at_end = s.at_end
+  at_end = s.at_end;
 }
 
 many_start : (rest : List Element) (a : Atom) (to_end : Bool) → ((line : List ℕ) → finishes rest to_end line ≡ true → Starts rest to_end line)
@@ -34,9 +34,9 @@ many_start : (rest : List Element) (a : Atom) (to_end : Bool) → ((line : List 
 many_start rest a to_end rest_starts [] h = no_more rest a to_end [] (rest_starts [] h)
 many_start rest a to_end rest_starts (b ∷ line) h =
     elim (or_cases (finishes rest to_end (b ∷ line)) (admits a b && any_number_by (admits a) (finishes rest to_end) line) h) [
-    inl here ↦ no_more rest a to_end (b ∷ line) (rest_starts (b ∷ line) here)
-    | inr on ↦ (let parts = and_parts (admits a b) (any_number_by (admits a) (finishes rest to_end) line) on in
-    one_more rest a to_end b line parts.0 (many_start rest a to_end rest_starts line parts.1))
+      | inl here ↦ no_more rest a to_end (b ∷ line) (rest_starts (b ∷ line) here)
+      | inr on ↦ (let parts = and_parts (admits a b) (any_number_by (admits a) (finishes rest to_end) line) on in
+          one_more rest a to_end b line parts.0 (many_start rest a to_end rest_starts line parts.1))
     ]
 
 -- what the test finds fits
@@ -81,8 +81,8 @@ somewhere : (test : List ℕ → Bool) (line : List ℕ) → found_by test line 
 somewhere test [] h = record { before = []; back = []; split = refl; holds = h }
 somewhere test (b ∷ line) h =
     elim (or_cases (test (b ∷ line)) (found_by test line) h) [
-    inl here ↦ record { before = []; back = b ∷ line; split = refl; holds = here }
-    | inr on ↦ (let s = somewhere test line on in record { before = b ∷ s.before; back = s.back; split = ap (λ z. b ∷ z) s.split; holds = s.holds })
+      | inl here ↦ record { before = []; back = b ∷ line; split = refl; holds = here }
+      | inr on ↦ (let s = somewhere test line on in record { before = b ∷ s.before; back = s.back; split = ap (λ z. b ∷ z) s.split; holds = s.holds })
     ]
 
 found : (test : List ℕ → Bool) (before back : List ℕ) → test back ≡ true → found_by test (before ++ back) ≡ true
@@ -99,6 +99,7 @@ matches_start elements from_start to_end line r anchored is_r = (there, back)
     there h =
         let s = starts elements to_end line (sym is_r ∙ h) in
         record { before = []; piece = s.piece; behind = s.behind; split = s.split; fits = s.fits; at_start = λ _. refl; at_end = s.at_end }
+
     back : Matches (record { elements = elements; from_start = from_start; to_end = to_end }) line → r ≡ true
     back m = is_r ∙ ap (finishes elements to_end) (m.split ∙ ap (λ z. z ++ (m.piece ++ m.behind)) (m.at_start anchored)) ∙ finds elements to_end m.piece m.behind m.fits m.at_end
 
@@ -112,8 +113,14 @@ matches_anywhere elements from_start to_end line r free is_r = (there, back)
         let w = somewhere (finishes elements to_end) line (sym is_r ∙ h) in
         let s = starts elements to_end w.back w.holds in
         record {
-          before = w.before; piece = s.piece; behind = s.behind; split = w.split ∙ ap (λ z. w.before ++ z) s.split; fits = s.fits;
-          at_start = λ e. absurd (both_ways from_start free e); at_end = s.at_end
+          before = w.before;
+          piece = s.piece;
+          behind = s.behind;
+          split = w.split ∙ ap (λ z. w.before ++ z) s.split;
+          fits = s.fits;
+          at_start = λ e. absurd (both_ways from_start free e);
+          at_end = s.at_end;
         }
+
     back : Matches (record { elements = elements; from_start = from_start; to_end = to_end }) line → r ≡ true
     back m = is_r ∙ ap (found_by (finishes elements to_end)) m.split ∙ found (finishes elements to_end) m.before (m.piece ++ m.behind) (finds elements to_end m.piece m.behind m.fits m.at_end)

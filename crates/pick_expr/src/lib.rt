@@ -11,7 +11,11 @@ mod halves;
 mod matching;
 mod member;
 mod pattern;
+#[cfg(test)]
+mod pattern_tests;
 mod places;
+#[cfg(test)]
+mod plain;
 
 pub use atom::Atom;
 pub use byte_set::ByteSet;

@@ -5,6 +5,8 @@ ghost use Rattle.pick_expr.specs.Reading.{pattern_in};
 
 use crate::elements::{ReadElements, read_elements};
 use crate::matching::{found, reaches_start};
+#[cfg(test)]
+use crate::plain;
 use crate::{Element, PatternFault};
 use mh_base::{List, Text};
 use std::alloc::Global;
@@ -69,6 +71,19 @@ impl Pattern {
             reaches_start(elements, self.to_end, line)
         } else {
             found(elements, self.to_end, line)
+        }
+    }
+
+    /// The same, tried piece by piece.
+    #[cfg(test)]
+    pub(crate) fn matches_plainly(&self, line: &[u8]) -> bool
+        ensures { IsTrue result ↔ Matches self.now line.now }
+    {
+        let elements = self.elements.as_slice();
+        if self.from_start {
+            plain::fits(elements, self.to_end, line)
+        } else {
+            plain::fits_somewhere(elements, self.to_end, line)
         }
     }
 }

@@ -6,7 +6,7 @@ use Rattle.pick_expr.proofs.halves.Halves.with_range.Goals as goal
 pub loop-byte-preserved : goal.loop-byte-preserved
 loop-byte-preserved c = record {
   none = (λ h. absurd (omega arith));
-  all = (λ b. c.with-all.ensures b ∙ ap (λ z. b == c.loop-byte.byte || z) (c.loop-byte.invariant.all b) ∙ range_more c.args.low c.loop-byte.byte b (in_halves c.args.self b) (omega arith))
+  all = (λ b. c.with-all.ensures b ∙ ap (λ z. b == c.loop-byte.byte || z) (c.loop-byte.invariant.all b) ∙ range_more c.args.low c.loop-byte.byte b (in_halves c.args.self b) (omega arith));
 }
 
 pub returns : goal.returns

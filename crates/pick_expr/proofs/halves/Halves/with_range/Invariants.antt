@@ -5,5 +5,5 @@ use Rattle.pick_expr.proofs.halves.Halves.with_range.Given as goal
 abbrev pub invariant-loop-byte : goal.invariant-loop-byte
 invariant-loop-byte l = record {
   none : l.fn.high < l.fn.low → l.byte ≡ l.fn.low;
-  all : (b : ℕ) → in_halves l.all b ≡ ((nat_le l.fn.low b && nat_lt b l.byte) || in_halves l.fn.self b)
+  all : (b : ℕ) → in_halves l.all b ≡ ((nat_le l.fn.low b && nat_lt b l.byte) || in_halves l.fn.self b);
 }
