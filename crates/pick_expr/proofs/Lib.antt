@@ -1,0 +1,6 @@
+mod ByteLemmas
+mod ClassLemmas
+mod ElementLemmas
+mod FinishLemmas
+mod FitLemmas
+mod PlaceLemmas

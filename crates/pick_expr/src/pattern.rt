@@ -1,0 +1,89 @@
+// Patterns of lines.
+ghost use Rattle.std.specs.Prelude.{◌≡◌, ◌≤◌, ◌↔◌, IfOk, IsErrOf, IsTrue, length, None, Some};
+ghost use Rattle.std.specs.Str.{encode_utf8_all};
+ghost use Rattle.pick_expr.specs.Reading.{pattern_in};
+
+use crate::elements::{ReadElements, read_elements};
+use crate::matching::{found, reaches_start};
+#[cfg(test)]
+use crate::plain;
+use crate::{Element, PatternFault};
+use mh_base::{List, Text};
+use std::alloc::Global;
+use std::marker::Model;
+
+/// A pattern, which contracts see as its atoms with their stars, and whether the piece of a line that
+/// they fit is to stand at its start and at its end.
+#[derive(Drop)]
+pub struct Pattern {
+    elements: List<Element>,
+    from_start: bool,
+    to_end: bool,
+}
+
+impl Model for Pattern {
+    ghost use Rattle.std.specs.Prelude.{◌≤◌, length};
+    ghost use Rattle.pick_expr.specs.Fitting.{Shape};
+
+    ghost Value = { Shape };
+
+    ghost view = { λ p. record { elements = p.elements; from_start = p.from_start; to_end = p.to_end } };
+
+    ghost invariant = { λ p. length p.elements ≤ 127 };
+}
+
+fn shaped(read: ReadElements, from_start: bool) -> Pattern
+    requires { length read.elements ≤ 127 }
+    ensures { result ≡ record { elements = read.elements; from_start = from_start; to_end = read.to_end } }
+{
+    Pattern {
+        elements: read.elements,
+        from_start,
+        to_end: read.to_end,
+    }
+}
+
+impl Pattern {
+    ghost use Rattle.pick_expr.specs.Fitting.{Matches};
+
+    /// Reads a pattern, by the bytes of the text.
+    pub fn read(alloc: Global, text: &Text) -> Result<Pattern, PatternFault>
+        ensures pattern { IfOk result (λ p. pattern_in (encode_utf8_all text.now) ≡ Some p) }
+        ensures bad { IsErrOf result PatternFault.Bad → pattern_in (encode_utf8_all text.now) ≡ None }
+    {
+        let bytes = text.as_str().as_bytes();
+        let (from_start, elements) = match bytes.split_first() {
+            Some((b'^', elements)) => (true, elements),
+            _ => (false, bytes),
+        };
+        match read_elements(alloc, elements)? {
+            Some(read) => Ok(shaped(read, from_start)),
+            None => Err(PatternFault::Bad),
+        }
+    }
+
+    /// Whether some piece of the line fits. Takes time linear in the line, and no memory.
+    pub fn matches(&self, line: &[u8]) -> bool
+        ensures { IsTrue result ↔ Matches self.now line.now }
+    {
+        let elements = self.elements.as_slice();
+        if self.from_start {
+            reaches_start(elements, self.to_end, line)
+        } else {
+            found(elements, self.to_end, line)
+        }
+    }
+
+    /// The same, tried piece by piece.
+    #[cfg(test)]
+    pub(crate) fn matches_plainly(&self, line: &[u8]) -> bool
+        ensures { IsTrue result ↔ Matches self.now line.now }
+    {
+        let elements = self.elements.as_slice();
+        if self.from_start {
+            plain::fits(elements, self.to_end, line)
+        } else {
+            plain::fits_somewhere(elements, self.to_end, line)
+        }
+    }
+}

@@ -1,0 +1,41 @@
+// Small sets of numbers.
+ghost use Rattle.std.specs.Prelude.{◌≡◌, ℕ, ◌<◌, ◌==◌, ◌&&◌, ◌||◌, false};
+ghost use Rattle.pick_expr.specs.Places.{has_place};
+
+/// A set of numbers below 128.
+#[derive(Clone, Copy)]
+pub(crate) struct Places {
+    bits: u128,
+}
+
+impl Places {
+    pub const fn none() -> Places
+        ensures { (i : ℕ) → has_place result i ≡ false }
+    {
+        Places { bits: 0 }
+    }
+
+    pub const fn has(self, place: usize) -> bool
+        requires { place < 128 }
+        ensures { result ≡ has_place self place }
+    {
+        (self.bits >> place) & 1 == 1
+    }
+
+    pub const fn with(self, place: usize) -> Places
+        requires { place < 128 }
+        ensures { (i : ℕ) → has_place result i ≡ (i == place || has_place self i) }
+    {
+        Places {
+            bits: self.bits | (1 << place),
+        }
+    }
+
+    /// With a number, if it is to be in the set.
+    pub const fn with_if(self, place: usize, is_in: bool) -> Places
+        requires { place < 128 }
+        ensures { (i : ℕ) → has_place result i ≡ ((i == place && is_in) || has_place self i) }
+    {
+        if is_in { self.with(place) } else { self }
+    }
+}
