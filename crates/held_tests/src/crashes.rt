@@ -13,7 +13,7 @@ fn names_of(shown: &[u8], message: u8) -> usize {
     let mut before = 0;
     for byte in shown {
         if before == b'=' && *byte == message {
-            count += 1;
+            count = count.saturating_add(1);
         }
         before = *byte;
     }
