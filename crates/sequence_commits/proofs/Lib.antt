@@ -9,5 +9,6 @@ pub mod MarkedOnce
 pub mod MarksInTurn
 pub mod ReadOnce
 pub mod RunTests
+pub mod SequencesPledged
 pub mod ToldAlike
 pub mod ToldAll
