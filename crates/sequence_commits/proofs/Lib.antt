@@ -9,6 +9,8 @@ pub mod MarkedOnce
 pub mod MarksInTurn
 pub mod ReadOnce
 pub mod RunTests
+pub mod SequencesGiven
 pub mod SequencesPledged
+pub mod SequencesShown
 pub mod ToldAlike
 pub mod ToldAll

@@ -5,5 +5,6 @@ pub mod Marking
 pub mod PrivateChanges
 pub mod Reading
 pub mod RunsOfAll
+pub mod SequencesChanged
 pub mod Telling
 pub mod Together
