@@ -7,6 +7,7 @@ pub mod Gathering
 pub mod ListedNumbers
 pub mod MarkedOnce
 pub mod MarksInTurn
+pub mod NeverFailed
 pub mod ReadOnce
 pub mod RunTests
 pub mod SequencesGiven
