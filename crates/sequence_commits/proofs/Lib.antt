@@ -1,3 +1,4 @@
+pub mod AloneCommitted
 pub mod ChangesTo
 pub mod CommitPlans
 pub mod CutOnce

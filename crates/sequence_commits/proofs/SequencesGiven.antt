@@ -65,7 +65,7 @@ pub record Unchanged (alone : Bool) (ns : List ℕ) (c : Contents) (h : Hand) (z
   pub done : r ≡ Ok tt
 
 -- the context's text stays, whatever the folder's is
-context_kept : (c : Contents) (p mail : Place) (text : List ℕ) → (with_sequences c p text).texts mail context_name ≡ c.texts mail context_name
+pub context_kept : (c : Contents) (p mail : Place) (text : List ℕ) → (with_sequences c p text).texts mail context_name ≡ c.texts mail context_name
 context_kept c p mail text = ap (λ b. if same_place p mail && b then Some text else c.texts mail context_name) context_apart ∙ none (same_place p mail)
   where
     none : (s : Bool) → (if s && false then Some text else c.texts mail context_name) ≡ c.texts mail context_name

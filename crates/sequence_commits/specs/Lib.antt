@@ -1,3 +1,4 @@
+pub mod CommittedAlone
 pub mod Committing
 pub mod Cutting
 pub mod FolderEntries
