@@ -27,7 +27,7 @@ one_found name value (x ∷ xs) e = by (same_entry name x.name) e (one_found nam
     by true e ih = refl
     by false e ih = ih e
 
-has_set : (name key value : List ℕ) (es : List NamedValue) → has_name name (with_entry key value es) ≡ same_entry name key || has_name name es
+pub has_set : (name key value : List ℕ) (es : List NamedValue) → has_name name (with_entry key value es) ≡ same_entry name key || has_name name es
 has_set name key value [] = refl
 has_set name key value (x ∷ xs) = by (same_entry key x.name) refl (has_set name key value xs)
   where

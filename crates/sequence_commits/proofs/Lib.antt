@@ -1,3 +1,4 @@
+pub mod AloneCommitted
 pub mod ChangesTo
 pub mod CommitPlans
 pub mod CutOnce
@@ -7,7 +8,11 @@ pub mod Gathering
 pub mod ListedNumbers
 pub mod MarkedOnce
 pub mod MarksInTurn
+pub mod NeverFailed
 pub mod ReadOnce
 pub mod RunTests
+pub mod SequencesGiven
+pub mod SequencesPledged
+pub mod SequencesShown
 pub mod ToldAlike
 pub mod ToldAll

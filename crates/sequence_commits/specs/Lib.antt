@@ -1,3 +1,4 @@
+pub mod CommittedAlone
 pub mod Committing
 pub mod Cutting
 pub mod FolderEntries
@@ -5,5 +6,6 @@ pub mod Marking
 pub mod PrivateChanges
 pub mod Reading
 pub mod RunsOfAll
+pub mod SequencesChanged
 pub mod Telling
 pub mod Together

@@ -1,11 +1,13 @@
 // Commits of a folder's sequences.
-ghost use Rattle.std.specs.Prelude.{◌≡◌, OnOk};
+ghost use Rattle.std.specs.Prelude.{◌≡◌, ℕ, List, Ok, OnOk};
 ghost use Rattle.std.specs.List.{All};
 ghost use Rattle.mh_profile.specs.Validity.{IsEntry};
 ghost use Rattle.mh_sequences.specs.Reading.{suffix};
+ghost use Rattle.folder_files.specs.declared.place.Place.TheVariants.{Folder};
 ghost use Rattle.file_plans.specs.Follows.{Follows, by_hand};
 ghost use Rattle.step_plans.specs.Hands.{mail_place};
 ghost use Rattle.step_plans.specs.PlanFaults.{plan_cause};
+ghost use Rattle.sequence_commits.specs.CommittedAlone.{CommitsAloneIfTold};
 ghost use Rattle.sequence_commits.specs.Committing.{entries_committed, marks_committed, sequences_replaced, told_committed};
 ghost use Rattle.sequence_commits.specs.Marking.{marked_by_all};
 
@@ -87,6 +89,7 @@ pub fn commit_sequences<F: Files>(
 ) -> Result<(), PlanFault>
     ensures plan { Follows hand.old.run plan_cause (marks_committed hand.old.run place.now (mail_place hand.old) folder.now sequences.old marks.now) (by_hand hand.old.kept (F.state files.old)) (by_hand hand.new.kept (F.state files.new)) result }
     ensures marked { OnOk result (sequences.new ≡ marked_by_all marks.now sequences.old) }
+    ensures alone { result ≡ Ok tt → (path name : List ℕ) → place.now ≡ Folder path name → CommitsAloneIfTold hand.old.run place.now hand.old.mail folder.now sequences.old (marked_by_all marks.now sequences.old) hand.old.kept (F.state files.old).story (F.state files.new).story }
     ensures same { (hand.new.run ≡ hand.old.run) × (hand.new.mail ≡ hand.old.mail) }
 {
     let old = Told::of(alloc, sequences, folder)?;
