@@ -1,5 +1,6 @@
 mod ByteLemmas
 mod ClassLemmas
+mod DateLemmas
 mod ElementLemmas
 mod FinishLemmas
 mod FitLemmas

@@ -1,6 +1,11 @@
 pub mod Atoms
 pub mod Finishing
 pub mod Fitting
+pub mod Grammar
 pub mod Places
 pub mod Reading
+pub mod Signs
+pub mod Spots
+pub mod Steps
+pub mod Switches
 pub mod Taking

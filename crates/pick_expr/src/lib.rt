@@ -8,18 +8,28 @@ mod element;
 mod elements;
 mod fault;
 mod halves;
+mod lexeme;
 mod matching;
 mod member;
+mod one_test;
 mod pattern;
 #[cfg(test)]
 mod pattern_tests;
 mod places;
 #[cfg(test)]
 mod plain;
+mod sign;
+mod spot;
+mod stack;
+mod switches;
 
 pub use atom::Atom;
 pub use byte_set::ByteSet;
 pub use element::Element;
 pub use fault::PatternFault;
+pub use lexeme::Lexeme;
 pub use member::Member;
+pub use one_test::Test;
 pub use pattern::Pattern;
+pub use sign::Sign;
+pub use switches::{PickSwitch, SWITCHES};

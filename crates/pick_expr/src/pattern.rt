@@ -5,8 +5,6 @@ ghost use Rattle.pick_expr.specs.Reading.{pattern_in};
 
 use crate::elements::{ReadElements, read_elements};
 use crate::matching::{found, reaches_start};
-#[cfg(test)]
-use crate::plain;
 use crate::{Element, PatternFault};
 use mh_base::{List, Text};
 use std::alloc::Global;
@@ -74,16 +72,24 @@ impl Pattern {
         }
     }
 
-    /// The same, tried piece by piece.
     #[cfg(test)]
-    pub(crate) fn matches_plainly(&self, line: &[u8]) -> bool
-        ensures { IsTrue result ↔ Matches self.now line.now }
+    pub(crate) fn elements(&self) -> &[Element]
+        ensures { result.now ≡ self.now.elements }
     {
-        let elements = self.elements.as_slice();
-        if self.from_start {
-            plain::fits(elements, self.to_end, line)
-        } else {
-            plain::fits_somewhere(elements, self.to_end, line)
-        }
+        self.elements.as_slice()
+    }
+
+    #[cfg(test)]
+    pub(crate) fn is_from_start(&self) -> bool
+        ensures { result ≡ self.now.from_start }
+    {
+        self.from_start
+    }
+
+    #[cfg(test)]
+    pub(crate) fn is_to_end(&self) -> bool
+        ensures { result ≡ self.now.to_end }
+    {
+        self.to_end
     }
 }
