@@ -4,4 +4,7 @@ mod DateLemmas
 mod ElementLemmas
 mod FinishLemmas
 mod FitLemmas
+mod GrammarLemmas
 mod PlaceLemmas
+mod ProgressLemmas
+mod RefusalLemmas

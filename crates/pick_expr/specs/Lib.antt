@@ -5,6 +5,7 @@ pub mod Grammar
 pub mod Places
 pub mod Progress
 pub mod Reading
+pub mod Refusals
 pub mod Signs
 pub mod Spots
 pub mod Steps

@@ -1,13 +1,15 @@
 // Expressions, as they are read.
-ghost use Rattle.std.specs.Prelude.{◌≡◌, ℕ, ℤ, List, [], ◌∷◌, ◌++◌, Some, None, IfOk, IfErr, codes};
+ghost use Rattle.std.specs.Prelude.{◌≡◌, ℕ, ℤ, List as ListOf, [], ◌∷◌, ◌++◌, Some, None, IfOk, IfErr, codes};
 ghost use Rattle.mail_dates.specs.Clocks.{IsSetting};
 ghost use Rattle.mail_dates.specs.Picking.{IsToday};
+ghost use Rattle.mh_words.specs.declared.item.Item.{Item as ItemValue};
 ghost use Rattle.pick_expr.specs.Progress.{Continues, ended, fault_in, IsFaultOf, IsPassed, passed, place_behind, words_in};
+ghost use Rattle.pick_expr.specs.Refusals.{IsReadAs, IsRefused};
 ghost use Rattle.pick_expr.specs.Signs.{day_of, Placed, place_of, sign_of, signs_in, with_sign};
 ghost use Rattle.pick_expr.specs.Spots.{spot_of};
 ghost use Rattle.pick_expr.specs.Steps.{at_start, step};
 
-use crate::sign::read_sign;
+use crate::sign::{Setting, read_sign};
 use crate::spot::Reader;
 use crate::{ExprFault, Lexeme, Sign};
 use mh_base::{Bytes, List};
@@ -44,6 +46,17 @@ fn start(alloc: Global) -> Result<Progress, AllocError>
     })
 }
 
+fn place(item: &Item) -> u64
+    ensures { result ≡ place_of item.now }
+{
+    match item {
+        Item::Folder { place, .. }
+        | Item::Message { place, .. }
+        | Item::Switch { place, .. }
+        | Item::Component { place, .. } => *place,
+    }
+}
+
 impl Progress {
     /// Passes a word of the expression.
     fn pass(&mut self, place: u64, word: Lexeme) -> Result<(), ExprFault>
@@ -60,8 +73,8 @@ impl Progress {
 
     /// Passes what an item is.
     fn take(&mut self, place: u64, sign: Sign) -> Result<(), ExprFault>
-        ensures ok { IfOk result (λ _. (rest : List ℕ → List Placed) → Continues self.old self.new (with_sign place sign self.old.field rest) (rest self.new.field)) }
-        ensures err { IfErr result (λ e. (rest : List ℕ → List Placed) → IsFaultOf (fault_in (with_sign place sign self.old.field rest) (spot_of self.old.reader) self.old.last) e) }
+        ensures ok { IfOk result (λ _. (rest : ListOf ℕ → ListOf Placed) → Continues self.old self.new (with_sign place sign self.old.field rest) (rest self.new.field)) }
+        ensures err { IfErr result (λ e. (rest : ListOf ℕ → ListOf Placed) → IsFaultOf (fault_in (with_sign place sign self.old.field rest) (spot_of self.old.reader) self.old.last) e) }
     {
         match sign {
             Sign::Aside => Ok(()),
@@ -73,6 +86,23 @@ impl Progress {
             Sign::BadPattern => Err(ExprFault::BadExpr(place)),
             Sign::BadDate => Err(ExprFault::BadDate(place)),
         }
+    }
+
+    /// Passes an item.
+    fn take_item(
+        &mut self,
+        alloc: Global,
+        item: &Item,
+        setting: &Setting,
+    ) -> Result<(), ExprFault>
+        requires { IsSetting setting.now.moment setting.now.offset_minutes }
+        ensures ok { (today : ℤ) → IsToday setting.now.moment setting.now.offset_minutes today
+            → IfOk result (λ _. (items : ListOf ItemValue) → Continues self.old self.new (signs_in (day_of today setting.now.offset_minutes) (item.now ∷ items) self.old.field) (signs_in (day_of today setting.now.offset_minutes) items self.new.field)) }
+        ensures err { (today : ℤ) → IsToday setting.now.moment setting.now.offset_minutes today
+            → IfErr result (λ e. (items : ListOf ItemValue) → IsFaultOf (fault_in (signs_in (day_of today setting.now.offset_minutes) (item.now ∷ items) self.old.field) (spot_of self.old.reader) self.old.last) e) }
+    {
+        let sign = read_sign(alloc, setting, &self.field, item)?;
+        self.take(place(item), sign)
     }
 
     /// The expression, if it may end here.
@@ -94,13 +124,46 @@ impl Progress {
     }
 }
 
-fn place(item: &Item) -> u64
-    ensures { result ≡ place_of item.now }
+/// Reads items one after another.
+fn read_items(
+    alloc: Global,
+    items: &[Item],
+    setting: &Setting,
+) -> Result<Expr, ExprFault>
+    requires { IsSetting setting.now.moment setting.now.offset_minutes }
+    ensures ok { (today : ℤ) → IsToday setting.now.moment setting.now.offset_minutes today
+        → IfOk result (λ e. (fault_in (signs_in (day_of today setting.now.offset_minutes) items.now (codes "date")) at_start None ≡ None)
+        × (e.words ≡ words_in (signs_in (day_of today setting.now.offset_minutes) items.now (codes "date")))) }
+    ensures err { (today : ℤ) → IsToday setting.now.moment setting.now.offset_minutes today
+        → IfErr result (IsFaultOf (fault_in (signs_in (day_of today setting.now.offset_minutes) items.now (codes "date")) at_start None)) }
 {
-    match item {
-        Item::Folder { place, .. }
-        | Item::Message { place, .. }
-        | Item::Switch { place, .. }
-        | Item::Component { place, .. } => *place,
+    let mut progress = start(alloc)?;
+    for item in items {
+        match progress.take_item(alloc, item, setting) {
+            Ok(()) => {}
+            Err(fault) => return Err(fault),
+        }
     }
+    progress.finish()
+}
+
+/// Reads the expression of a command line, whose words were read with the switches of `pick`. The dates
+/// of its tests are named at this moment, by a clock that is so many minutes ahead.
+pub fn read_expr(
+    alloc: Global,
+    words: &Words,
+    now: i64,
+    offset_minutes: i32,
+) -> Result<Expr, ExprFault>
+    requires { IsSetting now offset_minutes }
+    ensures expression { (today : ℤ) → IsToday now offset_minutes today
+        → IfOk result (IsReadAs (signs_in (day_of today offset_minutes) words.now.items (codes "date"))) }
+    ensures refusal { (today : ℤ) → IsToday now offset_minutes today
+        → IfErr result (IsRefused (signs_in (day_of today offset_minutes) words.now.items (codes "date"))) }
+{
+    let setting = Setting {
+        moment: now,
+        offset_minutes,
+    };
+    read_items(alloc, words.items.as_slice(), &setting)
 }

@@ -27,7 +27,7 @@ mod switches;
 pub use atom::Atom;
 pub use byte_set::ByteSet;
 pub use element::Element;
-pub use expr::Expr;
+pub use expr::{Expr, read_expr};
 pub use fault::{ExprFault, PatternFault};
 pub use lexeme::Lexeme;
 pub use member::Member;

@@ -26,6 +26,13 @@ pub enum Sign {
     BadDate,
 }
 
+/// The moment, and by how many minutes the clock is ahead by which dates are named.
+#[derive(Drop)]
+pub(crate) struct Setting {
+    pub moment: i64,
+    pub offset_minutes: i32,
+}
+
 fn test_sign(test: Test) -> Sign
     ensures { result ≡ Sign.Word (Lexeme.Test test) }
 {
@@ -68,25 +75,25 @@ fn search_test(alloc: Global, value: &Option<Text>) -> Result<Sign, AllocError>
 }
 
 /// The moment that a text names.
-fn clock_in(text: &Text, now: i64, offset_minutes: i32) -> Option<i64>
-    requires { IsSetting now offset_minutes }
-    ensures { (today : ℤ) → IsToday now offset_minutes today → result ≡ picked today offset_minutes (encode_utf8_all text.now) }
+fn clock_in(text: &Text, setting: &Setting) -> Option<i64>
+    requires { IsSetting setting.now.moment setting.now.offset_minutes }
+    ensures { (today : ℤ) → IsToday setting.now.moment setting.now.offset_minutes today → result ≡ picked today setting.now.offset_minutes (encode_utf8_all text.now) }
 {
-    match pick_date(text, now, offset_minutes) {
+    match pick_date(text, setting.moment, setting.offset_minutes) {
         Ok(clock) => Some(clock),
         Err(_) => None,
     }
 }
 
-fn before_test(alloc: Global, now: i64, offset_minutes: i32, field: &Bytes, value: &Option<Text>) -> Result<Sign, AllocError>
-    requires { IsSetting now offset_minutes }
-    ensures { (today : ℤ) → IsToday now offset_minutes today
-        → IfOk result (λ s. s ≡ before_sign (day_of today offset_minutes) field.now value.now) }
+fn before_test(alloc: Global, setting: &Setting, field: &Bytes, value: &Option<Text>) -> Result<Sign, AllocError>
+    requires { IsSetting setting.now.moment setting.now.offset_minutes }
+    ensures { (today : ℤ) → IsToday setting.now.moment setting.now.offset_minutes today
+        → IfOk result (λ s. s ≡ before_sign (day_of today setting.now.offset_minutes) field.now value.now) }
 {
     let Some(value) = value else {
         return Ok(Sign::BadDate);
     };
-    match clock_in(value, now, offset_minutes) {
+    match clock_in(value, setting) {
         Some(clock) => {
             let field = field.duplicate(alloc)?;
             Ok(test_sign(Test::Before { field, clock }))
@@ -95,15 +102,15 @@ fn before_test(alloc: Global, now: i64, offset_minutes: i32, field: &Bytes, valu
     }
 }
 
-fn after_test(alloc: Global, now: i64, offset_minutes: i32, field: &Bytes, value: &Option<Text>) -> Result<Sign, AllocError>
-    requires { IsSetting now offset_minutes }
-    ensures { (today : ℤ) → IsToday now offset_minutes today
-        → IfOk result (λ s. s ≡ after_sign (day_of today offset_minutes) field.now value.now) }
+fn after_test(alloc: Global, setting: &Setting, field: &Bytes, value: &Option<Text>) -> Result<Sign, AllocError>
+    requires { IsSetting setting.now.moment setting.now.offset_minutes }
+    ensures { (today : ℤ) → IsToday setting.now.moment setting.now.offset_minutes today
+        → IfOk result (λ s. s ≡ after_sign (day_of today setting.now.offset_minutes) field.now value.now) }
 {
     let Some(value) = value else {
         return Ok(Sign::BadDate);
     };
-    match clock_in(value, now, offset_minutes) {
+    match clock_in(value, setting) {
         Some(clock) => {
             let field = field.duplicate(alloc)?;
             Ok(test_sign(Test::After { field, clock }))
@@ -123,13 +130,13 @@ fn field_name(alloc: Global, value: &Option<Text>) -> Result<Sign, AllocError>
 
 fn switch_sign_of(
     alloc: Global,
-    now: i64, offset_minutes: i32, field: &Bytes,
+    setting: &Setting, field: &Bytes,
     switch: PickSwitch,
     value: &Option<Text>,
 ) -> Result<Sign, AllocError>
-    requires { IsSetting now offset_minutes }
-    ensures { (today : ℤ) → IsToday now offset_minutes today
-        → IfOk result (λ s. s ≡ switch_sign (day_of today offset_minutes) field.now switch value.now) }
+    requires { IsSetting setting.now.moment setting.now.offset_minutes }
+    ensures { (today : ℤ) → IsToday setting.now.moment setting.now.offset_minutes today
+        → IfOk result (λ s. s ≡ switch_sign (day_of today setting.now.offset_minutes) field.now switch value.now) }
 {
     match switch {
         PickSwitch::And => Ok(Sign::Word(Lexeme::And)),
@@ -143,8 +150,8 @@ fn switch_sign_of(
         PickSwitch::Subject => field_test(alloc, b"subject", value),
         PickSwitch::Date => field_test(alloc, b"date", value),
         PickSwitch::Search => search_test(alloc, value),
-        PickSwitch::Before => before_test(alloc, now, offset_minutes, field, value),
-        PickSwitch::After => after_test(alloc, now, offset_minutes, field, value),
+        PickSwitch::Before => before_test(alloc, setting, field, value),
+        PickSwitch::After => after_test(alloc, setting, field, value),
         PickSwitch::Datefield => field_name(alloc, value),
         PickSwitch::Aside => Ok(Sign::Aside),
     }
@@ -153,19 +160,18 @@ fn switch_sign_of(
 /// What an item is, where this is the field for dates.
 pub(crate) fn read_sign(
     alloc: Global,
-    now: i64,
-    offset_minutes: i32,
+    setting: &Setting,
     field: &Bytes,
     item: &Item,
 ) -> Result<Sign, AllocError>
-    requires { IsSetting now offset_minutes }
-    ensures { (today : ℤ) → IsToday now offset_minutes today
-        → IfOk result (λ s. s ≡ sign_of (day_of today offset_minutes) field.now item.now) }
+    requires { IsSetting setting.now.moment setting.now.offset_minutes }
+    ensures { (today : ℤ) → IsToday setting.now.moment setting.now.offset_minutes today
+        → IfOk result (λ s. s ≡ sign_of (day_of today setting.now.offset_minutes) field.now item.now) }
 {
     match item {
         Item::Folder { .. } | Item::Message { .. } => Ok(Sign::Aside),
         Item::Switch { index, value, .. } => {
-            switch_sign_of(alloc, now, offset_minutes, field, PickSwitch::at(*index), value)
+            switch_sign_of(alloc, setting, field, PickSwitch::at(*index), value)
         }
         Item::Component { name, value, .. } => {
             component_test(alloc, name.as_str().as_bytes(), value)
