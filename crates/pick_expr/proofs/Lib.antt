@@ -8,3 +8,4 @@ mod GrammarLemmas
 mod PlaceLemmas
 mod ProgressLemmas
 mod RefusalLemmas
+mod ValueLemmas

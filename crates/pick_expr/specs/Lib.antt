@@ -2,6 +2,7 @@ pub mod Atoms
 pub mod Finishing
 pub mod Fitting
 pub mod Grammar
+pub mod Lines
 pub mod Places
 pub mod Progress
 pub mod Reading
@@ -11,3 +12,5 @@ pub mod Spots
 pub mod Steps
 pub mod Switches
 pub mod Taking
+pub mod Truth
+pub mod Values

@@ -7,9 +7,13 @@ mod class;
 mod element;
 mod elements;
 mod expr;
+#[cfg(test)]
+mod expr_tests;
 mod fault;
+mod frame;
 mod halves;
 mod lexeme;
+mod lines;
 mod matching;
 mod member;
 mod one_test;
@@ -23,6 +27,7 @@ mod sign;
 mod spot;
 mod stack;
 mod switches;
+mod truth;
 
 pub use atom::Atom;
 pub use byte_set::ByteSet;
@@ -35,3 +40,4 @@ pub use one_test::Test;
 pub use pattern::Pattern;
 pub use sign::Sign;
 pub use switches::{PickSwitch, SWITCHES};
+pub use truth::holds;

@@ -43,6 +43,7 @@ fn shaped(read: ReadElements, from_start: bool) -> Pattern
 
 impl Pattern {
     ghost use Rattle.pick_expr.specs.Fitting.{Matches};
+    ghost use Rattle.pick_expr.specs.Finishing.{is_match};
 
     /// Reads a pattern, by the bytes of the text.
     pub fn read(alloc: Global, text: &Text) -> Result<Pattern, PatternFault>
@@ -62,7 +63,8 @@ impl Pattern {
 
     /// Whether some piece of the line fits. Takes time linear in the line, and no memory.
     pub fn matches(&self, line: &[u8]) -> bool
-        ensures { IsTrue result ↔ Matches self.now line.now }
+        ensures fits { IsTrue result ↔ Matches self.now line.now }
+        ensures value { result ≡ is_match self.now line.now }
     {
         let elements = self.elements.as_slice();
         if self.from_start {
