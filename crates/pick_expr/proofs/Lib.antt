@@ -5,6 +5,7 @@ mod ElementLemmas
 mod FinishLemmas
 mod FitLemmas
 mod GrammarLemmas
+mod LineLemmas
 mod PlaceLemmas
 mod ProgressLemmas
 mod RefusalLemmas

@@ -1,6 +1,6 @@
 -- What words come to is what their expression comes to.
 use Rattle.std.proofs.Common.{◌≡◌, ℕ, Bool, true, false, not, ◌&&◌, ◌||◌, List, [], ◌∷◌, refl, sym, ap, ◌∙◌, arith}
-use Rattle.std.specs.Prelude.{◌↔◌, ◌⊎◌, IsTrue, if◌then◌else◌, ℤ, ◌<ℤ◌, int_lt, Option, Some, None}
+use Rattle.std.specs.Prelude.{◌↔◌, ◌⊎◌, IsTrue, if◌then◌else◌, ℤ, ◌<ℤ◌, int_lt, Option, Some, None, Result, Ok, Err, IfOk}
 use Rattle.std.specs.Bool.{Decides}
 use Rattle.std.specs.List.{list_any}
 use Rattle.std.proofs.lemmas.Bool.Decides.{Decides-not, Decides-and, Decides-or}
@@ -125,3 +125,8 @@ value_holds m words e r is is_r =
     let d = tree_decides e m in
     let same : r ≡ tree_value e m = is_r ∙ words_value m words e is in
     ((λ h. d.0 (sym same ∙ h)), (λ h. same ∙ d.1 h))
+
+pub result_holds : {E : Type 0} (m seen : List ℕ) (words passed : List Lexeme) (r : Result Bool E) → seen ≡ m → passed ≡ words → IfOk r (λ v. v ≡ value_of seen passed fresh [])
+    → (e : Tree) → IsExpression words e → IfOk r (λ v. IsTrue v ↔ Holds e m)
+result_holds m seen words passed (Ok v) p q h e is = value_holds m words e v is (h ∙ (λ i. value_of (p i) (q i) fresh []))
+result_holds m seen words passed (Err x) p q h e is = tt
