@@ -1,12 +1,13 @@
 -- The test and the pieces that fit.
 use Rattle.std.proofs.Common.{◌≡◌, ℕ, ◌&&◌, ◌||◌, Bool, true, false, not, List, [], ◌∷◌, ◌++◌, ◌↔◌, refl, sym, ap, ◌∙◌, inl, inr, append_assoc}
+use Rattle.std.specs.Bool.{Decides}
 use Rattle.std.specs.List.{list_all}
 use Rattle.std.proofs.lemmas.Bool.{and_parts, and_from, or_cases, or_left, or_right, false≢true, both_ways, not-true}
 use Rattle.pick_expr.specs.declared.atom.Atom.{Atom}
 use Rattle.pick_expr.specs.declared.element.Element.{Element}
 use Rattle.pick_expr.specs.declared.element.Element.TheVariants.{Once, AnyNumber}
 use Rattle.pick_expr.specs.Atoms.{admits}
-use Rattle.pick_expr.specs.Finishing.{any_number_by, ends_by, finishes, found_by}
+use Rattle.pick_expr.specs.Finishing.{any_number_by, ends_by, finishes, found_by, is_match}
 use Rattle.pick_expr.specs.Fitting.{Fits, Matches, Shape}
 
 -- the line begins with a piece that fits
@@ -124,3 +125,20 @@ matches_anywhere elements from_start to_end line r free is_r = (there, back)
 
     back : Matches (record { elements = elements; from_start = from_start; to_end = to_end }) line → r ≡ true
     back m = is_r ∙ ap (found_by (finishes elements to_end)) m.split ∙ found (finishes elements to_end) m.before (m.piece ++ m.behind) (finds elements to_end m.piece m.behind m.fits m.at_end)
+
+pub match_start : (elements : List Element) (from_start to_end : Bool) (line : List ℕ) {r : Bool} → from_start ≡ true → r ≡ finishes elements to_end line
+    → r ≡ is_match (record { elements = elements; from_start = from_start; to_end = to_end }) line
+match_start elements from_start to_end line anchored e = rw anchored e
+
+pub match_anywhere : (elements : List Element) (from_start to_end : Bool) (line : List ℕ) {r : Bool} → from_start ≡ false → r ≡ found_by (finishes elements to_end) line
+    → r ≡ is_match (record { elements = elements; from_start = from_start; to_end = to_end }) line
+match_anywhere elements from_start to_end line free e = rw free e
+
+matched_start : (elements : List Element) (from_start to_end : Bool) (line : List ℕ) (t : Bool) → from_start ≡ t
+    → (is_match (record { elements = elements; from_start = from_start; to_end = to_end }) line ≡ true) ↔ Matches (record { elements = elements; from_start = from_start; to_end = to_end }) line
+matched_start elements from_start to_end line true e = matches_start elements from_start to_end line _ e (rw e refl)
+matched_start elements from_start to_end line false e = matches_anywhere elements from_start to_end line _ e (rw e refl)
+
+-- the test is the relation
+pub match_decides : (p : Shape) (line : List ℕ) → Decides (is_match p line) (Matches p line)
+match_decides p line = matched_start p.elements p.from_start p.to_end line p.from_start refl

@@ -1,6 +1,12 @@
 mod ByteLemmas
 mod ClassLemmas
+mod DateLemmas
 mod ElementLemmas
 mod FinishLemmas
 mod FitLemmas
+mod GrammarLemmas
+mod LineLemmas
 mod PlaceLemmas
+mod ProgressLemmas
+mod RefusalLemmas
+mod ValueLemmas

@@ -1,9 +1,10 @@
 -- Whether the beginning of a line fits, as a test.
-use Rattle.std.specs.Prelude.{◌≡◌, ℕ, ◌≤◌, ◌&&◌, ◌||◌, Bool, true, false, not, List, [], ◌∷◌, length, drop}
+use Rattle.std.specs.Prelude.{◌≡◌, ℕ, ◌≤◌, ◌&&◌, ◌||◌, Bool, true, false, not, List, [], ◌∷◌, length, drop, if◌then◌else◌}
 use Rattle.pick_expr.specs.declared.element.Element.{Element}
 use Rattle.pick_expr.specs.declared.element.Element.TheVariants.{Once, AnyNumber}
 use Rattle.pick_expr.specs.declared.places.Places.{Places}
 use Rattle.pick_expr.specs.Atoms.{admits}
+use Rattle.pick_expr.specs.Fitting.{Shape}
 use Rattle.pick_expr.specs.Places.{has_place}
 
 -- a byte that is admitted, and then the rest
@@ -31,6 +32,10 @@ finishes (AnyNumber a ∷ rest) to_end = any_number_by (admits a) (finishes rest
 abbrev pub found_by : (List ℕ → Bool) → List ℕ → Bool
 found_by test [] = test []
 found_by test (b ∷ line) = test (b ∷ line) || found_by test line
+
+-- some piece of the line fits the pattern
+abbrev pub is_match : Shape → List ℕ → Bool
+is_match p line = if p.from_start then finishes p.elements p.to_end line else found_by (finishes p.elements p.to_end) line
 
 abbrev pub starred : Element → Bool
 starred (Once a) = false

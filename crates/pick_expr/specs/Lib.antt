@@ -1,6 +1,16 @@
 pub mod Atoms
 pub mod Finishing
 pub mod Fitting
+pub mod Grammar
+pub mod Lines
 pub mod Places
+pub mod Progress
 pub mod Reading
+pub mod Refusals
+pub mod Signs
+pub mod Spots
+pub mod Steps
+pub mod Switches
 pub mod Taking
+pub mod Truth
+pub mod Values

@@ -6,20 +6,38 @@ mod byte_set;
 mod class;
 mod element;
 mod elements;
+mod expr;
+#[cfg(test)]
+mod expr_tests;
 mod fault;
+mod frame;
 mod halves;
+mod lexeme;
+mod lines;
 mod matching;
 mod member;
+mod one_test;
 mod pattern;
 #[cfg(test)]
 mod pattern_tests;
 mod places;
 #[cfg(test)]
 mod plain;
+mod sign;
+mod spot;
+mod stack;
+mod switches;
+mod truth;
 
 pub use atom::Atom;
 pub use byte_set::ByteSet;
 pub use element::Element;
-pub use fault::PatternFault;
+pub use expr::{Expr, read_expr};
+pub use fault::{ExprFault, PatternFault};
+pub use lexeme::Lexeme;
 pub use member::Member;
+pub use one_test::Test;
 pub use pattern::Pattern;
+pub use sign::Sign;
+pub use switches::{PickSwitch, SWITCHES};
+pub use truth::holds;

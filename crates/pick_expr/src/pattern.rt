@@ -5,8 +5,6 @@ ghost use Rattle.pick_expr.specs.Reading.{pattern_in};
 
 use crate::elements::{ReadElements, read_elements};
 use crate::matching::{found, reaches_start};
-#[cfg(test)]
-use crate::plain;
 use crate::{Element, PatternFault};
 use mh_base::{List, Text};
 use std::alloc::Global;
@@ -45,6 +43,7 @@ fn shaped(read: ReadElements, from_start: bool) -> Pattern
 
 impl Pattern {
     ghost use Rattle.pick_expr.specs.Fitting.{Matches};
+    ghost use Rattle.pick_expr.specs.Finishing.{is_match};
 
     /// Reads a pattern, by the bytes of the text.
     pub fn read(alloc: Global, text: &Text) -> Result<Pattern, PatternFault>
@@ -64,7 +63,8 @@ impl Pattern {
 
     /// Whether some piece of the line fits. Takes time linear in the line, and no memory.
     pub fn matches(&self, line: &[u8]) -> bool
-        ensures { IsTrue result ↔ Matches self.now line.now }
+        ensures fits { IsTrue result ↔ Matches self.now line.now }
+        ensures value { result ≡ is_match self.now line.now }
     {
         let elements = self.elements.as_slice();
         if self.from_start {
@@ -74,16 +74,24 @@ impl Pattern {
         }
     }
 
-    /// The same, tried piece by piece.
     #[cfg(test)]
-    pub(crate) fn matches_plainly(&self, line: &[u8]) -> bool
-        ensures { IsTrue result ↔ Matches self.now line.now }
+    pub(crate) fn elements(&self) -> &[Element]
+        ensures { result.now ≡ self.now.elements }
     {
-        let elements = self.elements.as_slice();
-        if self.from_start {
-            plain::fits(elements, self.to_end, line)
-        } else {
-            plain::fits_somewhere(elements, self.to_end, line)
-        }
+        self.elements.as_slice()
+    }
+
+    #[cfg(test)]
+    pub(crate) fn is_from_start(&self) -> bool
+        ensures { result ≡ self.now.from_start }
+    {
+        self.from_start
+    }
+
+    #[cfg(test)]
+    pub(crate) fn is_to_end(&self) -> bool
+        ensures { result ≡ self.now.to_end }
+    {
+        self.to_end
     }
 }

@@ -1,8 +1,9 @@
 // Pieces of lines that fit, tried one after another.
-ghost use Rattle.std.specs.Prelude.{◌≡◌, Bool};
+ghost use Rattle.std.specs.Prelude.{◌≡◌, ◌↔◌, Bool, IsTrue};
 ghost use Rattle.pick_expr.specs.Finishing.{ends_by, finishes, found_by};
+ghost use Rattle.pick_expr.specs.Fitting.{Matches};
 
-use crate::Element;
+use crate::{Element, Pattern};
 
 fn ends(to_end: bool, line: &[u8]) -> bool
     ensures { result ≡ ends_by to_end line.now }
@@ -37,5 +38,16 @@ pub(crate) fn fits_somewhere(elements: &[Element], to_end: bool, line: &[u8]) ->
     match line.split_first() {
         Some((_, behind)) => fits_somewhere(elements, to_end, behind),
         None => false,
+    }
+}
+
+/// Whether some piece of the line fits.
+pub(crate) fn matches_plainly(pattern: &Pattern, line: &[u8]) -> bool
+    ensures { IsTrue result ↔ Matches pattern.now line.now }
+{
+    if pattern.is_from_start() {
+        fits(pattern.elements(), pattern.is_to_end(), line)
+    } else {
+        fits_somewhere(pattern.elements(), pattern.is_to_end(), line)
     }
 }

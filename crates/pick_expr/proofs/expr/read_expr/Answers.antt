@@ -1,0 +1,19 @@
+use Rattle.std.proofs.Common.{FitsSigned, w32, w64, subst, List}
+use Rattle.std.proofs.lemmas.Int.{to_z-of_z}
+use Rattle.pick_expr.specs.Signs.{day_of}
+use Rattle.pick_expr.proofs.RefusalLemmas.{read_ok, read_err}
+use Rattle.pick_expr.proofs.expr.read_expr.Goals as goal
+
+pub returns-clause-expression : goal.returns-clause-expression
+returns-clause-expression c =
+    let fits_now : FitsSigned w64 c.args.now = c.ranges.now in
+    let fits_offset : FitsSigned w32 c.args.offset_minutes = c.ranges.offset_minutes in
+    let ok = simp (to_z-of_z, c.as_slice.ensures) at c.read_items.ensures.ok in
+    λ today is_today. read_ok (day_of today c.args.offset_minutes) c.args.words.now.items c.read_items.result (ok today is_today)
+
+pub returns-clause-refusal : goal.returns-clause-refusal
+returns-clause-refusal c =
+    let fits_now : FitsSigned w64 c.args.now = c.ranges.now in
+    let fits_offset : FitsSigned w32 c.args.offset_minutes = c.ranges.offset_minutes in
+    let err = simp (to_z-of_z, c.as_slice.ensures) at c.read_items.ensures.err in
+    λ today is_today. read_err (day_of today c.args.offset_minutes) c.args.words.now.items c.read_items.result (err today is_today)
