@@ -156,6 +156,7 @@ writes (Not ∷ words) = record { needs = come (writes words); has = (λ base ar
     come : Writes words → (base room : ℕ) (around : List ℕ) → passes (Not ∷ words) (needing base room around) ≡ true → Needs base room around (Not ∷ words)
     come w base zero around h = absurd (false≢true h)
     come w base (suc room) around h = one_negation base room around words (w.needs base room around h)
+
     shift : (base : ℕ) (around : List ℕ) → passes (Not ∷ words) (having base around) ≡ true → passes (Not ∷ words) (needing base base around) ≡ true
     shift zero around h = h
     shift (suc base) around h = h
@@ -164,6 +165,7 @@ writes (Open ∷ words) = record { needs = come (writes words); has = (λ base a
     come : Writes words → (base room : ℕ) (around : List ℕ) → passes (Open ∷ words) (needing base room around) ≡ true → Needs base room around (Open ∷ words)
     come w base zero around h = absurd (false≢true h)
     come w base (suc room) around h = one_group base room around words (w.needs room room (base ∷ around) h)
+
     shift : (base : ℕ) (around : List ℕ) → passes (Open ∷ words) (having base around) ≡ true → passes (Open ∷ words) (needing base base around) ≡ true
     shift zero around h = h
     shift (suc base) around h = h

@@ -165,5 +165,5 @@ more_lines f body at next rest now is_rest less h is_next =
     let inside = now.inside in
     record {
       inside = omega (arith, ap length is_rest, length-drop at body);
-      same = now.same ∙ ap (λ z. list_any f (lines_of z)) (sym is_rest) ∙ line ∙ ap (λ z. z || list_any f (lines_of (drop (suc (feed_at rest)) rest))) h ∙ ap (λ z. list_any f (lines_of z)) left
+      same = now.same ∙ ap (λ z. list_any f (lines_of z)) (sym is_rest) ∙ line ∙ ap (λ z. z || list_any f (lines_of (drop (suc (feed_at rest)) rest))) h ∙ ap (λ z. list_any f (lines_of z)) left;
     }

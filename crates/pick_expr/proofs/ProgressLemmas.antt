@@ -19,7 +19,7 @@ pub record IsOn (day : Day) (items : List Item) (at : ℕ) (p : Progress) : Type
 pub is_on_first : (day : Day) (items : List Item) (p : Progress) → spot_of p.reader ≡ at_start → p.words ≡ [] → p.field ≡ codes "date" → p.last ≡ None → IsOn day items 0 p
 is_on_first day items p is_spot is_words is_field is_last = record {
   fault = (λ i. fault_in (signs_in day items (sym is_field i)) (sym is_spot i) (sym is_last i));
-  words = (λ i. sym is_words i ++ words_in (signs_in day items (sym is_field i)))
+  words = (λ i. sym is_words i ++ words_in (signs_in day items (sym is_field i)));
 }
 
 split_items : (items : List Item) (at : ℕ) (item : Item) → at < length items → item ≡ get_or items at item → drop at items ≡ item ∷ drop (at + 1) items
@@ -32,7 +32,7 @@ is_on_next day items at item old new now within there goes =
     let on = goes (drop (at + 1) items) in
     record {
       fault = now.fault ∙ ap (λ z. fault_in (signs_in day z old.field) (spot_of old.reader) old.last) split ∙ on.fault;
-      words = now.words ∙ ap (λ z. old.words ++ words_in (signs_in day z old.field)) split ∙ on.words
+      words = now.words ∙ ap (λ z. old.words ++ words_in (signs_in day z old.field)) split ∙ on.words;
     }
 
 same_fault : (x y : Option ExprFault) (e : ExprFault) → x ≡ y → IsFaultOf y e → IsFaultOf x e

@@ -31,16 +31,16 @@ spot_behind (x ∷ xs) s = then_goes (spot_behind xs) (step x s)
 passes_behind : (front back : List Lexeme) (s : Spot) → passes (front ++ back) s ≡ then_ends (passes back) (spot_behind front s)
 passes_behind [] back s = refl
 passes_behind (x ∷ front) back s = elim (step x s) as (λ o. then_ends (passes (front ++ back)) o ≡ then_ends (passes back) (then_goes (spot_behind front) o)) [
-  None ↦ refl
+  | None ↦ refl
   | Some t ↦ passes_behind front back t
-  ]
+]
 
 spot_behind-append : (front : List Lexeme) (x : Lexeme) (s : Spot) → spot_behind (front ++ x ∷ []) s ≡ then_goes (step x) (spot_behind front s)
 spot_behind-append [] x s = elim (step x s) as (λ o. then_goes (spot_behind []) o ≡ o) [ None ↦ refl | Some t ↦ refl ]
 spot_behind-append (y ∷ front) x s = elim (step y s) as (λ o. then_goes (spot_behind (front ++ x ∷ [])) o ≡ then_goes (step x) (then_goes (spot_behind front) o)) [
-  None ↦ refl
+  | None ↦ refl
   | Some t ↦ spot_behind-append front x t
-  ]
+]
 
 -- a test that ends what waits for an operand
 some_test : Test
@@ -131,16 +131,18 @@ none_filled words s f h still =
     subst (λ z. AreNone z) (sym f.is) (ends_none f.first f.others s (ap (λ z. spot_behind z at_start) (sym f.is) ∙ h) still)
 
 end_verdict : (placed : List Placed) (front : List Lexeme) (s : Spot) (last : Option ℕ) → StandBefore front [] placed → spot_behind front at_start ≡ Some s → LastIs last front [] placed → Verdict placed front [] (ended s last)
-end_verdict placed front s None stand h empty =
-    (subst (λ (z : List Lexeme). StandBefore z [] placed) (sym (append-nil front)) stand,
-    subst (λ (z : List Lexeme). IsSomeTree z) (sym (append-nil front ∙ empty)) (record { tree = Every; whole = no_words }))
+end_verdict placed front s None stand h empty = (
+  subst (λ (z : List Lexeme). StandBefore z [] placed) (sym (append-nil front)) stand,
+  subst (λ (z : List Lexeme). IsSomeTree z) (sym (append-nil front ∙ empty)) (record { tree = Every; whole = no_words }),
+)
 end_verdict placed front s (Some p) stand h (f, behind) = choose (may_end s) refl
   where
     choose : (t : Bool) → may_end s ≡ t → Verdict placed front [] (if t then None else Some (BadExpr (place_behind p)))
     choose true e =
-        let whole = is_either front (ap (λ z. passes z at_start) (sym (append-nil front)) ∙ passes_behind front [] at_start ∙ ap (then_ends (passes [])) h ∙ e) in
-        (subst (λ (z : List Lexeme). StandBefore z [] placed) (sym (append-nil front)) stand,
-        subst (λ (z : List Lexeme). IsSomeTree z) (sym (append-nil front)) (record { tree = whole.tree; whole = some_words whole.is }))
+        let whole = is_either front (ap (λ z. passes z at_start) (sym (append-nil front)) ∙ passes_behind front [] at_start ∙ ap (then_ends (passes [])) h ∙ e) in (
+          subst (λ (z : List Lexeme). StandBefore z [] placed) (sym (append-nil front)) stand,
+          subst (λ (z : List Lexeme). IsSomeTree z) (sym (append-nil front)) (record { tree = whole.tree; whole = some_words whole.is }),
+        )
     choose false e = record { before = front; rest = []; stand = stand; begin = begins front s h; wrong = (none_filled front s f h e, ap BadExpr (sym behind)) }
 
 regroup : (placed : List Placed) (front : List Lexeme) (place : ℕ) (w : Lexeme) (ps : List Placed) (o : Option ExprFault) → Verdict placed (front ++ w ∷ []) ps o → Verdict placed front (record { place = place; sign = Word w } ∷ ps) o
@@ -156,6 +158,7 @@ word_verdict placed front s place w ps stand h on = choose (step w s) refl
   where
     goes : spot_behind (front ++ w ∷ []) at_start ≡ step w s
     goes = spot_behind-append front w at_start ∙ ap (then_goes (step w)) h
+
     choose : (o : Option Spot) → step w s ≡ o → Verdict placed front (record { place = place; sign = Word w } ∷ ps) (passed place o (λ next. fault_in ps next (Some place)))
     choose None e = record { before = front; rest = record { place = place; sign = Word w } ∷ ps; stand = stand; begin = begins front s h; wrong = (begins_none (front ++ w ∷ []) (goes ∙ e), refl) }
     choose (Some t) e = regroup placed front place w ps (fault_in ps t (Some place)) (on t (goes ∙ e))
@@ -198,7 +201,7 @@ is_read day items e (fine, words) =
     record {
       stand = subst (λ (z : List Lexeme). StandBefore z [] (signs_in day items (codes "date"))) (sym words) v.0;
       tree = t.tree;
-      whole = subst (λ (z : List Lexeme). IsExpression z t.tree) (sym words) t.whole
+      whole = subst (λ (z : List Lexeme). IsExpression z t.tree) (sym words) t.whole;
     }
 
 refused_by : (day : Day) (items : List Item) (e : ExprFault) → fault_in (signs_in day items (codes "date")) at_start None ≡ Some e → IsRefusedFor (signs_in day items (codes "date")) e

@@ -89,12 +89,7 @@ impl Progress {
     }
 
     /// Passes an item.
-    fn take_item(
-        &mut self,
-        alloc: Global,
-        item: &Item,
-        setting: &Setting,
-    ) -> Result<(), ExprFault>
+    fn take_item(&mut self, alloc: Global, item: &Item, setting: &Setting) -> Result<(), ExprFault>
         requires { IsSetting setting.now.moment setting.now.offset_minutes }
         ensures ok { (today : ℤ) → IsToday setting.now.moment setting.now.offset_minutes today
             → IfOk result (λ _. (items : ListOf ItemValue) → Continues self.old self.new (signs_in (day_of today setting.now.offset_minutes) (item.now ∷ items) self.old.field) (signs_in (day_of today setting.now.offset_minutes) items self.new.field)) }
@@ -125,11 +120,7 @@ impl Progress {
 }
 
 /// Reads items one after another.
-fn read_items(
-    alloc: Global,
-    items: &[Item],
-    setting: &Setting,
-) -> Result<Expr, ExprFault>
+fn read_items(alloc: Global, items: &[Item], setting: &Setting) -> Result<Expr, ExprFault>
     requires { IsSetting setting.now.moment setting.now.offset_minutes }
     ensures ok { (today : ℤ) → IsToday setting.now.moment setting.now.offset_minutes today
         → IfOk result (λ e. (fault_in (signs_in (day_of today setting.now.offset_minutes) items.now (codes "date")) at_start None ≡ None)

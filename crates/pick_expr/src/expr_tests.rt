@@ -223,8 +223,17 @@ fn nesting_is_64_deep_at_most(rt: HostRuntime) -> Result<(), Fail> {
     assert_eq!(rt; in_braces(alloc, 65)?.as_str(), "bad 64");
     assert_eq!(rt; behind(alloc, "-not", 64, "-from A")?.as_str(), "1;");
     assert_eq!(rt; behind(alloc, "-not", 65, "-from A")?.as_str(), "bad 64");
-    assert_eq!(rt; behind(alloc, "-not", 63, "-lbrace -from A -rbrace")?.as_str(), "2;3;4;");
-    assert_eq!(rt; behind(alloc, "-not", 64, "-lbrace -from A -rbrace")?.as_str(), "bad 64");
-    assert_eq!(rt; behind(alloc, "-from a -not -from zzz -or", 5000, "-from A")?.as_str(), "1;2;3;4;");
+    assert_eq!(rt;
+        behind(alloc, "-not", 63, "-lbrace -from A -rbrace")?.as_str(),
+        "2;3;4;"
+    );
+    assert_eq!(rt;
+        behind(alloc, "-not", 64, "-lbrace -from A -rbrace")?.as_str(),
+        "bad 64"
+    );
+    assert_eq!(rt;
+        behind(alloc, "-from a -not -from zzz -or", 5000, "-from A")?.as_str(),
+        "1;2;3;4;"
+    );
     Ok(())
 }

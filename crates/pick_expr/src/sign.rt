@@ -85,7 +85,12 @@ fn clock_in(text: &Text, setting: &Setting) -> Option<i64>
     }
 }
 
-fn before_test(alloc: Global, setting: &Setting, field: &Bytes, value: &Option<Text>) -> Result<Sign, AllocError>
+fn before_test(
+    alloc: Global,
+    setting: &Setting,
+    field: &Bytes,
+    value: &Option<Text>,
+) -> Result<Sign, AllocError>
     requires { IsSetting setting.now.moment setting.now.offset_minutes }
     ensures { (today : ℤ) → IsToday setting.now.moment setting.now.offset_minutes today
         → IfOk result (λ s. s ≡ before_sign (day_of today setting.now.offset_minutes) field.now value.now) }
@@ -102,7 +107,12 @@ fn before_test(alloc: Global, setting: &Setting, field: &Bytes, value: &Option<T
     }
 }
 
-fn after_test(alloc: Global, setting: &Setting, field: &Bytes, value: &Option<Text>) -> Result<Sign, AllocError>
+fn after_test(
+    alloc: Global,
+    setting: &Setting,
+    field: &Bytes,
+    value: &Option<Text>,
+) -> Result<Sign, AllocError>
     requires { IsSetting setting.now.moment setting.now.offset_minutes }
     ensures { (today : ℤ) → IsToday setting.now.moment setting.now.offset_minutes today
         → IfOk result (λ s. s ≡ after_sign (day_of today setting.now.offset_minutes) field.now value.now) }
@@ -130,7 +140,8 @@ fn field_name(alloc: Global, value: &Option<Text>) -> Result<Sign, AllocError>
 
 fn switch_sign_of(
     alloc: Global,
-    setting: &Setting, field: &Bytes,
+    setting: &Setting,
+    field: &Bytes,
     switch: PickSwitch,
     value: &Option<Text>,
 ) -> Result<Sign, AllocError>

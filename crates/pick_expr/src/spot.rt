@@ -100,7 +100,11 @@ impl Reader {
     pub fn may_end(self) -> bool
         ensures { result ≡ spot_may_end (spot_of self) }
     {
-        let Reader { needs, mut around, .. } = self;
+        let Reader {
+            needs,
+            mut around,
+            ..
+        } = self;
         !needs && around.pop().is_none()
     }
 }

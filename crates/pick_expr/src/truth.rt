@@ -136,7 +136,11 @@ fn is_after_clock(found: Option<i64>, clock: i64) -> bool
     }
 }
 
-fn search_matches(alloc: Global, pattern: &Pattern, message: &Message<'_>) -> Result<bool, AllocError>
+fn search_matches(
+    alloc: Global,
+    pattern: &Pattern,
+    message: &Message<'_>,
+) -> Result<bool, AllocError>
     ensures { IfOk result (λ r. r ≡ (some_line pattern.now (fields_of message.now) || list_any (is_match pattern.now) (lines_of (body_of message.now)))) }
 {
     if some_field_line_matches(alloc, pattern, message)? {
@@ -145,14 +149,24 @@ fn search_matches(alloc: Global, pattern: &Pattern, message: &Message<'_>) -> Re
     Ok(matches_line(pattern, message.body()))
 }
 
-fn before_holds(alloc: Global, field: &[u8], clock: i64, message: &Message<'_>) -> Result<bool, AllocError>
+fn before_holds(
+    alloc: Global,
+    field: &[u8],
+    clock: i64,
+    message: &Message<'_>,
+) -> Result<bool, AllocError>
     ensures { IfOk result (λ r. r ≡ is_before clock (clock_of_date (date_of (first_value field.now (fields_of message.now))))) }
 {
     let found = clock_in_field(alloc, field, message)?;
     Ok(is_before_clock(found, clock))
 }
 
-fn after_holds(alloc: Global, field: &[u8], clock: i64, message: &Message<'_>) -> Result<bool, AllocError>
+fn after_holds(
+    alloc: Global,
+    field: &[u8],
+    clock: i64,
+    message: &Message<'_>,
+) -> Result<bool, AllocError>
     ensures { IfOk result (λ r. r ≡ is_after clock (clock_of_date (date_of (first_value field.now (fields_of message.now))))) }
 {
     let found = clock_in_field(alloc, field, message)?;
@@ -164,7 +178,12 @@ fn test_holds(alloc: Global, test: &Test, message: &Message<'_>) -> Result<bool,
     ensures { IfOk result (λ r. r ≡ test_value test.now message.now) }
 {
     match test {
-        Test::Field { name, pattern } => some_field_matches(alloc, name.as_slice(), pattern, message),
+        Test::Field { name, pattern } => some_field_matches(
+            alloc,
+            name.as_slice(),
+            pattern,
+            message,
+        ),
         Test::Search(pattern) => search_matches(alloc, pattern, message),
         Test::Before { field, clock } => before_holds(alloc, field.as_slice(), *clock, message),
         Test::After { field, clock } => after_holds(alloc, field.as_slice(), *clock, message),
@@ -197,7 +216,12 @@ impl Evaluation {
     }
 
     /// Passes a word.
-    fn pass(&mut self, alloc: Global, word: &Lexeme, message: &Message<'_>) -> Result<(), AllocError>
+    fn pass(
+        &mut self,
+        alloc: Global,
+        word: &Lexeme,
+        message: &Message<'_>,
+    ) -> Result<(), AllocError>
         ensures { OnOk result ((rest : ListOf LexemeValue) → value_of message.now (word.now ∷ rest) self.old.frame self.old.around ≡ value_of message.now rest self.new.frame self.new.around) }
     {
         match word {
