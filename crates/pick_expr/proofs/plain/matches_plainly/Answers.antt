@@ -1,4 +1,4 @@
-use Rattle.std.proofs.Common.{◌≡◌, ap, sym, ◌∙◌}
+use Rattle.std.proofs.Common.{sym, ◌∙◌}
 use Rattle.pick_expr.specs.Finishing.{finishes, found_by}
 use Rattle.pick_expr.proofs.FitLemmas.{matches_start, matches_anywhere}
 use Rattle.pick_expr.proofs.plain.matches_plainly.Goals as goal
