@@ -1,11 +1,11 @@
 -- Where the words of expressions may stand, and the expressions.
-use Rattle.std.proofs.Common.{◌≡◌, ℕ, zero, suc, Bool, true, false, not, ◌&&◌, List, [], ◌∷◌, ◌++◌, Option, Some, None, refl, sym, ap, ◌∙◌}
+use Rattle.std.proofs.Common.{◌≡◌, ℕ, zero, suc, Bool, true, false, List, [], ◌∷◌, Option, Some, None, refl, ◌∙◌}
 use Rattle.std.proofs.lemmas.Bool.{false≢true}
 use Rattle.pick_expr.specs.declared.lexeme.Lexeme.{Lexeme}
 use Rattle.pick_expr.specs.declared.lexeme.Lexeme.TheVariants.{And, Or, Not, Open, Close, Test as TestWord}
 use Rattle.pick_expr.specs.declared.one_test.Test.{Test}
-use Rattle.pick_expr.specs.Grammar.{Tree, Every, Leaf, Negation, Both, Either, IsOperand, IsBoth, IsEither, IsExpression, test, negation, group, last, joined, beside, only, choice, no_words, some_words}
-use Rattle.pick_expr.specs.Steps.{Spot, step, may_end, at_start, is_out}
+use Rattle.pick_expr.specs.Grammar.{Tree, Leaf, Negation, IsOperand, IsBoth, IsEither, test, negation, group, last, joined, beside, only, choice}
+use Rattle.pick_expr.specs.Steps.{Spot, step, may_end, at_start}
 
 -- the words can be passed from this spot on, and an expression may end behind them
 abbrev pub then_ends : (Spot → Bool) → Option Spot → Bool

@@ -1,5 +1,5 @@
 -- One item after another.
-use Rattle.std.proofs.Common.{◌≡◌, ℕ, ◌+◌, ◌<◌, ◌≤◌, List, [], ◌∷◌, ◌++◌, Some, None, Option, drop, get_or, length, Result, Ok, Err, subst, refl, sym, ap, ◌∙◌, codes, arith, append-nil}
+use Rattle.std.proofs.Common.{◌≡◌, ℕ, ◌+◌, ◌<◌, ◌≤◌, List, [], ◌∷◌, ◌++◌, None, Option, drop, get_or, length, Result, Ok, Err, subst, sym, ap, ◌∙◌, codes, append-nil}
 use Rattle.std.specs.Prelude.{IfOk, IfErr}
 use Rattle.std.proofs.lemmas.List.{drop_more, drop_all}
 use Rattle.mh_words.specs.declared.item.Item.{Item}

@@ -1,19 +1,19 @@
 -- Faults of the reader, and words that can't stand.
-use Rattle.std.proofs.Common.{◌≡◌, ℕ, zero, suc, Bool, true, false, List, [], ◌∷◌, ◌++◌, Option, Some, None, Result, Ok, Err, refl, sym, ap, ◌∙◌, subst, append_assoc, append-nil, codes}
+use Rattle.std.proofs.Common.{◌≡◌, ℕ, Bool, true, false, List, [], ◌∷◌, ◌++◌, Option, Some, None, Result, Ok, Err, refl, sym, ap, ◌∙◌, subst, append_assoc, append-nil, codes}
 use Rattle.std.specs.Prelude.{IfOk, IfErr, if◌then◌else◌}
 use Rattle.std.proofs.lemmas.Bool.{false≢true}
 use Rattle.pick_expr.specs.declared.expr.Expr.{Expr}
 use Rattle.pick_expr.specs.declared.fault.ExprFault.{ExprFault}
 use Rattle.pick_expr.specs.declared.fault.ExprFault.TheVariants.{BadExpr, BadDate as BadDateAt, Memory}
 use Rattle.pick_expr.specs.declared.lexeme.Lexeme.{Lexeme}
-use Rattle.pick_expr.specs.declared.lexeme.Lexeme.TheVariants.{And, Or, Not, Open, Close, Test as TestWord}
+use Rattle.pick_expr.specs.declared.lexeme.Lexeme.TheVariants.{Close, Test as TestWord}
 use Rattle.pick_expr.specs.declared.one_test.Test.{Test}
 use Rattle.pick_expr.specs.declared.one_test.Test.TheVariants.{Search}
 use Rattle.pick_expr.specs.declared.sign.Sign.{Sign}
 use Rattle.pick_expr.specs.declared.sign.Sign.TheVariants.{Aside, Field, Word, BadPattern, BadDate}
-use Rattle.pick_expr.specs.Grammar.{Tree, Every, IsEither, IsExpression, no_words, some_words}
+use Rattle.pick_expr.specs.Grammar.{Tree, Every, IsExpression, no_words, some_words}
 use Rattle.pick_expr.specs.Progress.{ended, fault_in, IsFaultOf, passed, place_behind, words_in}
-use Rattle.pick_expr.specs.Refusals.{AreNone, BeginExpression, IsReadAs, IsRefused, IsRefusedFor, IsWrong, IsWrongBehind, place_behind_all, StandBefore}
+use Rattle.pick_expr.specs.Refusals.{AreNone, BeginExpression, IsReadAs, IsRefused, IsRefusedFor, place_behind_all, StandBefore}
 use Rattle.mh_words.specs.declared.item.Item.{Item}
 use Rattle.pick_expr.specs.Signs.{Day, Placed, place_of, sign_of, signs_in, with_sign}
 use Rattle.pick_expr.specs.Steps.{Spot, step, may_end, at_start}

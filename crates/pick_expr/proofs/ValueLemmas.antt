@@ -1,6 +1,6 @@
 -- What words come to is what their expression comes to.
 use Rattle.std.proofs.Common.{◌≡◌, ℕ, Bool, true, false, not, ◌&&◌, ◌||◌, List, [], ◌∷◌, refl, sym, ap, ◌∙◌, arith}
-use Rattle.std.specs.Prelude.{◌↔◌, ◌⊎◌, IsTrue, if◌then◌else◌, ℤ, ◌<ℤ◌, int_lt, Option, Some, None, Result, Ok, Err, IfOk}
+use Rattle.std.specs.Prelude.{◌↔◌, IsTrue, if◌then◌else◌, ℤ, ◌<ℤ◌, int_lt, Option, Some, None, Result, Ok, Err, IfOk}
 use Rattle.std.specs.Bool.{Decides}
 use Rattle.std.specs.List.{list_any}
 use Rattle.std.proofs.lemmas.Bool.Decides.{Decides-not, Decides-and, Decides-or}
@@ -13,14 +13,13 @@ use Rattle.mail_headers.specs.Message.{body_of}
 use Rattle.mail_headers.specs.Unfolding.{unfolded}
 use Rattle.pick_expr.specs.declared.frame.Frame.{Frame}
 use Rattle.pick_expr.specs.declared.lexeme.Lexeme.{Lexeme}
-use Rattle.pick_expr.specs.declared.lexeme.Lexeme.TheVariants.{And, Or, Not, Open, Close, Test as TestWord}
 use Rattle.pick_expr.specs.declared.one_test.Test.{Test}
 use Rattle.pick_expr.specs.declared.one_test.Test.TheVariants.{Field, Search, Before, After}
 use Rattle.pick_expr.specs.Finishing.{is_match}
-use Rattle.pick_expr.specs.Fitting.{Shape, Matches}
+use Rattle.pick_expr.specs.Fitting.{Matches}
 use Rattle.pick_expr.specs.Grammar.{Tree, Every, Leaf, Negation, Both, Either, IsOperand, IsBoth, IsEither, IsExpression, test, negation, group, last, joined, beside, only, choice, no_words, some_words}
 use Rattle.pick_expr.specs.Truth.{date_of, field_line, Holds, lines_of, OfDate, SomeOf, TestHolds}
-use Rattle.pick_expr.specs.Values.{absorbed, clock_of_date, fresh, is_after, is_before, next_choice, test_value, value_of}
+use Rattle.pick_expr.specs.Values.{absorbed, clock_of_date, fresh, is_after, is_before, test_value, value_of}
 use Rattle.pick_expr.proofs.FitLemmas.{match_decides}
 
 -- what an expression comes to

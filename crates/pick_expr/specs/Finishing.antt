@@ -35,7 +35,8 @@ found_by test (b ∷ line) = test (b ∷ line) || found_by test line
 
 -- some piece of the line fits the pattern
 abbrev pub is_match : Shape → List ℕ → Bool
-is_match p line = if p.from_start then finishes p.elements p.to_end line else found_by (finishes p.elements p.to_end) line
+is_match p line = if p.from_start then finishes p.elements p.to_end line
+    else found_by (finishes p.elements p.to_end) line
 
 abbrev pub starred : Element → Bool
 starred (Once a) = false
@@ -48,4 +49,5 @@ goes_on (AnyNumber a) b here behind behind_now = behind_now || (admits a b && he
 
 -- the places from which the elements that are left fit this line's beginning
 abbrev pub AreFinishing : List Element → Bool → List ℕ → Places → Type 0
-AreFinishing elements to_end line places = (i : ℕ) → i ≤ length elements → has_place places i ≡ finishes (drop i elements) to_end line
+AreFinishing elements to_end line places = (i : ℕ) → i ≤ length elements
+    → has_place places i ≡ finishes (drop i elements) to_end line

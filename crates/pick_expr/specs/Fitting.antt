@@ -16,7 +16,8 @@ pub record Shape : Type 0 where
 abbrev pub Fits : List Element → List ℕ → Type 0
 Fits [] piece = piece ≡ []
 Fits (Once a ∷ rest) piece = (b : ℕ) × (back : List ℕ) × (piece ≡ b ∷ back) × IsTrue (admits a b) × Fits rest back
-Fits (AnyNumber a ∷ rest) piece = (front : List ℕ) × (back : List ℕ) × (piece ≡ front ++ back) × IsTrue (list_all (admits a) front) × Fits rest back
+Fits (AnyNumber a ∷ rest) piece = (front : List ℕ) × (back : List ℕ) × (piece ≡ front ++ back)
+    × IsTrue (list_all (admits a) front) × Fits rest back
 
 -- some piece of the line fits, with nothing before it where the pattern is anchored at the start, and nothing behind it
 -- where it is anchored at the end

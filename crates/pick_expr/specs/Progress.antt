@@ -1,12 +1,12 @@
 -- How far the words of an expression were read.
-use Rattle.std.specs.Prelude.{◌≡◌, ℕ, ◌+◌, min, List, [], ◌∷◌, ◌++◌, Option, Some, None, Result, Ok, Err, if◌then◌else◌}
+use Rattle.std.specs.Prelude.{◌≡◌, ℕ, ◌+◌, min, List, [], ◌∷◌, ◌++◌, Option, Some, None, if◌then◌else◌}
 use Rattle.pick_expr.specs.declared.expr.Progress.{Progress}
 use Rattle.pick_expr.specs.declared.fault.ExprFault.{ExprFault}
 use Rattle.pick_expr.specs.declared.fault.ExprFault.TheVariants.{BadExpr, BadDate as BadDateAt, Memory}
 use Rattle.pick_expr.specs.declared.lexeme.Lexeme.{Lexeme}
 use Rattle.pick_expr.specs.declared.sign.Sign.{Sign}
 use Rattle.pick_expr.specs.declared.sign.Sign.TheVariants.{Aside, Field, Word, BadPattern, BadDate}
-use Rattle.pick_expr.specs.Signs.{Placed, with_sign}
+use Rattle.pick_expr.specs.Signs.{Placed}
 use Rattle.pick_expr.specs.Spots.{spot_of}
 use Rattle.pick_expr.specs.Steps.{Spot, step, may_end}
 

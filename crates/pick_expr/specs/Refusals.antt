@@ -13,7 +13,8 @@ use Rattle.pick_expr.specs.Signs.{Placed}
 -- these words of an expression stand before the rest
 abbrev pub StandBefore : List Lexeme → List Placed → List Placed → Type 0
 StandBefore [] rest placed = placed ≡ rest
-StandBefore (word ∷ words) rest placed = (place : ℕ) × (behind : List Placed) × (placed ≡ record { place = place; sign = Word word } ∷ behind) × StandBefore words rest behind
+StandBefore (word ∷ words) rest placed = (place : ℕ) × (behind : List Placed)
+    × (placed ≡ record { place = place; sign = Word word } ∷ behind) × StandBefore words rest behind
 
 -- an expression begins with these words
 pub record BeginExpression (words : List Lexeme) : Type 0 where

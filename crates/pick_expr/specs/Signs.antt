@@ -4,7 +4,6 @@ use Rattle.std.specs.Str.{encode_utf8_all}
 use Rattle.mail_dates.specs.Picking.{picked}
 use Rattle.mh_words.specs.declared.item.Item.{Item}
 use Rattle.mh_words.specs.declared.item.Item.TheVariants.{Folder, Message, Switch, Component}
-use Rattle.pick_expr.specs.declared.lexeme.Lexeme.{Lexeme}
 use Rattle.pick_expr.specs.declared.lexeme.Lexeme.TheVariants.{And, Or, Not, Open, Close, Test as TestWord}
 use Rattle.pick_expr.specs.declared.one_test.Test.{Test}
 use Rattle.pick_expr.specs.declared.one_test.Test.TheVariants.{Field as FieldTest, Search as SearchTest, Before as BeforeTest, After as AfterTest}

@@ -24,16 +24,20 @@ member_len (Range low high) = 3
 
 abbrev pub AreMembers : List ℕ → Option ReadMembers → Type 0
 AreMembers text None = members_in true text ≡ None
-AreMembers text (Some m) = (members_in true text ≡ Some (record { members = m.members.items; behind = drop m.len text })) × (m.len ≤ length text)
+AreMembers text (Some m) =
+    (members_in true text ≡ Some (record { members = m.members.items; behind = drop m.len text }))
+    × (m.len ≤ length text)
 
 -- this atom was read at the beginning of the text, or there is none
 abbrev pub IsAtomOf : Option AtomText → List ℕ → Option ReadAtom → Type 0
 IsAtomOf there text None = there ≡ None
-IsAtomOf there text (Some a) = (there ≡ Some (record { atom = a.atom; behind = drop a.len text })) × (a.len ≤ length text)
+IsAtomOf there text (Some a) = (there ≡ Some (record { atom = a.atom; behind = drop a.len text }))
+    × (a.len ≤ length text)
 
 abbrev pub IsElementOf : Option ElementText → List ℕ → Option ReadElement → Type 0
 IsElementOf there text None = there ≡ None
-IsElementOf there text (Some e) = (there ≡ Some (record { element = e.element; behind = drop e.len text })) × (e.len ≤ length text)
+IsElementOf there text (Some e) = (there ≡ Some (record { element = e.element; behind = drop e.len text }))
+    × (e.len ≤ length text)
 
 abbrev pub AreElements : Option Elements → Option ReadElements → Type 0
 AreElements there None = there ≡ None
@@ -43,4 +47,5 @@ AreElements there (Some es) = there ≡ Some (record { elements = es.elements; t
 abbrev pub IsClass : Bool → ReadMembers → Option ReadAtom → Type 0
 IsClass negated m None = list_all is_void m.members.items ≡ true
 IsClass negated m (Some a) =
-    (list_all is_void m.members.items ≡ false) × (a.atom ≡ Class negated (filter (in_members m.members.items) every_byte)) × (a.len ≡ m.len)
+    (list_all is_void m.members.items ≡ false)
+    × (a.atom ≡ Class negated (filter (in_members m.members.items) every_byte)) × (a.len ≡ m.len)

@@ -21,10 +21,12 @@ abbrev pub with_byte : ℕ → List (List ℕ) → List (List ℕ)
 with_byte b [] = (b ∷ []) ∷ []
 with_byte b (line ∷ lines) = (b ∷ line) ∷ lines
 
--- the lines of a body without their ends: 10 is a line feed, and 13 a carriage return, which belongs to a line's end before it
+-- the lines of a body without their ends: 10 is a line feed, and 13 a carriage return, which belongs to a line's end
+-- before it
 unfoldable pub lines_of : List ℕ → List (List ℕ)
 lines_of [] = []
-lines_of (b ∷ bytes) = if b == 10 then [] ∷ lines_of bytes else (if b == 13 && slice_index bytes 0 == 10 then lines_of bytes else with_byte b (lines_of bytes))
+lines_of (b ∷ bytes) = if b == 10 then [] ∷ lines_of bytes else (if b == 13 && slice_index bytes 0 == 10
+    then lines_of bytes else with_byte b (lines_of bytes))
 
 -- a field as one line
 abbrev pub field_line : FieldText → List ℕ
@@ -41,8 +43,10 @@ date_of (Some value) = date_in (unfolded value)
 
 -- the test holds of the message
 abbrev pub TestHolds : Test → List ℕ → Type 0
-TestHolds (Field name pattern) message = SomeOf (λ f. IsTrue (same_name f.name name) × Matches pattern (unfolded f.value)) (fields_of message)
-TestHolds (Search pattern) message = SomeOf (λ f. Matches pattern (field_line f)) (fields_of message) ⊎ SomeOf (Matches pattern) (lines_of (body_of message))
+TestHolds (Field name pattern) message = SomeOf (λ f. IsTrue (same_name f.name name)
+    × Matches pattern (unfolded f.value)) (fields_of message)
+TestHolds (Search pattern) message = SomeOf (λ f. Matches pattern (field_line f)) (fields_of message)
+    ⊎ SomeOf (Matches pattern) (lines_of (body_of message))
 TestHolds (Before field clock) message = OfDate (λ c. c <ℤ clock) (date_of (first_value field (fields_of message)))
 TestHolds (After field clock) message = OfDate (λ c. clock <ℤ c) (date_of (first_value field (fields_of message)))
 

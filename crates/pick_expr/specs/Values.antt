@@ -1,5 +1,5 @@
 -- What tests and words come to, as truth values.
-use Rattle.std.specs.Prelude.{◌≡◌, ℕ, ◌&&◌, ◌||◌, Bool, true, false, not, List, [], ◌∷◌, ◌++◌, Option, Some, None, codes, if◌then◌else◌, ℤ, int_lt}
+use Rattle.std.specs.Prelude.{ℕ, ◌&&◌, ◌||◌, Bool, true, false, not, List, [], ◌∷◌, Option, Some, None, if◌then◌else◌, ℤ, int_lt}
 use Rattle.std.specs.List.{list_any}
 use Rattle.mail_dates.specs.declared.mail_date.MailDate.{MailDate}
 use Rattle.mail_dates.specs.Clocks.{clock_of}
@@ -35,9 +35,12 @@ is_after clock (Some found) = int_lt clock found
 
 abbrev pub test_value : Test → List ℕ → Bool
 test_value (Field name pattern) message = fields_match name pattern (fields_of message)
-test_value (Search pattern) message = some_line pattern (fields_of message) || list_any (is_match pattern) (lines_of (body_of message))
-test_value (Before field clock) message = is_before clock (clock_of_date (date_of (first_value field (fields_of message))))
-test_value (After field clock) message = is_after clock (clock_of_date (date_of (first_value field (fields_of message))))
+test_value (Search pattern) message = some_line pattern (fields_of message)
+    || list_any (is_match pattern) (lines_of (body_of message))
+test_value (Before field clock) message =
+    is_before clock (clock_of_date (date_of (first_value field (fields_of message))))
+test_value (After field clock) message =
+    is_after clock (clock_of_date (date_of (first_value field (fields_of message))))
 
 -- whether an alternative before holds, whether what is joined so far holds, and whether the operand to come is negated
 abbrev pub fresh : Frame

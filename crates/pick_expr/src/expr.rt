@@ -73,8 +73,11 @@ impl Progress {
 
     /// Passes what an item is.
     fn take(&mut self, place: u64, sign: Sign) -> Result<(), ExprFault>
-        ensures ok { IfOk result (λ _. (rest : ListOf ℕ → ListOf Placed) → Continues self.old self.new (with_sign place sign self.old.field rest) (rest self.new.field)) }
-        ensures err { IfErr result (λ e. (rest : ListOf ℕ → ListOf Placed) → IsFaultOf (fault_in (with_sign place sign self.old.field rest) (spot_of self.old.reader) self.old.last) e) }
+        ensures ok { IfOk result (λ _. (rest : ListOf ℕ → ListOf Placed)
+            → Continues self.old self.new (with_sign place sign self.old.field rest) (rest self.new.field)) }
+        ensures err { IfErr result (λ e. (rest : ListOf ℕ → ListOf Placed)
+            → IsFaultOf (fault_in (with_sign place sign self.old.field rest) (spot_of self.old.reader) self.old.last)
+            e) }
     {
         match sign {
             Sign::Aside => Ok(()),
@@ -92,9 +95,15 @@ impl Progress {
     fn take_item(&mut self, alloc: Global, item: &Item, setting: &Setting) -> Result<(), ExprFault>
         requires { IsSetting setting.now.moment setting.now.offset_minutes }
         ensures ok { (today : ℤ) → IsToday setting.now.moment setting.now.offset_minutes today
-            → IfOk result (λ _. (items : ListOf ItemValue) → Continues self.old self.new (signs_in (day_of today setting.now.offset_minutes) (item.now ∷ items) self.old.field) (signs_in (day_of today setting.now.offset_minutes) items self.new.field)) }
+            → IfOk result (λ _. (items : ListOf ItemValue)
+            → Continues self.old self.new
+            (signs_in (day_of today setting.now.offset_minutes) (item.now ∷ items) self.old.field)
+            (signs_in (day_of today setting.now.offset_minutes) items self.new.field)) }
         ensures err { (today : ℤ) → IsToday setting.now.moment setting.now.offset_minutes today
-            → IfErr result (λ e. (items : ListOf ItemValue) → IsFaultOf (fault_in (signs_in (day_of today setting.now.offset_minutes) (item.now ∷ items) self.old.field) (spot_of self.old.reader) self.old.last) e) }
+            → IfErr result (λ e. (items : ListOf ItemValue)
+            → IsFaultOf (fault_in
+            (signs_in (day_of today setting.now.offset_minutes) (item.now ∷ items) self.old.field)
+            (spot_of self.old.reader) self.old.last) e) }
     {
         let sign = read_sign(alloc, setting, &self.field, item)?;
         self.take(place(item), sign)
@@ -123,10 +132,12 @@ impl Progress {
 fn read_items(alloc: Global, items: &[Item], setting: &Setting) -> Result<Expr, ExprFault>
     requires { IsSetting setting.now.moment setting.now.offset_minutes }
     ensures ok { (today : ℤ) → IsToday setting.now.moment setting.now.offset_minutes today
-        → IfOk result (λ e. (fault_in (signs_in (day_of today setting.now.offset_minutes) items.now (codes "date")) at_start None ≡ None)
+        → IfOk result (λ e.
+        (fault_in (signs_in (day_of today setting.now.offset_minutes) items.now (codes "date")) at_start None ≡ None)
         × (e.words ≡ words_in (signs_in (day_of today setting.now.offset_minutes) items.now (codes "date")))) }
     ensures err { (today : ℤ) → IsToday setting.now.moment setting.now.offset_minutes today
-        → IfErr result (IsFaultOf (fault_in (signs_in (day_of today setting.now.offset_minutes) items.now (codes "date")) at_start None)) }
+        → IfErr result (IsFaultOf
+        (fault_in (signs_in (day_of today setting.now.offset_minutes) items.now (codes "date")) at_start None)) }
 {
     let mut progress = start(alloc)?;
     for item in items {

@@ -58,7 +58,7 @@ const MESSAGES: [&str; 4] = [
 
 const MORE: [&str; 4] = [
     "To: a@b\nTo: second\nX-Seen: Yes\nDate: Sat, 9 Mar 2024 23:59:59 +0000\n\nfirst\r\nlast line",
-    "cc: Someone\nCC: Other\nDate: Sun, 10 Mar 2024 00:00:00 +0000\nDate: Mon, 1 Jan 1990 00:00:00 +0000\n\nfirst\n\nend\n",
+    "cc: Someone\nCC: Other\nDate: Sun, 10 Mar 2024 00:00:00 +0000\nDate: 1 Jan 1990 00:00:00 +0000\n\nfirst\n\nend\n",
     "Delivered: Sun, 10 Mar 2024 00:00:01 +0000\nDate: none\nLong: one\n two\n\n",
     "no field\n",
 ];

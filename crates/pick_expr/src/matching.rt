@@ -41,7 +41,8 @@ fn last_places(elements: &[Element]) -> Places
 /// The places one byte before.
 fn step(elements: &[Element], to_end: bool, places: Places, byte: u8) -> Places
     requires { length elements.now ≤ 127 }
-    ensures { (rest : List ℕ) → AreFinishing elements.now to_end rest places → AreFinishing elements.now to_end (byte ∷ rest) result }
+    ensures { (rest : List ℕ) → AreFinishing elements.now to_end rest places
+        → AreFinishing elements.now to_end (byte ∷ rest) result }
 {
     let mut at = elements.len();
     let mut next = Places::none().with_if(at, !to_end);

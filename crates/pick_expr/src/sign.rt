@@ -77,7 +77,8 @@ fn search_test(alloc: Global, value: &Option<Text>) -> Result<Sign, AllocError>
 /// The moment that a text names.
 fn clock_in(text: &Text, setting: &Setting) -> Option<i64>
     requires { IsSetting setting.now.moment setting.now.offset_minutes }
-    ensures { (today : ℤ) → IsToday setting.now.moment setting.now.offset_minutes today → result ≡ picked today setting.now.offset_minutes (encode_utf8_all text.now) }
+    ensures { (today : ℤ) → IsToday setting.now.moment setting.now.offset_minutes today
+        → result ≡ picked today setting.now.offset_minutes (encode_utf8_all text.now) }
 {
     match pick_date(text, setting.moment, setting.offset_minutes) {
         Ok(clock) => Some(clock),

@@ -34,7 +34,8 @@ fn named_matches(
     pattern: &Pattern,
     field: Field<'_>,
 ) -> Result<bool, AllocError>
-    ensures { IfOk result (λ r. r ≡ (same_name field.entry.name.now name.now && is_match pattern.now (unfolded field.entry.value.now))) }
+    ensures { IfOk result (λ r. r ≡ (same_name field.entry.name.now name.now
+        && is_match pattern.now (unfolded field.entry.value.now))) }
 {
     if field.name.eq_ignore_ascii_case(name) {
         value_matches(alloc, pattern, field.value)
@@ -141,7 +142,8 @@ fn search_matches(
     pattern: &Pattern,
     message: &Message<'_>,
 ) -> Result<bool, AllocError>
-    ensures { IfOk result (λ r. r ≡ (some_line pattern.now (fields_of message.now) || list_any (is_match pattern.now) (lines_of (body_of message.now)))) }
+    ensures { IfOk result (λ r. r ≡ (some_line pattern.now (fields_of message.now)
+        || list_any (is_match pattern.now) (lines_of (body_of message.now)))) }
 {
     if some_field_line_matches(alloc, pattern, message)? {
         return Ok(true);
@@ -155,7 +157,8 @@ fn before_holds(
     clock: i64,
     message: &Message<'_>,
 ) -> Result<bool, AllocError>
-    ensures { IfOk result (λ r. r ≡ is_before clock (clock_of_date (date_of (first_value field.now (fields_of message.now))))) }
+    ensures { IfOk result (λ r. r
+        ≡ is_before clock (clock_of_date (date_of (first_value field.now (fields_of message.now))))) }
 {
     let found = clock_in_field(alloc, field, message)?;
     Ok(is_before_clock(found, clock))
@@ -167,7 +170,8 @@ fn after_holds(
     clock: i64,
     message: &Message<'_>,
 ) -> Result<bool, AllocError>
-    ensures { IfOk result (λ r. r ≡ is_after clock (clock_of_date (date_of (first_value field.now (fields_of message.now))))) }
+    ensures { IfOk result (λ r. r
+        ≡ is_after clock (clock_of_date (date_of (first_value field.now (fields_of message.now))))) }
 {
     let found = clock_in_field(alloc, field, message)?;
     Ok(is_after_clock(found, clock))
@@ -207,7 +211,9 @@ impl Evaluation {
     }
 
     fn close(&mut self)
-        ensures { (message : ListOf ℕ) (rest : ListOf LexemeValue) → value_of message (Lexeme.Close ∷ rest) self.old.frame self.old.around ≡ value_of message rest self.new.frame self.new.around }
+        ensures { (message : ListOf ℕ) (rest : ListOf LexemeValue)
+            → value_of message (Lexeme.Close ∷ rest) self.old.frame self.old.around
+            ≡ value_of message rest self.new.frame self.new.around }
     {
         match self.around.pop() {
             Some(outer) => self.frame = outer.absorb(self.frame.value()),
@@ -222,7 +228,9 @@ impl Evaluation {
         word: &Lexeme,
         message: &Message<'_>,
     ) -> Result<(), AllocError>
-        ensures { OnOk result ((rest : ListOf LexemeValue) → value_of message.now (word.now ∷ rest) self.old.frame self.old.around ≡ value_of message.now rest self.new.frame self.new.around) }
+        ensures { OnOk result ((rest : ListOf LexemeValue)
+            → value_of message.now (word.now ∷ rest) self.old.frame self.old.around
+            ≡ value_of message.now rest self.new.frame self.new.around) }
     {
         match word {
             Lexeme::And => Ok(()),

@@ -1,4 +1,4 @@
-use Rattle.std.proofs.Common.{FitsSigned, w32, w64, subst, List}
+use Rattle.std.proofs.Common.{FitsSigned, w32, w64}
 use Rattle.std.proofs.lemmas.Int.{to_z-of_z}
 use Rattle.pick_expr.specs.Signs.{day_of}
 use Rattle.pick_expr.proofs.RefusalLemmas.{read_ok, read_err}

@@ -1,4 +1,4 @@
-use Rattle.std.proofs.Common.{◌≡◌, ◌+◌, ◌-◌, ◌||◌, get_or, refl, sym, ap, ◌∙◌, arith}
+use Rattle.std.proofs.Common.{◌-◌, ◌||◌, get_or, refl, sym, ap, ◌∙◌, arith}
 use Rattle.pick_expr.proofs.FinishLemmas.{found_first, found_more}
 use Rattle.pick_expr.proofs.matching.found.Goals as goal
 

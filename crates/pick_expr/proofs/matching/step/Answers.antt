@@ -1,4 +1,4 @@
-use Rattle.std.proofs.Common.{◌≡◌, ◌+◌, ◌-◌, ◌&&◌, ◌||◌, sym, ◌∙◌, arith}
+use Rattle.std.proofs.Common.{◌-◌, ◌∙◌, arith}
 use Rattle.pick_expr.specs.Finishing.{goes_on}
 use Rattle.pick_expr.proofs.FinishLemmas.{next_more}
 use Rattle.pick_expr.proofs.matching.step.Goals as goal

@@ -1,5 +1,4 @@
-use Rattle.std.proofs.Common.{◌≡◌, ◌==◌, ◌||◌, true, ap, sym, ◌∙◌}
-use Rattle.std.specs.Char.{is_ascii_lowercase}
+use Rattle.std.proofs.Common.{◌==◌, ◌||◌, sym, ◌∙◌}
 use Rattle.pick_expr.specs.Places.{in_halves}
 use Rattle.pick_expr.proofs.ByteLemmas.{with_upper}
 use Rattle.pick_expr.proofs.halves.Halves.with_folded.Goals as goal

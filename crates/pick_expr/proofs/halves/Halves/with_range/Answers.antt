@@ -1,4 +1,4 @@
-use Rattle.std.proofs.Common.{◌≡◌, ℕ, ◌+◌, ◌≤◌, ◌==◌, ◌||◌, ap, ◌∙◌, arith}
+use Rattle.std.proofs.Common.{◌==◌, ◌||◌, ap, ◌∙◌, arith}
 use Rattle.pick_expr.specs.Places.{in_halves}
 use Rattle.pick_expr.proofs.ByteLemmas.{range_more, range_all}
 use Rattle.pick_expr.proofs.halves.Halves.with_range.Goals as goal

@@ -1,4 +1,4 @@
-use Rattle.std.proofs.Common.{sym, ◌≡◌, ◌↔◌, true, ap, ◌∙◌, subst}
+use Rattle.std.proofs.Common.{◌≡◌, ◌↔◌, true, ap, ◌∙◌, subst}
 use Rattle.pick_expr.specs.Finishing.{finishes, found_by, is_match}
 use Rattle.pick_expr.specs.Fitting.{Shape, Matches}
 use Rattle.pick_expr.proofs.FitLemmas.{matches_start, matches_anywhere, match_start, match_anywhere}
