@@ -9,7 +9,7 @@ const GIVEN: &[Given] = &[(FIVE, b"X"), (NINE, b"Y"), (b"1", b"A"), (b"3", b"C")
 
 /// How often this byte stands behind an equals sign: how many names of the folder lead to that message.
 fn names_of(shown: &[u8], message: u8) -> usize {
-    let mut count = 0;
+    let mut count: usize = 0;
     let mut before = 0;
     for byte in shown {
         if before == b'=' && *byte == message {
