@@ -24,6 +24,49 @@ pub struct Course {
     pub history: History,
 }
 
+fn act_of(run: u128, step: Step, answer: Answer, after: After) -> Event
+    ensures { result ≡ Event.Act run step answer after }
+{
+    Event::Act {
+        run,
+        step,
+        answer,
+        after,
+    }
+}
+
+fn act_after(
+    alloc: Global,
+    run: u128,
+    step: Step,
+    answer: Answer,
+    after: &After,
+) -> Result<Event, AllocError>
+    ensures { IfOk result (λ e. e ≡ Event.Act run step answer after.now) }
+{
+    match after.duplicate(alloc) {
+        Ok(after) => Ok(act_of(run, step, answer, after)),
+        Err(wanting) => Err(wanting),
+    }
+}
+
+fn act_answered(
+    alloc: Global,
+    run: u128,
+    step: Step,
+    answer: &Answer,
+    after: &After,
+) -> Result<Event, AllocError>
+    ensures { IfOk result (λ e. e ≡ Event.Act run step answer.now after.now) }
+{
+    match answer.duplicate(alloc) {
+        Ok(answer) => act_after(alloc, run, step, answer, after),
+        Err(wanting) => Err(wanting),
+    }
+}
+
+/// The event of a step. Each copy is made in a function of its own: a copy that is dropped where the next one fails
+/// is looked at case by case.
 fn act(
     alloc: Global,
     run: u128,
@@ -33,15 +76,10 @@ fn act(
 ) -> Result<Event, AllocError>
     ensures { IfOk result (λ e. e ≡ Event.Act run step.now answer.now after.now) }
 {
-    let step = step.duplicate(alloc)?;
-    let answer = answer.duplicate(alloc)?;
-    let after = after.duplicate(alloc)?;
-    Ok(Event::Act {
-        run,
-        step,
-        answer,
-        after,
-    })
+    match step.duplicate(alloc) {
+        Ok(step) => act_answered(alloc, run, step, answer, after),
+        Err(wanting) => Err(wanting),
+    }
 }
 
 impl Course {
@@ -163,18 +201,24 @@ impl Course {
         Ok(())
     }
 
-    fn push_both(&mut self, crash: Event, act: Event) -> Result<(), AllocError>
+    /// A step that fails and leaves nothing, where the world stays.
+    fn add_failed(&mut self, alloc: Global, run: u128, step: &Step) -> Result<(), AllocError>
         ensures world { self.new.world ≡ self.old.world }
-        ensures ok { OnOk result (self.new.history ≡ (self.old.history ++ crash ∷ []) ++ act ∷ []) }
+        ensures ok { OnOk result (self.new.history ≡ self.old.history ++ Event.Act run step.now answer.Failed after.Before ∷ []) }
         ensures err { OnErr result (self.new ≡ self.old) }
     {
-        self.history.push(crash)?;
-        match self.history.push(act) {
-            Ok(()) => Ok(()),
-            Err(wanting) => {
-                self.history.pop();
-                Err(wanting)
-            }
+        let event = act(alloc, run, step, &Answer::Failed, &After::Before)?;
+        self.history.push(event)
+    }
+
+    /// The world after a step of this run.
+    fn made_in(&self, alloc: Global, run: u128, step: &Step) -> Result<World, AllocError>
+        ensures { IfOk result (λ v. shown v ≡ made (shown self.now.world) run step.now) }
+    {
+        let mut world = self.world.duplicate(alloc)?;
+        match make(alloc, &mut world, run, step) {
+            Ok(()) => Ok(world),
+            Err(wanting) => Err(wanting),
         }
     }
 
@@ -188,8 +232,7 @@ impl Course {
     ) -> Result<World, AllocError>
         ensures { IfOk result (λ v. IsCrashBy keeps.now fill (has_acted_or_is run (past_of self.now.history)) (made (shown self.now.world) run step.now) (shown v)) }
     {
-        let mut world = self.world.duplicate(alloc)?;
-        make(alloc, &mut world, run, step)?;
+        let world = self.made_in(alloc, run, step)?;
         crashed(alloc, &world, &self.history, run, keeps, fill)
     }
 
@@ -207,9 +250,16 @@ impl Course {
     {
         let found = self.crashed_within(alloc, run, step, keeps, fill)?;
         let crash = Event::Crash(found.duplicate(alloc)?);
-        let act = act(alloc, run, step, &Answer::Failed, &After::Before)?;
-        self.push_both(crash, act)?;
-        self.world = found;
-        Ok(())
+        self.history.push(crash)?;
+        match self.add_failed(alloc, run, step) {
+            Ok(()) => {
+                self.world = found;
+                Ok(())
+            }
+            Err(wanting) => {
+                self.history.pop();
+                Err(wanting)
+            }
+        }
     }
 }
