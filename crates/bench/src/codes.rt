@@ -1,5 +1,6 @@
 // Base64 and quoted-printable text of ten megabytes, beside a plain read of its bytes.
-use crate::rates::{bytes_per_second, plain};
+use crate::rates::{measure_plain, micros_since, tell_bytes};
+use mh_base::Bytes;
 use mime_codes::{b64_decode, b64_encode, qp_decode, qp_encode};
 use std::alloc::{AllocError, Global};
 use std::rt::Clock;
@@ -24,60 +25,63 @@ fn prose(alloc: Global) -> Result<Vec<u8>, AllocError> {
     let mut bytes = Vec::with_capacity(alloc, LENGTH)?;
     for _ in 0..LENGTH / 80 {
         bytes.extend_from_slice(
-            "The quick brown fox jumps over the caf\u{e9} = a place, and runs away from all of it.\n".as_bytes(),
+            b"The quick brown fox jumps over the caf\xC3\xA9 = a place, and runs away from all of it.\n",
         )?;
     }
     Ok(bytes)
 }
 
-fn measure_base64(rt: &(impl Print + Clock), alloc: Global) -> Result<(), Fail> {
-    let bytes = mixed(alloc)?;
+fn measure_b64_encode(
+    rt: &(impl Print + Clock),
+    alloc: Global,
+    bytes: &[u8],
+) -> Result<Bytes, Fail> {
     let start = Instant::now(rt)?;
-    let text = b64_encode(alloc, bytes.as_slice())?;
-    let taken = start.elapsed(rt)?.as_micros();
-    println!(rt;
-        "b64_encode: {} bytes a second",
-        bytes_per_second(bytes.as_slice(), taken)
-    )?;
+    let text = b64_encode(alloc, bytes)?;
+    let taken = micros_since(rt, start)?;
+    tell_bytes(rt, "b64_encode", bytes, taken, text.len() as u64)?;
+    Ok(text)
+}
 
+fn measure_b64_decode(rt: &(impl Print + Clock), alloc: Global, text: &[u8]) -> Result<(), Fail> {
     let mut into = vec![in alloc; 0u8; text.len()]?;
     let start = Instant::now(rt)?;
-    let count = b64_decode(into.as_mut_slice(), text.as_slice());
-    let taken = start.elapsed(rt)?.as_micros();
-    println!(rt;
-        "b64_decode: {} bytes a second ({count})",
-        bytes_per_second(text.as_slice(), taken)
-    )?;
-    Ok(())
+    let count = b64_decode(into.as_mut_slice(), text);
+    let taken = micros_since(rt, start)?;
+    tell_bytes(rt, "b64_decode", text, taken, count as u64)
+}
+
+fn measure_base64(rt: &(impl Print + Clock), alloc: Global) -> Result<(), Fail> {
+    let bytes = mixed(alloc)?;
+    let text = measure_b64_encode(rt, alloc, bytes.as_slice())?;
+    measure_b64_decode(rt, alloc, text.as_slice())
+}
+
+fn measure_qp_encode(
+    rt: &(impl Print + Clock),
+    alloc: Global,
+    bytes: &[u8],
+) -> Result<Bytes, Fail> {
+    let start = Instant::now(rt)?;
+    let text = qp_encode(alloc, bytes)?;
+    let taken = micros_since(rt, start)?;
+    tell_bytes(rt, "qp_encode", bytes, taken, text.len() as u64)?;
+    Ok(text)
+}
+
+fn measure_qp_decode(rt: &(impl Print + Clock), alloc: Global, text: &[u8]) -> Result<(), Fail> {
+    let mut into = vec![in alloc; 0u8; text.len()]?;
+    let start = Instant::now(rt)?;
+    let count = qp_decode(into.as_mut_slice(), text);
+    let taken = micros_since(rt, start)?;
+    tell_bytes(rt, "qp_decode", text, taken, count as u64)
 }
 
 fn measure_quoted(rt: &(impl Print + Clock), alloc: Global) -> Result<(), Fail> {
     let bytes = prose(alloc)?;
-    let start = Instant::now(rt)?;
-    let text = qp_encode(alloc, bytes.as_slice())?;
-    let taken = start.elapsed(rt)?.as_micros();
-    println!(rt;
-        "qp_encode: {} bytes a second",
-        bytes_per_second(bytes.as_slice(), taken)
-    )?;
-
-    let mut into = vec![in alloc; 0u8; text.len()]?;
-    let start = Instant::now(rt)?;
-    let count = qp_decode(into.as_mut_slice(), text.as_slice());
-    let taken = start.elapsed(rt)?.as_micros();
-    println!(rt;
-        "qp_decode: {} bytes a second ({count})",
-        bytes_per_second(text.as_slice(), taken)
-    )?;
-
-    let start = Instant::now(rt)?;
-    let all = plain(text.as_slice());
-    let taken = start.elapsed(rt)?.as_micros();
-    println!(rt;
-        "plain read: {} bytes a second ({all})",
-        bytes_per_second(text.as_slice(), taken)
-    )?;
-    Ok(())
+    let text = measure_qp_encode(rt, alloc, bytes.as_slice())?;
+    measure_qp_decode(rt, alloc, text.as_slice())?;
+    measure_plain(rt, text.as_slice())
 }
 
 pub fn measure(rt: &(impl Print + Clock), alloc: Global) -> Result<(), Fail> {

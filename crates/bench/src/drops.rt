@@ -1,5 +1,5 @@
 // A drop of 50 megabytes, beside a plain read of its bytes.
-use crate::rates::{bytes_per_second, plain};
+use crate::rates::{micros_since, plain, tell_bytes};
 use mbox_drop::{DropCounter, DropCutter, MailDrop};
 use std::alloc::{AllocError, Global};
 use std::rt::Clock;
@@ -25,56 +25,75 @@ fn made(alloc: Global) -> Result<Vec<u8>, AllocError> {
     Ok(bytes)
 }
 
-fn measure_all(rt: &(impl Print + Clock), alloc: Global, bytes: &[u8]) -> Result<(), Fail> {
+/// A plain read, piece by piece.
+fn measure_pieces(rt: &(impl Print + Clock), bytes: &[u8]) -> Result<(), Fail> {
     let start = Instant::now(rt)?;
     let mut all: u8 = 0;
     for piece in bytes.chunks(PIECE) {
         all ^= plain(piece);
     }
-    let taken = start.elapsed(rt)?.as_micros();
-    println!(rt;
-        "plain read: {} bytes a second ({all})",
-        bytes_per_second(bytes, taken)
-    )?;
+    let taken = micros_since(rt, start)?;
+    tell_bytes(rt, "plain read", bytes, taken, u64::from(all))
+}
 
-    let start = Instant::now(rt)?;
-    let count = match MailDrop::cut(bytes) {
+/// How many messages the drop has.
+fn cut_count(bytes: &[u8]) -> usize {
+    match MailDrop::cut(bytes) {
         Ok(drop) => drop.messages().count(),
         Err(_) => 0,
-    };
-    let taken = start.elapsed(rt)?.as_micros();
-    println!(rt;
-        "MailDrop: {} bytes a second ({count})",
-        bytes_per_second(bytes, taken)
-    )?;
+    }
+}
 
+fn measure_cut(rt: &(impl Print + Clock), bytes: &[u8]) -> Result<(), Fail> {
     let start = Instant::now(rt)?;
+    let count = cut_count(bytes);
+    let taken = micros_since(rt, start)?;
+    tell_bytes(rt, "MailDrop", bytes, taken, count as u64)
+}
+
+/// How many messages the pieces have.
+fn counted(bytes: &[u8]) -> u64 {
     let mut counter = DropCounter::new();
     for piece in bytes.chunks(PIECE) {
         counter.feed(piece);
     }
-    let count = counter.end().unwrap_or(0);
-    let taken = start.elapsed(rt)?.as_micros();
-    println!(rt;
-        "DropCounter: {} bytes a second ({count})",
-        bytes_per_second(bytes, taken)
-    )?;
+    counter.end().unwrap_or(0)
+}
 
+fn measure_counter(rt: &(impl Print + Clock), bytes: &[u8]) -> Result<(), Fail> {
     let start = Instant::now(rt)?;
+    let count = counted(bytes);
+    let taken = micros_since(rt, start)?;
+    tell_bytes(rt, "DropCounter", bytes, taken, count)
+}
+
+/// How many messages a cutter gave of the pieces, the last left out.
+fn given(alloc: Global, bytes: &[u8]) -> Result<usize, Fail> {
     let mut cutter = DropCutter::new(alloc);
     let mut count: usize = 0;
     for piece in bytes.chunks(PIECE) {
         count = count.saturating_add(cutter.feed(piece)?.len());
     }
-    let taken = start.elapsed(rt)?.as_micros();
-    println!(rt;
-        "DropCutter: {} bytes a second ({count} and the last)",
-        bytes_per_second(bytes, taken)
-    )?;
-    Ok(())
+    Ok(count)
+}
+
+fn measure_cutter(rt: &(impl Print + Clock), alloc: Global, bytes: &[u8]) -> Result<(), Fail> {
+    let start = Instant::now(rt)?;
+    let count = given(alloc, bytes)?;
+    let taken = micros_since(rt, start)?;
+    tell_bytes(
+        rt,
+        "DropCutter, without the last",
+        bytes,
+        taken,
+        count as u64,
+    )
 }
 
 pub fn measure(rt: &(impl Print + Clock), alloc: Global) -> Result<(), Fail> {
     let bytes = made(alloc)?;
-    measure_all(rt, alloc, bytes.as_slice())
+    measure_pieces(rt, bytes.as_slice())?;
+    measure_cut(rt, bytes.as_slice())?;
+    measure_counter(rt, bytes.as_slice())?;
+    measure_cutter(rt, alloc, bytes.as_slice())
 }

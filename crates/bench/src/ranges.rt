@@ -1,6 +1,7 @@
 // Words that select messages in a folder of 999,999 messages, and in one of every second number; then long texts and many
 // words.
 use crate::long;
+use crate::rates::micros_since;
 use mh_base::{FolderName, MsgNum, Text, TextList};
 use mh_profile::Entries;
 use mh_sequences::{Mark, NumSet, Run, SeqName, Sequences};
@@ -34,18 +35,32 @@ fn alternating(alloc: Global) -> Result<NumSet, Fail> {
     Ok(set)
 }
 
+pub fn inbox(alloc: Global) -> Result<FolderName, Fail> {
+    let word = Text::from_str(alloc, "inbox")?;
+    Ok(FolderName::read(alloc, &word)?)
+}
+
+fn no_sequences(alloc: Global) -> Result<Sequences, Fail> {
+    let folder = inbox(alloc)?;
+    Ok(Sequences::read(alloc, b"", &Entries::new(alloc), &folder)?)
+}
+
 /// A folder whose sequence `todo` has these numbers.
 fn marked(alloc: Global, numbers: NumSet) -> Result<Sequences, Fail> {
-    let context = Entries::read(alloc, b"")?;
-    let folder = FolderName::read(alloc, &Text::from_str(alloc, "inbox")?)?;
-    let mut sequences = Sequences::read(alloc, b"", &context, &folder)?;
-    let name = SeqName::read(alloc, &Text::from_str(alloc, "todo")?)?;
-    sequences.apply(&Mark::Set {
-        name,
+    let mut sequences = no_sequences(alloc)?;
+    let mark = Mark::Set {
+        name: SeqName::read(alloc, &Text::from_str(alloc, "todo")?)?,
         numbers,
         public: None,
-    })?;
+    };
+    sequences.apply(&mark)?;
     Ok(sequences)
+}
+
+fn one_word(alloc: Global, word: &str) -> Result<TextList, Fail> {
+    let mut words = TextList::new(alloc);
+    words.push(Text::from_str(alloc, word)?)?;
+    Ok(words)
 }
 
 fn measure_word(
@@ -56,12 +71,12 @@ fn measure_word(
     sequences: &Sequences,
     word: &str,
 ) -> Result<(), Fail> {
-    let mut words = TextList::new(alloc);
-    words.push(Text::from_str(alloc, word)?)?;
+    let words = one_word(alloc, word)?;
     let start = Instant::now(rt)?;
     let set = select(alloc, &words, listing, sequences, b"")?;
-    let taken = start.elapsed(rt)?.as_micros();
-    println!(rt; "{what}, {word}: {taken} microseconds ({})", set.len())?;
+    let taken = micros_since(rt, start)?;
+    let found = set.len();
+    println!(rt; "{what}, {word}: {taken} microseconds ({found})")?;
     Ok(())
 }
 
@@ -78,12 +93,20 @@ fn measure_words(
     Ok(())
 }
 
-pub fn measure(rt: &(impl Print + Clock), alloc: Global) -> Result<(), Fail> {
+fn measure_whole(rt: &(impl Print + Clock), alloc: Global) -> Result<(), Fail> {
     let listing = whole(alloc)?;
     let sequences = marked(alloc, whole(alloc)?)?;
-    measure_words(rt, alloc, "one run", &listing, &sequences)?;
+    measure_words(rt, alloc, "one run", &listing, &sequences)
+}
+
+fn measure_alternating(rt: &(impl Print + Clock), alloc: Global) -> Result<(), Fail> {
     let listing = alternating(alloc)?;
     let sequences = marked(alloc, alternating(alloc)?)?;
-    measure_words(rt, alloc, "every second number", &listing, &sequences)?;
+    measure_words(rt, alloc, "every second number", &listing, &sequences)
+}
+
+pub fn measure(rt: &(impl Print + Clock), alloc: Global) -> Result<(), Fail> {
+    measure_whole(rt, alloc)?;
+    measure_alternating(rt, alloc)?;
     long::measure_all(rt, alloc)
 }

@@ -45,28 +45,59 @@ fn ask(alloc: Global, room: &mut Room, step: &Step) -> Result<bool, Fail> {
     Ok(matches!(room.act(alloc, RUN, step)?, Answer::Done))
 }
 
+/// A new file under a temporary name.
+fn create(alloc: Global, place: &Place, temp: &Name) -> Result<Step, Fail> {
+    let bytes = Bytes::from_slice(alloc, b"Subject: hello\n\nA message of a few words.\n")?;
+    let place = place.duplicate(alloc)?;
+    Ok(Step::Create(place, temp.duplicate(alloc)?, bytes))
+}
+
+fn sync_file(alloc: Global, place: &Place, temp: &Name) -> Result<Step, Fail> {
+    let place = place.duplicate(alloc)?;
+    Ok(Step::SyncFile(place, temp.duplicate(alloc)?))
+}
+
 fn link(alloc: Global, place: &Place, temp: &Name, number: MsgNum) -> Result<Step, Fail> {
-    Ok(Step::Link(
-        place.duplicate(alloc)?,
-        temp.duplicate(alloc)?,
-        entry_name(alloc, &Entry::Number(number))?,
-    ))
+    let name = entry_name(alloc, &Entry::Number(number))?;
+    let place = place.duplicate(alloc)?;
+    Ok(Step::Link(place, temp.duplicate(alloc)?, name))
+}
+
+fn unlink(alloc: Global, place: &Place, temp: &Name) -> Result<Step, Fail> {
+    let place = place.duplicate(alloc)?;
+    Ok(Step::Unlink(place, temp.duplicate(alloc)?))
+}
+
+/// The steps by which one message is put: the first, and so on to the fifth.
+fn step(alloc: Global, place: &Place, temp: &Name, number: MsgNum, nth: u32) -> Result<Step, Fail> {
+    match nth {
+        0 => create(alloc, place, temp),
+        1 => sync_file(alloc, place, temp),
+        2 => link(alloc, place, temp, number),
+        3 => unlink(alloc, place, temp),
+        _ => Ok(Step::SyncFolder(place.duplicate(alloc)?)),
+    }
+}
+
+/// Whether this step of them was answered Done.
+fn is_done(
+    alloc: Global,
+    room: &mut Room,
+    place: &Place,
+    temp: &Name,
+    number: MsgNum,
+    nth: u32,
+) -> Result<bool, Fail> {
+    let step = step(alloc, place, temp, number, nth)?;
+    ask(alloc, room, &step)
 }
 
 /// One message by five steps; how many were answered Done.
 fn put(alloc: Global, room: &mut Room, place: &Place, number: MsgNum) -> Result<u32, Fail> {
     let temp = entry_name(alloc, &Entry::Temp(RUN, u64::from(number.get())))?;
-    let bytes = Bytes::from_slice(alloc, b"Subject: hello\n\nA message of a few words.\n")?;
-    let steps = [
-        Step::Create(place.duplicate(alloc)?, temp.duplicate(alloc)?, bytes),
-        Step::SyncFile(place.duplicate(alloc)?, temp.duplicate(alloc)?),
-        link(alloc, place, &temp, number)?,
-        Step::Unlink(place.duplicate(alloc)?, temp),
-        Step::SyncFolder(place.duplicate(alloc)?),
-    ];
     let mut done = 0u32;
-    for step in &steps {
-        if ask(alloc, room, step)? {
+    for nth in 0..5 {
+        if is_done(alloc, room, place, &temp, number, nth)? {
             done = done.saturating_add(1);
         }
     }

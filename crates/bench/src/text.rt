@@ -1,6 +1,6 @@
 // Ten thousand values of From and of Date fields, as many subjects with encoded words, and long texts of beginnings of
 // words.
-use crate::rates::per_second;
+use crate::rates::{micros_since, tell_things};
 use mail_dates::MailDate;
 use mail_text::{Shown, decode_words};
 use mh_base::Text;
@@ -43,76 +43,110 @@ fn subject(alloc: Global, number: u64) -> Result<String, AllocError> {
     }
 }
 
-fn measure_addresses(rt: &(impl Print + Clock), alloc: Global) -> Result<(), Fail> {
+fn addresses(alloc: Global) -> Result<Vec<Text>, AllocError> {
     let mut values = Vec::new(alloc);
     for number in 0..COUNT {
-        values.push(Text::from_str(alloc, address(alloc, number)?.as_str())?)?;
+        let value = address(alloc, number)?;
+        values.push(Text::from_str(alloc, value.as_str())?)?;
     }
-    let start = Instant::now(rt)?;
+    Ok(values)
+}
+
+fn has_name(alloc: Global, value: &Text) -> Result<bool, AllocError> {
+    let shown = Shown::of_address(alloc, value)?;
+    let name = shown.friendly(alloc)?;
+    Ok(!name.as_str().is_empty())
+}
+
+/// How many of the addresses have a friendly name.
+fn count_named(alloc: Global, values: &[Text]) -> Result<u64, AllocError> {
     let mut named: u64 = 0;
-    for value in &values {
-        let shown = Shown::of_address(alloc, value)?;
-        if !shown.friendly(alloc)?.as_str().is_empty() {
+    for value in values {
+        if has_name(alloc, value)? {
             named = named.wrapping_add(1);
         }
     }
-    let taken = start.elapsed(rt)?.as_micros();
-    println!(rt;
-        "addresses: {} a second ({named})",
-        per_second(COUNT, taken)
-    )?;
-    Ok(())
+    Ok(named)
 }
 
-fn measure_dates(rt: &(impl Print + Clock), alloc: Global) -> Result<(), Fail> {
+fn measure_addresses(rt: &(impl Print + Clock), alloc: Global) -> Result<(), Fail> {
+    let values = addresses(alloc)?;
+    let start = Instant::now(rt)?;
+    let named = count_named(alloc, values.as_slice())?;
+    let taken = micros_since(rt, start)?;
+    tell_things(rt, "addresses", COUNT, taken, named)
+}
+
+fn dates(alloc: Global) -> Result<Vec<String>, AllocError> {
     let mut values = Vec::new(alloc);
     for number in 0..COUNT {
         values.push(date(alloc, number)?)?;
     }
-    let start = Instant::now(rt)?;
+    Ok(values)
+}
+
+/// How many of the texts are dates.
+fn count_dates(values: &[String]) -> u64 {
     let mut read: u64 = 0;
-    for value in &values {
+    for value in values {
         if MailDate::read(value.as_bytes()).is_some() {
             read = read.wrapping_add(1);
         }
     }
-    let taken = start.elapsed(rt)?.as_micros();
-    println!(rt; "dates: {} a second ({read})", per_second(COUNT, taken))?;
-    Ok(())
+    read
+}
+
+fn measure_dates(rt: &(impl Print + Clock), alloc: Global) -> Result<(), Fail> {
+    let values = dates(alloc)?;
+    let start = Instant::now(rt)?;
+    let read = count_dates(values.as_slice());
+    let taken = micros_since(rt, start)?;
+    tell_things(rt, "dates", COUNT, taken, read)
+}
+
+fn subjects(alloc: Global) -> Result<Vec<Text>, AllocError> {
+    let mut values = Vec::new(alloc);
+    for number in 0..COUNT {
+        let value = subject(alloc, number)?;
+        values.push(Text::from_str(alloc, value.as_str())?)?;
+    }
+    Ok(values)
+}
+
+/// How many bytes the decoded texts have.
+fn count_decoded(alloc: Global, values: &[Text]) -> Result<u64, AllocError> {
+    let mut bytes: u64 = 0;
+    for value in values {
+        let line = decode_words(alloc, value)?;
+        bytes = bytes.wrapping_add(line.as_str().len() as u64);
+    }
+    Ok(bytes)
 }
 
 fn measure_subjects(rt: &(impl Print + Clock), alloc: Global) -> Result<(), Fail> {
-    let mut values = Vec::new(alloc);
-    for number in 0..COUNT {
-        values.push(Text::from_str(alloc, subject(alloc, number)?.as_str())?)?;
-    }
+    let values = subjects(alloc)?;
     let start = Instant::now(rt)?;
-    let mut bytes: usize = 0;
-    for value in &values {
-        bytes = bytes.wrapping_add(decode_words(alloc, value)?.as_str().len());
-    }
-    let taken = start.elapsed(rt)?.as_micros();
-    println!(rt;
-        "subjects: {} a second ({bytes} bytes)",
-        per_second(COUNT, taken)
-    )?;
-    Ok(())
+    let bytes = count_decoded(alloc, values.as_slice())?;
+    let taken = micros_since(rt, start)?;
+    tell_things(rt, "subjects, and their bytes", COUNT, taken, bytes)
 }
 
 /// A long run of beginnings of words, none of which ends, of so many characters.
-fn measure_beginnings(rt: &(impl Print + Clock), alloc: Global, count: usize) -> Result<(), Fail> {
+fn beginnings(alloc: Global, count: usize) -> Result<Text, AllocError> {
     let mut text = String::new(alloc);
     for _ in 0..count / 10 {
         text.push_str("=?UTF-8?Q?")?;
     }
-    let text = Text::from_str(alloc, text.as_str())?;
+    Text::from_str(alloc, text.as_str())
+}
+
+fn measure_beginnings(rt: &(impl Print + Clock), alloc: Global, count: usize) -> Result<(), Fail> {
+    let text = beginnings(alloc, count)?;
     let start = Instant::now(rt)?;
     let line = decode_words(alloc, &text)?;
-    let taken = start.elapsed(rt)?.as_micros();
-    println!(rt;
-        "{} characters of beginnings without an end: {taken} microseconds",
-        line.as_str().len()
-    )?;
+    let taken = micros_since(rt, start)?;
+    let left = line.as_str().len();
+    println!(rt; "{left} characters of beginnings without an end: {taken} microseconds")?;
     Ok(())
 }
 
