@@ -5,8 +5,6 @@ mod held;
 mod homing;
 mod pairs;
 mod putting_back;
-#[cfg(test)]
-mod tests;
 
 pub use held::HeldPair;
 pub use pairs::held_pairs;

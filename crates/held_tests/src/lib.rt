@@ -8,4 +8,6 @@ mod crashes;
 #[cfg(test)]
 mod given;
 #[cfg(test)]
+mod pairs;
+#[cfg(test)]
 mod places;

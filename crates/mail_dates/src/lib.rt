@@ -13,8 +13,6 @@ mod outside;
 mod picking;
 mod reading;
 mod showing;
-#[cfg(test)]
-mod tests;
 mod time;
 mod word;
 mod written;

@@ -11,8 +11,6 @@ mod marks;
 mod parts;
 mod shown_bytes;
 mod stripping;
-#[cfg(test)]
-mod tests;
 
 pub use address::Shown;
 pub use encoded_words::decode_words;

@@ -17,6 +17,3 @@ pub use counter::DropCounter;
 pub use cutter::DropCutter;
 pub use fault::{CutFault, NotADrop};
 pub use mail_drop::{MailDrop, Slices};
-
-#[cfg(test)]
-mod tests;

@@ -7,8 +7,6 @@ mod key;
 mod lines;
 mod named_value;
 mod printing;
-#[cfg(test)]
-mod tests;
 mod valid;
 
 pub use entries::Entries;

@@ -20,8 +20,6 @@ mod runs;
 mod seq_name;
 mod sequences;
 mod stretch;
-#[cfg(test)]
-mod tests;
 mod user;
 
 pub use join::Join;

@@ -8,8 +8,6 @@ mod line;
 mod lookup;
 mod reading;
 mod table;
-#[cfg(test)]
-mod tests;
 
 pub use fault::WordFault;
 pub use item::{Item, ItemList, Words};

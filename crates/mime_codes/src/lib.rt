@@ -8,8 +8,6 @@ mod piece;
 mod qp_decoding;
 mod qp_encoding;
 mod symbols;
-#[cfg(test)]
-mod tests;
 
 pub use b64_decoding::b64_decode;
 pub use b64_encoding::b64_encode;

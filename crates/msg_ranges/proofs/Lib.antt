@@ -1,4 +1,4 @@
-mod Answering
+pub mod Answering
 mod Cutting
 mod Digits
 mod Forming

@@ -10,14 +10,10 @@ mod halves;
 mod members;
 mod names;
 mod naming;
-#[cfg(test)]
-mod plain;
 mod ranges;
 mod selecting;
 mod sets;
 mod spec;
-#[cfg(test)]
-mod tests;
 mod walk;
 
 pub use fault::SelectFault;

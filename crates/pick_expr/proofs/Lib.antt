@@ -3,7 +3,7 @@ mod ClassLemmas
 mod DateLemmas
 mod ElementLemmas
 mod FinishLemmas
-mod FitLemmas
+pub mod FitLemmas
 mod GrammarLemmas
 mod LineLemmas
 mod PlaceLemmas

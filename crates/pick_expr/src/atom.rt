@@ -22,7 +22,8 @@ fn matches_byte(wanted: u8, byte: u8) -> bool
 }
 
 impl Atom {
-    pub(crate) fn admits(&self, byte: u8) -> bool
+    /// Whether it stands for this byte.
+    pub fn admits(&self, byte: u8) -> bool
         ensures { result ≡ admits_byte self.now byte }
     {
         match self {

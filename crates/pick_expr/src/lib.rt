@@ -7,8 +7,6 @@ mod class;
 mod element;
 mod elements;
 mod expr;
-#[cfg(test)]
-mod expr_tests;
 mod fault;
 mod frame;
 mod halves;
@@ -18,11 +16,7 @@ mod matching;
 mod member;
 mod one_test;
 mod pattern;
-#[cfg(test)]
-mod pattern_tests;
 mod places;
-#[cfg(test)]
-mod plain;
 mod sign;
 mod spot;
 mod stack;

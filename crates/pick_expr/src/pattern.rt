@@ -74,22 +74,22 @@ impl Pattern {
         }
     }
 
-    #[cfg(test)]
-    pub(crate) fn elements(&self) -> &[Element]
+    /// Its atoms with their stars.
+    pub fn elements(&self) -> &[Element]
         ensures { result.now ≡ self.now.elements }
     {
         self.elements.as_slice()
     }
 
-    #[cfg(test)]
-    pub(crate) fn is_from_start(&self) -> bool
+    /// Whether the piece is to stand at the line's start.
+    pub fn is_from_start(&self) -> bool
         ensures { result ≡ self.now.from_start }
     {
         self.from_start
     }
 
-    #[cfg(test)]
-    pub(crate) fn is_to_end(&self) -> bool
+    /// Whether the piece is to stand at the line's end.
+    pub fn is_to_end(&self) -> bool
         ensures { result ≡ self.now.to_end }
     {
         self.to_end

@@ -1,5 +1,0 @@
-use Rattle.std.proofs.Common.{◌+◌, length}
-use Rattle.pick_expr.proofs.plain.+fits.Given as goal
-
-abbrev pub decreases-fits : goal.decreases-fits
-decreases-fits l = length l.elements.now + length l.line.now
