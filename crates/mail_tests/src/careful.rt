@@ -3,7 +3,6 @@
 use folder_files::{After, Answer, Event, FilePath, History, Place, Step, may_step};
 use mh_base::{Bytes, FolderName, Name, Text};
 use std::alloc::Global;
-use std::process::Abort;
 
 const RUN: u128 = 7;
 
@@ -242,13 +241,27 @@ fn answer(alloc: Global, letter: u8) -> Option<Answer> {
     }
 }
 
-fn event(alloc: Global, run: u128, letter: u8) -> Option<Event> {
-    Some(Event::Act {
+fn made(run: u128, step: Step, answer: Answer) -> Event {
+    Event::Act {
         run,
-        step: step(alloc, letter)?,
-        answer: answer(alloc, letter)?,
+        step,
+        answer,
         after: After::Made,
-    })
+    }
+}
+
+fn answered(run: u128, step: Step, answer: Option<Answer>) -> Option<Event> {
+    match answer {
+        Some(answer) => Some(made(run, step, answer)),
+        None => None,
+    }
+}
+
+fn event(alloc: Global, run: u128, letter: u8) -> Option<Event> {
+    match step(alloc, letter) {
+        Some(step) => answered(run, step, answer(alloc, letter)),
+        None => None,
+    }
 }
 
 fn history(alloc: Global, run: u128, letters: &[u8]) -> Option<History> {
@@ -265,114 +278,140 @@ fn verdict(alloc: Global, run: u128, past: &[u8], next: u8) -> Option<bool> {
     may_step(alloc, &events, RUN, &step(alloc, next)?).ok()
 }
 
-fn may(rt: &(impl Abort + AllocGlobal), past: &[u8], next: u8) -> bool {
-    verdict(rt.alloc(), RUN, past, next) == Some(true)
-}
+/// The steps that run 7 has made, the next one, and whether it may make it.
+type Case<'a> = (&'a [u8], u8, bool);
 
-fn may_not(rt: &(impl Abort + AllocGlobal), past: &[u8], next: u8) -> bool {
-    verdict(rt.alloc(), RUN, past, next) == Some(false)
+/// The place of the first case that is not answered so.
+fn first_wrong(alloc: Global, cases: &[Case]) -> Option<usize> {
+    cases.iter().position(|(past, next, may)| verdict(alloc, RUN, past, *next) != Some(*may))
 }
 
 #[test]
 fn looks_and_folders(rt: HostRuntime) {
-    assert!(rt; may(&rt, b"z", b'd'));
-    assert!(rt; may(&rt, b"z", b'o'));
-    assert!(rt; may(&rt, b"z", b's'));
-    assert!(rt; may(&rt, b"", b'I'));
-    assert!(rt; may_not(&rt, b"z", b'I'));
+    let cases: &[Case] = &[
+        (b"z", b'd', true),
+        (b"z", b'o', true),
+        (b"z", b's', true),
+        (b"", b'I', true),
+        (b"z", b'I', false),
+    ];
+    assert_eq!(rt; first_wrong(rt.alloc(), cases), None);
 }
 
 #[test]
 fn creates(rt: HostRuntime) {
-    assert!(rt; may(&rt, b"", b'a'));
-    assert!(rt; may(&rt, b"L", b'a'));
-    assert!(rt; may_not(&rt, b"a", b'a'));
-    assert!(rt; may_not(&rt, b"", b'A'));
-    assert!(rt; may_not(&rt, b"", b'G'));
-    assert!(rt; may_not(&rt, b"z", b'a'));
+    let cases: &[Case] = &[
+        (b"", b'a', true),
+        (b"L", b'a', true),
+        (b"a", b'a', false),
+        (b"", b'A', false),
+        (b"", b'G', false),
+        (b"z", b'a', false),
+    ];
+    assert_eq!(rt; first_wrong(rt.alloc(), cases), None);
 }
 
 #[test]
 fn puts(rt: HostRuntime) {
-    assert!(rt; may(&rt, b"ab", b'c'));
-    assert!(rt; may_not(&rt, b"a", b'c'));
-    assert!(rt; may_not(&rt, b"ba", b'c'));
-    assert!(rt; may_not(&rt, b"abz", b'c'));
-    assert!(rt; may_not(&rt, b"ab", b'B'));
+    let cases: &[Case] = &[
+        (b"ab", b'c', true),
+        (b"a", b'c', false),
+        (b"ba", b'c', false),
+        (b"abz", b'c', false),
+        (b"ab", b'B', false),
+    ];
+    assert_eq!(rt; first_wrong(rt.alloc(), cases), None);
 }
 
 #[test]
 fn gives_takes_and_removes(rt: HostRuntime) {
-    assert!(rt; may(&rt, b"f", b'h'));
-    assert!(rt; may(&rt, b"", b'H'));
-    assert!(rt; may(&rt, b"", b'f'));
-    assert!(rt; may_not(&rt, b"f", b'f'));
-    assert!(rt; may(&rt, b"", b'C'));
-    assert!(rt; may(&rt, b"", b'D'));
-    assert!(rt; may_not(&rt, b"", b'E'));
+    let cases: &[Case] = &[
+        (b"f", b'h', true),
+        (b"", b'H', true),
+        (b"", b'f', true),
+        (b"f", b'f', false),
+        (b"", b'C', true),
+        (b"", b'D', true),
+        (b"", b'E', false),
+    ];
+    assert_eq!(rt; first_wrong(rt.alloc(), cases), None);
 }
 
 #[test]
 fn drops(rt: HostRuntime) {
-    assert!(rt; may(&rt, b"fhd", b'i'));
-    assert!(rt; may_not(&rt, b"fh", b'i'));
-    assert!(rt; may_not(&rt, b"fdh", b'i'));
-    assert!(rt; may_not(&rt, b"fhm", b'i'));
+    let cases: &[Case] = &[
+        (b"fhd", b'i', true),
+        (b"fh", b'i', false),
+        (b"fdh", b'i', false),
+        (b"fhm", b'i', false),
+    ];
+    assert_eq!(rt; first_wrong(rt.alloc(), cases), None);
 }
 
 #[test]
 fn discards(rt: HostRuntime) {
-    assert!(rt; may(&rt, b"fgjklm", b'i'));
-    assert!(rt; may_not(&rt, b"fgjkl", b'i'));
-    assert!(rt; may_not(&rt, b"fgjkml", b'i'));
-    assert!(rt; may_not(&rt, b"fgnklm", b'i'));
-    assert!(rt; may_not(&rt, b"fjgklm", b'i'));
-    assert!(rt; may_not(&rt, b"gjklm", b'i'));
-    assert!(rt; may_not(&rt, b"fgjklmg", b'i'));
-    assert!(rt; may_not(&rt, b"fg", b'i'));
+    let cases: &[Case] = &[
+        (b"fgjklm", b'i', true),
+        (b"fgjkl", b'i', false),
+        (b"fgjkml", b'i', false),
+        (b"fgnklm", b'i', false),
+        (b"fjgklm", b'i', false),
+        (b"gjklm", b'i', false),
+        (b"fgjklmg", b'i', false),
+        (b"fg", b'i', false),
+    ];
+    assert_eq!(rt; first_wrong(rt.alloc(), cases), None);
 }
 
 #[test]
 fn commits(rt: HostRuntime) {
-    assert!(rt; may(&rt, b"oqab", b'r'));
-    assert!(rt; may(&rt, b"oQab", b'r'));
-    assert!(rt; may_not(&rt, b"qab", b'r'));
-    assert!(rt; may_not(&rt, b"qoab", b'r'));
-    assert!(rt; may_not(&rt, b"oqabp", b'r'));
-    assert!(rt; may_not(&rt, b"oqa", b'r'));
-    assert!(rt; may(&rt, b"UVWX", b'Y'));
-    assert!(rt; may_not(&rt, b"VWX", b'Y'));
+    let cases: &[Case] = &[
+        (b"oqab", b'r', true),
+        (b"oQab", b'r', true),
+        (b"qab", b'r', false),
+        (b"qoab", b'r', false),
+        (b"oqabp", b'r', false),
+        (b"oqa", b'r', false),
+        (b"UVWX", b'Y', true),
+        (b"VWX", b'Y', false),
+    ];
+    assert_eq!(rt; first_wrong(rt.alloc(), cases), None);
 }
 
 #[test]
 fn clears(rt: HostRuntime) {
-    assert!(rt; may(&rt, b"", b'e'));
-    assert!(rt; may(&rt, b"", b'F'));
-    assert!(rt; may_not(&rt, b"", b'i'));
+    let cases: &[Case] = &[(b"", b'e', true), (b"", b'F', true), (b"", b'i', false)];
+    assert_eq!(rt; first_wrong(rt.alloc(), cases), None);
 }
 
 #[test]
 fn cuts(rt: HostRuntime) {
-    assert!(rt; may(&rt, b"sabcwxyd", b't'));
-    assert!(rt; may(&rt, b"RSabcwxyd", b't'));
-    assert!(rt; may_not(&rt, b"sabcwxyd", b'u'));
-    assert!(rt; may_not(&rt, b"sabcd", b't'));
-    assert!(rt; may_not(&rt, b"sabcdwxy", b't'));
-    assert!(rt; may_not(&rt, b"swxyabcd", b't'));
-    assert!(rt; may_not(&rt, b"abcwxyds", b't'));
-    assert!(rt; may_not(&rt, b"Rabcwxyd", b't'));
-    assert!(rt; may(&rt, b"TabcZxyd", b't'));
-    assert!(rt; may_not(&rt, b"Tabcvd", b't'));
+    let cases: &[Case] = &[
+        (b"sabcwxyd", b't', true),
+        (b"RSabcwxyd", b't', true),
+        (b"sabcwxyd", b'u', false),
+        (b"sabcd", b't', false),
+        (b"sabcdwxy", b't', false),
+        (b"swxyabcd", b't', false),
+        (b"abcwxyds", b't', false),
+        (b"Rabcwxyd", b't', false),
+        (b"TabcZxyd", b't', true),
+        (b"Tabcvd", b't', false),
+    ];
+    assert_eq!(rt; first_wrong(rt.alloc(), cases), None);
 }
 
 #[test]
 fn stores_files(rt: HostRuntime) {
-    assert!(rt; may(&rt, b"LM", b'N'));
-    assert!(rt; may(&rt, b"LM", b'O'));
-    assert!(rt; may_not(&rt, b"L", b'N'));
-    assert!(rt; may_not(&rt, b"LM", b'P'));
-    assert!(rt; may(&rt, b"", b'J'));
-    assert!(rt; may_not(&rt, b"", b'K'));
+    let cases: &[Case] = &[
+        (b"LM", b'N', true),
+        (b"LM", b'O', true),
+        (b"L", b'N', false),
+        (b"LM", b'P', false),
+        (b"", b'J', true),
+        (b"", b'K', false),
+    ];
+    assert_eq!(rt; first_wrong(rt.alloc(), cases), None);
 }
 
 #[test]

@@ -284,15 +284,24 @@ pub fn open(rt: &HostRuntime, home: &str) -> Result<HostFiles, Fail> {
     Ok(HostFiles::open(rt.clone()?, rt.alloc(), home)?)
 }
 
+fn deep_inbox(alloc: Global) -> Result<Place, Fail> {
+    let word = Text::from_str(alloc, "+inbox/deep")?;
+    let deep = FolderName::read(alloc, &word)?;
+    Ok(Place::Folder(bytes_of(alloc, b"Mail/a")?, deep))
+}
+
+fn changes(rt: &(impl Abort + AllocGlobal), files: &mut HostFiles) -> Result<(), Fail> {
+    let inbox = deep_inbox(rt.alloc())?;
+    making(rt, files, &inbox)?;
+    changing(rt, files, &inbox)?;
+    renaming(rt, files, &inbox)
+}
+
 #[test]
 fn changes_of_a_folder(rt: HostRuntime) -> Result<(), Fail> {
     let home = new_home(&rt)?;
     let mut files = open(&rt, home.as_str())?;
-    let deep = FolderName::read(rt.alloc(), &Text::from_str(rt.alloc(), "+inbox/deep")?)?;
-    let inbox = Place::Folder(bytes_of(rt.alloc(), b"Mail/a")?, deep);
-    making(&rt, &mut files, &inbox)?;
-    changing(&rt, &mut files, &inbox)?;
-    renaming(&rt, &mut files, &inbox)?;
+    changes(&rt, &mut files)?;
     fs::remove_dir_all(&rt, home.as_str())?;
     Ok(())
 }

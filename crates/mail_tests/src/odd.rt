@@ -54,6 +54,20 @@ fn numbered_folder(
     Ok(())
 }
 
+fn one_folder(
+    rt: &(impl Abort + AllocGlobal),
+    files: &mut HostFiles,
+    others: &mut HostFiles,
+    odd: &Place,
+    plain: &Place,
+) -> Result<(), Fail> {
+    assert!(rt; !is_made(rt, files, odd)?);
+    assert!(rt; is_locked(rt, RUN, files, plain)?);
+    assert!(rt; is_locked(rt, RUN, files, plain)?);
+    assert!(rt; !is_locked(rt, 2, others, odd)?);
+    Ok(())
+}
+
 /// The same folder by paths with more slashes, and its lock twice.
 fn slashes_and_locks(
     rt: &(impl Abort + AllocGlobal),
@@ -62,11 +76,7 @@ fn slashes_and_locks(
 ) -> Result<(), Fail> {
     let odd = folder(rt.alloc(), b".//Mail//", "inbox")?;
     let plain = folder(rt.alloc(), b"Mail", "inbox")?;
-    assert!(rt; !is_made(rt, files, &odd)?);
-    assert!(rt; is_locked(rt, RUN, files, &plain)?);
-    assert!(rt; is_locked(rt, RUN, files, &plain)?);
-    assert!(rt; !is_locked(rt, 2, others, &odd)?);
-    Ok(())
+    one_folder(rt, files, others, &odd, &plain)
 }
 
 /// A device would be read for ever.
@@ -86,19 +96,39 @@ fn syncs(rt: &HostRuntime, path: &str) -> Result<bool, Fail> {
     Ok(File::open(rt, path)?.sync_all().is_ok())
 }
 
+/// Whether a folder of the system that is there isn't answered for.
+fn is_not_answered(rt: &impl AllocGlobal, files: &mut HostFiles) -> Result<bool, Fail> {
+    let other = folder(rt.alloc(), b"/proc/self", "fd")?;
+    Ok(ask_make_folder(rt.alloc(), RUN, files, &other).is_err())
+}
+
+fn makes_once(rt: &(impl Abort + AllocGlobal), files: &mut HostFiles) -> Result<(), Fail> {
+    let inbox = folder(rt.alloc(), b"Mail", "inbox")?;
+    assert!(rt; is_made(rt, files, &inbox)?);
+    assert!(rt; !is_made(rt, files, &inbox)?);
+    Ok(())
+}
+
 /// A folder that was there is answered for only once the directory above it is safe.
 #[test]
 fn made_folders_are_safe(rt: HostRuntime) -> Result<(), Fail> {
     let home = new_home(&rt)?;
     let mut files = open(&rt, home.as_str())?;
-    let inbox = folder(rt.alloc(), b"Mail", "inbox")?;
-    assert!(rt; is_made(&rt, &mut files, &inbox)?);
-    assert!(rt; !is_made(&rt, &mut files, &inbox)?);
-    let other = folder(rt.alloc(), b"/proc/self", "fd")?;
-    let made = ask_make_folder(rt.alloc(), RUN, &mut files, &other);
-    assert!(rt; made.is_err() || syncs(&rt, "/proc/self")?);
+    makes_once(&rt, &mut files)?;
+    assert!(rt; is_not_answered(&rt, &mut files)? || syncs(&rt, "/proc/self")?);
     fs::remove_dir_all(&rt, home.as_str())?;
     Ok(())
+}
+
+fn all_odd(
+    rt: &(impl Abort + AllocGlobal),
+    files: &mut HostFiles,
+    others: &mut HostFiles,
+) -> Result<(), Fail> {
+    let inbox = folder(rt.alloc(), b"Mail", "inbox")?;
+    two_names(rt, files, &inbox)?;
+    numbered_folder(rt, files, &inbox)?;
+    slashes_and_locks(rt, files, others)
 }
 
 #[test]
@@ -106,10 +136,7 @@ fn odd_names(rt: HostRuntime) -> Result<(), Fail> {
     let home = new_home(&rt)?;
     let mut files = open(&rt, home.as_str())?;
     let mut others = open(&rt, home.as_str())?;
-    let inbox = folder(rt.alloc(), b"Mail", "inbox")?;
-    two_names(&rt, &mut files, &inbox)?;
-    numbered_folder(&rt, &mut files, &inbox)?;
-    slashes_and_locks(&rt, &mut files, &mut others)?;
+    all_odd(&rt, &mut files, &mut others)?;
     fs::remove_dir_all(&rt, home.as_str())?;
     Ok(())
 }
