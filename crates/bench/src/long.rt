@@ -2,7 +2,7 @@
 use crate::ranges::number;
 use mh_base::{Bytes, FolderName, MsgNum, Text, TextList};
 use mh_profile::Entries;
-use mh_sequences::{Mark, NumSet, Pair, PairList, SeqName, Sequences};
+use mh_sequences::{Join, Mark, NumSet, Pair, PairList, Pile, Run, Sequences};
 use msg_ranges::select;
 use std::alloc::Global;
 use std::rt::Clock;
@@ -19,12 +19,15 @@ enum Case {
     ManyPrivateNames,
     InsertDescending,
     RemoveAscending,
+    RemoveTogether,
     AtEachPlace,
     MoveAll,
     CutManyNames,
     SelectAscending,
     SelectMixed,
+    SelectLast,
     RemoveEntries,
+    RemoveEntriesTogether,
 }
 
 impl Case {
@@ -35,14 +38,17 @@ impl Case {
             Case::OneNameManyFields => "fields of one name",
             Case::ManyNames => "public names",
             Case::ManyPrivateNames => "private names beside public ones",
-            Case::InsertDescending => "inserts in descending order",
-            Case::RemoveAscending => "removals in ascending order",
+            Case::InsertDescending => "inserts one by one, in descending order",
+            Case::RemoveAscending => "removals one by one, in ascending order",
+            Case::RemoveTogether => "removals at once, in mixed order",
             Case::AtEachPlace => "the number at each place",
             Case::MoveAll => "pairs of a move",
             Case::CutManyNames => "names cut to a listing",
             Case::SelectAscending => "words in ascending order",
             Case::SelectMixed => "words in mixed order",
+            Case::SelectLast => "words for the last two",
             Case::RemoveEntries => "entries removed one by one",
+            Case::RemoveEntriesTogether => "entries removed at once",
         }
     }
 }
@@ -113,11 +119,11 @@ fn private_names(alloc: Global, count: u32) -> Result<Entries, Fail> {
 fn words(alloc: Global, case: Case, count: u32) -> Result<TextList, Fail> {
     let mut words = TextList::new(alloc);
     for index in 0..count {
-        let place = match case {
-            Case::SelectAscending => index,
-            _ => mixed(index, count),
+        let word = match case {
+            Case::SelectAscending => format!(in alloc; "{}", odd(index)?.get())?,
+            Case::SelectLast => String::from_str(alloc, "last:2")?,
+            _ => format!(in alloc; "{}", odd(mixed(index, count))?.get())?,
         };
-        let word = format!(in alloc; "{}", odd(place)?.get())?;
         words.push(Text::from_str(alloc, word.as_str())?)?;
     }
     Ok(words)
@@ -152,6 +158,18 @@ fn remove(rt: &impl Clock, alloc: Global, count: u32) -> Result<(u128, u64), Fai
         set.remove(odd(index)?)?;
     }
     Ok((start.elapsed(rt)?.as_micros(), set.runs()))
+}
+
+fn remove_together(rt: &impl Clock, alloc: Global, count: u32) -> Result<(u128, u64), Fail> {
+    let set = scattered(alloc, count)?;
+    let start = Instant::now(rt)?;
+    let mut gone = Pile::new(alloc);
+    for index in 0..count {
+        let n = odd(mixed(index, count))?;
+        gone.add_run(Run { from: n, to: n })?;
+    }
+    let left = set.join(alloc, &gone.into_set()?, Join::FirstAlone)?;
+    Ok((start.elapsed(rt)?.as_micros(), left.runs()))
 }
 
 fn visit(rt: &impl Clock, alloc: Global, count: u32) -> Result<(u128, u64), Fail> {
@@ -219,6 +237,25 @@ fn remove_entries(rt: &impl Clock, alloc: Global, count: u32) -> Result<(u128, u
     Ok((start.elapsed(rt)?.as_micros(), entries.len()))
 }
 
+fn remove_entries_together(
+    rt: &impl Clock,
+    alloc: Global,
+    count: u32,
+) -> Result<(u128, u64), Fail> {
+    let mut entries = private_names(alloc, count)?;
+    let mut texts = Vec::new(alloc);
+    for index in 0..count {
+        texts.push(format!(in alloc; "atr-p{}-inbox", index)?)?;
+    }
+    let start = Instant::now(rt)?;
+    let mut names = Vec::new(alloc);
+    for text in &texts {
+        names.push(text.as_bytes())?;
+    }
+    entries.remove_all(&names)?;
+    Ok((start.elapsed(rt)?.as_micros(), entries.len()))
+}
+
 /// How many microseconds a case takes with so many items, and what comes out of it.
 fn run(rt: &impl Clock, alloc: Global, case: Case, count: u32) -> Result<(u128, u64), Fail> {
     match case {
@@ -236,11 +273,15 @@ fn run(rt: &impl Clock, alloc: Global, case: Case, count: u32) -> Result<(u128, 
         }
         Case::InsertDescending => insert(rt, alloc, count),
         Case::RemoveAscending => remove(rt, alloc, count),
+        Case::RemoveTogether => remove_together(rt, alloc, count),
         Case::AtEachPlace => visit(rt, alloc, count),
         Case::MoveAll => move_all(rt, alloc, count),
         Case::CutManyNames => cut(rt, alloc, count),
-        Case::SelectAscending | Case::SelectMixed => select_words(rt, alloc, case, count),
+        Case::SelectAscending | Case::SelectMixed | Case::SelectLast => {
+            select_words(rt, alloc, case, count)
+        }
         Case::RemoveEntries => remove_entries(rt, alloc, count),
+        Case::RemoveEntriesTogether => remove_entries_together(rt, alloc, count),
     }
 }
 
@@ -281,12 +322,15 @@ pub(crate) fn measure_all(rt: &(impl Print + Clock), alloc: Global) -> Result<()
         Case::ManyPrivateNames,
         Case::InsertDescending,
         Case::RemoveAscending,
+        Case::RemoveTogether,
         Case::AtEachPlace,
         Case::MoveAll,
         Case::CutManyNames,
         Case::SelectAscending,
         Case::SelectMixed,
+        Case::SelectLast,
         Case::RemoveEntries,
+        Case::RemoveEntriesTogether,
     ];
     for case in cases {
         measure(rt, alloc, case)?;
