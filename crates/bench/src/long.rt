@@ -3,7 +3,7 @@ use crate::ranges::{inbox, number};
 use crate::rates::micros_since;
 use mh_base::{MsgNum, Text, TextList};
 use mh_profile::Entries;
-use mh_sequences::{Mark, NumSet, Pair, PairList, Sequences};
+use mh_sequences::{Join, Mark, NumSet, Pair, PairList, Pile, Run, Sequences};
 use msg_ranges::select;
 use std::alloc::Global;
 use std::rt::Clock;
@@ -20,12 +20,15 @@ enum Case {
     ManyPrivateNames,
     InsertDescending,
     RemoveAscending,
+    RemoveTogether,
     AtEachPlace,
     MoveAll,
     CutManyNames,
     SelectAscending,
     SelectMixed,
+    SelectLast,
     RemoveEntries,
+    RemoveEntriesTogether,
 }
 
 impl Case {
@@ -36,14 +39,17 @@ impl Case {
             Case::OneNameManyFields => "fields of one name",
             Case::ManyNames => "public names",
             Case::ManyPrivateNames => "private names beside public ones",
-            Case::InsertDescending => "inserts in descending order",
-            Case::RemoveAscending => "removals in ascending order",
+            Case::InsertDescending => "inserts one by one, in descending order",
+            Case::RemoveAscending => "removals one by one, in ascending order",
+            Case::RemoveTogether => "removals at once, in mixed order",
             Case::AtEachPlace => "the number at each place",
             Case::MoveAll => "pairs of a move",
             Case::CutManyNames => "names cut to a listing",
             Case::SelectAscending => "words in ascending order",
             Case::SelectMixed => "words in mixed order",
+            Case::SelectLast => "words for the last two",
             Case::RemoveEntries => "entries removed one by one",
+            Case::RemoveEntriesTogether => "entries removed at once",
         }
     }
 }
@@ -136,10 +142,17 @@ fn word(alloc: Global, place: u32) -> Result<Text, Fail> {
     Ok(Text::from_str(alloc, word.as_str())?)
 }
 
+fn word_in(alloc: Global, case: Case, index: u32, count: u32) -> Result<Text, Fail> {
+    match case {
+        Case::SelectLast => Ok(Text::from_str(alloc, "last:2")?),
+        _ => word(alloc, place_in(case, index, count)),
+    }
+}
+
 fn words(alloc: Global, case: Case, count: u32) -> Result<TextList, Fail> {
     let mut words = TextList::new(alloc);
     for index in 0..count {
-        words.push(word(alloc, place_in(case, index, count))?)?;
+        words.push(word_in(alloc, case, index, count)?)?;
     }
     Ok(words)
 }
@@ -193,6 +206,28 @@ fn remove(rt: &impl Clock, alloc: Global, count: u32) -> Result<(u128, u64), Fai
     let start = Instant::now(rt)?;
     remove_all(&mut set, count)?;
     Ok((micros_since(rt, start)?, set.runs()))
+}
+
+/// Numbers in a mixed order.
+fn mixed_pile(alloc: Global, count: u32) -> Result<Pile, Fail> {
+    let mut pile = Pile::new(alloc);
+    for index in 0..count {
+        let n = odd(mixed(index, count))?;
+        pile.add_run(Run { from: n, to: n })?;
+    }
+    Ok(pile)
+}
+
+fn removed_together(alloc: Global, set: &NumSet, count: u32) -> Result<NumSet, Fail> {
+    let gone = mixed_pile(alloc, count)?.into_set()?;
+    Ok(set.join(alloc, &gone, Join::FirstAlone)?)
+}
+
+fn remove_together(rt: &impl Clock, alloc: Global, count: u32) -> Result<(u128, u64), Fail> {
+    let set = scattered(alloc, count)?;
+    let start = Instant::now(rt)?;
+    let left = removed_together(alloc, &set, count)?;
+    Ok((micros_since(rt, start)?, left.runs()))
 }
 
 /// The last of the numbers, each looked at.
@@ -324,16 +359,53 @@ fn read_case(rt: &impl Clock, alloc: Global, case: Case, count: u32) -> Result<(
     read(rt, alloc, text.as_str(), &context)
 }
 
+/// The names of the private sequences' entries.
+fn private_texts(alloc: Global, count: u32) -> Result<Vec<String>, Fail> {
+    let mut texts = Vec::new(alloc);
+    for index in 0..count {
+        texts.push(format!(in alloc; "atr-p{}-inbox", index)?)?;
+    }
+    Ok(texts)
+}
+
+fn remove_private_together(
+    alloc: Global,
+    entries: &mut Entries,
+    texts: &[String],
+) -> Result<(), Fail> {
+    let mut names = Vec::new(alloc);
+    for text in texts {
+        names.push(text.as_bytes())?;
+    }
+    Ok(entries.remove_all(&names)?)
+}
+
+fn remove_entries_together(
+    rt: &impl Clock,
+    alloc: Global,
+    count: u32,
+) -> Result<(u128, u64), Fail> {
+    let mut entries = private_names(alloc, count)?;
+    let texts = private_texts(alloc, count)?;
+    let start = Instant::now(rt)?;
+    remove_private_together(alloc, &mut entries, &texts)?;
+    Ok((micros_since(rt, start)?, entries.len()))
+}
+
 /// How many microseconds a case takes with so many items, and what comes out of it.
 fn run(rt: &impl Clock, alloc: Global, case: Case, count: u32) -> Result<(u128, u64), Fail> {
     match case {
         Case::InsertDescending => insert(rt, alloc, count),
         Case::RemoveAscending => remove(rt, alloc, count),
+        Case::RemoveTogether => remove_together(rt, alloc, count),
         Case::AtEachPlace => visit(rt, alloc, count),
         Case::MoveAll => move_all(rt, alloc, count),
         Case::CutManyNames => cut(rt, alloc, count),
-        Case::SelectAscending | Case::SelectMixed => select_words(rt, alloc, case, count),
+        Case::SelectAscending | Case::SelectMixed | Case::SelectLast => {
+            select_words(rt, alloc, case, count)
+        }
         Case::RemoveEntries => remove_entries(rt, alloc, count),
+        Case::RemoveEntriesTogether => remove_entries_together(rt, alloc, count),
         _ => read_case(rt, alloc, case, count),
     }
 }
@@ -402,12 +474,15 @@ pub(crate) fn measure_all(rt: &(impl Print + Clock), alloc: Global) -> Result<()
         Case::ManyPrivateNames,
         Case::InsertDescending,
         Case::RemoveAscending,
+        Case::RemoveTogether,
         Case::AtEachPlace,
         Case::MoveAll,
         Case::CutManyNames,
         Case::SelectAscending,
         Case::SelectMixed,
+        Case::SelectLast,
         Case::RemoveEntries,
+        Case::RemoveEntriesTogether,
     ];
     for case in cases {
         measure(rt, alloc, case)?;

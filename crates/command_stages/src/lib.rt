@@ -11,5 +11,5 @@ mod text;
 pub use ascending::numbers;
 pub use chosen::choose;
 pub use ending::fault_in;
-pub use listed::{list_folder, listed_numbers};
+pub use listed::{list_folder, listed_numbers, noted};
 pub use text::{LIMIT, read_text};

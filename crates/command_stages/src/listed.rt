@@ -55,7 +55,8 @@ fn note(pile: &mut Pile, name: &Name) -> Result<(), AllocError>
     }
 }
 
-fn noted(alloc: Global, names: &[Name]) -> Result<Pile, AllocError>
+/// The message numbers among the names, to which others may come.
+pub fn noted(alloc: Global, names: &[Name]) -> Result<Pile, AllocError>
     ensures { IfOk result (λ pile. (n : ℕ) → has pile n ≡ has_number n names.now) }
 {
     let mut pile = Pile::new(alloc);

@@ -75,23 +75,31 @@ cleared_is c p (n ∷ names) = go (is_temp (kind_of n)) refl (cleared_is (with_t
     go true f a b = a ∙ (λ i. record { there = c.there; texts = λ q x. hit (same_place p q) (is_temp (kind_of x)) (bytes_eq n x) (has_text x names) (c.texts q x) (kind true f x) i; outside = c.outside })
     go false f a b = b ∙ (λ i. record { there = c.there; texts = λ q x. miss (same_place p q) (is_temp (kind_of x)) (bytes_eq n x) (has_text x names) (c.texts q x) (kind false f x) i; outside = c.outside })
 
--- where the names are the listing, all Temp names are gone
-pub cleared_all : (c : Contents) (p : Place) (names : List (List ℕ)) → IsListingIn c p names → cleared_in c p names ≡ without_temps c p
-cleared_all c p names l = cleared_is c p names ∙ (λ i. record { there = c.there; texts = λ q x. each q x i; outside = c.outside })
+-- where the names have all Temp names, these are gone
+pub cleared_temps : (c : Contents) (p : Place) (names : List (List ℕ)) → ((x : List ℕ) → is_temp (kind_of x) ≡ true → has_text x names ≡ is_some (c.texts p x)) → cleared_in c p names ≡ without_temps c p
+cleared_temps c p names l = cleared_is c p names ∙ (λ i. record { there = c.there; texts = λ q x. each q x i; outside = c.outside })
   where
-    all : (t h : Bool) (o : Option (List ℕ)) → h ≡ is_some o → (if t && h then None else o) ≡ (if t then None else o)
+    all : (t h : Bool) (o : Option (List ℕ)) → (t ≡ true → h ≡ is_some o) → (if t && h then None else o) ≡ (if t then None else o)
     all true true o e = refl
     all true false None e = refl
-    all true false (Some text) e = cc
+    all true false (Some text) e = absurd (let f : false ≡ true = e refl in cc (f))
     all false h o e = refl
 
     each : (q : Place) (x : List ℕ) → (without_listed c p names).texts q x ≡ (without_temps c p).texts q x
-    each = at_all p (λ q. (x : List ℕ) → (without_listed c p names).texts q x ≡ (without_temps c p).texts q x) (λ x. rw (place_is p) (all (is_temp (kind_of x)) (has_text x names) (c.texts p x) (l.all x))) (λ q f x. rw f refl)
+    each = at_all p (λ q. (x : List ℕ) → (without_listed c p names).texts q x ≡ (without_temps c p).texts q x) (λ x. rw (place_is p) (all (is_temp (kind_of x)) (has_text x names) (c.texts p x) (l x))) (λ q f x. rw f refl)
 
--- the names that are left are still there
-pub still_there : (c : Contents) (p : Place) (n : List ℕ) (names : List (List ℕ)) → has_text n names ≡ false → ((x : List ℕ) → has_text x (n ∷ names) ≡ true → is_some (c.texts p x) ≡ true) → (x : List ℕ) → has_text x names ≡ true → is_some ((with_text c p n None).texts p x) ≡ true
-still_there c p n names once all x e = go (bytes_eq n x) refl
+-- so where they are the listing
+pub cleared_all : (c : Contents) (p : Place) (names : List (List ℕ)) → IsListingIn c p names → cleared_in c p names ≡ without_temps c p
+cleared_all c p names l = cleared_temps c p names (λ x t. l.all x)
+
+-- each Temp name among these is there
+abbrev pub AreThere : Contents → Place → List (List ℕ) → Type 0
+AreThere c p names = (x : List ℕ) → has_text x names ≡ true → is_temp (kind_of x) ≡ true → is_some (c.texts p x) ≡ true
+
+-- those that are left are still there
+pub still_there : (c : Contents) (p : Place) (n : List ℕ) (names : List (List ℕ)) → has_text n names ≡ false → AreThere c p (n ∷ names) → AreThere (with_text c p n None) p names
+still_there c p n names once all x e t = go (bytes_eq n x) refl
   where
     go : (v : Bool) → bytes_eq n x ≡ v → is_some (if same_place p p && bytes_eq n x then None else c.texts p x) ≡ true
     go true f = absurd (not_both (has_text x names) e (ap (λ z. has_text z names) (sym (bytes_true n x f)) ∙ once))
-    go false f = rw (place_is p, f) (all x (or_last (bytes_eq n x) (has_text x names) e))
+    go false f = rw (place_is p, f) (all x (or_last (bytes_eq n x) (has_text x names) e) t)

@@ -1,5 +1,5 @@
 -- Calls that follow plans, one after another.
-use Rattle.std.proofs.Common.{◌≡◌, ◌≢◌, ◌⊎◌, inl, inr, ◌++◌, ◌∷◌, [], List, ℕ, ◌≤◌, Option, Some, None, Result, Ok, Err, map, length, refl, sym, ◌∙◌, ap, append_assoc, append-nil, arith}
+use Rattle.std.proofs.Common.{◌≡◌, ◌≢◌, ◌⊎◌, inl, inr, ◌++◌, ◌∷◌, [], List, ℕ, ◌≤◌, Option, Some, None, Result, Ok, Err, map, length, refl, sym, ◌∙◌, ap, append_assoc, append-nil, arith, subst}
 use Rattle.std.specs.Prelude.{IsErr, IsErrAnd, IfOk}
 use Rattle.mh_base.specs.Counts.{Rose}
 use Rattle.mh_base.specs.Streams.{SourceState, SinkState, Adds, AddsPart, Puts, Takes, Reads}
@@ -723,3 +723,15 @@ whole {run = run} {cause = cause} {p = p} {h = h} {i = i} {f = f} {g = g} {o = o
 pub beside : {A E : Type 0} {run : ℕ} {cause : E → Cause} {p : Plan (Result A E)} {h i : Hand} {f g : FilesState} {n : SourceState} {o u : SinkState} {r : Result A E} →
     Follows run cause p (by_out h f o) (by_out i g u) r → Follows run cause p (all h f n o) (all i g n u) r
 beside {run = run} {cause = cause} {p = p} {h = h} {i = i} {f = f} {g = g} {n = n} {o = o} {u = u} {r = r} w = record { went = went_beside run p h i f g n o u (exit_of cause r) w.went }
+
+-- an end by whatever a part returned by its plan
+pub end_on : {A B E F : Type 0} {run : ℕ} (cause : E → Cause) {other : F → Cause} {p : Plan (Result A E)} (k : Result A E → Plan (Result B F)) {x y z : State} (r : Result A E) {s : Result B F} →
+    exit_of cause r ≡ Returned r → Follows run cause p x y r → Follows run other (k r) y z s → Follows run other (bind p k) x z s
+end_on {run = run} cause {other = other} {p = p} k {x = x} {y = y} {z = z} r {s = s} is f g =
+    record { went = went_on run p k x y z r (exit_of other s) (subst (λ e. Went run p x y e) is f.went) g.went }
+
+-- no end where the part itself ended the call
+pub end_off : {A B E F : Type 0} {run : ℕ} (cause : E → Cause) {other : F → Cause} {p : Plan (Result A E)} (k : Result A E → Plan (Result B F)) {x y : State} (r : Result A E) {s : Result B F} →
+    Stops (exit_of cause r) (exit_of other s) → Follows run cause p x y r → Follows run other (bind p k) x y s
+end_off {run = run} cause {other = other} {p = p} k {x = x} {y = y} r {s = s} stops f =
+    record { went = went_off run p k x y (exit_of cause r) (exit_of other s) stops f.went }

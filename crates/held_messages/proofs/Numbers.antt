@@ -94,7 +94,7 @@ top_end taken top m t = record { above = above; attained = elim (pick m top) [ i
     by e (inl f) = inl (e ∙ f)
     by e (inr f) = inr (ap (λ x. (m == x) || taken x) e ∙ or_last (m == top) (taken top) f)
 
-top_step : (taken : ℕ → Bool) (top n : ℕ) → TopOf taken top → top ≤ 999999 → TopOf (λ k. is_end k (home_of (taken n) top n) || taken k) (top_after (home_of (taken n) top n) top)
+pub top_step : (taken : ℕ → Bool) (top n : ℕ) → TopOf taken top → top ≤ 999999 → TopOf (λ k. is_end k (home_of (taken n) top n) || taken k) (top_after (home_of (taken n) top n) top)
 top_step taken top n t small = go (taken n) (nat_lt top 999999) refl
   where
     go : (a b : Bool) → nat_lt top 999999 ≡ b → TopOf (λ k. is_end k (if a then (if b then Some (top + 1) else None) else Some n) || taken k) (top_after (if a then (if b then Some (top + 1) else None) else Some n) top)
@@ -102,7 +102,7 @@ top_step taken top n t small = go (taken n) (nat_lt top 999999) refl
     go true true e = top_end taken top (top + 1) t
     go true false e = let same : top ≡ 999999 = grind (arith, nat_tests, e, small) in subst (TopOf taken) same t
 
-end_small : (a : Bool) (top n : ℕ) → n ≤ 999999 → top ≤ 999999 → top_after (home_of a top n) top ≤ 999999
+pub end_small : (a : Bool) (top n : ℕ) → n ≤ 999999 → top ≤ 999999 → top_after (home_of a top n) top ≤ 999999
 end_small false top n l small = omega (arith, l, small)
 end_small true top n l small = go (nat_lt top 999999) refl
   where

@@ -42,27 +42,27 @@ pub record IsRestored (alone : Bool) (own : ℕ) (p : Place) (c : Contents) (ns 
   pub listed : AreListed p z
 
 -- it ends early where a name was taken away meanwhile, or where the folder isn't there
-abbrev pub Misses : Bool → PlanFault → Type 0
-Misses alone fault.Faulted = ⊥
-Misses alone (fault.Locked p) = ⊥
-Misses alone (fault.Meddled p n) = alone ≡ true → ⊥
-Misses alone fault.Full = ⊥
-Misses alone (fault.Absent p) = Unit {0}
-Misses alone (fault.TooLarge l) = ⊥
-Misses alone fault.Memory = ⊥
+abbrev pub Misses : Bool → Place → Contents → PlanFault → Type 0
+Misses alone p c fault.Faulted = ⊥
+Misses alone p c (fault.Locked q) = ⊥
+Misses alone p c (fault.Meddled q n) = alone ≡ true → ⊥
+Misses alone p c fault.Full = ⊥
+Misses alone p c (fault.Absent q) = alone ≡ true → c.there p ≡ false
+Misses alone p c (fault.TooLarge l) = ⊥
+Misses alone p c fault.Memory = ⊥
 
-quits_misses : (alone : Bool) (e : PlanFault) → Quits alone e → Misses alone e
-quits_misses alone fault.Faulted f = f
-quits_misses alone (fault.Locked p) f = f
-quits_misses alone (fault.Meddled p n) f = f
-quits_misses alone fault.Full f = f
-quits_misses alone (fault.Absent p) f = absurd f
-quits_misses alone (fault.TooLarge l) f = f
-quits_misses alone fault.Memory f = f
+quits_misses : (alone : Bool) (p : Place) (c : Contents) (e : PlanFault) → Quits alone e → Misses alone p c e
+quits_misses alone p c fault.Faulted f = f
+quits_misses alone p c (fault.Locked q) f = f
+quits_misses alone p c (fault.Meddled q n) f = f
+quits_misses alone p c fault.Full f = f
+quits_misses alone p c (fault.Absent q) f = absurd f
+quits_misses alone p c (fault.TooLarge l) f = f
+quits_misses alone p c fault.Memory f = f
 
 abbrev pub Restores : Bool → ℕ → Place → Contents → List ℕ → View → Hand → List ℕ → Result plans.Settled PlanFault → Type 0
 Restores alone own p c ns z j left (Ok s) = IsRestored alone own p c ns s z
-Restores alone own p c ns z j left (Err e) = Misses alone e
+Restores alone own p c ns z j left (Err e) = Misses alone p c e
 
 -- a part that is Ok at once, and one that is refused
 on_ok : {S A B : Type 0} (t : Table S) (s : S) (h : Hand) (text : List ℕ) (a : A) (k : A → Planned B) (Q : S → Hand → List ℕ → Result B PlanFault → Type 0) → Gives t s h text (k a) Q → Gives t s h text (Return (Ok a) >>= k) Q
@@ -118,14 +118,18 @@ module _ (alone : Bool) (own : ℕ) (p : Place) (ns : List ℕ) (c : Contents) (
         gives_on (by_view alone) w j text (settle p hs (highest names)) (λ ends. Return (Ok (settled_of names ends))) (Settled alone p ns hs c w (taken_in c p) (highest names)) (Restores alone own p c ns)
         (settle_gives alone p hs pairs (are_apart hs pairs (pairs_ordered own names)) ns (highest names) (taken_in c p) w c (λ e. ((listing e).0, all_there c p names holds hs (pairs_listed own names))) j text has
         (all_unread p names w seen hs (pairs_listed own names)) (lists_listed alone v p names fresh told) (highest_small names) (λ e. folder_taken c p names (listing e).1))
-        (λ z i left ends g. restored z ends g) (λ z i left e g. quits_misses alone e g)
+        (λ z i left ends g. restored z ends g) (λ z i left e g. quits_misses alone p c e g)
 
   pub put_back_gives : (j : Hand) (text : List ℕ) → Gives (by_view alone) v j text (put_back own p) (Restores alone own p c ns)
   unfolding put_back
   put_back_gives j text =
       list_view alone v of_stop j text (Restores alone own p c ns) p (λ l. names_by p l >>= settled_then)
       (λ names f. on_ok (by_view alone) (view_after v (step.List p) (answer.Names names)) j text names settled_then (Restores alone own p c ns) (names_give j text names f))
-      (λ f. on_err (by_view alone) (view_after v (step.List p) answer.Gone) j text (fault.Absent p) settled_then (Restores alone own p c ns) tt)
+      (λ f. on_err (by_view alone) (view_after v (step.List p) answer.Gone) j text (fault.Absent p) settled_then (Restores alone own p c ns) (absent alone refl f))
     where
+      absent : (b : Bool) → alone ≡ b → fits_view b v (step.List p) answer.Gone → alone ≡ true → c.there p ≡ false
+      absent true e f t = subst (λ d. d.there p ≡ false) has.0 f.0
+      absent false e f t = cc (t)
+
       settled_then : List (List ℕ) → Planned plans.Settled
       settled_then names = settle p (held_pairs own names) (highest names) >>= (λ ends. Return (Ok (settled_of names ends)))

@@ -8,4 +8,4 @@ mod putting_back;
 
 pub use held::HeldPair;
 pub use pairs::held_pairs;
-pub use putting_back::{HomeList, Settled, put_back};
+pub use putting_back::{HomeList, Settled, highest, highest_after, put_back};

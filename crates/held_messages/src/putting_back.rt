@@ -40,7 +40,7 @@ const LAST: u32 = 999_999;
 pub type HomeList = List<Option<MsgNum>>;
 
 /// The highest number, after a held message went where it went; the last of all where it stays held.
-fn highest_after(end: &Option<MsgNum>, highest: u32) -> u32
+pub fn highest_after(end: &Option<MsgNum>, highest: u32) -> u32
     requires { highest ≤ 999999 }
     ensures value { result ≡ top_after end.now highest }
     ensures range { result ≤ 999999 }
@@ -217,7 +217,7 @@ fn higher(name: &Name, highest: u32) -> u32
 }
 
 /// The highest number of the messages among these names, or 0.
-fn highest(names: &[Name]) -> u32
+pub fn highest(names: &[Name]) -> u32
     ensures value { result ≡ highest_in names.now }
     ensures range { result ≤ 999999 }
 {
@@ -242,6 +242,26 @@ impl Model for Settled {
     ghost Value = { SettledValue };
 
     ghost view = { λ s. settled_of s.names s.ends };
+}
+
+impl Settled {
+    pub fn names(&self) -> &[Name]
+        ensures { result.now ≡ self.now.names }
+    {
+        self.names.as_slice()
+    }
+
+    pub fn ends(&self) -> &[Option<MsgNum>]
+        ensures { result.now ≡ self.now.ends }
+    {
+        self.ends.as_slice()
+    }
+
+    pub fn into_ends(self) -> HomeList
+        ensures { result ≡ self.ends }
+    {
+        self.ends
+    }
 }
 
 fn names_from(alloc: Global, place: &Place, listing: Listing) -> Result<NameList, PlanFault>

@@ -18,6 +18,11 @@ with_entry name value (e ∷ es) = if same_entry name e.name then record { name 
 abbrev pub without : List ℕ → List NamedValue → List NamedValue
 without name entries = filter (λ e. not (same_entry name e.name)) entries
 
+-- the entries without these, one name after another
+abbrev pub without_all : List (List ℕ) → List NamedValue → List NamedValue
+without_all [] entries = entries
+without_all (name ∷ names) entries = without_all names (without name entries)
+
 -- the entry stands last, unless there was one of its name
 abbrev pub noted : List NamedValue → NamedValue → List NamedValue
 noted entries e = if has_name e.name entries then entries else entries ++ e ∷ []

@@ -1,6 +1,7 @@
 pub mod Changes
 pub mod Keys
 pub mod Lines
+pub mod NameKeys
 pub mod Names
 pub mod Printing
 pub mod Reading

@@ -1,7 +1,8 @@
 // All entries of a profile or a context.
-ghost use Rattle.std.specs.Prelude.{◌≡◌, ◌≤◌, bytes_eq, [], ◌++◌, ◌∷◌, length, map, IfOk, OnOk, OnErr, MatchOption, None, Some, slice_get};
+ghost use Rattle.std.specs.Prelude.{◌≡◌, ◌≤◌, bytes_eq, not, [], ◌++◌, ◌∷◌, length, map, IfOk, OnOk, OnErr, MatchOption, None, Some, slice_get};
 ghost use Rattle.indexmap.specs.IndexMap.{get_by};
-ghost use Rattle.mh_profile.specs.Changes.{value_of, with_entry, without, noted};
+ghost use Rattle.mh_profile.specs.Changes.{value_of, with_entry, without, without_all, noted};
+ghost use Rattle.mh_profile.specs.NameKeys.{has_key};
 ghost use Rattle.mh_profile.specs.Names.{IsFieldName};
 ghost use Rattle.mh_profile.specs.Values.{IsUnfolded};
 ghost use Rattle.mh_profile.specs.Printing.{printed};
@@ -11,6 +12,7 @@ ghost use Rattle.mh_profile.specs.Validity.{AreEntries, IsEntry};
 use crate::NamedValue;
 use crate::key::name_key;
 use crate::lines::read_entry;
+use crate::name_keys::NameKeys;
 use crate::printing::put_entry;
 use indexmap::IndexMap;
 use mail_headers::folded_line_len;
@@ -124,13 +126,27 @@ impl Entries {
         }
     }
 
-    /// Takes the entry of this name away, where there is one.
+    /// Takes the entry of this name away, where there is one. It moves all entries behind it: to take many, `remove_all`.
     pub fn remove(&mut self, name: &[u8]) -> Result<(), AllocError>
         ensures ok { OnOk result (self.new ≡ without name.now self.old) }
         ensures err { OnErr result (self.new ≡ self.old) }
     {
         let key = name_key(self.alloc, name)?;
         let _ = self.map.shift_remove(key.as_slice());
+        Ok(())
+    }
+
+    /// Takes the entries of all these names away, in one pass over the entries.
+    pub fn remove_all(&mut self, names: &[&[u8]]) -> Result<(), AllocError>
+        ensures ok { OnOk result (self.new ≡ without_all (map (λ n. n.now) names.now) self.old) }
+        ensures err { OnErr result (self.new ≡ self.old) }
+    {
+        let gone = NameKeys::of(self.alloc, names)?;
+        self.map.retain(
+            |key: &Vec<u8>, entry: &mut NamedValue| -> bool
+                ensures { (result ≡ not (has_key gone key.now.items)) × (entry.new ≡ entry.old) }
+            { !gone.has(key.as_slice()) },
+        );
         Ok(())
     }
 

@@ -5,6 +5,7 @@
 mod entries;
 mod key;
 mod lines;
+mod name_keys;
 mod named_value;
 mod printing;
 mod valid;

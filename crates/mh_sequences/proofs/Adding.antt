@@ -67,6 +67,14 @@ added_split a (r ∷ rs) = ⊎_elim
     (λ e. rw e refl)
     (cases_Bool (nat_lt r.to (a.from - 1)))
 
+pub added_front : (a : Run) (rs : List Run) → take (prefix_len (λ r. nat_lt r.to (a.from - 1)) rs) (added a rs) ≡ take (prefix_len (λ r. nat_lt r.to (a.from - 1)) rs) rs
+added_front a [] = refl
+added_front a (r ∷ rs) = ⊎_elim
+    (λ e. let on : 1 + prefix_len (λ s. nat_lt s.to (a.from - 1)) rs ≡ suc (prefix_len (λ s. nat_lt s.to (a.from - 1)) rs) = omega arith in
+    rw e (rw on (ap (λ l. r ∷ l) (added_front a rs))))
+    (λ e. rw e refl)
+    (cases_Bool (nat_lt r.to (a.from - 1)))
+
 -- one more run is reached
 pub grow_more : (a r : Run) (rs : List Run) (i : ℕ) → i < length rs → r ≡ get_or rs i r → r.from ≤ a.to + 1 → grown (hull a r) (drop (i + 1) rs) ≡ grown a (drop i rs)
 grow_more a r rs i lt is near =

@@ -4,6 +4,7 @@ pub mod Changing
 pub mod ContextLemmas
 pub mod Counting
 pub mod EntryLemmas
+mod Ends
 pub mod FieldNaming
 pub mod FieldsBack
 pub mod GatherLemmas

@@ -153,3 +153,12 @@ removed_none low (r ∷ rs) h n e =
     choose (λ l. l ≡ r ∷ rs) (nat_lt n r.from) (r ∷ rs) (front r n ++ (back r n ++ rs))
     (λ y. refl)
     (λ y. let le = ltb-false n r.from y in let there : inside r n ≡ true = grind (arith, nat_tests) in absurd (both_ways (inside r n) parts.0 there)))
+
+-- the runs before it stay
+pub removed_front : (n : ℕ) (rs : List Run) → take (prefix_len (λ r. nat_lt r.to n) rs) (removed n rs) ≡ take (prefix_len (λ r. nat_lt r.to n) rs) rs
+removed_front n [] = refl
+removed_front n (r ∷ rs) = ⊎_elim
+    (λ e. let on : 1 + prefix_len (λ s. nat_lt s.to n) rs ≡ suc (prefix_len (λ s. nat_lt s.to n) rs) = omega arith in
+    rw e (rw on (ap (λ l. r ∷ l) (removed_front n rs))))
+    (λ e. rw e refl)
+    (cases_Bool (nat_lt r.to n))

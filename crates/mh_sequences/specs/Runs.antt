@@ -30,7 +30,7 @@ abbrev pub numbers_of : List Run → List ℕ
 numbers_of [] = []
 numbers_of (r ∷ rs) = range_with_len r.from (r.to + 1 - r.from) ++ numbers_of rs
 
--- a set, and how many runs it has room for without asking for memory
+-- a set, and for how many more runs it has room
 pub record Numbers : Type 0 where
   pub runs : List Run
   pub spare : ℕ

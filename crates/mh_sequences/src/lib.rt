@@ -3,6 +3,7 @@
 #![tactic(auto)]
 
 mod change;
+mod counts;
 mod escape;
 mod field_names;
 mod gathering;

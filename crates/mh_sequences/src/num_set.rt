@@ -1,35 +1,42 @@
 // Sets of message numbers.
-ghost use Rattle.std.specs.Prelude.{◌≡◌, ◌≤◌, ◌+◌, ◌==◌, ◌&&◌, ◌||◌, not, ℕ, [], length, IfOk, OnOk, OnErr, IsOk, MatchOption, slice_get, None, Some, if◌then◌else◌};
+ghost use Rattle.std.specs.Prelude.{◌≡◌, ◌≤◌, ◌+◌, ◌==◌, ◌&&◌, ◌||◌, not, nat_lt, ℕ, [], length, take, IfOk, OnOk, OnErr, IsOk, MatchOption, slice_get, None, Some, if◌then◌else◌};
+ghost use Rattle.std.specs.List.{prefix_len};
 ghost use Rattle.mh_sequences.specs.Joins.{joins};
 ghost use Rattle.mh_sequences.specs.Runs.{AreRuns, has, inside, numbers_of};
 ghost use Rattle.mh_sequences.specs.Stretches.{IsJoinedStretch};
 ghost use Rattle.mh_base.specs.Numbers.{IsMsgNum};
 
 use crate::Run;
+use crate::counts::Counts;
 use crate::join::Join;
 use crate::run::number;
-use crate::runs::{add, number_at, stretch, take_out, total};
+use crate::runs::{add, before, stretch, take_out};
 use crate::stretch::Stretch;
 use mh_base::MsgNum;
 use std::alloc::{AllocError, Global};
 use std::marker::Model;
 
 /// A set of message numbers. Contracts see its runs, and for how many more it has room.
+///
+/// Looking a number or a place up halves the runs. A change moves all runs behind it and forgets how they were counted, so
+/// one number after another is cheap only at the end: to change many in any order, make a `Pile` and `join` its set.
 #[derive(Drop)]
 pub struct NumSet {
     runs: Vec<Run>,
+    counts: Counts,
 }
 
 impl Model for NumSet {
     ghost use Rattle.std.specs.Prelude.{◌-◌, vec_len};
     ghost use Rattle.std.specs.Vec.{vec_capacity};
+    ghost use Rattle.mh_sequences.specs.Counts.{AreEnds};
     ghost use Rattle.mh_sequences.specs.Runs.{AreRuns, Numbers, set_of};
 
     ghost Value = { Numbers };
 
     ghost view = { λ s. set_of s.runs.items (vec_capacity s.runs - vec_len s.runs) };
 
-    ghost invariant = { λ s. AreRuns s.runs.items };
+    ghost invariant = { λ s. AreRuns s.runs.items × AreEnds 0 s.counts.ends.items s.runs.items };
 }
 
 /// The stretch of two sets joined that begins at the number, or a front of it.
@@ -61,6 +68,7 @@ impl NumSet {
     {
         NumSet {
             runs: Vec::new(alloc),
+            counts: Counts::new(alloc),
         }
     }
 
@@ -70,7 +78,7 @@ impl NumSet {
         stretch(&self.runs, n.get()).all
     }
 
-    /// Makes room for so many runs. With room for one, a set can be changed without asking for memory.
+    /// Makes room for so many runs. With room for one, a change of the set cannot fail.
     pub fn reserve(&mut self, more: u64) -> Result<(), AllocError>
         requires { more ≤ 1000000 }
         ensures ok { OnOk result (more ≤ self.new.spare) }
@@ -89,7 +97,11 @@ impl NumSet {
         ensures succeeds { 1 ≤ self.old.spare → IsOk result }
         ensures spare { self.old.spare ≤ self.new.spare + 1 }
     {
-        add(&mut self.runs, run)
+        let (from, _) = run.ends();
+        self.counts.forget_from(before(&self.runs, from - 1));
+        add(&mut self.runs, run)?;
+        self.counts.count_on(&self.runs);
+        Ok(())
     }
 
     /// Adds a number.
@@ -109,7 +121,10 @@ impl NumSet {
         ensures succeeds { 1 ≤ self.old.spare → IsOk result }
         ensures spare { self.old.spare ≤ self.new.spare + 1 }
     {
-        take_out(&mut self.runs, n.get())
+        self.counts.forget_from(before(&self.runs, n.get()));
+        take_out(&mut self.runs, n.get())?;
+        self.counts.count_on(&self.runs);
+        Ok(())
     }
 
     /// How many runs of consecutive numbers there are, each as long as it can be.
@@ -131,7 +146,22 @@ impl NumSet {
     pub fn len(&self) -> u64
         ensures { result ≡ length (numbers_of self.now.runs) }
     {
-        total(&self.runs)
+        self.counts.before(&self.runs, self.runs.len())
+    }
+
+    /// How many runs end before this number.
+    pub fn place(&self, n: u32) -> u64
+        ensures { result ≡ prefix_len (λ r. nat_lt r.to n) self.now.runs }
+    {
+        before(&self.runs, n) as u64
+    }
+
+    /// How many numbers the runs before this place have.
+    pub fn numbers_before(&self, place: u64) -> u64
+        ensures { result ≡ length (numbers_of (take place self.now.runs)) }
+    {
+        let place = place.min(self.runs.len() as u64);
+        self.counts.before(&self.runs, place as usize)
     }
 
     pub fn is_empty(&self) -> bool
@@ -145,7 +175,7 @@ impl NumSet {
     pub fn at(&self, index: u64) -> Option<MsgNum>
         ensures { result ≡ slice_get (numbers_of self.now.runs) index }
     {
-        number_at(&self.runs, index)
+        self.counts.number_at(&self.runs, index)
     }
 
     pub(crate) fn as_slice(&self) -> &[Run]
@@ -159,7 +189,7 @@ impl NumSet {
         ensures value { result.items ≡ self.runs }
         ensures valid { AreRuns result.items }
     {
-        let NumSet { runs } = self;
+        let NumSet { runs, .. } = self;
         runs
     }
 
@@ -169,6 +199,7 @@ impl NumSet {
     {
         Ok(NumSet {
             runs: self.runs.as_slice().to_vec(alloc)?,
+            counts: self.counts.copy(alloc)?,
         })
     }
 

@@ -14,7 +14,7 @@ use mh_base::MsgNum;
 use std::alloc::AllocError;
 
 /// How many runs end before the number.
-fn before(runs: &[Run], n: u32) -> usize
+pub(crate) fn before(runs: &[Run], n: u32) -> usize
     requires { AreRuns runs.now }
     ensures value { result ≡ prefix_len (λ r. nat_lt r.to n) runs.now }
     ensures within { result ≤ length runs.now }
@@ -202,7 +202,7 @@ pub(crate) fn take_out(runs: &mut Vec<Run>, n: u32) -> Result<(), AllocError>
     }
 }
 
-fn count(run: &Run) -> u64
+pub(crate) fn count(run: &Run) -> u64
     requires { run.now.from ≤ run.now.to }
     ensures value { result ≡ run.now.to + 1 - run.now.from }
     ensures small { result ≤ 999999 }

@@ -1,9 +1,10 @@
 -- How many numbers are at most one.
-use Rattle.std.proofs.Common.{◌≡◌, ℕ, zero, suc, ◌+◌, ◌-◌, ◌<◌, ◌≤◌, List, [], ◌∷◌, length, drop, ◌∙◌, ap, arith, ⊎_elim, min, length-append}
-use Rattle.std.specs.Prelude.{nat_le}
-use Rattle.std.specs.List.{range_with_len}
-use Rattle.std.proofs.lemmas.Bool.{cases_lt, le-leb, lt-leb, cond-true, cond-false}
+use Rattle.std.proofs.Common.{◌≡◌, ℕ, zero, suc, ◌+◌, ◌-◌, ◌<◌, ◌≤◌, List, [], ◌∷◌, length, take, drop, refl, ◌∙◌, ap, arith, ⊎_elim, min, length-append}
+use Rattle.std.specs.Prelude.{nat_le, nat_lt}
+use Rattle.std.specs.List.{prefix_len, range_with_len}
+use Rattle.std.proofs.lemmas.Bool.{cases_Bool, cases_lt, le-leb, lt-leb, ltb-true, cond-true, cond-false}
 use Rattle.std.proofs.lemmas.List.Elements.{filter-append}
+use Rattle.std.proofs.lemmas.List.FromFn.{length-range_with_len}
 use Rattle.std.proofs.lemmas.List.Sums.{length-filter, count_by-le-length}
 use Rattle.mh_sequences.specs.declared.run.Run.{Run}
 use Rattle.mh_sequences.specs.Runs.{AreRuns, numbers_of}
@@ -33,6 +34,31 @@ few_up_to runs to h =
 
 pub few_counted : (runs : List Run) (to i count : ℕ) → AreRuns runs → IsCounted runs to i count → count ≤ 999999
 few_counted runs to i count h is = let all = few_up_to runs to h in let same = is.same in omega arith
+
+before_place : (runs : List Run) (to : ℕ) → length (numbers_of (take (prefix_len (λ r. nat_lt r.to to) runs) runs)) + length (up_to to (numbers_of (drop (prefix_len (λ r. nat_lt r.to to) runs) runs))) ≡ length (up_to to (numbers_of runs))
+before_place [] to = refl
+before_place (r ∷ rs) to = ⊎_elim
+    (λ e. let on : 1 + prefix_len (λ s. nat_lt s.to to) rs ≡ suc (prefix_len (λ s. nat_lt s.to to) rs) = omega arith in
+    rw e (rw on (one_before r rs to (prefix_len (λ s. nat_lt s.to to) rs) (ltb-true r.to to e) (before_place rs to))))
+    (λ e. rw e (none_first (length (up_to to (numbers_of (r ∷ rs))))))
+    (cases_Bool (nat_lt r.to to))
+  where
+    none_first : (n : ℕ) → 0 + n ≡ n
+    none_first n = omega arith
+
+    one_before : (r : Run) (rs : List Run) (to k : ℕ) → r.to < to → length (numbers_of (take k rs)) + length (up_to to (numbers_of (drop k rs))) ≡ length (up_to to (numbers_of rs)) → length (numbers_of (r ∷ take k rs)) + length (up_to to (numbers_of (drop k rs))) ≡ length (up_to to (numbers_of (r ∷ rs)))
+    one_before r rs to k lt rest =
+        let here = length-append (range_with_len r.from (r.to + 1 - r.from)) (numbers_of (take k rs)) in
+        let size = length-range_with_len r.from (r.to + 1 - r.from) in
+        let all : length (up_to to (numbers_of (r ∷ rs))) ≡ min (r.to + 1 - r.from) (to + 1 - r.from) + length (up_to to (numbers_of rs)) =
+        ap length (filter-append (λ x. nat_le x to) (range_with_len r.from (r.to + 1 - r.from)) (numbers_of rs))
+        ∙ length-append (up_to to (range_with_len r.from (r.to + 1 - r.from))) (up_to to (numbers_of rs))
+        ∙ ap (λ z. z + length (up_to to (numbers_of rs))) (count_range to r.from (r.to + 1 - r.from)) in
+        omega arith
+
+-- all numbers of the runs that end before a number are at most it
+pub counted_first : (runs : List Run) (to i count : ℕ) → i ≡ prefix_len (λ r. nat_lt r.to to) runs → count ≡ length (numbers_of (take i runs)) → IsCounted runs to i count
+counted_first runs to i count at is = record { same = ap (λ z. z + length (up_to to (numbers_of (drop i runs)))) is ∙ ap (λ k. length (numbers_of (take k runs)) + length (up_to to (numbers_of (drop k runs)))) at ∙ before_place runs to }
 
 -- no number of the rest is at most it
 pub counted_before : (runs : List Run) (to i count : ℕ) (r : Run) → IsRunAt runs i r → IsCounted runs to i count → to < r.from → count ≡ length (up_to to (numbers_of runs))

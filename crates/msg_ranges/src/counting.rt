@@ -9,14 +9,14 @@ use mh_base::MsgNum;
 use mh_sequences::NumSet;
 use std::alloc::{AllocError, Global};
 
-/// How many numbers of a set are at most this.
+/// How many numbers of a set are at most this. It looks at two runs at most.
 fn count_up_to(set: &NumSet, to: u32) -> u64
     ensures count { result ≡ length (up_to to (numbers_of set.now.runs)) }
     ensures valid { AreRuns set.now.runs }
     ensures few { result ≤ 999999 }
 {
-    let mut count = 0;
-    let mut i = 0;
+    let mut i = set.place(to);
+    let mut count = set.numbers_before(i);
     while let Some(run) = run_at(set, i) {
         let from = run.from.get();
         if to < from {

@@ -41,21 +41,18 @@ use Rattle.sequence_commits.proofs.SequencesGiven.{Unchanged, ToldEnds, with_seq
 use Rattle.sequence_commits.proofs.SequencesShown.{shows_sequences}
 
 -- what the contents at the end show, where the context's turn was taken
-shown : (w : WorldMap) (path at name text : List ℕ) (cs : List ChangeEntry) (ns : List ℕ) (h j : Hand) (z : View) (left : List ℕ) (after : Mailbox)
-    → after ≡ mailbox_in z.contents → CommitEnds true ns (with_sequences (contents_of w) (Folder at name) text) (Mail path) cs (used h) z j left (Ok tt)
-    → IsCommitted (with_sequences_text (mailbox_of w) (Folder at name) text) after path cs h
-unfolding mailbox_of
-shown w path at name text cs ns h j z left after is ends =
+pub shown : (c : Contents) (path at name text : List ℕ) (cs : List ChangeEntry) (ns : List ℕ) (h j : Hand) (z : View) (left : List ℕ) (after : Mailbox)
+    → after ≡ mailbox_in z.contents → CommitEnds true ns (with_sequences c (Folder at name) text) (Mail path) cs (used h) z j left (Ok tt)
+    → IsCommitted (with_sequences_text (mailbox_in c) (Folder at name) text) after path cs h
+unfolding mailbox_in
+shown c path at name text cs ns h j z left after is ends =
     elim ends [
-      | inl s ↦ inl (s.settled_so, is ∙ (ap mailbox_in (s.is.0 refl) ∙ texts))
-      | inr m ↦ inr (m.0, is ∙ (ap mailbox_in (m.1.is.0 refl) ∙ (shows_committed (with_sequences (contents_of w) (Folder at name) text) path cs ∙ (λ i. with_context_text (texts i) (Mail path) (read i)))))
+      | inl s ↦ inl (s.settled_so, is ∙ (ap mailbox_in (s.is.0 refl) ∙ shows_sequences c at name text))
+      | inr m ↦ inr (m.0, is ∙ (ap mailbox_in (m.1.is.0 refl) ∙ (shows_committed (with_sequences c (Folder at name) text) path cs ∙ (λ i. with_context_text (shows_sequences c at name text i) (Mail path) (read i)))))
     ]
   where
-    texts : mailbox_in (with_sequences (contents_of w) (Folder at name) text) ≡ with_sequences_text (mailbox_of w) (Folder at name) text
-    texts = shows_sequences (contents_of w) at name text ∙ ap (λ m. with_sequences_text m (Folder at name) text) (sym (mailbox_is w))
-
-    read : text_by cs (filled ((with_sequences (contents_of w) (Folder at name) text).texts (Mail path) context_name)) ≡ text_by cs (filled ((contents_of w).texts (Mail path) context_name))
-    read = ap (λ o. text_by cs (filled o)) (context_kept (contents_of w) (Folder at name) (Mail path) text)
+    read : text_by cs (filled ((with_sequences c (Folder at name) text).texts (Mail path) context_name)) ≡ text_by cs (filled (c.texts (Mail path) context_name))
+    read = ap (λ o. text_by cs (filled o)) (context_kept c (Folder at name) (Mail path) text)
 
 commit_alone : (run : ℕ) (path at name folder : List ℕ) (a b : Marked) (old new : Story) (log : List Moment) (h j : Hand) (ds : List Deed)
     → Grows run old new log → (Made IsFailed (own run (past_of (events_since old new))) → ⊥) → own run (past_of (events_since old new)) ≡ acts ds
@@ -71,7 +68,7 @@ commit_alone run path at name folder a b old new log h j ds g never own_is runs 
     (changed_gives true (puts_in ds) run few (Folder at name) (Mail path) folder a b (first_view c (puts_in ds) (λ p x. false)) c h [] ((λ e. refl), refl) (λ e es k. knows es k) (λ low e. (ready.there, ready.free low))) in
     elim (r.gave.returned (Ok tt) refl) [
       | inl s ↦ inl (s.0, mailbox_is last ∙ (ap mailbox_in (sym r.contents) ∙ (ap mailbox_in (s.1.left.is.0 refl) ∙ sym (mailbox_is first))))
-      | inr s ↦ inr (s.0, shown first path at name (text_of b) (private_changes folder b.users (entries_seen h.context)) (puts_in ds) h j r.view r.gave.left (mailbox_of last) (mailbox_is last ∙ ap mailbox_in (sym r.contents)) s.1.1)
+      | inr s ↦ inr (s.0, subst (λ m. IsCommitted (with_sequences_text m (Folder at name) (text_of b)) (mailbox_of last) path (private_changes folder b.users (entries_seen h.context)) h) (sym (mailbox_is first)) (shown c path at name (text_of b) (private_changes folder b.users (entries_seen h.context)) (puts_in ds) h j r.view r.gave.left (mailbox_of last) (mailbox_is last ∙ ap mailbox_in (sym r.contents)) s.1.1))
     ]
 
 pub commits_alone : (run : ℕ) (path at name folder : List ℕ) (a b : Marked) (x y : State) (result : Result Unit PlanFault) → Follows run plan_cause (changed_sequences run (Folder at name) (Mail path) folder a b) x y result → result ≡ Ok tt

@@ -20,7 +20,7 @@ use Rattle.step_plans.specs.declared.fault.PlanFault.{PlanFault}
 use Rattle.step_plans.specs.declared.fault.PlanFault.TheVariants as fault
 use Rattle.sequence_commits.specs.Committing.{sequences_replaced, entries_committed, sequences_committed, committed_unless, changed_sequences}
 use Rattle.sequence_commits.specs.PrivateChanges.{changes_to, entries_seen}
-use Rattle.sequence_commits.specs.Telling.{same_entries, same_told}
+use Rattle.sequence_commits.specs.Telling.{same_entries, tells}
 
 -- a text that is too long
 pub too_long : (run : ℕ) (p : Place) (text : List ℕ) (n : ℕ) {x : State} → n ≡ length text → LIMIT_BYTES < n → Follows run plan_cause (sequences_replaced run p text) x x (Err (fault.TooLarge n))
@@ -38,19 +38,21 @@ pub by_seen : (run : ℕ) (mail : Place) (ending : List ℕ) (kept : List NamedV
 unfolding entries_committed
 by_seen run mail ending kept h f w = recalled (λ i. commit_context run mail (changes_to ending kept (entries_seen i.context))) w
 
--- whether the same is told
-pub tells_same : (folder : List ℕ) (old new made : Marked) (a b : List ℕ) (es fs : List NamedValue) (t : Bool) → t ≡ (bytes_eq a b && same_entries es fs) → a ≡ text_of old → es ≡ private_entries (suffix folder) old.users
-    → b ≡ text_of made → fs ≡ private_entries (suffix folder) made.users → made ≡ new → t ≡ same_told folder old new
-tells_same folder old new made a b es fs t is p q r s e =
-    is ∙ (λ i. bytes_eq (p i) (r i) && same_entries (q i) (s i)) ∙ ap (λ m. same_told folder old m) e
+-- whether these are told
+pub tells_by : (folder : List ℕ) (new : Marked) (a b : List ℕ) (es fs : List NamedValue) (t : Bool) → t ≡ (bytes_eq a b && same_entries es fs) → b ≡ text_of new → fs ≡ private_entries (suffix folder) new.users → t ≡ tells a es folder new
+tells_by folder new a b es fs t is r s = is ∙ (λ i. bytes_eq a (r i) && same_entries es (s i))
+
+-- what was told is of the old sequences, and the new ones are these
+pub tells_old : (run : ℕ) (p mail : Place) (folder : List ℕ) (old new made : Marked) (a : List ℕ) (es : List NamedValue) {x y : State} {r : Result Unit PlanFault} → a ≡ text_of old → es ≡ private_entries (suffix folder) old.users → made ≡ new
+    → Follows run plan_cause (committed_unless (tells a es folder made) run p mail folder made) x y r → Follows run plan_cause (changed_sequences run p mail folder old new) x y r
+unfolding changed_sequences
+tells_old run p mail folder old new made a es p_is q_is e f = rw (← p_is, ← q_is, ← e) f
 
 -- nothing has changed
-pub unchanged : (run : ℕ) (p mail : Place) (folder : List ℕ) (old new : Marked) (b : Bool) {x : State} → b ≡ same_told folder old new → b ≡ true → Follows run plan_cause (changed_sequences run p mail folder old new) x x (Ok tt)
-unfolding changed_sequences
-unchanged run p mail folder old new b e t = rw (sym e, t) done
+pub unchanged : (run : ℕ) (p mail : Place) (folder : List ℕ) (new : Marked) (b t : Bool) {x : State} → t ≡ b → t ≡ true → Follows run plan_cause (committed_unless b run p mail folder new) x x (Ok tt)
+unchanged run p mail folder new b t e is = rw (sym e ∙ is) done
 
 -- something has
-pub changes : (run : ℕ) (p mail : Place) (folder : List ℕ) (old new : Marked) (b : Bool) {x y : State} {r : Result Unit PlanFault} → b ≡ same_told folder old new → b ≡ false →
-    Follows run plan_cause (sequences_committed run p mail folder new) x y r → Follows run plan_cause (changed_sequences run p mail folder old new) x y r
-unfolding changed_sequences
-changes run p mail folder old new b e t w = rw (sym e, t) w
+pub changes : (run : ℕ) (p mail : Place) (folder : List ℕ) (new : Marked) (b t : Bool) {x y : State} {r : Result Unit PlanFault} → t ≡ b → t ≡ false →
+    Follows run plan_cause (sequences_committed run p mail folder new) x y r → Follows run plan_cause (committed_unless b run p mail folder new) x y r
+changes run p mail folder new b t e is w = rw (sym e ∙ is) w

@@ -4,6 +4,7 @@ use Rattle.mh_base.specs.Entries.{entry_text}
 use Rattle.mh_base.specs.declared.entry.Entry.TheVariants.{Sequences}
 use Rattle.mh_profile.specs.declared.named_value.NamedValue.{NamedValue}
 use Rattle.mh_sequences.specs.declared.mark.Mark.{Mark}
+use Rattle.mh_sequences.specs.declared.run.Run.{Run}
 use Rattle.mh_sequences.specs.Printing.{private_entries, text_of}
 use Rattle.mh_sequences.specs.Reading.{suffix}
 use Rattle.mh_sequences.specs.Sequences.{Marked}
@@ -13,6 +14,7 @@ use Rattle.step_plans.specs.ContextCommit.{LIMIT_BYTES, commit_context}
 use Rattle.step_plans.specs.PlanFaults.{Planned}
 use Rattle.step_plans.specs.Replacing.{replaced}
 use Rattle.step_plans.specs.declared.fault.PlanFault.TheVariants as fault
+use Rattle.sequence_commits.specs.Cutting.{cut_to}
 use Rattle.sequence_commits.specs.Marking.{marked_by_all}
 use Rattle.sequence_commits.specs.PrivateChanges.{changes_to, entries_seen}
 use Rattle.sequence_commits.specs.Telling.{same_told}
@@ -48,3 +50,7 @@ changed_sequences run p mail folder old new = committed_unless (same_told folder
 -- what marks make of sequences
 abbrev pub marks_committed : ℕ → Place → Place → List ℕ → Marked → List Mark → Planned Unit
 marks_committed run p mail folder old marks = changed_sequences run p mail folder old (marked_by_all marks old)
+
+-- what is left of sequences under a set of listed numbers
+abbrev pub cut_committed : ℕ → Place → Place → List ℕ → Marked → List Run → Planned Unit
+cut_committed run p mail folder old listing = changed_sequences run p mail folder old (cut_to listing old)

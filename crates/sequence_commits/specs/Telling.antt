@@ -12,7 +12,10 @@ same_entries [] (y ∷ ys) = false
 same_entries (x ∷ xs) [] = false
 same_entries (x ∷ xs) (y ∷ ys) = bytes_eq x.name y.name && bytes_eq x.value y.value && same_entries xs ys
 
+-- this text and these entries are what is told of the sequences
+abbrev pub tells : List ℕ → List NamedValue → List ℕ → Marked → Bool
+tells text entries folder new = bytes_eq text (text_of new) && same_entries entries (private_entries (suffix folder) new.users)
+
 -- the folder's text and its private entries are alike
 abbrev pub same_told : List ℕ → Marked → Marked → Bool
-same_told folder old new =
-    bytes_eq (text_of old) (text_of new) && same_entries (private_entries (suffix folder) old.users) (private_entries (suffix folder) new.users)
+same_told folder old new = tells (text_of old) (private_entries (suffix folder) old.users) folder new

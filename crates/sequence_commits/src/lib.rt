@@ -10,7 +10,7 @@ mod marking;
 mod reading;
 mod telling;
 
-pub use committing::commit_sequences;
+pub use committing::{commit_cut, commit_sequences};
 pub use cutting::cut_sequences;
 pub use laws::{cut_is_one, mark_is_one, reading_is_one, told_alike, told_by_numbers};
 pub use marking::{mark_all, mark_one};

@@ -19,6 +19,9 @@ pub enum Ending {
     Done,
     Faulted,
     Locked,
+    Meddled,
+    Absent,
+    Refused,
     OtherFault,
     NoMemory,
 }
@@ -45,11 +48,13 @@ pub struct Counted {
     pub steps: usize,
 }
 
-fn ended(done: Result<(), PlanFault>) -> Ending {
+pub fn ended(done: Result<(), PlanFault>) -> Ending {
     match done {
         Ok(()) => Ending::Done,
         Err(PlanFault::Faulted) => Ending::Faulted,
         Err(PlanFault::Locked(_)) => Ending::Locked,
+        Err(PlanFault::Meddled(_, _)) => Ending::Meddled,
+        Err(PlanFault::Absent(_)) => Ending::Absent,
         Err(PlanFault::Memory) => Ending::NoMemory,
         Err(_) => Ending::OtherFault,
     }

@@ -1,6 +1,8 @@
-//! Tests of commits of sequences over a mailbox in memory. There is nothing here but tests.
+//! Tests of folders that are begun and of commits of their sequences, over a mailbox in memory. There is nothing here but tests.
 #![tactic(auto)]
 
+#[cfg(test)]
+mod beginning;
 #[cfg(test)]
 mod call;
 #[cfg(test)]
@@ -9,6 +11,8 @@ mod commits;
 mod given;
 #[cfg(test)]
 mod marking;
+#[cfg(test)]
+mod opening;
 #[cfg(test)]
 mod prompts;
 #[cfg(test)]

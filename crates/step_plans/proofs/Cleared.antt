@@ -12,7 +12,7 @@ use Rattle.file_plans.specs.Contents.{Contents, with_text}
 use Rattle.file_plans.specs.Giving.{Gives}
 use Rattle.file_plans.specs.Plan.{Hand, Return, bind, ask, ◌>>=◌, lifted}
 use Rattle.file_plans.specs.Views.{View, view_after, by_view}
-use Rattle.file_plans.proofs.Clearing.{cleared_in, without_temps, cleared_all, listed_once, rest_ascending, still_there}
+use Rattle.file_plans.proofs.Clearing.{AreThere, cleared_in, without_temps, cleared_all, listed_once, rest_ascending, still_there}
 use Rattle.file_plans.proofs.Giving.{gives_more}
 use Rattle.file_plans.proofs.Onward.{Is, onward, fits_at, not_gone, not_gone_there, not_busy_there}
 use Rattle.file_plans.proofs.Viewing.{unlink_view, lock_view, list_view}
@@ -39,28 +39,28 @@ module _ (alone : Bool) (ns : List ℕ) (p : Place) (h : Hand) where
       (λ f. record { is = onward alone ns v c (step.Unlink p n) answer.Done is refl; hand = refl })
       (λ f e. not_gone (c.texts p n) (there e) (fits_at alone ns v c (step.Unlink p n) answer.Gone is f e))
 
-  pub cleared_gives : (names : List (List ℕ)) (v : View) (c : Contents) (i : Hand) (text : List ℕ) → Is alone ns v c → (alone ≡ true → IsAscending names × ((x : List ℕ) → has_text x names ≡ true → is_some (c.texts p x) ≡ true))
+  pub cleared_gives : (names : List (List ℕ)) (v : View) (c : Contents) (i : Hand) (text : List ℕ) → Is alone ns v c → (alone ≡ true → IsAscending names × AreThere c p names)
       → Gives (by_view alone) v i text (cleared p names) (Leaves alone ns (cleared_in c p names) i (Fails alone h))
   unfolding Gives cleared cleared_in cleared_one bind ◌>>=◌
   cleared_gives [] v c i text is all = record { is = is; hand = refl }
-  cleared_gives (n ∷ names) v c i text is all = go (is_temp (kind_of n)) (λ z left e. cleared_gives names z (with_text c p n None) i left e less) (cleared_gives names v c i text is rest)
+  cleared_gives (n ∷ names) v c i text is all = go (is_temp (kind_of n)) refl (λ z left e. cleared_gives names z (with_text c p n None) i left e less) (cleared_gives names v c i text is rest)
     where
-      there : alone ≡ true → is_some (c.texts p n) ≡ true
-      there e = (all e).1 n (or_left (bytes_eq n n) (has_text n names) (bytes_self n))
+      there : is_temp (kind_of n) ≡ true → alone ≡ true → is_some (c.texts p n) ≡ true
+      there t e = (all e).1 n (or_left (bytes_eq n n) (has_text n names) (bytes_self n)) t
 
-      less : alone ≡ true → IsAscending names × ((x : List ℕ) → has_text x names ≡ true → is_some ((with_text c p n None).texts p x) ≡ true)
+      less : alone ≡ true → IsAscending names × AreThere (with_text c p n None) p names
       less e = (rest_ascending n names (all e).0, still_there c p n names (listed_once n names (all e).0) (all e).1)
 
-      rest : alone ≡ true → IsAscending names × ((x : List ℕ) → has_text x names ≡ true → is_some (c.texts p x) ≡ true)
+      rest : alone ≡ true → IsAscending names × AreThere c p names
       rest e = (rest_ascending n names (all e).0, λ x f. (all e).1 x (or_last (bytes_eq n x) (has_text x names) f))
 
-      go : (t : Bool) → ((z : View) (left : List ℕ) → Is alone ns z (with_text c p n None) → Gives (by_view alone) z i left (cleared p names) (Leaves alone ns (cleared_in (with_text c p n None) p names) i (Fails alone h)))
+      go : (t : Bool) → is_temp (kind_of n) ≡ t → ((z : View) (left : List ℕ) → Is alone ns z (with_text c p n None) → Gives (by_view alone) z i left (cleared p names) (Leaves alone ns (cleared_in (with_text c p n None) p names) i (Fails alone h)))
           → Gives (by_view alone) v i text (cleared p names) (Leaves alone ns (cleared_in c p names) i (Fails alone h))
           → Gives (by_view alone) v i text ((if t then removed p n else Return (Ok tt)) >>= (λ u. cleared p names)) (Leaves alone ns (if t then cleared_in (with_text c p n None) p names else cleared_in c p names) i (Fails alone h))
-      go true a b =
-          gives_next alone ns (with_text c p n None) i (Fails alone h) v i text (removed p n) (λ u. cleared p names) (Leaves alone ns (cleared_in (with_text c p n None) p names) i (Fails alone h)) (removed_gives n v c i text is there)
+      go true f a b =
+          gives_next alone ns (with_text c p n None) i (Fails alone h) v i text (removed p n) (λ u. cleared p names) (Leaves alone ns (cleared_in (with_text c p n None) p names) i (Fails alone h)) (removed_gives n v c i text is (there f))
           (λ z left u at_. a z left at_) (λ z j left e f. f)
-      go false a b = b
+      go false f a b = b
 
   -- alone the first try takes the lock
   pub locked_gives : (tries : ℕ) (v : View) (c : Contents) (i : Hand) (text : List ℕ) → Is alone ns v c → (alone ≡ true → (c.there p ≡ true) × (1 ≤ tries)) → Gives (by_view alone) v i text (locked p tries) (Leaves alone ns c i (Fails alone h))
@@ -81,5 +81,5 @@ module _ (alone : Bool) (ns : List ℕ) (p : Place) (h : Hand) where
       list_view alone v of_stop i text (Leaves alone ns (without_temps c p) i (Fails alone h)) p (clear_listed p)
       (λ names f. leaves_as alone ns (cleared p names) (view_after v (step.List p) (answer.Names names)) (cleared_in c p names) (without_temps c p) i (Fails alone h) i text
       (λ e. cleared_all c p names (fits_at alone ns v c (step.List p) (answer.Names names) is f e).1)
-      (cleared_gives names (view_after v (step.List p) (answer.Names names)) c i text is (λ e. let l = (fits_at alone ns v c (step.List p) (answer.Names names) is f e).1 in (l.ascending, λ x k. sym (l.all x) ∙ k))))
+      (cleared_gives names (view_after v (step.List p) (answer.Names names)) c i text is (λ e. let l = (fits_at alone ns v c (step.List p) (answer.Names names) is f e).1 in (l.ascending, λ x k t. sym (l.all x) ∙ k))))
       (λ f e. not_both (c.there p) (there e) (fits_at alone ns v c (step.List p) answer.Gone is f e))

@@ -22,7 +22,7 @@ use Rattle.file_plans.specs.StaysCareful.{careful}
 use Rattle.step_plans.specs.declared.change.ChangeEntry.{ChangeEntry}
 use Rattle.step_plans.specs.declared.fault.PlanFault.TheVariants as fault
 use Rattle.step_plans.specs.ContextPledge.{text_by}
-use Rattle.step_plans.specs.Commits.{IsBase, found, missing}
+use Rattle.step_plans.specs.Commits.{IsBase, found, missing, committed as committed_now}
 use Rattle.step_plans.specs.PlanFaults.{of_stop, Planned}
 use Rattle.step_plans.specs.ContextCommit.{context_name, LIMIT_BYTES, TRIES, changed, settled, entries_by, context_read, context_replaced, committed, commit_by, commit_context}
 use Rattle.step_plans.specs.Hands.{known}
@@ -107,11 +107,12 @@ module _ (w : Pledge) (p : Place) (lets : Serves w p) where
       (λ ns. held_more own h (did (step.List p) (answer.Names ns)) (cleared p ns) (λ f. settled_kept own (step.List p) (answer.Names ns) tt f) (cleared_goes (did (step.List p) (answer.Names ns) ∷ own) h ns (still (λ e. cc (e)) lock)))
       (goes_end w _ h (fault.Meddled p lock_name) (Of (Held own p)))
 
--- the name was committed as the command makes it, and made safe: what was settled stays so, and the lock is had
-pub record Changed (w : Pledge) (own : List Deed) (p : Place) (name : List ℕ) (later : List Deed) : Type 0 where
+-- the name was committed as the command makes it, and made safe: what was settled stays so, the lock is had, and the new text is the base
+pub record Changed (w : Pledge) (own : List Deed) (p : Place) (name new : List ℕ) (later : List Deed) : Type 0 where
   pub marked : HasMarked w p name later
   pub settled : AreSettled own → AreSettled later
   pub lock : HasLock p later
+  pub base : IsBase w.run p name new later
 
 -- the deeds of a file that was written
 abbrev pub after_written : Place → List ℕ → List ℕ → List Deed → List Deed
@@ -121,11 +122,11 @@ module _ (w : Pledge) (few : w.run < 2 ^ 128) (p : Place) (lets : Serves w p) wh
   -- a new text takes the name's place, where its base is known and the pledge has it so after the deeds of the file
   pub replaced_goes : (own : List Deed) (h : Hand) (name old new : List ℕ) → is_committed p name ≡ true → HasLock p own → IsBase w.run p name old own
       → ((temp : List ℕ) → w.may_mark (after_written p temp new own) p name old new) → ((temp : List ℕ) → IsMarked w p temp name (after_written p temp new own) → w.may_step (after_written p temp new own) (step.Rename p temp name))
-      → Goes w own h (replaced w.run p name new) (okay (Of (Changed w own p name)))
+      → Goes w own h (replaced w.run p name new) (okay (Of (Changed w own p name new)))
   unfolding replaced renamed
   replaced_goes own h name old new is lock base may step_ =
-      goes_then w own h (written w.run p new) _ (Written w few p lets own new) (Of (Changed w own p name)) (written_goes w few p lets own h new (λ l. lock))
-      (λ later j temp q. goes_at w later (after_written p temp new own) j _ (okay (Of (Changed w own p name))) q.0 (moves temp j q.1))
+      goes_then w own h (written w.run p new) _ (Written w few p lets own new) (Of (Changed w own p name new)) (written_goes w few p lets own h new (λ l. lock))
+      (λ later j temp q. goes_at w later (after_written p temp new own) j _ (okay (Of (Changed w own p name new))) q.0 (moves temp j q.1))
     where
       marked_at : (temp : List ℕ) → IsMarked w p temp name (after_written p temp new own)
       marked_at temp = record {
@@ -136,17 +137,18 @@ module _ (w : Pledge) (few : w.run < 2 ^ 128) (p : Place) (lets : Serves w p) wh
         made = may temp;
       }
 
-      changed_at : (temp : List ℕ) → Changed w own p name (did (step.SyncFolder p) answer.Done ∷ (did (step.Rename p temp name) answer.Done ∷ after_written p temp new own))
-      changed_at temp = record {
+      changed_at : (temp : List ℕ) → is_temp_of w.run (kind_of temp) ≡ true → Changed w own p name new (did (step.SyncFolder p) answer.Done ∷ (did (step.Rename p temp name) answer.Done ∷ after_written p temp new own))
+      changed_at temp own_ = record {
         marked = on (now (temp, refl, marked_at temp));
         settled = λ f. commit_settled p temp name _ (settled_kept _ (step.SyncFile p temp) answer.Done tt (settled_kept own (step.Create p temp new) answer.Done tt f));
         lock = still (λ e. cc (e)) (still (λ e. cc (e)) (still (λ e. cc (e)) (still (λ e. cc (e)) lock)));
+        base = base_kept w.run p name new _ (step.SyncFolder p) answer.Done tt (committed_now refl own_ (on (now refl)) (still (λ e. cc (e)) (still (λ e. cc (e)) lock)));
       }
 
-      end_ : (temp : List ℕ) (j : Hand) → Goes w (did (step.Rename p temp name) answer.Done ∷ after_written p temp new own) j (synced p name) (okay (Of (Changed w own p name)))
-      end_ temp j =
-          goes_more w _ j (synced p name) (okay (Adds (did (step.Rename p temp name) answer.Done ∷ after_written p temp new own) (did (step.SyncFolder p) answer.Done))) (okay (Of (Changed w own p name)))
-          (okay_more (Adds (did (step.Rename p temp name) answer.Done ∷ after_written p temp new own) (did (step.SyncFolder p) answer.Done)) (Of (Changed w own p name)) (λ last i u e. subst (λ z. Changed w own p name z) (sym e) (changed_at temp)))
+      end_ : (temp : List ℕ) (j : Hand) → is_temp_of w.run (kind_of temp) ≡ true → Goes w (did (step.Rename p temp name) answer.Done ∷ after_written p temp new own) j (synced p name) (okay (Of (Changed w own p name new)))
+      end_ temp j own_ =
+          goes_more w _ j (synced p name) (okay (Adds (did (step.Rename p temp name) answer.Done ∷ after_written p temp new own) (did (step.SyncFolder p) answer.Done))) (okay (Of (Changed w own p name new)))
+          (okay_more (Adds (did (step.Rename p temp name) answer.Done ∷ after_written p temp new own) (did (step.SyncFolder p) answer.Done)) (Of (Changed w own p name new)) (λ last i u e. subst (λ z. Changed w own p name new z) (sym e) (changed_at temp own_)))
           (synced_goes w (did (step.Rename p temp name) answer.Done ∷ after_written p temp new own) j p name)
 
       -- the rename by itself
@@ -165,10 +167,10 @@ module _ (w : Pledge) (few : w.run < 2 ^ 128) (p : Place) (lets : Serves w p) wh
           (goes_return w _ j tt (okay (Adds (after_written p temp new own) (did (step.Rename p temp name) answer.Done))) refl)
           (goes_end w _ j (fault.Meddled p temp) (Adds (after_written p temp new own) (did (step.Rename p temp name) answer.Done)))
 
-      moves : (temp : List ℕ) (j : Hand) → is_temp_of w.run (kind_of temp) ≡ true → Goes w (after_written p temp new own) j (renamed p temp name >>= (λ u. synced p name)) (okay (Of (Changed w own p name)))
+      moves : (temp : List ℕ) (j : Hand) → is_temp_of w.run (kind_of temp) ≡ true → Goes w (after_written p temp new own) j (renamed p temp name >>= (λ u. synced p name)) (okay (Of (Changed w own p name new)))
       moves temp j own_ =
-          goes_then w (after_written p temp new own) j (renamed p temp name) (λ u. synced p name) (Adds (after_written p temp new own) (did (step.Rename p temp name) answer.Done)) (Of (Changed w own p name)) (rename_goes temp j own_)
-          (λ later i u e. goes_at w later _ i (synced p name) (okay (Of (Changed w own p name))) e (end_ temp i))
+          goes_then w (after_written p temp new own) j (renamed p temp name) (λ u. synced p name) (Adds (after_written p temp new own) (did (step.Rename p temp name) answer.Done)) (Of (Changed w own p name new)) (rename_goes temp j own_)
+          (λ later i u e. goes_at w later _ i (synced p name) (okay (Of (Changed w own p name new))) e (end_ temp i own_))
 
 -- a commit of the context is pledged: while a fact of the deeds holds, which its steps keep, the command may replace
 -- the text by what the changes make of it
@@ -198,8 +200,8 @@ module _ (w : Pledge) (few : w.run < 2 ^ 128) (path : List ℕ) (lets : Serves w
   unfolding Goes known
   known_goes later j es k = λ s. (omega arith, k)
 
-  closing : (made later : List Deed) (j : Hand) (es : List NamedValue) → (AreSettled own → AreSettled later) → Changed w later p context_name made → Goes w made j (let_go p >>= (λ free. known es)) (okay Ends)
-  closing made later j es f c =
+  closing : (made later : List Deed) (j : Hand) (es : List NamedValue) (text : List ℕ) → (AreSettled own → AreSettled later) → Changed w later p context_name text made → Goes w made j (let_go p >>= (λ free. known es)) (okay Ends)
+  closing made later j es text f c =
       goes_then w made j (let_go p) (λ free. known es) (Adds made (did (step.Unlock p) answer.Done)) Ends (let_go_goes w made j p)
       (λ last i u e. goes_at w last (did (step.Unlock p) answer.Done ∷ made) i (known es) (okay Ends) e
       (known_goes _ i es (record { settled_still = λ s. settled_kept made (step.Unlock p) answer.Done tt (c.settled (f s)); done = inr (on c.marked) })))
@@ -231,10 +233,10 @@ module _ (w : Pledge) (few : w.run < 2 ^ 128) (path : List ℕ) (lets : Serves w
       go : (b : Bool) → Goes w read_ j ((if b then Return (Err (fault.TooLarge (length text))) else replaced w.run p context_name text) >>= (λ new. let_go p >>= (λ free. known (changed cs es)))) (okay Ends)
       go true = goes_stop w read_ j (fault.TooLarge (length text)) (λ (new : Unit {0}). let_go p >>= (λ free. known (changed cs es))) Ends
       go false =
-          goes_then w read_ j (replaced w.run p context_name text) (λ new. let_go p >>= (λ free. known (changed cs es))) (Of (Changed w read_ p context_name)) Ends
+          goes_then w read_ j (replaced w.run p context_name text) (λ new. let_go p >>= (λ free. known (changed cs es))) (Of (Changed w read_ p context_name text)) Ends
           (replaced_goes w few p lets read_ j context_name old text is lock_read base may_
           (λ temp m. pledged.lets (after_written p temp text read_) temp (written_facts temp) (still (λ e. cc (e)) (still (λ e. cc (e)) lock_read)) m))
-          (λ made i u c. closing made read_ i (changed cs es) (λ s. settled_kept later (step.Read p context_name LIMIT_BYTES) a tt (settled_ s)) c)
+          (λ made i u c. closing made read_ i (changed cs es) text (λ s. settled_kept later (step.Read p context_name LIMIT_BYTES) a tt (settled_ s)) c)
 
   -- the context is read under the lock
   record HasRead (later : List Deed) (now_ : List Deed) (es : List NamedValue) : Type 0 where

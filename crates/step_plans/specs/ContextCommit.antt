@@ -1,7 +1,7 @@
 -- The context: its entries, changes of them, and the plan by which changes are committed.
-use Rattle.std.specs.Prelude.{ℕ, Bool, true, false, ◌&&◌, nat_lt, bytes_eq, List, [], ◌∷◌, length, Option, None, Some, Ok, Err, codes, if◌then◌else◌}
+use Rattle.std.specs.Prelude.{◌≡◌, ◌≤◌, ℕ, drop, Bool, true, false, ◌&&◌, nat_lt, bytes_eq, List, [], ◌∷◌, length, Option, None, Some, Ok, Err, codes, if◌then◌else◌}
 use Rattle.mh_profile.specs.declared.named_value.NamedValue.{NamedValue}
-use Rattle.mh_profile.specs.Changes.{value_of, with_entry, without}
+use Rattle.mh_profile.specs.Changes.{value_of, with_entry, without, without_all}
 use Rattle.mh_profile.specs.Names.{IsFieldName}
 use Rattle.mh_profile.specs.Printing.{printed}
 use Rattle.mh_profile.specs.Reading.{entries_in}
@@ -39,6 +39,10 @@ changed_by name (Some value) es = with_entry name value es
 unfoldable pub changed : List ChangeEntry → List NamedValue → List NamedValue
 changed [] es = es
 changed (c ∷ cs) es = changed cs (changed_by c.name c.value es)
+
+-- the first changes take the entries of these names away
+abbrev pub AreGoneFirst : List (List ℕ) → List ChangeEntry → Type 0
+AreGoneFirst names cs = (length names ≤ length cs) × ((es : List NamedValue) → changed cs es ≡ changed (drop (length names) cs) (without_all names es))
 
 -- a new value has a field's name and stands on one line
 abbrev pub IsChangeBy : List ℕ → Option (List ℕ) → Type 0

@@ -1,7 +1,7 @@
 // Changes of the context.
-ghost use Rattle.std.specs.Prelude.{◌≡◌, IfOk, OnOk, Some};
+ghost use Rattle.std.specs.Prelude.{◌≡◌, ◌≤◌, drop, length, map, IfOk, OnOk, Some};
 ghost use Rattle.mh_profile.specs.Changes.{value_of};
-ghost use Rattle.step_plans.specs.ContextCommit.{IsChangeBy, AreChanges, changed_by, changed, same_value, says as says_value, settled as settled_value};
+ghost use Rattle.step_plans.specs.ContextCommit.{IsChangeBy, AreChanges, AreGoneFirst, changed_by, changed, same_value, says as says_value, settled as settled_value};
 
 use crate::keeping::Kept;
 use mh_base::{Bytes, Duplicate, List};
@@ -27,7 +27,42 @@ fn change_one(alloc: Global, entries: &mut Entries, change: &ChangeEntry) -> Res
     }
 }
 
-/// Makes these changes, one after another.
+/// The names of the entries that the first changes take away, up to one that gives a value.
+fn gone_first<'a>(alloc: Global, changes: &'a [ChangeEntry]) -> Result<Vec<&'a [u8]>, AllocError>
+    ensures { IfOk result (λ names. AreGoneFirst (map (λ n. n.now) names.items) changes.now) }
+{
+    let mut names = Vec::new(alloc);
+    for change in changes {
+        if change.value.is_some() {
+            return Ok(names);
+        }
+        names.push(change.name.as_slice())?;
+    }
+    Ok(names)
+}
+
+/// Makes the first change, or all at the front that take an entry away. How many those were.
+fn change_some(
+    alloc: Global,
+    entries: &mut Entries,
+    changes: &[ChangeEntry],
+) -> Result<usize, AllocError>
+    requires changes { AreChanges changes.now }
+    requires some { 1 ≤ length changes.now }
+    ensures changed { IfOk result (λ n. changed changes.now entries.old ≡ changed (drop n changes.now) entries.new) }
+    ensures some { IfOk result (λ n. (1 ≤ n) × (n ≤ length changes.now)) }
+{
+    let names = gone_first(alloc, changes)?;
+    if names.is_empty() {
+        change_one(alloc, entries, &changes[0])?;
+        return Ok(1);
+    }
+    entries.remove_all(&names)?;
+    Ok(names.len())
+}
+
+/// Makes these changes, one after another. Those behind each other that take entries away cost one
+/// pass over the entries, and each that gives a value costs that value.
 pub(crate) fn change_all(
     alloc: Global,
     entries: &mut Entries,
@@ -36,8 +71,10 @@ pub(crate) fn change_all(
     requires { AreChanges changes.now }
     ensures { OnOk result (entries.new ≡ changed changes.now entries.old) }
 {
-    for change in changes {
-        change_one(alloc, entries, change)?;
+    let mut done = 0;
+    while done < changes.len() {
+        let (_, left) = changes.split_at(done);
+        done += change_some(alloc, entries, left)?;
     }
     Ok(())
 }

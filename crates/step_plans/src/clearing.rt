@@ -55,7 +55,7 @@ fn clear_one<F: Files>(
 }
 
 /// The temporary names among these are unlinked.
-fn clear<F: Files>(
+pub fn clear<F: Files>(
     alloc: Global,
     run: u128,
     files: &mut F,

@@ -52,7 +52,8 @@ fn entries_from(alloc: Global, reading: Reading) -> Result<Entries, PlanFault>
     }
 }
 
-fn read_context<F: Files>(
+/// The entries of a mail directory's context; none where there is no context.
+pub fn read_context<F: Files>(
     alloc: Global,
     run: u128,
     files: &mut F,

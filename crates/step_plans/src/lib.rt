@@ -17,9 +17,9 @@ mod replacing;
 mod writing;
 
 pub use change::{ChangeEntry, ChangeEntryList};
-pub use clearing::{clear_temps, unlink};
+pub use clearing::{clear, clear_temps, unlink};
 pub use command_fault::CommandFault;
-pub use context::commit_context;
+pub use context::{commit_context, read_context};
 pub use fault::PlanFault;
 pub use file::replace_file;
 pub use hand::Hand;

@@ -175,6 +175,21 @@ fn one_entry_is_removed(rt: HostRuntime) -> Result<(), Fail> {
 }
 
 #[test]
+fn entries_are_removed_together(rt: HostRuntime) -> Result<(), Fail> {
+    let alloc = rt.alloc();
+    let mut entries = read(alloc, "Path: Mail\nEditor: vi\natr-x: 1\natr-X: 2\n")?;
+    entries.remove_all(&[
+        b"EDITOR".as_slice(),
+        b"ATR-X".as_slice(),
+        b"atr-x".as_slice(),
+    ])?;
+    assert!(rt; prints(alloc, &entries, "Path: Mail\natr-X: 2\n")?);
+    entries.remove_all(&[])?;
+    assert!(rt; has(&entries, "PATH", "Mail")?);
+    Ok(())
+}
+
+#[test]
 fn no_entries_print_as_nothing(rt: HostRuntime) -> Result<(), Fail> {
     let alloc = rt.alloc();
     let entries = Entries::new(alloc);

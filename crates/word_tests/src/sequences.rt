@@ -197,6 +197,33 @@ fn names_are_letters_and_digits(rt: HostRuntime) -> Result<(), Fail> {
     Ok(())
 }
 
+/// Whether the numbers of a set are found at their places, and nothing behind them.
+fn are_at(set: &NumSet, numbers: &[u32]) -> bool {
+    numbers
+        .iter()
+        .enumerate()
+        .all(|(i, n)| set.at(i as u64).map(|m| m.get()) == Some(*n))
+        && set.at(numbers.len() as u64).is_none()
+        && set.len() == numbers.len() as u64
+}
+
+#[test]
+fn numbers_are_counted_again_after_changes(rt: HostRuntime) -> Result<(), Fail> {
+    let alloc = rt.alloc();
+    let mut set = set(alloc, &[1, 3, 5, 7, 9, 10, 20])?;
+    assert!(rt; are_at(&set, &[1, 3, 5, 7, 9, 10, 20]));
+    set.remove(number(3)?)?;
+    assert!(rt; are_at(&set, &[1, 5, 7, 9, 10, 20]));
+    set.insert(number(6)?)?;
+    assert!(rt; are_at(&set, &[1, 5, 6, 7, 9, 10, 20]));
+    set.insert(number(30)?)?;
+    assert!(rt; are_at(&set, &[1, 5, 6, 7, 9, 10, 20, 30]));
+    assert_eq!(rt; set.place(10), 2);
+    assert_eq!(rt; set.numbers_before(2), 4);
+    assert_eq!(rt; set.numbers_before(9), 8);
+    Ok(())
+}
+
 #[test]
 fn one_number_of_many_is_removed(rt: HostRuntime) -> Result<(), Fail> {
     let alloc = rt.alloc();

@@ -1,6 +1,9 @@
 use Rattle.std.proofs.Common.{◌≤◌, arith}
-use Rattle.msg_ranges.proofs.Sums.{few_counted, counted_before, counted_more, counted_end}
+use Rattle.msg_ranges.proofs.Sums.{few_counted, counted_first, counted_before, counted_more, counted_end}
 use Rattle.msg_ranges.proofs.counting.count_up_to.Goals as goal
+
+pub loop-run-init : goal.loop-run-init
+loop-run-init c = counted_first c.args.set.now.runs c.args.to c.place-i.result c.numbers_before-count.result c.place-i.ensures c.numbers_before-count.ensures
 
 pub returns-then-to-from-clause-count : goal.returns-then-to-from-clause-count
 returns-then-to-from-clause-count c = counted_before c.args.set.now.runs c.args.to c.loop-run.i c.loop-run.count c.in-Some.run' c.in-Some.ensures.at c.loop-run.invariant (omega (arith, c.get-from.ensures.value))

@@ -1,9 +1,10 @@
-use Rattle.std.proofs.Common.{◌∙◌, sym}
-use Rattle.step_plans.proofs.ContextChanges.{more_changed, no_change}
+use Rattle.std.proofs.Common.{◌∙◌, subst, sym}
+use Rattle.step_plans.specs.ContextCommit.{AreChanges}
+use Rattle.step_plans.proofs.ContextChanges.{changes_left, no_change}
 use Rattle.step_plans.proofs.change.change_all.Goals as goal
 
-pub loop-change-preserved : goal.loop-change-preserved
-loop-change-preserved c = more_changed _ _ _ _ _ _ c.loop-change-test.true c.change-item.is c.in_ok-change_one.ensures c.loop-change.invariant
+pub change_some-requires-clause-changes : goal.change_some-requires-clause-changes
+change_some-requires-clause-changes c = subst AreChanges (sym c.split_at.ensures.back) (changes_left c.args.changes.now c.loop-done.done c.requires)
 
 pub returns : goal.returns
-returns c = sym (no_change _ _ _ c.loop-change-test.false) ∙ c.loop-change.invariant.0
+returns c = sym (no_change c.args.changes.now c.loop-done.done c.loop-done.entries c.loop-done-test.false) ∙ c.loop-done.invariant.0

@@ -1,6 +1,9 @@
-use Rattle.std.proofs.Common.{◌≡◌, drop}
-use Rattle.step_plans.specs.ContextCommit.{AreChanges, changed}
+use Rattle.std.proofs.Common.{◌≡◌, ◌≤◌, ◌-◌, drop, length}
+use Rattle.step_plans.specs.ContextCommit.{changed}
 use Rattle.step_plans.proofs.change.change_all.Given as goal
 
-abbrev pub invariant-loop-change : goal.invariant-loop-change
-invariant-loop-change l = (changed (drop l.change-index l.changes) l.entries ≡ changed l.changes l.fn.entries) × AreChanges (drop l.change-index l.changes)
+abbrev pub invariant-loop-done : goal.invariant-loop-done
+invariant-loop-done l = (changed (drop l.done l.changes) l.entries ≡ changed l.changes l.fn.entries) × (l.done ≤ length l.changes)
+
+abbrev pub decreases-loop-done : goal.decreases-loop-done
+decreases-loop-done l = length l.changes - l.done
