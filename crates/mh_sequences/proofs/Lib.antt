@@ -22,4 +22,5 @@ pub mod Removing
 pub mod RunLemmas
 pub mod Same
 pub mod Searching
+pub mod SlotLemmas
 pub mod Stretches

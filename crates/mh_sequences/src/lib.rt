@@ -17,9 +17,11 @@ mod place;
 mod printing;
 mod reading;
 mod run;
+mod run_list;
 mod runs;
 mod seq_name;
 mod sequences;
+mod slots;
 mod stretch;
 mod user;
 

@@ -10,6 +10,7 @@ use crate::Run;
 use crate::counts::Counts;
 use crate::join::Join;
 use crate::run::number;
+use crate::run_list::RunList;
 use crate::runs::{add, before, stretch, take_out};
 use crate::stretch::Stretch;
 use mh_base::MsgNum;
@@ -18,25 +19,24 @@ use std::marker::Model;
 
 /// A set of message numbers. Contracts see its runs, and for how many more it has room.
 ///
-/// Looking a number or a place up halves the runs. A change moves all runs behind it and forgets how they were counted, so
-/// one number after another is cheap only at the end: to change many in any order, make a `Pile` and `join` its set.
+/// Looking a number or a place up halves the runs. A change moves the runs between its place and the nearer end, and forgets how
+/// those behind it were counted. So one number after another is cheap at either end, and at both as long as there is room for a
+/// good part of the runs more. To change many in any order, make a `Pile` and `join` its set.
 #[derive(Drop)]
 pub struct NumSet {
-    runs: Vec<Run>,
+    runs: RunList,
     counts: Counts,
 }
 
 impl Model for NumSet {
-    ghost use Rattle.std.specs.Prelude.{◌-◌, vec_len};
-    ghost use Rattle.std.specs.Vec.{vec_capacity};
     ghost use Rattle.mh_sequences.specs.Counts.{AreEnds};
-    ghost use Rattle.mh_sequences.specs.Runs.{AreRuns, Numbers, set_of};
+    ghost use Rattle.mh_sequences.specs.Runs.{AreRuns, Numbers};
 
     ghost Value = { Numbers };
 
-    ghost view = { λ s. set_of s.runs.items (vec_capacity s.runs - vec_len s.runs) };
+    ghost view = { λ s. s.runs };
 
-    ghost invariant = { λ s. AreRuns s.runs.items × AreEnds 0 s.counts.ends.items s.runs.items };
+    ghost invariant = { λ s. AreRuns s.runs.runs × AreEnds 0 s.counts.ends.items s.runs.runs };
 }
 
 /// The stretch of two sets joined that begins at the number, or a front of it.
@@ -67,7 +67,7 @@ impl NumSet {
         ensures { result.runs ≡ [] }
     {
         NumSet {
-            runs: Vec::new(alloc),
+            runs: RunList::new(alloc),
             counts: Counts::new(alloc),
         }
     }
@@ -75,7 +75,7 @@ impl NumSet {
     pub fn has(&self, n: MsgNum) -> bool
         ensures { result ≡ has self.now.runs n }
     {
-        stretch(&self.runs, n.get()).all
+        stretch(self.runs.as_slice(), n.get()).all
     }
 
     /// Makes room for so many runs. With room for one, a change of the set cannot fail.
@@ -98,9 +98,10 @@ impl NumSet {
         ensures spare { self.old.spare ≤ self.new.spare + 1 }
     {
         let (from, _) = run.ends();
-        self.counts.forget_from(before(&self.runs, from - 1));
+        self.counts
+            .forget_from(before(self.runs.as_slice(), from - 1));
         add(&mut self.runs, run)?;
-        self.counts.count_on(&self.runs);
+        self.counts.count_on(self.runs.as_slice());
         Ok(())
     }
 
@@ -121,9 +122,10 @@ impl NumSet {
         ensures succeeds { 1 ≤ self.old.spare → IsOk result }
         ensures spare { self.old.spare ≤ self.new.spare + 1 }
     {
-        self.counts.forget_from(before(&self.runs, n.get()));
+        self.counts
+            .forget_from(before(self.runs.as_slice(), n.get()));
         take_out(&mut self.runs, n.get())?;
-        self.counts.count_on(&self.runs);
+        self.counts.count_on(self.runs.as_slice());
         Ok(())
     }
 
@@ -139,21 +141,21 @@ impl NumSet {
     pub fn run_at(&self, index: u64) -> Option<Run>
         ensures { MatchOption result (slice_get self.now.runs index ≡ None) (λ r. slice_get self.now.runs index ≡ Some r) }
     {
-        self.runs.get(index as usize).copied()
+        self.runs.as_slice().get(index as usize).copied()
     }
 
     /// How many numbers there are.
     pub fn len(&self) -> u64
         ensures { result ≡ length (numbers_of self.now.runs) }
     {
-        self.counts.before(&self.runs, self.runs.len())
+        self.counts.before(self.runs.as_slice(), self.runs.len())
     }
 
     /// How many runs end before this number.
     pub fn place(&self, n: u32) -> u64
         ensures { result ≡ prefix_len (λ r. nat_lt r.to n) self.now.runs }
     {
-        before(&self.runs, n) as u64
+        before(self.runs.as_slice(), n) as u64
     }
 
     /// How many numbers the runs before this place have.
@@ -161,21 +163,21 @@ impl NumSet {
         ensures { result ≡ length (numbers_of (take place self.now.runs)) }
     {
         let place = place.min(self.runs.len() as u64);
-        self.counts.before(&self.runs, place as usize)
+        self.counts.before(self.runs.as_slice(), place as usize)
     }
 
     pub fn is_empty(&self) -> bool
         ensures value { result ≡ (length self.now.runs == 0) }
         ensures valid { AreRuns self.now.runs }
     {
-        self.runs.is_empty()
+        self.runs.as_slice().is_empty()
     }
 
     /// The number at this place, ascending from 0.
     pub fn at(&self, index: u64) -> Option<MsgNum>
         ensures { result ≡ slice_get (numbers_of self.now.runs) index }
     {
-        self.counts.number_at(&self.runs, index)
+        self.counts.number_at(self.runs.as_slice(), index)
     }
 
     pub(crate) fn as_slice(&self) -> &[Run]
@@ -190,7 +192,7 @@ impl NumSet {
         ensures valid { AreRuns result.items }
     {
         let NumSet { runs, .. } = self;
-        runs
+        runs.into_vec()
     }
 
     /// The same set again.
@@ -198,7 +200,7 @@ impl NumSet {
         ensures { IfOk result (λ s. s.runs ≡ self.now.runs) }
     {
         Ok(NumSet {
-            runs: self.runs.as_slice().to_vec(alloc)?,
+            runs: self.runs.copy(alloc)?,
             counts: self.counts.copy(alloc)?,
         })
     }
@@ -212,7 +214,12 @@ impl NumSet {
         let mut joined = NumSet::new(alloc);
         let mut from = 1;
         while from <= 999_999 {
-            let Stretch { all, to } = joined_stretch(&self.runs, &other.runs, how, from);
+            let Stretch { all, to } = joined_stretch(
+                self.runs.as_slice(),
+                other.runs.as_slice(),
+                how,
+                from,
+            );
             if all {
                 joined.insert_run(Run {
                     from: number(from),

@@ -1,6 +1,5 @@
 // Lists of runs.
-ghost use Rattle.std.specs.Prelude.{◌≡◌, ◌≤◌, ◌<◌, ◌-◌, ◌+◌, ◌∷◌, ◌++◌, nat_lt, length, take, drop, OnOk, OnErr, IsOk, vec_len, slice_index_or, slice_get, Some, ℕ};
-ghost use Rattle.std.specs.Vec.{vec_capacity};
+ghost use Rattle.std.specs.Prelude.{◌≡◌, ◌≤◌, ◌-◌, ◌+◌, ◌∷◌, ◌++◌, nat_lt, length, take, drop, OnOk, OnErr, IsOk, slice_get, Some};
 ghost use Rattle.std.specs.List.{prefix_len};
 ghost use Rattle.mh_base.specs.Numbers.{IsMsgNum};
 ghost use Rattle.mh_sequences.specs.Runs.{AreRuns, numbers_of};
@@ -9,6 +8,7 @@ ghost use Rattle.mh_sequences.specs.Stretches.{IsStretch};
 
 use crate::Run;
 use crate::run::number;
+use crate::run_list::RunList;
 use crate::stretch::Stretch;
 use mh_base::MsgNum;
 use std::alloc::AllocError;
@@ -80,122 +80,100 @@ fn absorb(run: Run, runs: &[Run]) -> (Run, usize)
     (whole, runs.len())
 }
 
-/// Takes the runs from one place up to another out.
-fn cut_out(runs: &mut Vec<Run>, start: usize, end: usize)
-    requires order { start ≤ end }
-    requires within { end ≤ length runs.old.items }
-    ensures items { runs.new.items ≡ take start runs.old.items ++ drop end runs.old.items }
-    ensures capacity { vec_capacity runs.new ≡ vec_capacity runs.old }
-{
-    let _ = runs.drain(start..end);
-}
-
-/// Puts a run at a place, or leaves all as it was.
-fn put(runs: &mut Vec<Run>, at: usize, run: Run) -> Result<(), AllocError>
-    requires { at ≤ vec_len runs.old }
-    ensures ok { OnOk result (runs.new.items ≡ take at runs.old.items ++ run ∷ drop at runs.old.items) }
-    ensures err { OnErr result (runs.new.items ≡ runs.old.items) }
-    ensures same { OnErr result (vec_capacity runs.new ≡ vec_capacity runs.old) }
-    ensures capacity { vec_capacity runs.old ≤ vec_capacity runs.new }
-    ensures succeeds { vec_len runs.old < vec_capacity runs.old → IsOk result }
-{
-    runs.reserve(1)?;
-    runs.insert(at, run)?;
-    Ok(())
-}
-
 /// Puts a run in the place of those from one place up to another.
-fn replace(runs: &mut Vec<Run>, start: usize, end: usize, run: Run) -> Result<(), AllocError>
+fn replace(runs: &mut RunList, start: usize, end: usize, run: Run) -> Result<(), AllocError>
     requires order { start ≤ end }
-    requires within { end ≤ length runs.old.items }
-    ensures ok { OnOk result (runs.new.items ≡ take start runs.old.items ++ run ∷ drop end runs.old.items) }
-    ensures err { OnErr result (runs.new.items ≡ runs.old.items) }
-    ensures same { OnErr result (vec_capacity runs.new ≡ vec_capacity runs.old) }
-    ensures capacity { vec_capacity runs.old ≤ vec_capacity runs.new }
-    ensures succeeds { vec_len runs.old < vec_capacity runs.old → IsOk result }
+    requires within { end ≤ length runs.old.runs }
+    ensures ok { OnOk result (runs.new.runs ≡ take start runs.old.runs ++ run ∷ drop end runs.old.runs) }
+    ensures err { OnErr result (runs.new ≡ runs.old) }
+    ensures succeeds { 1 ≤ runs.old.spare → IsOk result }
+    ensures spare { runs.old.spare ≤ runs.new.spare + 1 }
 {
     if start == end {
-        return put(runs, start, run);
+        return runs.put(start, run);
     }
-    runs[start] = run;
-    cut_out(runs, start + 1, end);
+    runs.set(start, run);
+    runs.cut_out(start + 1, end);
     Ok(())
 }
 
 /// Takes a number out of the run at this place, which has it.
-fn split(runs: &mut Vec<Run>, at: usize, run: Run, n: u32) -> Result<(), AllocError>
-    requires is { slice_get runs.old.items at ≡ Some run }
+fn split(runs: &mut RunList, at: usize, run: Run, n: u32) -> Result<(), AllocError>
+    requires is { slice_get runs.old.runs at ≡ Some run }
     requires from { run.from ≤ n }
     requires to { n ≤ run.to }
-    ensures ok { OnOk result (runs.new.items ≡ take at runs.old.items ++ (front run n ++ (back run n ++ drop (at + 1) runs.old.items))) }
-    ensures err { OnErr result (runs.new.items ≡ runs.old.items) }
-    ensures same { OnErr result (vec_capacity runs.new ≡ vec_capacity runs.old) }
-    ensures capacity { vec_capacity runs.old ≤ vec_capacity runs.new }
-    ensures succeeds { vec_len runs.old < vec_capacity runs.old → IsOk result }
-    ensures len { vec_len runs.new ≤ vec_len runs.old + 1 }
+    ensures ok { OnOk result (runs.new.runs ≡ take at runs.old.runs ++ (front run n ++ (back run n ++ drop (at + 1) runs.old.runs))) }
+    ensures err { OnErr result (runs.new ≡ runs.old) }
+    ensures succeeds { 1 ≤ runs.old.spare → IsOk result }
+    ensures spare { runs.old.spare ≤ runs.new.spare + 1 }
 {
+    prove!(at < runs.len());
     let from = run.from.get();
     let to = run.to.get();
     if from == to {
-        let _ = runs.remove(at);
+        runs.cut_out(at, at + 1);
     } else if from == n {
-        runs[at] = Run {
-            from: number(n + 1),
-            to: run.to,
-        };
+        runs.set(
+            at,
+            Run {
+                from: number(n + 1),
+                to: run.to,
+            },
+        );
     } else if to == n {
-        runs[at] = Run {
-            from: run.from,
-            to: number(n - 1),
-        };
+        runs.set(
+            at,
+            Run {
+                from: run.from,
+                to: number(n - 1),
+            },
+        );
     } else {
-        put(
-            runs,
+        runs.put(
             at + 1,
             Run {
                 from: number(n + 1),
                 to: run.to,
             },
         )?;
-        runs[at] = Run {
-            from: run.from,
-            to: number(n - 1),
-        };
+        runs.set(
+            at,
+            Run {
+                from: run.from,
+                to: number(n - 1),
+            },
+        );
     }
     Ok(())
 }
 
 /// Adds a run.
-pub(crate) fn add(runs: &mut Vec<Run>, run: Run) -> Result<(), AllocError>
-    requires runs { AreRuns runs.old.items }
+pub(crate) fn add(runs: &mut RunList, run: Run) -> Result<(), AllocError>
+    requires runs { AreRuns runs.old.runs }
     requires run { run.from ≤ run.to }
-    ensures ok { OnOk result (runs.new.items ≡ added run runs.old.items) }
-    ensures valid { AreRuns runs.new.items }
-    ensures err { OnErr result (runs.new.items ≡ runs.old.items) }
-    ensures same { OnErr result (vec_capacity runs.new ≡ vec_capacity runs.old) }
-    ensures capacity { vec_capacity runs.old ≤ vec_capacity runs.new }
-    ensures succeeds { vec_len runs.old < vec_capacity runs.old → IsOk result }
-    ensures len { vec_len runs.new ≤ vec_len runs.old + 1 }
+    ensures ok { OnOk result (runs.new.runs ≡ added run runs.old.runs) }
+    ensures valid { AreRuns runs.new.runs }
+    ensures err { OnErr result (runs.new ≡ runs.old) }
+    ensures succeeds { 1 ≤ runs.old.spare → IsOk result }
+    ensures spare { runs.old.spare ≤ runs.new.spare + 1 }
 {
     let (from, _) = run.ends();
-    let start = before(runs, from - 1);
-    let (_, rest) = runs.split_at(start);
+    let start = before(runs.as_slice(), from - 1);
+    let (_, rest) = runs.as_slice().split_at(start);
     let (whole, count) = absorb(run, rest);
     replace(runs, start, start + count, whole)
 }
 
 /// Takes a number out.
-pub(crate) fn take_out(runs: &mut Vec<Run>, n: u32) -> Result<(), AllocError>
-    requires { AreRuns runs.old.items }
-    ensures ok { OnOk result (runs.new.items ≡ removed n runs.old.items) }
-    ensures valid { AreRuns runs.new.items }
-    ensures err { OnErr result (runs.new.items ≡ runs.old.items) }
-    ensures same { OnErr result (vec_capacity runs.new ≡ vec_capacity runs.old) }
-    ensures capacity { vec_capacity runs.old ≤ vec_capacity runs.new }
-    ensures succeeds { vec_len runs.old < vec_capacity runs.old → IsOk result }
-    ensures len { vec_len runs.new ≤ vec_len runs.old + 1 }
+pub(crate) fn take_out(runs: &mut RunList, n: u32) -> Result<(), AllocError>
+    requires { AreRuns runs.old.runs }
+    ensures ok { OnOk result (runs.new.runs ≡ removed n runs.old.runs) }
+    ensures valid { AreRuns runs.new.runs }
+    ensures err { OnErr result (runs.new ≡ runs.old) }
+    ensures succeeds { 1 ≤ runs.old.spare → IsOk result }
+    ensures spare { runs.old.spare ≤ runs.new.spare + 1 }
 {
-    let (at, run) = ahead(runs, n);
+    let (at, run) = ahead(runs.as_slice(), n);
     match run {
         Some(run) if run.from.get() <= n => split(runs, at, run, n),
         _ => Ok(()),
