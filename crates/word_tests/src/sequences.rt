@@ -55,19 +55,28 @@ fn agrees(numbers: &NumSet, plain: &[bool]) -> bool {
     })
 }
 
-/// Inserts a number or removes it, by a number that stands for chance.
-fn change(numbers: &mut NumSet, plain: &mut [bool], chance: u32) -> Result<(), Fail> {
-    let n = 1 + chance / 16 % 24;
-    let there = chance % 5 < 3;
+/// Inserts a number or removes it.
+fn put(numbers: &mut NumSet, n: u32, there: bool) -> Result<(), Fail> {
     if there {
         numbers.insert(number(n)?)?;
     } else {
         numbers.remove(number(n)?)?;
     }
+    Ok(())
+}
+
+/// Whether the set has just the numbers of the plain one, once a number is put into both or taken out of them.
+fn agrees_with(
+    numbers: &mut NumSet,
+    plain: &mut [bool],
+    n: u32,
+    there: bool,
+) -> Result<bool, Fail> {
+    put(numbers, n, there)?;
     if let Some(place) = plain.get_mut(n as usize) {
         *place = there;
     }
-    Ok(())
+    Ok(agrees(numbers, plain))
 }
 
 fn folder(alloc: Global) -> Result<FolderName, Fail> {
@@ -247,8 +256,84 @@ fn changes_agree_with_a_plain_set(rt: HostRuntime) -> Result<(), Fail> {
     let mut chance: u32 = 12_345;
     for _ in 0..500 {
         chance = chance.wrapping_mul(1_664_525).wrapping_add(1_013_904_223);
-        change(&mut numbers, &mut plain, chance)?;
-        assert!(rt; agrees(&numbers, &plain));
+        let n = 1 + chance / 16 % 24;
+        let there = chance % 5 < 3;
+        assert!(rt; agrees_with(&mut numbers, &mut plain, n, there)?);
+    }
+    Ok(())
+}
+
+/// Whether the numbers agree with a plain set while each comes in front of the last, then half of them go from the front, and
+/// then numbers come in front and go from the front in turns.
+fn agrees_in_front(numbers: &mut NumSet) -> Result<bool, Fail> {
+    let mut plain = [false; 200];
+    let mut all = true;
+    for step in 0..60 {
+        all = all && agrees_with(numbers, &mut plain, 180 - 2 * step, true)?;
+    }
+    for step in 0..30 {
+        all = all && agrees_with(numbers, &mut plain, 62 + 2 * step, false)?;
+    }
+    for step in 0..30 {
+        all = all && agrees_with(numbers, &mut plain, 120 - 4 * step, true)?;
+        all = all && agrees_with(numbers, &mut plain, 118 - 4 * step, true)?;
+        all = all && agrees_with(numbers, &mut plain, 118 - 4 * step, false)?;
+    }
+    Ok(all)
+}
+
+/// Whether the numbers agree with a plain set while each comes behind the last as the first one goes.
+fn agrees_along(numbers: &mut NumSet) -> Result<bool, Fail> {
+    let mut plain = [false; 200];
+    let mut all = true;
+    for step in 0..99 {
+        all = all && agrees_with(numbers, &mut plain, 1 + 2 * step, true)?;
+        if step >= 8 {
+            all = all && agrees_with(numbers, &mut plain, 2 * step - 15, false)?;
+        }
+    }
+    Ok(all)
+}
+
+#[test]
+fn changes_at_the_ends_agree_with_a_plain_set(rt: HostRuntime) -> Result<(), Fail> {
+    let alloc = rt.alloc();
+    assert!(rt; agrees_in_front(&mut NumSet::new(alloc))?);
+    assert!(rt; agrees_along(&mut NumSet::new(alloc))?);
+    Ok(())
+}
+
+#[test]
+fn changes_at_the_ends_agree_where_there_is_room(rt: HostRuntime) -> Result<(), Fail> {
+    let mut front = NumSet::new(rt.alloc());
+    front.reserve(70)?;
+    assert!(rt; agrees_in_front(&mut front)?);
+    let mut along = NumSet::new(rt.alloc());
+    along.reserve(9)?;
+    assert!(rt; agrees_along(&mut along)?);
+    Ok(())
+}
+
+#[test]
+fn numbers_go_and_come_in_front(rt: HostRuntime) -> Result<(), Fail> {
+    let rows: [(bool, u32, &[u32]); 12] = [
+        (false, 10, &[20, 30, 40, 50]),
+        (false, 20, &[30, 40, 50]),
+        (true, 25, &[25, 30, 40, 50]),
+        (true, 15, &[15, 25, 30, 40, 50]),
+        (true, 5, &[5, 15, 25, 30, 40, 50]),
+        (true, 3, &[3, 5, 15, 25, 30, 40, 50]),
+        (true, 4, &[3, 4, 5, 15, 25, 30, 40, 50]),
+        (false, 4, &[3, 5, 15, 25, 30, 40, 50]),
+        (false, 30, &[3, 5, 15, 25, 40, 50]),
+        (false, 5, &[3, 15, 25, 40, 50]),
+        (true, 60, &[3, 15, 25, 40, 50, 60]),
+        (false, 3, &[15, 25, 40, 50, 60]),
+    ];
+    let mut numbers = set(rt.alloc(), &[10, 20, 30, 40, 50])?;
+    for (there, n, wanted) in rows {
+        put(&mut numbers, n, there)?;
+        assert!(rt; are_at(&numbers, wanted));
     }
     Ok(())
 }
