@@ -33,3 +33,4 @@ pub use pile::Pile;
 pub use run::Run;
 pub use seq_name::{SeqFault, SeqName};
 pub use sequences::Sequences;
+pub use user::User;

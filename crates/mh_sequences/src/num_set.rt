@@ -196,7 +196,7 @@ impl NumSet {
     }
 
     /// The same set again.
-    pub(crate) fn copy(&self, alloc: Global) -> Result<NumSet, AllocError>
+    pub fn copy(&self, alloc: Global) -> Result<NumSet, AllocError>
         ensures { IfOk result (λ s. s.runs ≡ self.now.runs) }
     {
         Ok(NumSet {

@@ -8,8 +8,8 @@ ghost use Rattle.mh_sequences.specs.Printing.{cur_entry, entry_of, is_before_cur
 ghost use Rattle.mh_sequences.specs.Reading.{attribute};
 ghost use Rattle.mh_sequences.specs.Sequences.{told};
 
-use crate::Run;
 use crate::user::User;
+use crate::{NumSet, Run};
 use itoa::Buffer;
 use mh_base::{Bytes, List, MsgNum};
 use mh_profile::{EntryList, NamedValue};
@@ -55,6 +55,16 @@ fn list_of(alloc: Global, runs: &[Run]) -> Result<Bytes, AllocError>
     put_run(&mut text, first)?;
     put_runs(&mut text, others)?;
     Ok(text)
+}
+
+impl NumSet {
+    /// The numbers as a list: ascending, with one space between, and two or more consecutive ones as their first and last with a
+    /// dash between.
+    pub fn list(&self, alloc: Global) -> Result<Bytes, AllocError>
+        ensures { IfOk result (λ b. b ≡ list_text self.now.runs) }
+    {
+        list_of(alloc, self.as_slice())
+    }
 }
 
 fn put_line(text: &mut Bytes, name: &[u8], list: &[u8]) -> Result<(), AllocError>

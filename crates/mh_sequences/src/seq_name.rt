@@ -110,14 +110,15 @@ impl SeqName {
     }
 
     /// The name in bytes, of which each is a character.
-    pub(crate) fn bytes(&self) -> &[u8]
+    pub fn bytes(&self) -> &[u8]
         ensures value { result.now ≡ self.now }
         ensures valid { IsTrue (is_seq_name result.now) }
     {
         self.0.as_str().as_bytes()
     }
 
-    pub(crate) fn copy(&self, alloc: Global) -> Result<SeqName, AllocError>
+    /// The same name again.
+    pub fn copy(&self, alloc: Global) -> Result<SeqName, AllocError>
         ensures { IfOk result (λ n. n ≡ self.now) }
     {
         Ok(SeqName(self.0.duplicate(alloc)?))

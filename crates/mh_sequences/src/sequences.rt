@@ -113,6 +113,14 @@ impl Sequences {
         Sequences::read_all(alloc, public, context, folder)
     }
 
+    /// The user's sequences, in byte order of their names.
+    pub fn users(&self) -> &[User]
+        ensures value { map told result.now ≡ self.now.users }
+        ensures valid { AreSequences self.now.users }
+    {
+        self.users.as_slice()
+    }
+
     /// How many user's sequences there are.
     pub fn len(&self) -> u64
         ensures value { result ≡ length self.now.users }
