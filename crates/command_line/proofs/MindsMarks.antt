@@ -26,9 +26,9 @@ use Rattle.sequence_marks.specs.SequenceMarks.{private_marks, says_private}
 use Rattle.sequence_marks.proofs.OtherEntries.{marks_same}
 use Rattle.sequence_marks.proofs.Sequences.{MindsSequences, SameStart, sequences_kept}
 use Rattle.sequence_marks.proofs.Silence.{private_committed}
-use Rattle.mh_looks.specs.Current.{current_name}
+use Rattle.command_stages.specs.Current.{current_name}
 use Rattle.mh_looks.specs.ScanPledge.{MarksCurrent, scan_pledge}
-use Rattle.mh_looks.proofs.FolderLines.{current_valid}
+use Rattle.command_stages.proofs.FolderLines.{current_valid}
 use Rattle.command_line.specs.Command.{command}
 use Rattle.command_line.specs.CommandPledge.{path_by}
 use Rattle.command_line.specs.Ended.{ended_cause}

@@ -32,7 +32,7 @@ use Rattle.step_plans.proofs.Asks.{Commits, asks_commit}
 use Rattle.command_stages.specs.Endings.{of_plan}
 use Rattle.command_stages.specs.Listed.{names_by, folder_listed}
 use Rattle.command_stages.specs.Texts.{text_by, text_read}
-use Rattle.mh_looks.specs.Current.{current_change, made_current}
+use Rattle.command_stages.specs.Current.{current_change, made_current}
 use Rattle.mh_looks.specs.Scan.{shown_by, one_shown, all_shown, ordered, entries_seen, chosen_by, scan}
 use Rattle.mh_looks.specs.declared.job.ScanJob.{ScanJob}
 use Rattle.command_line.specs.Command.{profile_name, path_of, folder_of, job_of, context_seen, context_entered, scan_begun, scan_by, no_command, command_by, command}

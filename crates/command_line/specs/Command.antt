@@ -13,7 +13,7 @@ use Rattle.step_plans.specs.ContextCommit.{context_name}
 use Rattle.step_plans.specs.Hands.{knowing}
 use Rattle.step_plans.specs.declared.command_fault.CommandFault.{CommandFault}
 use Rattle.command_stages.specs.Texts.{Commanded, text_read}
-use Rattle.mh_looks.specs.Current.{current_name}
+use Rattle.command_stages.specs.Current.{current_name}
 use Rattle.mh_looks.specs.Scan.{entries_seen, scan}
 use Rattle.mh_looks.specs.declared.job.ScanJob.{ScanJob}
 use Rattle.command_line.specs.declared.ended.Ended.{Ended}

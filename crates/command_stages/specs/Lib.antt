@@ -1,4 +1,5 @@
 pub mod Chosen
+pub mod Current
 pub mod Endings
 pub mod Listed
 pub mod RunNumbers

@@ -4,12 +4,16 @@
 
 mod ascending;
 mod chosen;
+mod current;
 mod ending;
 mod listed;
+mod place;
 mod text;
 
 pub use ascending::numbers;
 pub use chosen::choose;
+pub use current::make_current;
 pub use ending::fault_in;
 pub use listed::{list_folder, listed_numbers, noted};
-pub use text::{LIMIT, read_text};
+pub use place::folder_place;
+pub use text::{LIMIT, read_sequences_text, read_text};

@@ -1,5 +1,7 @@
 // Texts that are read whole.
 ghost use Rattle.std.specs.Prelude.{ℕ};
+ghost use Rattle.mh_base.specs.Entries.{entry_text};
+ghost use Rattle.mh_base.specs.declared.entry.Entry.TheVariants.{Sequences};
 ghost use Rattle.file_plans.specs.Plan.{Hand};
 ghost use Rattle.file_plans.specs.Follows.{State, Follows, by_hand};
 ghost use Rattle.step_plans.specs.CommandFaults.{command_cause};
@@ -7,7 +9,7 @@ ghost use Rattle.command_stages.specs.Texts.{text_by as text_by_plan, text_read 
 
 use file_plans::{Reading, ask_read};
 use folder_files::{Files, Place, Refusal};
-use mh_base::{Bytes, Name};
+use mh_base::{Bytes, Entry, Name, entry_name};
 use std::alloc::Global;
 use step_plans::CommandFault;
 
@@ -39,4 +41,17 @@ pub fn read_text<F: Files>(
 {
     let reading = ask_read(alloc, run, files, place, name, LIMIT)?;
     text_from(alloc, reading)
+}
+
+/// The text of a folder's sequences; the empty one where there is none.
+pub fn read_sequences_text<F: Files>(
+    alloc: Global,
+    run: u128,
+    files: &mut F,
+    place: &Place,
+) -> Result<Bytes, CommandFault>
+    ensures { (h : Hand) → Follows run command_cause (text_read_plan place.now (entry_text Sequences)) (by_hand h (F.state files.old)) (by_hand h (F.state files.new)) result }
+{
+    let name = entry_name(alloc, &Entry::Sequences)?;
+    read_text(alloc, run, files, place, &name)
 }

@@ -45,7 +45,7 @@ use Rattle.command_stages.specs.Chosen.{word_at, chosen_in, folder_with, marks_i
 use Rattle.command_stages.specs.Endings.{of_plan}
 use Rattle.command_stages.specs.Listed.{names_by, folder_listed, numbers_listed}
 use Rattle.command_stages.specs.Texts.{too_large, text_by, text_read}
-use Rattle.mh_looks.specs.Current.{current_change, made_current}
+use Rattle.command_stages.specs.Current.{current_change, made_current}
 use Rattle.mh_looks.specs.MessageLine.{line_of}
 use Rattle.mh_looks.specs.Scan.{shown_by, one_shown, all_shown, ordered, entries_seen, chosen_by, scan}
 use Rattle.mh_looks.specs.declared.job.ScanJob.{ScanJob}

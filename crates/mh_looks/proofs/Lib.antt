@@ -2,7 +2,6 @@ pub mod AllShown
 pub mod Apart
 pub mod Choosing
 pub mod Ending
-pub mod FolderLines
 pub mod Folders
 pub mod LooksLeave
 pub mod Marking

@@ -20,7 +20,7 @@ use Rattle.step_plans.proofs.Written.{Serves}
 use Rattle.command_stages.specs.Endings.{of_plan}
 use Rattle.command_stages.specs.Listed.{folder_listed}
 use Rattle.command_stages.specs.Texts.{text_read}
-use Rattle.mh_looks.specs.Current.{current_change, made_current}
+use Rattle.command_stages.specs.Current.{current_change, made_current}
 use Rattle.mh_looks.specs.Scan.{all_shown, chosen_by, entries_seen, ordered, scan}
 use Rattle.mh_looks.specs.ScanPledge.{HasListed, scan_pledge}
 use Rattle.mh_looks.specs.declared.job.ScanJob.{ScanJob}

@@ -51,7 +51,7 @@ use Rattle.command_stages.specs.Endings.{of_plan}
 use Rattle.command_stages.specs.Listed.{folder_listed, numbers_listed}
 use Rattle.command_stages.specs.Texts.{too_large, text_read}
 use Rattle.command_stages.specs.Works.{Work, refused_at, readable}
-use Rattle.mh_looks.specs.Current.{current_change, made_current as made_current_plan}
+use Rattle.command_stages.specs.Current.{current_change, made_current as made_current_plan}
 use Rattle.mh_looks.specs.Outcomes.{current_text, written_current, made_current, lines_of, too_long_of, lines_written, numbers_shown, chosen_shown, sequences_read, scan_work}
 use Rattle.mh_looks.specs.Scan.{all_shown, ordered, entries_seen, chosen_by, scan}
 use Rattle.mh_looks.specs.declared.job.ScanJob.{ScanJob}
@@ -81,7 +81,7 @@ ScanEnds alone w z j left (Err fault.Memory) = ⊥
 refused_so : (alone : Bool) (c : Contents) (e : CommandFault) (r : Refusal) (z : View) (j : Hand) (left : List ℕ) → e ≡ fault.Refused r → left ≡ [] → z.contents ≡ c → ScanEnds alone (refused_at (mailbox_in c) e) z j left (Err e)
 refused_so alone c e r z j left is none same = subst (λ f. ScanEnds alone (refused_at (mailbox_in c) f) z j left (Err f)) (sym is) (none, inl (refl, λ a. ap mailbox_in same))
 
-unreadable : (o : Option (List ℕ)) (e : CommandFault) → Err e ≡ readable o → (l : ℕ) × (e ≡ too_large l)
+pub unreadable : (o : Option (List ℕ)) (e : CommandFault) → Err e ≡ readable o → (l : ℕ) × (e ≡ too_large l)
 unreadable None e is = cc
 unreadable (Some text) e is = go (nat_lt LIMIT_BYTES (length text)) is
   where
@@ -90,7 +90,7 @@ unreadable (Some text) e is = go (nat_lt LIMIT_BYTES (length text)) is
     go false is = cc
 
 -- what words refuse is a refusal
-refuses : (folder : MsgFolder) (words : List (List ℕ)) (e : CommandFault) → chosen_in folder words ≡ Err e → (r : Refusal) × (e ≡ fault.Refused r)
+pub refuses : (folder : MsgFolder) (words : List (List ℕ)) (e : CommandFault) → chosen_in folder words ≡ Err e → (r : Refusal) × (e ≡ fault.Refused r)
 refuses folder words e is = go (selected folder (map encode_utf8_all words)) refl is
   where
     go : (s : Result (List ℕ) SelectFault) → selected folder (map encode_utf8_all words) ≡ s → refused_by words s ≡ Err e → (r : Refusal) × (e ≡ fault.Refused r)

@@ -1,4 +1,3 @@
-pub mod Current
 pub mod MessageLine
 pub mod Outcomes
 pub mod Scan

@@ -12,7 +12,7 @@ use Rattle.step_plans.specs.declared.command_fault.CommandFault.TheVariants as f
 use Rattle.command_stages.specs.Chosen.{chosen_in, folder_with, marks_in}
 use Rattle.command_stages.specs.Texts.{too_large}
 use Rattle.command_stages.specs.Works.{Work, refused_at, readable}
-use Rattle.mh_looks.specs.Current.{current_change}
+use Rattle.command_stages.specs.Current.{current_change}
 use Rattle.mh_looks.specs.MessageLine.{line_of}
 use Rattle.mh_looks.specs.Scan.{ordered}
 use Rattle.mh_looks.specs.declared.job.ScanJob.{ScanJob}

@@ -16,7 +16,7 @@ use Rattle.step_plans.specs.declared.command_fault.CommandFault.TheVariants as f
 use Rattle.command_stages.specs.Chosen.{chosen_in, folder_with, marks_in}
 use Rattle.command_stages.specs.Listed.{folder_listed, numbers_listed}
 use Rattle.command_stages.specs.Texts.{Commanded, text_read, too_large}
-use Rattle.mh_looks.specs.Current.{made_current}
+use Rattle.command_stages.specs.Current.{made_current}
 use Rattle.mh_looks.specs.MessageLine.{line_of}
 use Rattle.mh_looks.specs.declared.job.ScanJob.{ScanJob}
 

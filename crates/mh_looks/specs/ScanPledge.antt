@@ -9,7 +9,7 @@ use Rattle.folder_files.specs.declared.step.Answer.TheVariants.{Names}
 use Rattle.folder_files.specs.declared.step.Step.TheVariants.{List as ListNames}
 use Rattle.step_plans.specs.ContextPledge.{MarksContext}
 use Rattle.step_plans.specs.Pledges.{Pledge}
-use Rattle.mh_looks.specs.Current.{current_change}
+use Rattle.command_stages.specs.Current.{current_change}
 
 -- the place was listed, and names were the answer
 abbrev pub HasListed : Place → List Deed → Type 0

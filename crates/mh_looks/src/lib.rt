@@ -1,7 +1,6 @@
 //! The commands that look at messages.
 #![tactic(auto)]
 
-mod current;
 mod job;
 mod line;
 mod looking;

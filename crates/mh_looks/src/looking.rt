@@ -17,13 +17,15 @@ ghost use Rattle.mh_looks.specs.Scan.{
 ghost use Rattle.mh_looks.specs.Values.{IsListed};
 
 use crate::ScanJob;
-use crate::current::make_current;
 use crate::line::message_line;
-use crate::sequences::{read_sequences, sequences_in};
-use command_stages::{LIMIT, choose, list_folder, listed_numbers, numbers};
+use crate::sequences::sequences_in;
+use command_stages::{
+    LIMIT, choose, folder_place, list_folder, listed_numbers, make_current, numbers,
+    read_sequences_text,
+};
 use file_plans::{Reading, ask_read, say};
 use folder_files::{Files, Place, Refusal};
-use mh_base::{Bytes, Duplicate, Entry, FolderName, MsgNum, NameList, Sink, entry_name};
+use mh_base::{Bytes, Duplicate, Entry, MsgNum, NameList, Sink, entry_name};
 use std::alloc::{AllocError, Global};
 use step_plans::{CommandFault, Hand};
 
@@ -120,12 +122,6 @@ fn ordered(numbers: &mut Vec<MsgNum>, reverse: bool)
     }
 }
 
-fn folder_place(alloc: Global, hand: &Hand, folder: &FolderName) -> Result<Place, AllocError>
-    ensures { IfOk result (λ place. place ≡ Place.Folder hand.now.mail folder.now) }
-{
-    Ok(Place::Folder(hand.mail().duplicate(alloc)?, folder.duplicate(alloc)?))
-}
-
 /// Writes a line for each chosen message, and makes the folder the current one.
 pub fn scan<F: Files, O: Sink>(
     alloc: Global,
@@ -140,7 +136,7 @@ pub fn scan<F: Files, O: Sink>(
 {
     let place = folder_place(alloc, hand, &job.folder)?;
     let names = list_folder(alloc, hand.run(), files, &place, &job.folder)?;
-    let text = read_sequences(alloc, hand.run(), files, &place)?;
+    let text = read_sequences_text(alloc, hand.run(), files, &place)?;
     let mut found = chosen(alloc, hand, job, &names, &text)?;
     ordered(&mut found, job.reverse);
     show_all(alloc, hand.run(), files, out, &place, found.as_slice())?;

@@ -1,8 +1,8 @@
 use Rattle.std.proofs.Common.{refl}
 use Rattle.file_plans.proofs.Following.{go_from, stop_from, done, no_room}
 use Rattle.command_stages.proofs.Causes.{plan_same}
-use Rattle.mh_looks.specs.Current.{made_current}
-use Rattle.mh_looks.proofs.current.make_current.Goals as goal
+use Rattle.command_stages.specs.Current.{made_current}
+use Rattle.command_stages.proofs.current.make_current.Goals as goal
 
 pub returns-in_err-changes-clause-plan : goal.returns-in_err-changes-clause-plan
 returns-in_err-changes-clause-plan g c = no_room _ c.from_residual.ensures refl

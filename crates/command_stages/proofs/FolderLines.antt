@@ -13,7 +13,7 @@ use Rattle.mh_profile.specs.Names.{IsFieldName}
 use Rattle.mh_profile.specs.Values.{IsUnfolded, is_no_feed}
 use Rattle.mh_profile.proofs.UnfoldingLemmas.{bare_value}
 use Rattle.step_plans.specs.ContextCommit.{AreChanges}
-use Rattle.mh_looks.specs.Current.{current_name, current_change}
+use Rattle.command_stages.specs.Current.{current_name, current_change}
 
 no : {X : Type 0} (b : Bool) → b ≡ true → b ≡ false → X
 no true t f = cc

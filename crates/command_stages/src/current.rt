@@ -3,9 +3,9 @@ ghost use Rattle.std.specs.Prelude.{◌≡◌, IfOk};
 ghost use Rattle.file_plans.specs.Follows.{Follows, by_hand};
 ghost use Rattle.step_plans.specs.ContextCommit.{AreChanges};
 ghost use Rattle.step_plans.specs.CommandFaults.{command_cause};
-ghost use Rattle.mh_looks.specs.Current.{current_change as current_change_of, made_current};
+ghost use Rattle.command_stages.specs.Current.{current_change as current_change_of, made_current};
 
-use command_stages::fault_in;
+use crate::fault_in;
 use folder_files::Files;
 use mh_base::{Bytes, Duplicate, FolderName, List};
 use std::alloc::{AllocError, Global};
@@ -24,7 +24,7 @@ fn current_change(alloc: Global, folder: &FolderName) -> Result<ChangeEntryList,
 }
 
 /// Makes the folder the current one, where the context says otherwise.
-pub(crate) fn make_current<F: Files>(
+pub fn make_current<F: Files>(
     alloc: Global,
     hand: &mut Hand,
     files: &mut F,

@@ -1,7 +1,7 @@
 use Rattle.std.proofs.Common.{rules, ◌≡◌}
-use Rattle.mh_looks.specs.Current.{current_change}
-use Rattle.mh_looks.proofs.FolderLines.{current_valid}
-use Rattle.mh_looks.proofs.current.current_change.Goals as goal
+use Rattle.command_stages.specs.Current.{current_change}
+use Rattle.command_stages.proofs.FolderLines.{current_valid}
+use Rattle.command_stages.proofs.current.current_change.Goals as goal
 
 pub returns-clause-valid : goal.returns-clause-valid
 returns-clause-valid c =
