@@ -61,44 +61,11 @@ use Rattle.opened_folders.specs.Opening.{Opened, begun, opened_of}
 use Rattle.opened_folders.proofs.FolderGiven.{BeginEnds, CutEnds, IsBegunIn, begun_contents, begun_gives}
 use Rattle.opened_folders.proofs.ExistingNumbers.{in_range_or}
 use Rattle.opened_folders.proofs.TriedAlone.{tried_alone}
-
--- the folder's text is no temporary name, and stands apart from messages
-text_plain : is_temp (kind_of sequences_name) ≡ false
-text_plain = rw (kind_of-entry_text Sequences tt) refl
-
-text_quiet : is_standing sequences_name ≡ false
-text_quiet = rw (kind_of-entry_text Sequences tt) refl
-
-there_shown : (c : Contents) (p : Place) (b : Bool) → b ≡ true → (if b then Some (folder_at c p) else None) ≡ Some (folder_at c p)
-there_shown c p true e = refl
-there_shown c p false e = cc (e)
-
-none_numbered : (n : ℕ) (t : Option (List ℕ)) → (1 ≤ n → n ≤ 999999 → ⊥) → is_some (numbered n t) ≡ false
-none_numbered n t out = go (is_message_number n) refl
-  where
-    go : (b : Bool) → is_message_number n ≡ b → is_some (if b then t else None) ≡ false
-    go true e = let ok = number_ok n e in absurd (out ok.0 ok.1)
-    go false e = refl
-
--- held messages go to message numbers alone
-none_ends : (n : ℕ) → (1 ≤ n → n ≤ 999999 → ⊥) → (hs : List HeldPair) (ends : List (Option ℕ)) → AreEnds hs ends → is_in_ends n ends ≡ false
-unfolding is_in_ends
-none_ends n out [] [] ok = refl
-none_ends n out [] (end ∷ ends) ok = absurd ok
-none_ends n out (h ∷ hs) [] ok = absurd ok
-none_ends n out (h ∷ hs) (None ∷ ends) ok = none_ends n out hs ends ok.1
-none_ends n out (h ∷ hs) (Some m ∷ ends) ok = go (m == n) refl (none_ends n out hs ends ok.1)
-  where
-    go : (b : Bool) → m == n ≡ b → is_in_ends n ends ≡ false → b || is_in_ends n ends ≡ false
-    go true e f = let same : m ≡ n = (Decides-eqb m n).0 e in absurd (out (subst (λ k. 1 ≤ k) same ok.0.0) (subst (λ k. k ≤ 999999) same ok.0.1))
-    go false e f = f
+use Rattle.opened_folders.proofs.SettledShown.{entries_same, held_are, listing_is, shows, text_same, there_shown, top_is}
 
 module _ (run : ℕ) (few : run < 2 ^ 128) (path folder ns : List ℕ) (c : Contents) (z : View) (j : Hand) (left : List ℕ) (o : Opened) (b : IsBegunIn true ns run few path folder c z j left o) where
   abbrev p : Place
   p = Folder path folder
-
-  abbrev made : Contents
-  made = with_folder c (Mail path)
 
   abbrev s : Settled
   s = b.settled
@@ -112,32 +79,8 @@ module _ (run : ℕ) (few : run < 2 ^ 128) (path folder ns : List ℕ) (c : Cont
   abbrev d : Contents
   d = begun_contents true ns run few path folder c s
 
-  pairs_are : ArePairs hs
-  pairs_are = are_pairs s.names hs (pairs_listed run s.names)
-
-  apart : AreApart hs
-  apart = are_apart hs pairs_are (pairs_ordered run s.names)
-
-  -- what the contents show
-  shows : mailbox_in d ≡ with_folder_changed (mailbox_in c) p (λ f. settled f hs s.ends)
-  shows =
-      shows_cleared (settled_in made p hs s.ends) p refl refl
-      ∙ (shows_settled path folder hs pairs_are apart s.ends b.ends_so made
-      ∙ ap (λ m. with_folder_changed m p (λ f. settled f hs s.ends)) (shows_made c path))
-
-  -- the texts that were read are those of the start
-  text_same : d.texts p sequences_name ≡ c.texts p sequences_name
-  text_same = rw (place_is p, text_plain) (plain_settled made p hs s.ends sequences_name pairs_are b.ends_so text_quiet)
-
-  context_same : d.texts (Mail path) context_name ≡ c.texts (Mail path) context_name
-  unfolding mailbox_in
-  context_same = ap (λ m. m.context (Mail path)) shows
-
-  entries_same : entries_at d (Mail path) ≡ entries_in (filled (c.texts (Mail path) context_name))
-  entries_same = ap (λ t. entries_in (filled t)) context_same
-
   read_same : b.old ≡ sequences_in (filled (c.texts p sequences_name)) (entries_in (filled (c.texts (Mail path) context_name))) folder
-  read_same = b.same refl ∙ (λ i. sequences_in (filled (text_same i)) (entries_same i) folder)
+  read_same = b.same refl ∙ (λ i. sequences_in (filled (text_same run few path folder ns c b.settled (b.listing refl) b.holds b.ends_so (b.homes_so refl) i)) (entries_same run few path folder ns c b.settled (b.listing refl) b.holds b.ends_so (b.homes_so refl) i) folder)
 
   -- what the commit shows
   cut_shows : (new : Marked) (m after : Mailbox) → mailbox_in d ≡ m → after ≡ mailbox_in z.contents → CutEnds true ns run few path folder c s b.later b.old new b.hand z j left (Ok tt)
@@ -146,40 +89,6 @@ module _ (run : ℕ) (few : run < 2 ^ 128) (path folder ns : List ℕ) (c : Cont
   cut_shows new m after is at (inr f) =
       subst (λ n. AreCommitted n after p path folder b.old new b.hand) is
       (inr (f.0, shown d path path folder (text_of new) (private_changes folder new.users (entries_seen b.hand.context)) b.later b.hand j z left after at f.1.1))
-
-  -- the listing has just the numbers of the messages that are there then
-  taken_same : (k : ℕ) → has_number k s.names ≡ is_some (old.messages k)
-  unfolding entry_text
-  taken_same k = sym (list_told made p s.names (b.listing refl) k)
-
-  top_is : IsTop old (highest s.names)
-  top_is = folder_top made p s.names (b.listing refl)
-
-  held_are : AreHeld run old hs
-  held_are = folder_holds run made p s.names b.holds
-
-  numbers_then : (k : ℕ) → exists_in run s k ≡ is_some ((settled old hs s.ends).messages k)
-  numbers_then k =
-      ap (λ t. t || has_number k s.names) (ap (λ ends. are_tried hs ends (highest s.names) k) (b.homes_so refl))
-      ∙ (ap (λ t. are_tried hs alone_ends (highest s.names) k || t) (taken_same k)
-      ∙ (tried_alone hs pairs_are (λ i. is_some (old.messages i)) (highest s.names) (record { above = top_is.above; attained = top_is.attained }) (highest_small s.names) k
-      ∙ (ap (λ ends. is_some (old.messages k) || is_in_ends k ends) (sym (b.homes_so refl))
-      ∙ sym (settled_numbers old hs pairs_are apart (folder_all_held run old hs held_are) s.ends b.ends_so k))))
-    where
-      alone_ends : List (Option ℕ)
-      alone_ends = homes (λ i. is_some (old.messages i)) (highest s.names) hs
-
-  listing_is : (n : ℕ) → has (numbers_settled run s) n ≡ is_some ((settled old hs s.ends).messages n)
-  unfolding numbers_settled
-  listing_is n = elim (in_range_or n) [
-    | inl l ↦ all_has (exists_in run s) n l.0 l.1 ∙ numbers_then n
-    | inr out ↦ none_outside (runs_of_all (exists_in run s)) n (all_runs (exists_in run s)) out ∙ sym (nothing n out)
-  ]
-    where
-      nothing : (n : ℕ) → (1 ≤ n → n ≤ 999999 → ⊥) → is_some ((settled old hs s.ends).messages n) ≡ false
-      nothing n out =
-          settled_numbers old hs pairs_are apart (folder_all_held run old hs held_are) s.ends b.ends_so n
-          ∙ (ap (λ t. t || is_in_ends n s.ends) (none_numbered n (c.texts p (entry_text (Number n))) out) ∙ none_ends n out hs s.ends b.ends_so)
 
   -- all of it
   begun_is : (m after : Mailbox) → mailbox_in c ≡ m → after ≡ mailbox_in z.contents → IsBegun run path folder m after o
@@ -192,17 +101,17 @@ module _ (run : ℕ) (few : run < 2 ^ 128) (path folder ns : List ℕ) (c : Cont
         old = old;
         there = there_shown c p (c.there p) (b.there refl);
         pairs = hs;
-        held = held_are;
+        held = held_are run few path folder ns c b.settled (b.listing refl) b.holds b.ends_so (b.homes_so refl);
         highest = highest s.names;
-        top = top_is;
+        top = top_is run few path folder ns c b.settled (b.listing refl) b.holds b.ends_so (b.homes_so refl);
         ends = b.homes_so refl;
-        listing = listing_is;
+        listing = listing_is run few path folder ns c b.settled (b.listing refl) b.holds b.ends_so (b.homes_so refl);
         read = b.old;
         is_read = read_same;
         sequences = refl;
         hand = b.hand;
-        seen = b.seen ∙ ap (λ es. Some es) (b.knows refl ∙ entries_same);
-        mailbox = cut_shows (cut_to (numbers_settled run s) b.old) (with_folder_changed (mailbox_in c) p (λ f. settled f hs s.ends)) after shows at b.cut;
+        seen = b.seen ∙ ap (λ es. Some es) (b.knows refl ∙ entries_same run few path folder ns c b.settled (b.listing refl) b.holds b.ends_so (b.homes_so refl));
+        mailbox = cut_shows (cut_to (numbers_settled run s) b.old) (with_folder_changed (mailbox_in c) p (λ f. settled f hs s.ends)) after (shows run few path folder ns c b.settled (b.listing refl) b.holds b.ends_so (b.homes_so refl)) at b.cut;
       }))
 
 begin_alone : (run : ℕ) (path folder : List ℕ) (old new : Story) (log : List Moment) (h j : Hand) (ds : List Deed) (o : Opened)

@@ -1,7 +1,10 @@
+pub mod BegunWorks
 pub mod EndingParts
 pub mod ExistingNumbers
 pub mod FolderAlone
 pub mod FolderGiven
 pub mod FolderPledged
+pub mod KeptGiven
 pub mod OneStep
+pub mod SettledShown
 pub mod TriedAlone

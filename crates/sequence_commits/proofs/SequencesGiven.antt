@@ -14,13 +14,13 @@ use Rattle.file_plans.specs.Plan.{Hand, Return, ◌>>=◌}
 use Rattle.file_plans.specs.Views.{View, by_view}
 use Rattle.file_plans.proofs.Giving.{gives_more, gives_on}
 use Rattle.file_plans.proofs.Onward.{Is}
-use Rattle.step_plans.specs.ContextCommit.{LIMIT_BYTES, context_name}
+use Rattle.step_plans.specs.ContextCommit.{LIMIT_BYTES, context_name, commit_by, commit_context, committed, says, settled}
 use Rattle.step_plans.specs.Hands.{used, temp_name}
 use Rattle.step_plans.specs.Replacing.{replaced}
 use Rattle.step_plans.specs.declared.change.ChangeEntry.{ChangeEntry}
 use Rattle.step_plans.specs.declared.fault.PlanFault.{PlanFault}
 use Rattle.step_plans.specs.declared.fault.PlanFault.TheVariants as fault
-use Rattle.step_plans.proofs.Committed.{CommitEnds, Knows, entries_at, commit_gives}
+use Rattle.step_plans.proofs.Committed.{CommitEnds, Knows, entries_at, made_gives}
 use Rattle.step_plans.proofs.Replaced.{Left, Leaves, Fails, replaced_gives}
 use Rattle.sequence_commits.specs.Committing.{sequences_replaced, entries_committed, told_committed, committed_unless, changed_sequences}
 use Rattle.sequence_commits.specs.PrivateChanges.{changes_to, entries_seen}
@@ -54,10 +54,16 @@ TextEnds alone ns c p text h z j left (Err e) = TextFails alone ns c text h z j 
 abbrev pub changes_by : List ℕ → List NamedValue → Hand → List ChangeEntry
 changes_by ending kept h = changes_to ending kept (entries_seen h.context)
 
+-- how a commit of the context ends; where it fails it was needed
+abbrev pub EntriesEnd : Bool → List ℕ → Contents → Place → List ChangeEntry → Hand → View → Hand → List ℕ → Result Unit PlanFault → Type 0
+EntriesEnd alone ns c mail cs h z j left (Ok u) = CommitEnds alone ns c mail cs h z j left (Ok u)
+EntriesEnd alone ns c mail cs h z j left (Err e) = (settled cs h.context ≡ false) × CommitEnds alone ns c mail cs h z j left (Err e)
+
 -- then the context ends as a commit of those changes does, or the text's turn failed
 abbrev pub ToldEnds : Bool → List ℕ → Contents → Place → Place → List ℕ → List ℕ → List NamedValue → Hand → View → Hand → List ℕ → Result Unit PlanFault → Type 0
 ToldEnds alone ns c p mail ending text kept h z j left (Ok u) = (nat_lt LIMIT_BYTES (length text) ≡ false) × CommitEnds alone ns (with_sequences c p text) mail (changes_by ending kept h) (used h) z j left (Ok u)
-ToldEnds alone ns c p mail ending text kept h z j left (Err e) = TextFails alone ns c text h z j e ⊎ CommitEnds alone ns (with_sequences c p text) mail (changes_by ending kept h) (used h) z j left (Err e)
+ToldEnds alone ns c p mail ending text kept h z j left (Err e) =
+    TextFails alone ns c text h z j e ⊎ ((nat_lt LIMIT_BYTES (length text) ≡ false) × EntriesEnd alone ns (with_sequences c p text) mail (changes_by ending kept h) (used h) z j left (Err e))
 
 -- nothing was done, where the same is told
 pub record Unchanged (alone : Bool) (ns : List ℕ) (c : Contents) (h : Hand) (z : View) (j : Hand) (r : Result Unit PlanFault) : Type 0 where
@@ -74,6 +80,24 @@ context_kept c p mail text = ap (λ b. if same_place p mail && b then Some text 
 
 knows_still : (alone : Bool) (c : Contents) (p mail : Place) (text : List ℕ) (h : Hand) → Knows alone c mail h → Knows alone (with_sequences c p text) mail (used h)
 knows_still alone c p mail text h knows = λ a es is. knows a es is ∙ ap (λ o. entries_in (filled o)) (sym (context_kept c p mail text))
+
+-- a commit of the context, which fails only where it was needed
+pub needed_gives : (alone : Bool) (ns : List ℕ) (run : ℕ) → run < 2 ^ 128 → (mail : Place) (cs : List ChangeEntry) (v : View) (c : Contents) (h : Hand) (out : List ℕ) → Is alone ns v c → Knows alone c mail h
+    → Gives (by_view alone) v h out (commit_context run mail cs) (EntriesEnd alone ns c mail cs h)
+unfolding Gives commit_context
+needed_gives alone ns run few mail cs v c h out is knows = go (settled cs h.context) refl
+  where
+    said_so : (o : Option (List NamedValue)) → settled cs o ≡ true → (alone ≡ true → (es : List NamedValue) → o ≡ Some es → es ≡ entries_at c mail) → alone ≡ true → says (entries_at c mail) cs ≡ true
+    said_so None e k a = absurd (cc (e))
+    said_so (Some es) e k a = ap (λ x. says x cs) (sym (k a es refl)) ∙ e
+
+    ends : settled cs h.context ≡ false → (z : View) (j : Hand) (left : List ℕ) (r : Result Unit PlanFault) → CommitEnds alone ns c mail cs h z j left r → EntriesEnd alone ns c mail cs h z j left r
+    ends e z j left (Ok u) f = f
+    ends e z j left (Err x) f = (e, f)
+
+    go : (b : Bool) → settled cs h.context ≡ b → Gives (by_view alone) v h out (commit_by run mail cs b) (EntriesEnd alone ns c mail cs h)
+    go true e = inl (record { is = is; hand = refl; settled_so = e; said = said_so h.context e knows })
+    go false e = gives_more (by_view alone) v h out (committed run mail cs) (CommitEnds alone ns c mail cs h) (EntriesEnd alone ns c mail cs h) (made_gives alone ns run few mail cs c h e v out is) (ends e)
 
 module _ (alone : Bool) (ns : List ℕ) (run : ℕ) (few : run < 2 ^ 128) (p : Place) where
   -- the folder's text
@@ -95,9 +119,9 @@ module _ (alone : Bool) (ns : List ℕ) (run : ℕ) (few : run < 2 ^ 128) (p : P
   module _ (mail : Place) (ending : List ℕ) (kept : List NamedValue) where
     -- the context
     pub entries_give : (v : View) (c : Contents) (h : Hand) (out : List ℕ) → Is alone ns v c → Knows alone c mail h
-        → Gives (by_view alone) v h out (entries_committed run mail ending kept) (CommitEnds alone ns c mail (changes_by ending kept h) h)
+        → Gives (by_view alone) v h out (entries_committed run mail ending kept) (EntriesEnd alone ns c mail (changes_by ending kept h) h)
     unfolding Gives entries_committed
-    entries_give v c h out is knows = commit_gives alone ns run few mail (changes_by ending kept h) v c h out is knows
+    entries_give v c h out is knows = needed_gives alone ns run few mail (changes_by ending kept h) v c h out is knows
 
     -- the text, and then the context
     pub told_gives : (text : List ℕ) (v : View) (c : Contents) (h : Hand) (out : List ℕ) → Is alone ns v c → Knows alone c mail h
@@ -108,14 +132,14 @@ module _ (alone : Bool) (ns : List ℕ) (run : ℕ) (few : run < 2 ^ 128) (p : P
         gives_on (by_view alone) v h out (sequences_replaced run p text) (λ written. entries_committed run mail ending kept) (TextEnds alone ns c p text h) (ToldEnds alone ns c p mail ending text kept h)
         (text_gives text v c h out is new) next (λ z j left e f. inl f)
       where
-        ends : nat_lt LIMIT_BYTES (length text) ≡ false → (y : View) (i : Hand) (rest : List ℕ) (r : Result Unit PlanFault) → CommitEnds alone ns (with_sequences c p text) mail (changes_by ending kept h) (used h) y i rest r → ToldEnds alone ns c p mail ending text kept h y i rest r
+        ends : nat_lt LIMIT_BYTES (length text) ≡ false → (y : View) (i : Hand) (rest : List ℕ) (r : Result Unit PlanFault) → EntriesEnd alone ns (with_sequences c p text) mail (changes_by ending kept h) (used h) y i rest r → ToldEnds alone ns c p mail ending text kept h y i rest r
         ends e y i rest (Ok u) f = (e, f)
-        ends e y i rest (Err x) f = inr f
+        ends e y i rest (Err x) f = inr (e, f)
 
         next : (z : View) (j : Hand) (left : List ℕ) (a : Unit {0}) → Written alone ns c p text h z j → Gives (by_view alone) z j left (entries_committed run mail ending kept) (ToldEnds alone ns c p mail ending text kept h)
         next z j left a w =
             subst (λ i. Gives (by_view alone) z i left (entries_committed run mail ending kept) (ToldEnds alone ns c p mail ending text kept h)) (sym w.left.hand)
-            (gives_more (by_view alone) z (used h) left (entries_committed run mail ending kept) (CommitEnds alone ns (with_sequences c p text) mail (changes_by ending kept h) (used h)) (ToldEnds alone ns c p mail ending text kept h)
+            (gives_more (by_view alone) z (used h) left (entries_committed run mail ending kept) (EntriesEnd alone ns (with_sequences c p text) mail (changes_by ending kept h) (used h)) (ToldEnds alone ns c p mail ending text kept h)
             (entries_give z (with_sequences c p text) (used h) left w.left.is (knows_still alone c p mail text h knows)) (ends w.short))
 
   -- a call that commits new sequences in place of others
