@@ -1,0 +1,6 @@
+pub mod Ends
+pub mod Loops
+pub mod MarkAlone
+pub mod MarkGiven
+pub mod Sets
+pub mod Values

@@ -1,0 +1,7 @@
+use Rattle.std.proofs.Common.{◌≡◌, ◌++◌, drop}
+use Rattle.std.specs.Prelude.{map}
+use Rattle.mark_command.specs.Marking.{mark_with, plain_mark}
+use Rattle.mark_command.proofs.marks.marks_on.Given as goal
+
+abbrev pub invariant-loop-name : goal.invariant-loop-name
+invariant-loop-name l = map plain_mark l.marks ++ map (mark_with l.act l.job.public l.numbers.runs) (drop l.name-index l.name-items) ≡ map (mark_with l.act l.job.public l.numbers.runs) l.name-items

@@ -1,0 +1,6 @@
+pub mod Lines
+pub mod Mark
+pub mod MarkedAlone
+pub mod Marking
+pub mod Outcomes
+pub mod Values

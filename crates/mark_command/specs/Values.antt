@@ -1,0 +1,28 @@
+-- Results that are a value, or want of memory.
+use Rattle.std.specs.Prelude.{◌≡◌, ℕ, List, map, Result, Ok, Err}
+use Rattle.mh_sequences.specs.declared.mark.Mark.{Mark}
+use Rattle.mh_sequences.specs.declared.run.Run.{Run}
+use Rattle.mh_sequences.specs.Sequences.{Marked}
+use Rattle.step_plans.specs.declared.command_fault.CommandFault.{CommandFault}
+use Rattle.step_plans.specs.declared.command_fault.CommandFault.TheVariants as fault
+use Rattle.mark_command.specs.Marking.{marks_for, plain_mark, set_among}
+use Rattle.mark_command.specs.declared.job.MarkAct.{MarkAct}
+use Rattle.mark_command.specs.declared.job.MarkJob.{MarkJob}
+
+-- the error is that of the value, or there was not enough memory
+abbrev pub IsErrorOf : {A : Type 0} → Result A CommandFault → CommandFault → Type 0
+IsErrorOf value (fault.Refused r) = value ≡ Err (fault.Refused r)
+IsErrorOf value (fault.Faulted w) = ⊥
+IsErrorOf value (fault.Locked p) = ⊥
+IsErrorOf value (fault.Meddled p x) = ⊥
+IsErrorOf value fault.Memory = Unit {0}
+
+-- the sequences are this value, or it is this refusal, or there was not enough memory
+abbrev pub AreValue : Result Marked CommandFault → Result Marked CommandFault → Type 0
+AreValue value (Ok m) = value ≡ Ok m
+AreValue value (Err e) = IsErrorOf value e
+
+-- the marks are those on the chosen numbers, whatever room their sets have; or these were refused so, or there was not enough memory
+abbrev pub AreMarks : MarkJob → MarkAct → List Run → Result (List ℕ) CommandFault → Result (List Mark) CommandFault → Type 0
+AreMarks job a listing value (Ok marks) = (numbers : List ℕ) × (value ≡ Ok numbers) × (map plain_mark marks ≡ marks_for job a listing (set_among numbers))
+AreMarks job a listing value (Err e) = IsErrorOf value e

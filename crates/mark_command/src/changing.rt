@@ -1,0 +1,138 @@
+// `mark`: messages come to sequences and leave them.
+ghost use Rattle.std.specs.Prelude.{◌≡◌};
+ghost use Rattle.file_plans.specs.Plan.{lifted};
+ghost use Rattle.file_plans.specs.Follows.{Follows, by_hand, by_out};
+ghost use Rattle.folder_files.specs.declared.place.Place.TheVariants.{Folder};
+ghost use Rattle.step_plans.specs.CommandFaults.{command_cause};
+ghost use Rattle.step_plans.specs.Hands.{mail_place};
+ghost use Rattle.command_stages.specs.Endings.{of_plan};
+ghost use Rattle.opened_folders.specs.Opening.{begun};
+ghost use Rattle.mark_command.specs.Mark.{chosen_from, chosen_marked, mark as mark_plan, mark_changes, opened_marked};
+ghost use Rattle.mark_command.specs.MarkedAlone.{MarksIfUnfaulted};
+ghost use Rattle.mark_command.specs.Values.{AreMarks};
+
+use crate::looking::look;
+use crate::marks::marks;
+use crate::saying::say_if;
+use crate::{MarkAct, MarkJob};
+use command_stages::{choose, fault_in, folder_place, make_current};
+use folder_files::Files;
+use mh_base::{Duplicate, Sink};
+use mh_sequences::MarkList;
+use opened_folders::{Opened, begin, commit_marks, end};
+use std::alloc::Global;
+use step_plans::{CommandFault, Hand};
+
+/// The marks on the messages that the words choose.
+fn chosen_marks(
+    alloc: Global,
+    job: &MarkJob,
+    act: MarkAct,
+    opened: &Opened,
+) -> Result<MarkList, CommandFault>
+    ensures { AreMarks job.now act opened.now.listing (chosen_from job.now opened.now.listing opened.now.sequences) result }
+{
+    let chosen = choose(
+        alloc,
+        &job.specs,
+        opened.listing(),
+        opened.sequences(),
+        job.negation.as_slice(),
+    )?;
+    Ok(marks(alloc, job, act, opened.listing(), &chosen)?)
+}
+
+/// Sets the marks on the messages that the words choose, and commits them.
+fn mark_chosen<F: Files>(
+    alloc: Global,
+    hand: &mut Hand,
+    files: &mut F,
+    job: &MarkJob,
+    act: MarkAct,
+    mut opened: Opened,
+) -> Result<Opened, CommandFault>
+    ensures plan { Follows hand.old.run command_cause (chosen_marked hand.old.run hand.old.mail job.now act opened) (by_hand hand.old.kept (F.state files.old)) (by_hand hand.new.kept (F.state files.new)) result }
+    ensures run { hand.new.run ≡ hand.old.run }
+    ensures mail { hand.new.mail ≡ hand.old.mail }
+{
+    let marks = chosen_marks(alloc, job, act, &opened)?;
+    let folder = job.folder.duplicate(alloc)?;
+    match commit_marks(alloc, hand, files, &mut opened, marks.as_slice()) {
+        Ok(()) => Ok(opened),
+        Err(fault) => Err(fault_in(folder, fault)),
+    }
+}
+
+/// The work on a folder that was begun.
+fn mark_opened<F: Files, O: Sink>(
+    alloc: Global,
+    hand: &mut Hand,
+    files: &mut F,
+    out: &mut O,
+    job: &MarkJob,
+    act: MarkAct,
+    opened: Opened,
+) -> Result<(), CommandFault>
+    ensures plan { Follows hand.old.run command_cause (opened_marked hand.old.run hand.old.mail job.now act opened) (by_out hand.old.kept (F.state files.old) (O.state out.old)) (by_out hand.new.kept (F.state files.new) (O.state out.new)) result }
+    ensures run { hand.new.run ≡ hand.old.run }
+    ensures mail { hand.new.mail ≡ hand.old.mail }
+{
+    let opened = mark_chosen(alloc, hand, files, job, act, opened)?;
+    say_if(alloc, out, job, opened.sequences())?;
+    make_current(alloc, hand, files, &job.folder)
+}
+
+fn begin_folder<F: Files>(
+    alloc: Global,
+    hand: &mut Hand,
+    files: &mut F,
+    job: &MarkJob,
+) -> Result<Opened, CommandFault>
+    ensures plan { Follows hand.old.run command_cause (lifted (of_plan job.now.folder) (begun hand.old.run (Folder hand.old.mail job.now.folder) (mail_place hand.old) job.now.folder)) (by_hand hand.old.kept (F.state files.old)) (by_hand hand.new.kept (F.state files.new)) result }
+    ensures run { hand.new.run ≡ hand.old.run }
+    ensures mail { hand.new.mail ≡ hand.old.mail }
+{
+    let folder = job.folder.duplicate(alloc)?;
+    match begin(alloc, hand, files, &job.folder) {
+        Ok(opened) => Ok(opened),
+        Err(fault) => Err(fault_in(folder, fault)),
+    }
+}
+
+fn change<F: Files, O: Sink>(
+    alloc: Global,
+    hand: &mut Hand,
+    files: &mut F,
+    out: &mut O,
+    job: &MarkJob,
+    act: MarkAct,
+) -> Result<(), CommandFault>
+    ensures plan { Follows hand.old.run command_cause (mark_changes hand.old.run hand.old.mail job.now act) (by_out hand.old.kept (F.state files.old) (O.state out.old)) (by_out hand.new.kept (F.state files.new) (O.state out.new)) result }
+    ensures run { hand.new.run ≡ hand.old.run }
+    ensures mail { hand.new.mail ≡ hand.old.mail }
+{
+    let place = folder_place(alloc, hand, &job.folder)?;
+    let opened = begin_folder(alloc, hand, files, job)?;
+    let done = mark_opened(alloc, hand, files, out, job, act, opened);
+    end(alloc, hand.run(), files, &place, done)
+}
+
+/// Sets the marks that the job asks for, on a folder that it begins, or lists its sequences without its lock; and makes the folder the
+/// current one.
+pub fn mark<F: Files, O: Sink>(
+    alloc: Global,
+    hand: &mut Hand,
+    files: &mut F,
+    out: &mut O,
+    job: &MarkJob,
+) -> Result<(), CommandFault>
+    ensures plan { Follows hand.old.run command_cause (mark_plan hand.old.run hand.old.mail job.now) (by_out hand.old.kept (F.state files.old) (O.state out.old)) (by_out hand.new.kept (F.state files.new) (O.state out.new)) result }
+    ensures alone { MarksIfUnfaulted hand.old.run hand.old.mail hand.old.kept job.now result (F.state files.old) (F.state files.new) (O.state out.old) (O.state out.new) }
+    ensures run { hand.new.run ≡ hand.old.run }
+    ensures mail { hand.new.mail ≡ hand.old.mail }
+{
+    match job.act {
+        Some(act) => change(alloc, hand, files, out, job, act),
+        None => look(alloc, hand, files, out, job),
+    }
+}
