@@ -1,0 +1,11 @@
+pub mod Arguments
+pub mod Calls
+pub mod Code
+pub mod Components
+pub mod Formats
+pub mod Functions
+pub mod Grammar
+pub mod Reading
+pub mod Texts
+pub mod Widths
+pub mod Words
