@@ -3,8 +3,10 @@ pub mod Calls
 pub mod Code
 pub mod Components
 pub mod Formats
+pub mod Fronts
 pub mod Functions
 pub mod Grammar
+pub mod Outcomes
 pub mod Reading
 pub mod Texts
 pub mod Widths

@@ -12,7 +12,15 @@ abbrev pub ◌>>=◌ : {A B : Type 0} → Read A → (A → List ℕ → Read B)
 (Ok x) >>= next = next x.0 x.1
 (Err wrong) >>= next = Err wrong
 
--- this character, which must stand here
+-- what stands behind this character, which must stand here
+abbrev pub behind_character : ℕ → List ℕ → Result (List ℕ) (List ℕ)
+behind_character c [] = Err []
+behind_character c (d ∷ behind) = if d == c then Ok behind else Err (d ∷ behind)
+
+abbrev pub before : {A : Type 0} → A → Result (List ℕ) (List ℕ) → Read A
+before x (Ok behind) = Ok (x, behind)
+before x (Err wrong) = Err wrong
+
+-- what was read before this character, and what stands behind it
 abbrev pub then_character : {A : Type 0} → ℕ → A → List ℕ → Read A
-then_character c x [] = Err []
-then_character c x (d ∷ behind) = if d == c then Ok (x, behind) else Err (d ∷ behind)
+then_character c x text = before x (behind_character c text)

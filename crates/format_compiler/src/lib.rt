@@ -2,13 +2,22 @@
 #![tactic(auto)]
 
 mod argument;
+mod arguments;
 mod call;
+mod calls;
+mod components;
 mod fault;
+mod front;
 mod function;
 mod instruction;
+mod literals;
+mod named;
+mod numbers;
 mod one_test;
 mod piece;
+mod stop;
 mod width;
+mod widths;
 mod word;
 
 pub use argument::Argument;
