@@ -46,26 +46,48 @@ is_in_line c = not (c == 10)
 abbrev pub behind_line : List ℕ → List ℕ
 behind_line text = drop 1 (drop (prefix_len is_in_line text) text)
 
+-- the test of the component behind an opening brace
+abbrev pub component_test_in : List ℕ → List ℕ → Read Test
+component_test_in whole text = component_in whole text >>= λ name behind. Ok (OfComponent name, behind)
+
+-- the test of the call behind an opening parenthesis
+abbrev pub call_test_in : ℕ → List ℕ → List ℕ → Read Test
+call_test_in room whole text = call_in room true whole text >>= λ call behind. Ok (OfCall call, behind)
+
 -- a test: a component or a function that has a result, of which at most so many may be in one another
 abbrev pub test_in : ℕ → List ℕ → Read Test
 test_in room [] = Err []
-test_in room (c ∷ text) =
-    if c == 123 then (component_in (c ∷ text) text >>= λ name behind. Ok (OfComponent name, behind))
-    else (if c == 40 then (call_in room true (c ∷ text) text >>= λ call behind. Ok (OfCall call, behind))
-    else Err (c ∷ text))
+test_in room (c ∷ text) = if c == 123 then component_test_in (c ∷ text) text
+    else (if c == 40 then call_test_in room (c ∷ text) text else Err (c ∷ text))
 
 -- a conditional with its first test, if it may be opened
 abbrev pub if_in : ℕ → List ℕ → List ℕ → Read Word
 if_in zero whole text = Err whole
 if_in (suc room) whole text = test_in room text >>= λ test behind. Ok (If test, behind)
 
+-- a further test of a conditional, if there may be one
+abbrev pub else_if_in : Bool → ℕ → List ℕ → List ℕ → Read Word
+else_if_in false room whole text = Err whole
+else_if_in true room whole text = test_in room text >>= λ test behind. Ok (ElseIf test, behind)
+
+-- a word that is a mark alone, if it can stand here
+abbrev pub mark_in : Bool → Word → List ℕ → List ℕ → Read Word
+mark_in false word whole text = Err whole
+mark_in true word whole text = Ok (word, text)
+
+-- the component behind an opening brace, printed with this width
+abbrev pub printed_component_in : Option Width → List ℕ → List ℕ → Read Word
+printed_component_in width whole text = component_in whole text >>= λ name behind. Ok (Print (Component width name), behind)
+
+-- the call behind an opening parenthesis, printed with this width
+abbrev pub printed_call_in : ℕ → Option Width → List ℕ → List ℕ → Read Word
+printed_call_in room width whole text = call_in room false whole text >>= λ call behind. Ok (Print (Call width call), behind)
+
 -- a component or a function, printed with this width, if it is one
 abbrev pub printed_by : ℕ → List ℕ → ℕ → List ℕ → Option (Option Width) → Read Word
 printed_by room whole c text None = Err whole
-printed_by room whole c text (Some width) =
-    if c == 123 then (component_in whole text >>= λ name behind. Ok (Print (Component width name), behind))
-    else (if c == 40 then (call_in room false whole text >>= λ call behind. Ok (Print (Call width call), behind))
-    else Err whole)
+printed_by room whole c text (Some width) = if c == 123 then printed_component_in width whole text
+    else (if c == 40 then printed_call_in room width whole text else Err whole)
 
 abbrev pub sized_by : ℕ → List ℕ → List ℕ → List ℕ → Read Word
 sized_by room whole digits [] = if begins_width digits then Err [] else Err whole
@@ -83,10 +105,9 @@ percent_in open_ones whole (c ∷ text) =
     if c == 37 then Ok (Print (Character 37), text)
     else (if c == 59 then Ok (Nothing, behind_line text)
     else (if c == 60 then if_in (room_in open_ones) whole text
-    else (if c == 63 then (if may_choose open_ones
-    then (test_in (room_in open_ones) text >>= λ test behind. Ok (ElseIf test, behind)) else Err whole)
-    else (if c == 124 then (if may_choose open_ones then Ok (Else, text) else Err whole)
-    else (if c == 62 then (if is_inside open_ones then Ok (End, text) else Err whole)
+    else (if c == 63 then else_if_in (may_choose open_ones) (room_in open_ones) whole text
+    else (if c == 124 then mark_in (may_choose open_ones) Else whole text
+    else (if c == 62 then mark_in (is_inside open_ones) End whole text
     else printed_in (room_in open_ones) whole (c ∷ text))))))
 
 -- the word at the front of a text, where these conditionals are open

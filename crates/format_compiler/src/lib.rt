@@ -6,6 +6,7 @@ mod arguments;
 mod call;
 mod calls;
 mod components;
+mod conditionals;
 mod fault;
 mod front;
 mod function;
@@ -18,6 +19,7 @@ mod piece;
 mod stop;
 mod width;
 mod widths;
+mod words;
 mod word;
 
 pub use argument::Argument;
