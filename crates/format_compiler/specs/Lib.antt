@@ -6,6 +6,8 @@ pub mod Formats
 pub mod Fronts
 pub mod Functions
 pub mod Grammar
+pub mod Linkers
+pub mod Linking
 pub mod Outcomes
 pub mod Reading
 pub mod Texts

@@ -15,6 +15,6 @@ characters_in text = chars (take (utf8_valid_len text) text)
 abbrev pub IsWhole : List ℕ → Type 0
 IsWhole text = utf8_valid_len text ≡ length text
 
--- so many bytes stand before what is left of these characters
-abbrev pub IsPlaceOf : List ℕ → List ℕ → ℕ → Type 0
-IsPlaceOf characters left at = (before : List ℕ) × (characters ≡ before ++ left) × (at ≡ length (encode_utf8_all before))
+-- how many bytes stand before what is left of these characters at their end
+abbrev pub place_of : List ℕ → List ℕ → ℕ
+place_of characters left = length (encode_utf8_all (take (length characters - length left) characters))
