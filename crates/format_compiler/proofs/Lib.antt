@@ -1,3 +1,6 @@
+mod AloneLemmas
 mod CallLemmas
+mod GrammarLemmas
 mod LinkLemmas
+mod StandLemmas
 mod Worked
