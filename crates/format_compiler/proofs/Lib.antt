@@ -1,5 +1,6 @@
 mod AloneLemmas
 mod CallLemmas
+mod CompileLemmas
 mod GrammarLemmas
 mod LinkLemmas
 mod StandLemmas

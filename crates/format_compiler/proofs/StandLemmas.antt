@@ -1,9 +1,12 @@
 -- Words that stand in a text.
-use Rattle.std.proofs.Common.{◌≡◌, ◌≢◌, ℕ, List, [], ◌∷◌, ◌++◌, Result, Ok, Err, refl, sym, ap, ◌∙◌, subst, append-nil}
+use Rattle.std.proofs.Common.{◌≡◌, ◌≢◌, ℕ, true, false, List, [], ◌∷◌, ◌++◌, Result, Ok, Err, refl, sym, ap, ◌∙◌, subst, append-nil}
 use Rattle.format_compiler.specs.declared.word.Word.{Word}
-use Rattle.format_compiler.specs.Formats.{AreWrongAt, IsStuck, Stand}
+use Rattle.format_compiler.specs.declared.stop.Stop.{Stop}
+use Rattle.format_compiler.specs.declared.stop.Stop.TheVariants.{Wrong, Memory}
+use Rattle.format_compiler.specs.Formats.{AreWrongAt, IsStuck, Stand, StopsAt}
+use Rattle.format_compiler.specs.Outcomes.{Stops}
 use Rattle.format_compiler.specs.Reading.{Read}
-use Rattle.format_compiler.specs.Words.{behind_word, Open, word_in}
+use Rattle.format_compiler.specs.Words.{behind_word, is_inside, Open, word_in}
 
 -- one word more stands
 pub stand_more : (words : List Word) (word : Word) (o : Open) (text : List ℕ) (after : Open) (left behind : List ℕ) → Stand words o text after left
@@ -62,3 +65,9 @@ words_alone words all o text h k =
     ends : (others : List Word) → Stand others [] [] [] [] → words ++ others ≡ all → words ≡ all
     ends [] s e = sym (append-nil words) ∙ e
     ends (w ∷ others) (b, is, s) e = absurd (nothing_stands [] w [] b refl is)
+
+pub stood : (words more : List Word) (word : Word) (text : List ℕ) (after behind_it : Open) (left behind : List ℕ) → Stand words [] text after left
+    → word_in after left ≡ Ok (word, behind) → more ≡ words ++ word ∷ [] → behind_it ≡ behind_word word after → Stand more [] text behind_it behind
+stood words more word text after behind_it left behind h is pushed passed =
+    subst (λ (z : List Word). Stand z [] text behind_it behind) (sym pushed)
+    (subst (λ (z : Open). Stand (words ++ word ∷ []) [] text z behind) (sym passed) (stand_more words word [] text after left behind h is))

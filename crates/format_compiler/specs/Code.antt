@@ -1,5 +1,5 @@
 -- The instructions of formats.
-use Rattle.std.specs.Prelude.{List, [], ◌∷◌, ◌++◌, length}
+use Rattle.std.specs.Prelude.{◌≡◌, List, [], ◌∷◌, ◌++◌, length}
 use Rattle.format_compiler.specs.declared.instruction.Instruction.{Instruction}
 use Rattle.format_compiler.specs.declared.instruction.Instruction.TheVariants.{Print, Unless, Skip}
 use Rattle.format_compiler.specs.Grammar.{Format, Done, Then, Choice}
@@ -16,3 +16,7 @@ code_of (Then piece f) = Print piece ∷ code_of f
 code_of (Choice test taken other f) =
     Unless test (length (code_of taken ++ jump_over (code_of other)))
     ∷ (code_of taken ++ jump_over (code_of other) ++ code_of other ++ code_of f)
+
+-- a program is the code of a format
+abbrev pub IsCodeOf : List Instruction → Format → Type 0
+IsCodeOf program f = program ≡ code_of f

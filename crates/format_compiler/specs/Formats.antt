@@ -1,12 +1,15 @@
 -- The formats that texts denote, and where texts that denote none are wrong.
 use Rattle.std.specs.Prelude.{◌≡◌, ◌≢◌, ◌⊎◌, ℕ, List, [], ◌∷◌, Ok, Err}
+use Rattle.std.specs.Str.{IsUtf8}
 use Rattle.format_compiler.specs.declared.fault.FormatFault.{FormatFault}
 use Rattle.format_compiler.specs.declared.fault.FormatFault.TheVariants.{Bad, Memory}
+use Rattle.format_compiler.specs.declared.instruction.Instruction.{Instruction}
 use Rattle.format_compiler.specs.declared.stop.Stop.{Stop}
 use Rattle.format_compiler.specs.declared.stop.Stop.TheVariants.{Wrong, Memory as NoMemory}
 use Rattle.format_compiler.specs.declared.word.Word.{Word}
+use Rattle.format_compiler.specs.Code.{IsCodeOf}
 use Rattle.format_compiler.specs.Grammar.{Format, IsFormat}
-use Rattle.format_compiler.specs.Texts.{characters_in, IsWhole, place_of, without_feed}
+use Rattle.format_compiler.specs.Texts.{characters_in, place_of, without_feed}
 use Rattle.format_compiler.specs.Words.{behind_word, Open, word_in}
 
 -- these words stand at the front of a text where these conditionals are open; behind them those are open and that is left
@@ -21,7 +24,7 @@ Denote characters f = (words : List Word) × Stand words [] characters [] [] × 
 
 -- a format's text is UTF-8, and its characters without a line feed at the end denote the format
 abbrev pub Denotes : List ℕ → Format → Type 0
-Denotes text f = IsWhole (without_feed text) × Denote (characters_in (without_feed text)) f
+Denotes text f = IsUtf8 (without_feed text) × Denote (characters_in (without_feed text)) f
 
 -- behind the words that stand the next is wrong, or the text ends too early
 abbrev pub IsStuck : Open → List ℕ → List ℕ → Type 0
@@ -36,12 +39,32 @@ pub record AreWrongAt (characters left : List ℕ) : Type 0 where
   pub stand : Stand words [] characters after text
   pub stuck : IsStuck after text left
 
--- a text is refused at its first wrong token, or at its end where it ends too early; what is no UTF-8 ends it too early
-pub record IsRefusedAt (text : List ℕ) (at : ℕ) : Type 0 where
+-- a program is the code of the format that characters denote
+pub record IsProgramOf (characters : List ℕ) (program : List Instruction) : Type 0 where
+  pub format : Format
+  pub denoted : Denote characters format
+  pub code : IsCodeOf program format
+
+-- and of the format that a text denotes
+pub record IsCompiledTo (text : List ℕ) (program : List Instruction) : Type 0 where
+  pub format : Format
+  pub denoted : Denotes text format
+  pub code : IsCodeOf program format
+
+-- characters are refused at their first wrong token, or at their end where they end too early; what is no UTF-8 behind them
+-- ends them too early
+pub record AreRefusedAt (Utf8 : Type 0) (characters : List ℕ) (at : ℕ) : Type 0 where
   pub left : List ℕ
-  pub place : at ≡ place_of (characters_in (without_feed text)) left
-  pub wrong : AreWrongAt (characters_in (without_feed text)) left
-      ⊎ ((IsWhole (without_feed text) → ⊥) × (left ≡ []))
+  pub place : at ≡ place_of characters left
+  pub wrong : AreWrongAt characters left ⊎ ((Utf8 → ⊥) × (left ≡ []))
+
+abbrev pub AreRefused : Type 0 → List ℕ → FormatFault → Type 0
+AreRefused Utf8 characters (Bad at) = AreRefusedAt Utf8 characters at
+AreRefused Utf8 characters Memory = Unit {0}
+
+-- a text is refused as its characters are
+abbrev pub IsRefusedAt : List ℕ → ℕ → Type 0
+IsRefusedAt text at = AreRefusedAt (IsUtf8 (without_feed text)) (characters_in (without_feed text)) at
 
 -- nothing is said of want of memory
 abbrev pub IsRefused : List ℕ → FormatFault → Type 0
@@ -57,3 +80,7 @@ DenotesNone text Memory = Unit {0}
 abbrev pub StopsAt : List ℕ → Stop → Type 0
 StopsAt characters (Wrong left) = AreWrongAt characters left.now
 StopsAt characters NoMemory = Unit {0}
+
+abbrev pub IsBadAt : ℕ → FormatFault → Type 0
+IsBadAt place (Bad at) = at ≡ place
+IsBadAt place Memory = Unit {0}

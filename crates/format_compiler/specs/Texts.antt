@@ -11,10 +11,6 @@ without_feed text = if slice_index text (length text - 1) == 10 then take (lengt
 abbrev pub characters_in : List ℕ → List ℕ
 characters_in text = chars (take (utf8_valid_len text) text)
 
--- the text is UTF-8 as a whole
-abbrev pub IsWhole : List ℕ → Type 0
-IsWhole text = utf8_valid_len text ≡ length text
-
 -- how many bytes stand before what is left of these characters at their end
 abbrev pub place_of : List ℕ → List ℕ → ℕ
 place_of characters left = length (encode_utf8_all (take (length characters - length left) characters))

@@ -1,0 +1,59 @@
+-- Texts, and the programs of their formats.
+use Rattle.std.proofs.Common.{◌≡◌, ℕ, Bool, List, [], Result, Ok, Err, inl, inr, take, refl, sym, ap, ◌∙◌, subst, ◌⊎◌}
+use Rattle.std.specs.Prelude.{◌↔◌, IfErr, IsTrue}
+use Rattle.std.specs.Str.{chars, IsUtf8}
+use Rattle.std.proofs.Math.Seq.{take-length}
+use Rattle.std.proofs.lemmas.Str.{utf8_valid_len-IsUtf8}
+use Rattle.format_compiler.specs.declared.fault.FormatFault.{FormatFault}
+use Rattle.format_compiler.specs.declared.fault.FormatFault.TheVariants.{Bad, Memory}
+use Rattle.format_compiler.specs.declared.instruction.Instruction.{Instruction}
+use Rattle.format_compiler.specs.declared.word.Word.{Word}
+use Rattle.format_compiler.specs.Code.{code_of, IsCodeOf}
+use Rattle.format_compiler.specs.Formats.{AreRefused, AreRefusedAt, AreWrongAt, Denote, Denotes, DenotesNone, IsProgramOf, IsRefused, IsRefusedAt, Stand}
+use Rattle.format_compiler.specs.Grammar.{Format, IsFormat}
+use Rattle.format_compiler.specs.Texts.{characters_in, without_feed}
+use Rattle.format_compiler.proofs.AloneLemmas.{format_alone}
+use Rattle.format_compiler.proofs.GrammarLemmas.{some_format}
+use Rattle.format_compiler.proofs.StandLemmas.{words_alone, wrong_none}
+
+-- of a text that is UTF-8 all characters count
+pub all_characters : (text : List ℕ) → IsUtf8 text → characters_in text ≡ chars text
+all_characters text utf8 = ap (λ n. chars (take n text)) (utf8_valid_len-IsUtf8 text utf8) ∙ ap chars (take-length text)
+
+pub program_of : (characters : List ℕ) (words : List Word) (code program : List Instruction) → Stand words [] characters [] [] → ((f : Format) → IsFormat words f → code ≡ code_of f)
+    → program ≡ code → IsProgramOf characters program
+program_of characters words code program stand linked same =
+    let some = some_format words characters stand in
+    record { format = some.format; denoted = (words, stand, some.is); code = same ∙ linked some.format some.is }
+
+pub program_alone : (characters : List ℕ) (words : List Word) (code program : List Instruction) (f : Format) → Stand words [] characters [] [] → ((f : Format) → IsFormat words f → code ≡ code_of f)
+    → program ≡ code → Denote characters f → IsCodeOf program f
+program_alone characters words code program f stand linked same (others, stand_too, is) =
+    same ∙ linked f (subst (λ (z : List Word). IsFormat z f) (words_alone others words [] characters stand_too stand) is)
+
+refused_at : (text characters : List ℕ) (at : ℕ) (utf8 : Bool) → characters ≡ characters_in (without_feed text) → IsTrue utf8 ↔ IsUtf8 (without_feed text)
+    → AreRefusedAt (IsTrue utf8) characters at → IsRefusedAt text at
+refused_at text characters at utf8 are whether r =
+    subst (λ (z : List ℕ). AreRefusedAt (IsUtf8 (without_feed text)) z at) are (record { left = r.left; place = r.place; wrong = wrong r.wrong })
+  where
+    wrong : AreWrongAt characters r.left ⊎ ((IsTrue utf8 → ⊥) × (r.left ≡ [])) → AreWrongAt characters r.left ⊎ ((IsUtf8 (without_feed text) → ⊥) × (r.left ≡ []))
+    wrong (inl w) = inl w
+    wrong (inr (n, e)) = inr ((λ h. n (whether.1 h)), e)
+
+pub refused : {A : Type 0} (text characters : List ℕ) (utf8 : Bool) (r : Result A FormatFault) → characters ≡ characters_in (without_feed text) → IsTrue utf8 ↔ IsUtf8 (without_feed text)
+    → IfErr r (AreRefused (IsTrue utf8) characters) → IfErr r (IsRefused text)
+refused text characters utf8 (Ok p) are whether h = tt
+refused text characters utf8 (Err (Bad at)) are whether h = refused_at text characters at utf8 are whether h
+refused text characters utf8 (Err Memory) are whether h = tt
+
+denotes_none : (text : List ℕ) (at : ℕ) → IsRefusedAt text at → (f : Format) → Denotes text f → ⊥
+denotes_none text at r f (utf8, (words, stand, is)) = choose r.wrong
+  where
+    choose : AreWrongAt (characters_in (without_feed text)) r.left ⊎ ((IsUtf8 (without_feed text) → ⊥) × (r.left ≡ [])) → ⊥
+    choose (inl w) = wrong_none (characters_in (without_feed text)) r.left words w stand
+    choose (inr (n, e)) = n utf8
+
+pub none : {A : Type 0} (text : List ℕ) (r : Result A FormatFault) → IfErr r (IsRefused text) → IfErr r (DenotesNone text)
+none text (Ok p) h = tt
+none text (Err (Bad at)) h = denotes_none text at h
+none text (Err Memory) h = tt
