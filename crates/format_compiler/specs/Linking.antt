@@ -27,9 +27,9 @@ ended s = record { code = s.code; targets = record { behind = length s.code; oth
 -- a test, behind whose branch the other way begins
 abbrev pub tested : Test → Links → Links
 tested test s = record {
-    code = Unless test (length s.code - (top_of s.targets).other) ∷ s.code;
-    targets = top_of s.targets ∷ below_top s.targets
-  }
+  code = Unless test (length s.code - (top_of s.targets).other) ∷ s.code;
+  targets = top_of s.targets ∷ below_top s.targets;
+}
 
 -- a jump over so many instructions, if there are any
 abbrev pub jumped : ℕ → List Instruction → List Instruction
@@ -39,9 +39,9 @@ jumped (suc count) code = Skip (suc count) ∷ code
 -- the end of a branch, behind which the other way begins
 abbrev pub branched : Links → Links
 branched s = record {
-    code = jumped (length s.code - (top_of s.targets).behind) s.code;
-    targets = record { behind = (top_of s.targets).behind; other = length s.code } ∷ below_top s.targets
-  }
+  code = jumped (length s.code - (top_of s.targets).behind) s.code;
+  targets = record { behind = (top_of s.targets).behind; other = length s.code } ∷ below_top s.targets;
+}
 
 abbrev pub closed : Links → Links
 closed s = record { code = s.code; targets = below_top s.targets }

@@ -44,10 +44,7 @@ fn fitting<'a>(
 }
 
 /// The function whose name stands here.
-fn function<'a>(
-    in_test: bool,
-    text: &'a [char],
-) -> Result<(Function, &'a [char]), Stop<'a>>
+fn function<'a>(in_test: bool, text: &'a [char]) -> Result<(Function, &'a [char]), Stop<'a>>
     ensures given { Gives (λ x. (x.0, x.1.now)) result (function_in in_test text.now) }
     ensures shorter { IfOk result (λ x. length x.1.now ≤ length text.now) }
 {

@@ -24,8 +24,8 @@ mod stack;
 mod stop;
 mod width;
 mod widths;
-mod words;
 mod word;
+mod words;
 
 pub use argument::Argument;
 pub use call::Call;

@@ -48,9 +48,7 @@ fn literal<'a>(text: &'a [char]) -> Result<(&'a [char], &'a [char]), Stop<'a>>
 }
 
 /// The same behind one space.
-pub(crate) fn spaced_literal<'a>(
-    text: &'a [char],
-) -> Result<(&'a [char], &'a [char]), Stop<'a>>
+pub(crate) fn spaced_literal<'a>(text: &'a [char]) -> Result<(&'a [char], &'a [char]), Stop<'a>>
     ensures given { Gives (λ x. (x.0.now, x.1.now)) result (spaced_literal_in text.now) }
     ensures shorter { IfOk result (λ x. length x.1.now < length text.now) }
 {

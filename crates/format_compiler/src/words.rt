@@ -86,11 +86,7 @@ fn call_test<'a>(
 }
 
 /// A test, in which at most so many functions are in one another.
-fn test<'a>(
-    alloc: Global,
-    room: usize,
-    text: &'a [char],
-) -> Result<(Test, &'a [char]), Stop<'a>>
+fn test<'a>(alloc: Global, room: usize, text: &'a [char]) -> Result<(Test, &'a [char]), Stop<'a>>
     ensures given { Gives (λ x. (x.0, x.1.now)) result (test_in room text.now) }
     ensures shorter { IfOk result (λ x. length x.1.now < length text.now) }
 {
