@@ -201,34 +201,53 @@ x%> => bad 1
 %(lit{a}) => bad 5
 ";
 
+/// The first wrong row of several texts of rows.
+fn wrong_rows_of(alloc: Global, texts: &[&str]) -> Result<String, AllocError> {
+    let mut wrong = String::new(alloc);
+    for rows in texts {
+        let others = wrong_rows(alloc, rows)?;
+        wrong.push_str(others.as_str())?;
+    }
+    Ok(wrong)
+}
+
 #[test]
 fn formats_are_compiled_as_wanted(rt: HostRuntime) -> Result<(), Fail> {
-    let alloc = rt.alloc();
-    for rows in [CHARACTERS, PRINTED, CONDITIONALS] {
-        assert_eq!(rt; wrong_rows(alloc, rows)?.as_str(), "");
-    }
+    let rows = [CHARACTERS, PRINTED, CONDITIONALS];
+    assert_eq!(rt; wrong_rows_of(rt.alloc(), &rows)?.as_str(), "");
     Ok(())
 }
 
 #[test]
 fn wrong_texts_have_their_places(rt: HostRuntime) -> Result<(), Fail> {
-    let alloc = rt.alloc();
-    for rows in [UNFINISHED, WRONG] {
-        assert_eq!(rt; wrong_rows(alloc, rows)?.as_str(), "");
-    }
+    let rows = [UNFINISHED, WRONG];
+    assert_eq!(rt; wrong_rows_of(rt.alloc(), &rows)?.as_str(), "");
     Ok(())
+}
+
+/// The first of these bytes that give something else than what stands beside them, and what that is.
+fn wrong_bytes(alloc: Global, rows: &[(&[u8], &str)]) -> Result<String, AllocError> {
+    for (bytes, wanted) in rows {
+        let found = compiled(alloc, bytes)?;
+        if found.as_str() != *wanted {
+            return format!(in alloc; "{wanted}: {}", found.as_str());
+        }
+    }
+    Ok(String::new(alloc))
 }
 
 #[test]
 fn bytes_that_are_no_utf8_are_wrong(rt: HostRuntime) -> Result<(), Fail> {
-    let alloc = rt.alloc();
-    assert_eq!(rt; compiled(alloc, b"ab\xffc")?.as_str(), "bad 2");
-    assert_eq!(rt; compiled(alloc, b"%>\xff")?.as_str(), "bad 0");
-    assert_eq!(rt; compiled(alloc, b"a\xff%>")?.as_str(), "bad 1");
-    assert_eq!(rt; compiled(alloc, b"%{a\xff}")?.as_str(), "bad 3");
-    assert_eq!(rt; compiled(alloc, b"%<{a}\xff")?.as_str(), "bad 5");
-    assert_eq!(rt; compiled(alloc, b"%;\xff\n")?.as_str(), "bad 2");
-    assert_eq!(rt; compiled(alloc, b"\xc3\xa9\xc3")?.as_str(), "bad 2");
-    assert_eq!(rt; compiled(alloc, b"\xc3\xa9\n")?.as_str(), "'\u{e9}'");
+    let rows: [(&[u8], &str); 8] = [
+        (b"ab\xffc", "bad 2"),
+        (b"%>\xff", "bad 0"),
+        (b"a\xff%>", "bad 1"),
+        (b"%{a\xff}", "bad 3"),
+        (b"%<{a}\xff", "bad 5"),
+        (b"%;\xff\n", "bad 2"),
+        (b"\xc3\xa9\xc3", "bad 2"),
+        (b"\xc3\xa9\n", "'\u{e9}'"),
+    ];
+    assert_eq!(rt; wrong_bytes(rt.alloc(), &rows)?.as_str(), "");
     Ok(())
 }

@@ -46,37 +46,54 @@ fn others(
     Ok(others)
 }
 
+/// What is wrong of lists of names, each with what stands behind them and what is wanted.
+fn wrong_lists(alloc: Global, lists: &[(&str, &str, Option<&str>)]) -> Result<String, AllocError> {
+    let mut wrong = String::new(alloc);
+    for (names, behind, wanted) in lists {
+        let others = others(alloc, names, behind, *wanted)?;
+        wrong.push_str(others.as_str())?;
+    }
+    Ok(wrong)
+}
+
 #[test]
 fn functions_take_their_arguments(rt: HostRuntime) -> Result<(), Fail> {
-    let alloc = rt.alloc();
-    assert_eq!(rt; others(alloc, WITHOUT, "", Some(""))?.as_str(), "");
-    assert_eq!(rt; others(alloc, NUMBERS, " -7", Some(" -7"))?.as_str(), "");
-    assert_eq!(rt; others(alloc, LITERALS, " a", Some(" [a]"))?.as_str(), "");
-    assert_eq!(rt; others(alloc, "lit", " a", Some(" [a]"))?.as_str(), "");
-    assert_eq!(rt; others(alloc, SOURCES, "", Some(""))?.as_str(), "");
-    assert_eq!(rt; others(alloc, SOURCES, "{a}", Some(" {a}"))?.as_str(), "");
-    assert_eq!(rt; others(alloc, "void", "{a}", Some(" {a}"))?.as_str(), "");
-    assert_eq!(rt;
-        others(alloc, COMPONENTS, "{a}", Some(" {a}"))?.as_str(),
-        ""
-    );
+    let lists = [
+        (WITHOUT, "", Some("")),
+        (NUMBERS, " -7", Some(" -7")),
+        (LITERALS, " a", Some(" [a]")),
+        ("lit", " a", Some(" [a]")),
+        (SOURCES, "", Some("")),
+        (SOURCES, "{a}", Some(" {a}")),
+        ("void", "{a}", Some(" {a}")),
+        (COMPONENTS, "{a}", Some(" {a}")),
+    ];
+    assert_eq!(rt; wrong_lists(rt.alloc(), &lists)?.as_str(), "");
     Ok(())
 }
 
 #[test]
 fn functions_take_no_others(rt: HostRuntime) -> Result<(), Fail> {
-    let alloc = rt.alloc();
-    for names in [WITHOUT, NUMBERS, LITERALS, "lit"] {
-        assert_eq!(rt; others(alloc, names, "{a}", None)?.as_str(), "");
-        assert_eq!(rt; others(alloc, names, "(msg)", None)?.as_str(), "");
-    }
-    for names in [NUMBERS, LITERALS, "void", COMPONENTS] {
-        assert_eq!(rt; others(alloc, names, "", None)?.as_str(), "");
-    }
-    for names in [WITHOUT, SOURCES, "void", COMPONENTS] {
-        assert_eq!(rt; others(alloc, names, " 7", None)?.as_str(), "");
-    }
-    assert_eq!(rt; others(alloc, COMPONENTS, "(msg)", None)?.as_str(), "");
+    let lists = [
+        (WITHOUT, "{a}", None),
+        (NUMBERS, "{a}", None),
+        (LITERALS, "{a}", None),
+        ("lit", "{a}", None),
+        (WITHOUT, "(msg)", None),
+        (NUMBERS, "(msg)", None),
+        (LITERALS, "(msg)", None),
+        ("lit", "(msg)", None),
+        (COMPONENTS, "(msg)", None),
+        (NUMBERS, "", None),
+        (LITERALS, "", None),
+        ("void", "", None),
+        (COMPONENTS, "", None),
+        (WITHOUT, " 7", None),
+        (SOURCES, " 7", None),
+        ("void", " 7", None),
+        (COMPONENTS, " 7", None),
+    ];
+    assert_eq!(rt; wrong_lists(rt.alloc(), &lists)?.as_str(), "");
     Ok(())
 }
 

@@ -32,25 +32,34 @@ fn width(alloc: Global, width: &Option<Width>) -> Result<String, AllocError> {
     }
 }
 
+fn component(alloc: Global, columns: &Option<Width>, name: &str) -> Result<String, AllocError> {
+    let columns = width(alloc, columns)?;
+    format!(in alloc; "{}{{{name}}}", columns.as_str())
+}
+
+fn printed_call(
+    alloc: Global,
+    columns: &Option<Width>,
+    printed: &Call,
+) -> Result<String, AllocError> {
+    let columns = width(alloc, columns)?;
+    let printed = call(alloc, printed)?;
+    format!(in alloc; "{}{}", columns.as_str(), printed.as_str())
+}
+
+fn character(alloc: Global, c: char) -> Result<String, AllocError> {
+    if c < ' ' {
+        format!(in alloc; "#{}", c as u32)
+    } else {
+        format!(in alloc; "'{c}'")
+    }
+}
+
 fn piece(alloc: Global, piece: &Piece) -> Result<String, AllocError> {
     match piece {
-        Piece::Character(c) if *c < ' ' => format!(in alloc; "#{}", *c as u32),
-        Piece::Character(c) => format!(in alloc; "'{c}'"),
-        Piece::Component {
-            width: columns,
-            name,
-        } => {
-            let columns = width(alloc, columns)?;
-            format!(in alloc; "{}{{{}}}", columns.as_str(), name.as_str())
-        }
-        Piece::Call {
-            width: columns,
-            call: printed,
-        } => {
-            let columns = width(alloc, columns)?;
-            let printed = call(alloc, printed)?;
-            format!(in alloc; "{}{}", columns.as_str(), printed.as_str())
-        }
+        Piece::Character(c) => character(alloc, *c),
+        Piece::Component { width, name } => component(alloc, width, name.as_str()),
+        Piece::Call { width, call } => printed_call(alloc, width, call),
     }
 }
 
@@ -61,16 +70,15 @@ fn test(alloc: Global, test: &Test) -> Result<String, AllocError> {
     }
 }
 
+fn unless(alloc: Global, tested: &Test, skipped: usize) -> Result<String, AllocError> {
+    let tested = test(alloc, tested)?;
+    format!(in alloc; "?{}:{skipped}", tested.as_str())
+}
+
 fn instruction(alloc: Global, instruction: &Instruction) -> Result<String, AllocError> {
     match instruction {
         Instruction::Print(printed) => piece(alloc, printed),
-        Instruction::Unless {
-            test: tested,
-            skipped,
-        } => {
-            let tested = test(alloc, tested)?;
-            format!(in alloc; "?{}:{skipped}", tested.as_str())
-        }
+        Instruction::Unless { test, skipped } => unless(alloc, test, *skipped),
         Instruction::Skip(count) => format!(in alloc; ">{count}"),
     }
 }
