@@ -1,10 +1,7 @@
 -- Words are one format at most.
-use Rattle.std.proofs.Common.{◌≡◌, List, [], ◌∷◌, refl, sym, ap, ◌∙◌, subst}
-use Rattle.format_compiler.specs.declared.one_test.Test.{Test}
-use Rattle.format_compiler.specs.declared.piece.Piece.{Piece}
+use Rattle.std.proofs.Common.{◌≡◌, List, refl, sym, ap, subst}
 use Rattle.format_compiler.specs.declared.word.Word.{Word}
-use Rattle.format_compiler.specs.declared.word.Word.TheVariants.{Nothing, Print, If, ElseIf, Else, End}
-use Rattle.format_compiler.specs.Grammar.{AreItems, AreOthers, AreOver, Choice, Done, Format, IsFormat, Then, over, nothing, print, choice, end, otherwise, otherwise_if}
+use Rattle.format_compiler.specs.Grammar.{AreItems, AreOthers, Choice, Done, Format, IsFormat, Then, over, nothing, print, choice, end, otherwise, otherwise_if}
 
 -- two readings of the same words leave the same words and are the same format
 pub record Same (rest left : List Word) (f g : Format) : Type 0 where

@@ -1,10 +1,10 @@
 -- One function around another.
-use Rattle.std.proofs.Common.{◌≡◌, ◌≢◌, ℕ, zero, suc, ◌-◌, Bool, true, false, List, [], ◌∷◌, Result, Ok, Err, refl, sym, ap, ◌∙◌, arith}
+use Rattle.std.proofs.Common.{◌≡◌, ◌≢◌, ℕ, zero, suc, ◌-◌, Bool, false, List, Ok, refl, sym, ap, ◌∙◌, arith}
 use Rattle.format_compiler.specs.declared.call.Call.{Call}
 use Rattle.format_compiler.specs.declared.function.Function.{Function}
 use Rattle.format_compiler.specs.declared.stop.Stop.{Stop}
 use Rattle.format_compiler.specs.declared.stop.Stop.TheVariants.{Wrong, Memory}
-use Rattle.format_compiler.specs.Calls.{Around, Front, call_in, front_in, whole_by, with_around}
+use Rattle.format_compiler.specs.Calls.{Around, call_in, front_in, whole_by, with_around}
 use Rattle.format_compiler.specs.Outcomes.{Stops}
 use Rattle.format_compiler.specs.Reading.{Read, ◌>>=◌, then_character}
 

@@ -1,5 +1,5 @@
 -- Texts, and the programs of their formats.
-use Rattle.std.proofs.Common.{◌≡◌, ℕ, Bool, List, [], Result, Ok, Err, inl, inr, take, refl, sym, ap, ◌∙◌, subst, ◌⊎◌}
+use Rattle.std.proofs.Common.{◌≡◌, ℕ, Bool, List, [], Result, Ok, Err, inl, inr, take, ap, ◌∙◌, subst, ◌⊎◌}
 use Rattle.std.specs.Prelude.{◌↔◌, IfErr, IsTrue}
 use Rattle.std.specs.Str.{chars, IsUtf8}
 use Rattle.std.proofs.Math.Seq.{take-length}
@@ -12,7 +12,6 @@ use Rattle.format_compiler.specs.Code.{code_of, IsCodeOf}
 use Rattle.format_compiler.specs.Formats.{AreRefused, AreRefusedAt, AreWrongAt, Denote, Denotes, DenotesNone, IsProgramOf, IsRefused, IsRefusedAt, Stand}
 use Rattle.format_compiler.specs.Grammar.{Format, IsFormat}
 use Rattle.format_compiler.specs.Texts.{characters_in, without_feed}
-use Rattle.format_compiler.proofs.AloneLemmas.{format_alone}
 use Rattle.format_compiler.proofs.GrammarLemmas.{some_format}
 use Rattle.format_compiler.proofs.StandLemmas.{words_alone, wrong_none}
 

@@ -1,9 +1,7 @@
 -- Words that stand in all of a text are one format.
-use Rattle.std.proofs.Common.{◌≡◌, ℕ, zero, suc, Bool, true, false, List, [], ◌∷◌, ◌==◌, take, drop, Option, Some, None, Result, Ok, Err, refl, sym, ap, ◌∙◌, subst}
+use Rattle.std.proofs.Common.{◌≡◌, ℕ, zero, suc, Bool, true, false, List, [], ◌∷◌, ◌==◌, take, drop, Option, Some, None, Ok, Err, refl, sym, subst}
 use Rattle.std.specs.Prelude.{if◌then◌else◌}
 use Rattle.std.specs.List.{prefix_len}
-use Rattle.format_compiler.specs.declared.one_test.Test.{Test}
-use Rattle.format_compiler.specs.declared.piece.Piece.{Piece}
 use Rattle.format_compiler.specs.declared.piece.Piece.TheVariants.{Character, Component, Call}
 use Rattle.format_compiler.specs.declared.width.Width.{Width}
 use Rattle.format_compiler.specs.declared.word.Word.{Word}
@@ -11,7 +9,7 @@ use Rattle.format_compiler.specs.declared.word.Word.TheVariants.{Nothing, Print,
 use Rattle.format_compiler.specs.Calls.{call_in}
 use Rattle.format_compiler.specs.Components.{component_in}
 use Rattle.format_compiler.specs.Formats.{Stand}
-use Rattle.format_compiler.specs.Grammar.{AreItems, AreOthers, AreOver, Choice, Done, Format, IsFormat, Then, over, nothing, print, choice, end, otherwise, otherwise_if}
+use Rattle.format_compiler.specs.Grammar.{AreItems, AreOthers, Choice, Done, Format, IsFormat, Then, over, nothing, print, choice, end, otherwise, otherwise_if}
 use Rattle.format_compiler.specs.Reading.{Read, ◌>>=◌}
 use Rattle.format_compiler.specs.Widths.{begins_width, is_digit, width_of}
 use Rattle.format_compiler.specs.Words.{behind_word, else_if_in, escape_in, escaped, if_in, is_inside, mark_in, may_choose, Open, percent_in, printed_by, printed_component_in, printed_call_in, printed_in, room_in, sized_by, test_in, word_in}

@@ -1,11 +1,10 @@
 -- The instructions of words are those of their format.
-use Rattle.std.proofs.Common.{◌≡◌, ℕ, ◌+◌, ◌-◌, ◌==◌, List, [], ◌∷◌, ◌++◌, length, refl, sym, ap, ◌∙◌, arith, length-append, append_assoc, append-nil}
-use Rattle.std.specs.Prelude.{if◌then◌else◌}
+use Rattle.std.proofs.Common.{◌≡◌, ℕ, ◌-◌, List, [], ◌∷◌, ◌++◌, length, refl, sym, ap, ◌∙◌, arith, length-append, append_assoc, append-nil}
 use Rattle.format_compiler.specs.declared.instruction.Instruction.{Instruction}
-use Rattle.format_compiler.specs.declared.instruction.Instruction.TheVariants.{Print as PrintIt, Unless, Skip}
+use Rattle.format_compiler.specs.declared.instruction.Instruction.TheVariants.{Unless}
 use Rattle.format_compiler.specs.declared.one_test.Test.{Test}
 use Rattle.format_compiler.specs.declared.word.Word.{Word}
-use Rattle.format_compiler.specs.declared.word.Word.TheVariants.{Nothing, Print, If, ElseIf, Else, End}
+use Rattle.format_compiler.specs.declared.word.Word.TheVariants.{Print, If}
 use Rattle.format_compiler.specs.Code.{code_of, jump_over}
 use Rattle.format_compiler.specs.Grammar.{AreItems, AreOthers, Choice, Done, Format, IsFormat, over, nothing, print, choice, end, otherwise, otherwise_if}
 use Rattle.format_compiler.specs.Linking.{branched, jumped, linked, linked_all, Links, no_links, tested}

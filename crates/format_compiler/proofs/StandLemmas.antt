@@ -1,12 +1,9 @@
 -- Words that stand in a text.
-use Rattle.std.proofs.Common.{◌≡◌, ◌≢◌, ℕ, true, false, List, [], ◌∷◌, ◌++◌, Result, Ok, Err, refl, sym, ap, ◌∙◌, subst, append-nil}
+use Rattle.std.proofs.Common.{◌≡◌, ℕ, List, [], ◌∷◌, ◌++◌, Ok, Err, refl, sym, ap, ◌∙◌, subst, append-nil}
 use Rattle.format_compiler.specs.declared.word.Word.{Word}
-use Rattle.format_compiler.specs.declared.stop.Stop.{Stop}
-use Rattle.format_compiler.specs.declared.stop.Stop.TheVariants.{Wrong, Memory}
-use Rattle.format_compiler.specs.Formats.{AreWrongAt, IsStuck, Stand, StopsAt}
-use Rattle.format_compiler.specs.Outcomes.{Stops}
+use Rattle.format_compiler.specs.Formats.{AreWrongAt, IsStuck, Stand}
 use Rattle.format_compiler.specs.Reading.{Read}
-use Rattle.format_compiler.specs.Words.{behind_word, is_inside, Open, word_in}
+use Rattle.format_compiler.specs.Words.{behind_word, Open, word_in}
 
 -- one word more stands
 pub stand_more : (words : List Word) (word : Word) (o : Open) (text : List ℕ) (after : Open) (left behind : List ℕ) → Stand words o text after left

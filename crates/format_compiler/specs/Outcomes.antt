@@ -2,7 +2,6 @@
 use Rattle.std.specs.Prelude.{◌≡◌, ℕ, List, Result, Ok, Err}
 use Rattle.format_compiler.specs.declared.stop.Stop.{Stop}
 use Rattle.format_compiler.specs.declared.stop.Stop.TheVariants.{Wrong, Memory}
-use Rattle.format_compiler.specs.Reading.{Read}
 
 abbrev pub Stops : {A : Type 0} → Result A (List ℕ) → Stop → Type 0
 Stops read (Wrong left) = read ≡ Err left.now

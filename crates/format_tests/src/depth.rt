@@ -47,7 +47,7 @@ fn wrong_row(alloc: Global, rows: &[Row]) -> Result<String, AllocError> {
 }
 
 /// So many pieces between a front and a back with its ends.
-const fn row(
+const fn text_row(
     front: &'static str,
     piece: &'static str,
     count: usize,
@@ -68,20 +68,20 @@ const fn row(
 #[test]
 fn nesting_is_64_deep_at_most(rt: HostRuntime) -> Result<(), Fail> {
     let rows = [
-        row("", "%<{a}", 64, "", "%>", "64"),
-        row("", "%<{a}", 65, "", "", "bad 320"),
-        row("", "%<{a}", 64, "", "", "bad 320"),
-        row("x", "%<{a}", 65, "", "%>", "bad 321"),
-        row("", "%<{a}%>", 5000, "", "", "5000"),
-        row("%(null", "(null", 63, ")", ")", "1"),
-        row("%(null", "(null", 64, ")", ")", "bad 321"),
-        row("%(null", " (null", 64, ")", ")", "bad 384"),
-        row("", "%<{a}", 63, "%(msg)", "%>", "64"),
-        row("", "%<{a}", 64, "%(msg)", "%>", "bad 320"),
-        row("", "%<{a}", 62, "%<(cur)%>", "%>", "63"),
-        row("", "%<{a}", 63, "%<(cur)%>", "%>", "bad 317"),
-        row("", "%<{a}", 62, "%<(null(cur))%>", "%>", "bad 317"),
-        row("", "%<{a}", 63, "%<{a}%?(cur)%>", "%>", "bad 322"),
+        text_row("", "%<{a}", 64, "", "%>", "64"),
+        text_row("", "%<{a}", 65, "", "", "bad 320"),
+        text_row("", "%<{a}", 64, "", "", "bad 320"),
+        text_row("x", "%<{a}", 65, "", "%>", "bad 321"),
+        text_row("", "%<{a}%>", 5000, "", "", "5000"),
+        text_row("%(null", "(null", 63, ")", ")", "1"),
+        text_row("%(null", "(null", 64, ")", ")", "bad 321"),
+        text_row("%(null", " (null", 64, ")", ")", "bad 384"),
+        text_row("", "%<{a}", 63, "%(msg)", "%>", "64"),
+        text_row("", "%<{a}", 64, "%(msg)", "%>", "bad 320"),
+        text_row("", "%<{a}", 62, "%<(cur)%>", "%>", "63"),
+        text_row("", "%<{a}", 63, "%<(cur)%>", "%>", "bad 317"),
+        text_row("", "%<{a}", 62, "%<(null(cur))%>", "%>", "bad 317"),
+        text_row("", "%<{a}", 63, "%<{a}%?(cur)%>", "%>", "bad 322"),
     ];
     assert_eq!(rt; wrong_row(rt.alloc(), &rows)?.as_str(), "");
     Ok(())
@@ -90,13 +90,13 @@ fn nesting_is_64_deep_at_most(rt: HostRuntime) -> Result<(), Fail> {
 #[test]
 fn long_formats_are_compiled(rt: HostRuntime) -> Result<(), Fail> {
     let rows = [
-        row("", "x", 65_536, "", "", "65536"),
-        row("", "%<{a}x%>", 8192, "", "", "16384"),
-        row("%<{a}", "%?{a}x", 10_920, "%>", "", "32761"),
-        row("%(lit ", "x", 65_529, ")", "", "1"),
-        row("%(lit ", "x", 65_530, "", "", "bad 65536"),
-        row("%", "1", 65_535, "", "", "bad 0"),
-        row("", "%;\n", 21_845, "", "", "0"),
+        text_row("", "x", 65_536, "", "", "65536"),
+        text_row("", "%<{a}x%>", 8192, "", "", "16384"),
+        text_row("%<{a}", "%?{a}x", 10_920, "%>", "", "32761"),
+        text_row("%(lit ", "x", 65_529, ")", "", "1"),
+        text_row("%(lit ", "x", 65_530, "", "", "bad 65536"),
+        text_row("%", "1", 65_535, "", "", "bad 0"),
+        text_row("", "%;\n", 21_845, "", "", "0"),
     ];
     assert_eq!(rt; wrong_row(rt.alloc(), &rows)?.as_str(), "");
     Ok(())

@@ -1,4 +1,4 @@
-use Rattle.std.proofs.Common.{◌≡◌, List, ℕ, Ok, Result, sym, subst, ap, ◌∙◌}
+use Rattle.std.proofs.Common.{List, ℕ, Ok, Result, sym, subst, ap, ◌∙◌}
 use Rattle.format_compiler.specs.declared.call.Call.{Call}
 use Rattle.format_compiler.specs.Fronts.{front_of}
 use Rattle.format_compiler.specs.Outcomes.{Gives}

@@ -1,6 +1,4 @@
-use Rattle.std.proofs.Common.{◌≡◌, subst, sym, ap, ◌∙◌}
-use Rattle.std.specs.Prelude.{◌↔◌, IfErr, IsTrue}
-use Rattle.std.specs.Str.{IsUtf8}
+use Rattle.std.proofs.Common.{ap, ◌∙◌}
 use Rattle.format_compiler.specs.Texts.{characters_in}
 use Rattle.format_compiler.proofs.CompileLemmas.{none, refused}
 use Rattle.format_compiler.proofs.compiling.compile.Goals as goal

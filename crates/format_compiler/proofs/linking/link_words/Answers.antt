@@ -1,4 +1,4 @@
-use Rattle.std.proofs.Common.{◌≡◌, List, [], arith, sym, ◌∙◌, ap}
+use Rattle.std.proofs.Common.{arith, ◌∙◌, ap}
 use Rattle.format_compiler.specs.Linkers.{links_of}
 use Rattle.format_compiler.specs.Linking.{linked_all, no_links}
 use Rattle.format_compiler.proofs.LinkLemmas.{all_linked, one_linked}

@@ -1,4 +1,3 @@
-use Rattle.std.proofs.Common.{◌≡◌, sym, ◌∙◌}
 use Rattle.format_compiler.proofs.StandLemmas.{stood}
 use Rattle.format_compiler.proofs.reading.read_words.Goals as goal
 
