@@ -1,7 +1,7 @@
 -- Texts, and the programs of their formats.
-use Rattle.std.proofs.Common.{◌≡◌, ℕ, Bool, List, [], Result, Ok, Err, inl, inr, take, ap, ◌∙◌, subst, ◌⊎◌}
+use Rattle.std.proofs.Common.{◌≡◌, ℕ, Bool, List, [], Result, Ok, Err, inl, inr, take, ap, ◌∙◌, subst, ◌⊎◌, ◌<◌, ◌-◌, ◌∷◌, ◌++◌, length, arith}
 use Rattle.std.specs.Prelude.{◌↔◌, IfErr, IsTrue}
-use Rattle.std.specs.Str.{chars, IsUtf8}
+use Rattle.std.specs.Str.{chars, encode_utf8_all, IsUtf8}
 use Rattle.std.proofs.Math.Seq.{take-length}
 use Rattle.std.proofs.lemmas.Str.{utf8_valid_len-IsUtf8}
 use Rattle.format_compiler.specs.declared.fault.FormatFault.{FormatFault}
@@ -9,11 +9,12 @@ use Rattle.format_compiler.specs.declared.fault.FormatFault.TheVariants.{Bad, Me
 use Rattle.format_compiler.specs.declared.instruction.Instruction.{Instruction}
 use Rattle.format_compiler.specs.declared.word.Word.{Word}
 use Rattle.format_compiler.specs.Code.{code_of, IsCodeOf}
-use Rattle.format_compiler.specs.Formats.{AreRefused, AreRefusedAt, AreWrongAt, Denote, Denotes, DenotesNone, IsProgramOf, IsRefused, IsRefusedAt, Stand}
+use Rattle.format_compiler.specs.Formats.{AreRefused, AreRefusedAt, AreWrongAt, BeginsNone, Denote, Denotes, DenotesNone, IsProgramOf, IsRefused, IsRefusedAt, Stand}
 use Rattle.format_compiler.specs.Grammar.{Format, IsFormat}
-use Rattle.format_compiler.specs.Texts.{characters_in, without_feed}
+use Rattle.format_compiler.specs.Texts.{characters_in, place_of, without_feed}
 use Rattle.format_compiler.proofs.GrammarLemmas.{some_format}
 use Rattle.format_compiler.proofs.StandLemmas.{words_alone, wrong_none}
+use Rattle.format_compiler.proofs.SteadyWords.{hopeless}
 
 -- of a text that is UTF-8 all characters count
 pub all_characters : (text : List ℕ) → IsUtf8 text → characters_in text ≡ chars text
@@ -56,3 +57,29 @@ pub none : {A : Type 0} (text : List ℕ) (r : Result A FormatFault) → IfErr r
 none text (Ok p) h = tt
 none text (Err (Bad at)) h = denotes_none text at h
 none text (Err Memory) h = tt
+
+-- where nothing is left the place is that of the end
+no_place : (characters : List ℕ) (at : ℕ) → at ≡ place_of characters [] → at < length (encode_utf8_all characters) → ⊥
+no_place characters at is lt =
+    let n : length characters - 0 ≡ length characters = omega arith in
+    let all : place_of characters [] ≡ length (encode_utf8_all characters) =
+    ap (λ z. length (encode_utf8_all (take z characters))) n ∙ ap (λ z. length (encode_utf8_all z)) (take-length characters) in
+    omega (arith, is, all, lt)
+
+begins_none : (characters left : List ℕ) (at : ℕ) → at ≡ place_of characters left → AreWrongAt characters left → at < length (encode_utf8_all characters)
+    → (more : List ℕ) (f : Format) → Denote (characters ++ more) f → ⊥
+begins_none characters [] at is wrong before = absurd (no_place characters at is before)
+begins_none characters (c ∷ left) at is wrong before = hopeless characters (c ∷ left) wrong (λ e. cc)
+
+beyond_place : (text : List ℕ) (at : ℕ) → IsRefusedAt text at → at < length (encode_utf8_all (characters_in (without_feed text)))
+    → (more : List ℕ) (f : Format) → Denote (characters_in (without_feed text) ++ more) f → ⊥
+beyond_place text at r before = choose r.wrong
+  where
+    choose : AreWrongAt (characters_in (without_feed text)) r.left ⊎ ((IsUtf8 (without_feed text) → ⊥) × (r.left ≡ [])) → (more : List ℕ) (f : Format) → Denote (characters_in (without_feed text) ++ more) f → ⊥
+    choose (inl w) = begins_none (characters_in (without_feed text)) r.left at r.place w before
+    choose (inr (n, e)) = absurd (no_place (characters_in (without_feed text)) at (r.place ∙ ap (place_of (characters_in (without_feed text))) e) before)
+
+pub beyond : {A : Type 0} (text : List ℕ) (r : Result A FormatFault) → IfErr r (IsRefused text) → IfErr r (BeginsNone text)
+beyond text (Ok p) h = tt
+beyond text (Err (Bad at)) h = beyond_place text at h
+beyond text (Err Memory) h = tt

@@ -4,4 +4,6 @@ mod CompileLemmas
 mod GrammarLemmas
 mod LinkLemmas
 mod StandLemmas
+mod SteadyLemmas
+mod SteadyWords
 mod Worked

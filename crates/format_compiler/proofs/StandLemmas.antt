@@ -11,7 +11,7 @@ pub stand_more : (words : List Word) (word : Word) (o : Open) (text : List ℕ) 
 stand_more [] word o text after left behind h is = (behind, (λ i. word_in (h.0 i) (h.1 i)) ∙ is, (ap (behind_word word) h.0, refl))
 stand_more (w ∷ words) word o text after left behind (b, there, h) is = (b, there, stand_more words word (behind_word w o) b after left behind h is)
 
-nothing_stands : (o : Open) (word : Word) (text behind : List ℕ) → text ≡ [] → word_in o text ≡ Ok (word, behind) → ⊥
+pub nothing_stands : (o : Open) (word : Word) (text behind : List ℕ) → text ≡ [] → word_in o text ≡ Ok (word, behind) → ⊥
 unfolding word_in
 nothing_stands o word text behind none is = let same : word_in o [] ≡ Ok (word, behind) = ap (word_in o) (sym none) ∙ is in cc
 

@@ -1,6 +1,6 @@
 -- The formats that texts denote, and where texts that denote none are wrong.
-use Rattle.std.specs.Prelude.{◌≡◌, ◌≢◌, ◌⊎◌, ℕ, List, [], ◌∷◌, Ok, Err}
-use Rattle.std.specs.Str.{IsUtf8}
+use Rattle.std.specs.Prelude.{◌≡◌, ◌≢◌, ◌⊎◌, ℕ, ◌<◌, List, [], ◌∷◌, ◌++◌, length, Ok, Err}
+use Rattle.std.specs.Str.{encode_utf8_all, IsUtf8}
 use Rattle.format_compiler.specs.declared.fault.FormatFault.{FormatFault}
 use Rattle.format_compiler.specs.declared.fault.FormatFault.TheVariants.{Bad, Memory}
 use Rattle.format_compiler.specs.declared.instruction.Instruction.{Instruction}
@@ -75,6 +75,12 @@ IsRefused text Memory = Unit {0}
 abbrev pub DenotesNone : List ℕ → FormatFault → Type 0
 DenotesNone text (Bad at) = (f : Format) → Denotes text f → ⊥
 DenotesNone text Memory = Unit {0}
+
+-- a text that is refused before the end of its characters begins no format: nothing behind them makes them one
+abbrev pub BeginsNone : List ℕ → FormatFault → Type 0
+BeginsNone text (Bad at) = at < length (encode_utf8_all (characters_in (without_feed text)))
+    → (more : List ℕ) (f : Format) → Denote (characters_in (without_feed text) ++ more) f → ⊥
+BeginsNone text Memory = Unit {0}
 
 -- where reading stops
 abbrev pub StopsAt : List ℕ → Stop → Type 0

@@ -1,6 +1,6 @@
 use Rattle.std.proofs.Common.{ap, ◌∙◌}
 use Rattle.format_compiler.specs.Texts.{characters_in}
-use Rattle.format_compiler.proofs.CompileLemmas.{none, refused}
+use Rattle.format_compiler.proofs.CompileLemmas.{beyond, none, refused}
 use Rattle.format_compiler.proofs.compiling.compile.Goals as goal
 
 pub returns-clause-refused : goal.returns-clause-refused
@@ -11,3 +11,6 @@ returns-clause-refused c =
 
 pub returns-clause-none : goal.returns-clause-none
 returns-clause-none c = none c.args.text.now c.compile_characters.result (returns-clause-refused c)
+
+pub returns-clause-beyond : goal.returns-clause-beyond
+returns-clause-beyond c = beyond c.args.text.now c.compile_characters.result (returns-clause-refused c)
