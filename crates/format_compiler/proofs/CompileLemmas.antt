@@ -9,7 +9,7 @@ use Rattle.format_compiler.specs.declared.fault.FormatFault.TheVariants.{Bad, Me
 use Rattle.format_compiler.specs.declared.instruction.Instruction.{Instruction}
 use Rattle.format_compiler.specs.declared.word.Word.{Word}
 use Rattle.format_compiler.specs.Code.{code_of, IsCodeOf}
-use Rattle.format_compiler.specs.Formats.{AreRefused, AreRefusedAt, AreWrongAt, BeginsNone, Denote, Denotes, DenotesNone, IsProgramOf, IsRefused, IsRefusedAt, Stand}
+use Rattle.format_compiler.specs.Formats.{AreCutOff, AreRefused, AreRefusedAt, AreWrongAt, BeginsNone, Denote, Denotes, DenotesNone, IsProgramOf, IsRefused, IsRefusedAt, Stand}
 use Rattle.format_compiler.specs.Grammar.{Format, IsFormat}
 use Rattle.format_compiler.specs.Texts.{characters_in, place_of, without_feed}
 use Rattle.format_compiler.proofs.GrammarLemmas.{some_format}
@@ -36,9 +36,9 @@ refused_at : (text characters : List ℕ) (at : ℕ) (utf8 : Bool) → character
 refused_at text characters at utf8 are whether r =
     subst (λ (z : List ℕ). AreRefusedAt (IsUtf8 (without_feed text)) z at) are (record { left = r.left; place = r.place; wrong = wrong r.wrong })
   where
-    wrong : AreWrongAt characters r.left ⊎ ((IsTrue utf8 → ⊥) × (r.left ≡ [])) → AreWrongAt characters r.left ⊎ ((IsUtf8 (without_feed text) → ⊥) × (r.left ≡ []))
+    wrong : AreWrongAt characters r.left ⊎ AreCutOff (IsTrue utf8) characters r.left → AreWrongAt characters r.left ⊎ AreCutOff (IsUtf8 (without_feed text)) characters r.left
     wrong (inl w) = inl w
-    wrong (inr (n, e)) = inr ((λ h. n (whether.1 h)), e)
+    wrong (inr cut) = inr (record { other = (λ h. cut.other (whether.1 h)); format = cut.format; denoted = cut.denoted; nothing = cut.nothing })
 
 pub refused : {A : Type 0} (text characters : List ℕ) (utf8 : Bool) (r : Result A FormatFault) → characters ≡ characters_in (without_feed text) → IsTrue utf8 ↔ IsUtf8 (without_feed text)
     → IfErr r (AreRefused (IsTrue utf8) characters) → IfErr r (IsRefused text)
@@ -49,9 +49,9 @@ refused text characters utf8 (Err Memory) are whether h = tt
 denotes_none : (text : List ℕ) (at : ℕ) → IsRefusedAt text at → (f : Format) → Denotes text f → ⊥
 denotes_none text at r f (utf8, (words, stand, is)) = choose r.wrong
   where
-    choose : AreWrongAt (characters_in (without_feed text)) r.left ⊎ ((IsUtf8 (without_feed text) → ⊥) × (r.left ≡ [])) → ⊥
+    choose : AreWrongAt (characters_in (without_feed text)) r.left ⊎ AreCutOff (IsUtf8 (without_feed text)) (characters_in (without_feed text)) r.left → ⊥
     choose (inl w) = wrong_none (characters_in (without_feed text)) r.left words w stand
-    choose (inr (n, e)) = n utf8
+    choose (inr cut) = cut.other utf8
 
 pub none : {A : Type 0} (text : List ℕ) (r : Result A FormatFault) → IfErr r (IsRefused text) → IfErr r (DenotesNone text)
 none text (Ok p) h = tt
@@ -75,9 +75,9 @@ beyond_place : (text : List ℕ) (at : ℕ) → IsRefusedAt text at → at < len
     → (more : List ℕ) (f : Format) → Denote (characters_in (without_feed text) ++ more) f → ⊥
 beyond_place text at r before = choose r.wrong
   where
-    choose : AreWrongAt (characters_in (without_feed text)) r.left ⊎ ((IsUtf8 (without_feed text) → ⊥) × (r.left ≡ [])) → (more : List ℕ) (f : Format) → Denote (characters_in (without_feed text) ++ more) f → ⊥
+    choose : AreWrongAt (characters_in (without_feed text)) r.left ⊎ AreCutOff (IsUtf8 (without_feed text)) (characters_in (without_feed text)) r.left → (more : List ℕ) (f : Format) → Denote (characters_in (without_feed text) ++ more) f → ⊥
     choose (inl w) = begins_none (characters_in (without_feed text)) r.left at r.place w before
-    choose (inr (n, e)) = absurd (no_place (characters_in (without_feed text)) at (r.place ∙ ap (place_of (characters_in (without_feed text))) e) before)
+    choose (inr cut) = absurd (no_place (characters_in (without_feed text)) at (r.place ∙ ap (place_of (characters_in (without_feed text))) cut.nothing) before)
 
 pub beyond : {A : Type 0} (text : List ℕ) (r : Result A FormatFault) → IfErr r (IsRefused text) → IfErr r (BeginsNone text)
 beyond text (Ok p) h = tt

@@ -51,12 +51,18 @@ pub record IsCompiledTo (text : List ℕ) (program : List Instruction) : Type 0 
   pub denoted : Denotes text format
   pub code : IsCodeOf program format
 
--- characters are refused at their first wrong token, or at their end where they end too early; what is no UTF-8 behind them
--- ends them too early
+-- what is no UTF-8 stands behind characters that denote a format, and nothing is left of them
+pub record AreCutOff (Utf8 : Type 0) (characters left : List ℕ) : Type 0 where
+  pub other : Utf8 → ⊥
+  pub format : Format
+  pub denoted : Denote characters format
+  pub nothing : left ≡ []
+
+-- characters are refused at their first wrong token, or at their end where they end too early or are cut off
 pub record AreRefusedAt (Utf8 : Type 0) (characters : List ℕ) (at : ℕ) : Type 0 where
   pub left : List ℕ
   pub place : at ≡ place_of characters left
-  pub wrong : AreWrongAt characters left ⊎ ((Utf8 → ⊥) × (left ≡ []))
+  pub wrong : AreWrongAt characters left ⊎ AreCutOff Utf8 characters left
 
 abbrev pub AreRefused : Type 0 → List ℕ → FormatFault → Type 0
 AreRefused Utf8 characters (Bad at) = AreRefusedAt Utf8 characters at
