@@ -1,0 +1,9 @@
+mod AloneLemmas
+mod CallLemmas
+mod CompileLemmas
+mod GrammarLemmas
+mod LinkLemmas
+mod StandLemmas
+mod SteadyLemmas
+mod SteadyWords
+mod Worked

@@ -1,0 +1,15 @@
+pub mod Arguments
+pub mod Calls
+pub mod Code
+pub mod Components
+pub mod Formats
+pub mod Fronts
+pub mod Functions
+pub mod Grammar
+pub mod Linkers
+pub mod Linking
+pub mod Outcomes
+pub mod Reading
+pub mod Texts
+pub mod Widths
+pub mod Words
