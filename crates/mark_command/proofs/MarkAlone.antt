@@ -1,18 +1,14 @@
 -- `mark` alone.
-use Rattle.std.proofs.Common.{◌≡◌, ◌⊎◌, inl, inr, ◌++◌, ◌+◌, ◌<◌, ◌^◌, ℕ, true, false, List, [], length, Option, None, Some, Result, Ok, Err, refl, sym, ◌∙◌, ap, subst, append-nil, arith}
+use Rattle.std.proofs.Common.{◌≡◌, inl, inr, ◌++◌, ◌+◌, ℕ, false, List, [], length, Option, None, Some, Result, Ok, Err, refl, sym, ◌∙◌, ap, subst, append-nil, arith}
 use Rattle.std.specs.Prelude.{nat_lt}
-use Rattle.std.specs.List.{list_all}
 use Rattle.mh_base.specs.Counts.{Rose}
-use Rattle.mh_base.specs.Folders.{is_folder_name}
 use Rattle.mh_base.specs.Streams.{Adds, SinkState}
-use Rattle.mail_headers.specs.Lines.{is_name_byte}
 use Rattle.mh_profile.specs.Reading.{entries_in}
-use Rattle.mh_sequences.specs.Reading.{suffix}
 use Rattle.folder_files.specs.Histories.{own, past_of}
-use Rattle.folder_files.specs.Story.{FilesState, Grows, GrowsBy, Moment, Story}
+use Rattle.folder_files.specs.Story.{FilesState, Grows, GrowsBy, Story}
 use Rattle.folder_files.specs.declared.place.Place.TheVariants.{Folder, Mail}
 use Rattle.file_plans.specs.Alone.{first_of, world_at}
-use Rattle.file_plans.specs.Contents.{Contents, contents_of, filled, mailbox_in}
+use Rattle.file_plans.specs.Contents.{contents_of, filled, mailbox_in}
 use Rattle.file_plans.specs.Follows.{Follows, Went, by_out, deeds_in, filed_in}
 use Rattle.file_plans.specs.Giving as giving
 use Rattle.file_plans.specs.Mailboxes.{Mailbox, mailbox_of}
@@ -34,7 +30,7 @@ use Rattle.step_plans.specs.declared.command_fault.CommandFault.{CommandFault}
 use Rattle.step_plans.specs.declared.command_fault.CommandFault.TheVariants as fault
 use Rattle.folder_files.specs.declared.refusal.Which.TheVariants.{Files, Out, Source}
 use Rattle.command_stages.specs.Works.{Work}
-use Rattle.opened_folders.specs.BegunWork.{AreHomesAt, Homes}
+use Rattle.opened_folders.specs.BegunWork.{AreHomesAt}
 use Rattle.mark_command.specs.Mark.{mark}
 use Rattle.mark_command.specs.MarkedAlone.{ComesTo, HasReadContext, MarksAlone, MarksIfUnfaulted, MarksInStory}
 use Rattle.mark_command.specs.Outcomes.{mark_work}

@@ -1,26 +1,23 @@
 -- What `mark` gives alone: what it comes to on the mailbox that it finds.
-use Rattle.std.proofs.Common.{◌≡◌, ◌≢◌, ◌⊎◌, inl, inr, ◌++◌, ◌∷◌, [], ◌<◌, ◌≤◌, ◌^◌, ℕ, Bool, true, false, List, length, Option, Some, None, Result, Ok, Err, refl, sym, ◌∙◌, ap, subst, arith, append_assoc, append-nil}
-use Rattle.std.specs.Prelude.{is_some, map, nat_lt}
-use Rattle.std.specs.List.{flat_map, list_all}
+use Rattle.std.proofs.Common.{◌≡◌, ◌≢◌, ◌⊎◌, inl, inr, ◌++◌, ◌∷◌, [], ◌<◌, ◌≤◌, ◌^◌, ℕ, Bool, true, false, List, Option, Some, None, Result, Ok, Err, refl, sym, ◌∙◌, ap, subst, arith}
+use Rattle.std.specs.Prelude.{is_some, map}
+use Rattle.std.specs.List.{list_all}
 use Rattle.mail_headers.specs.Lines.{is_name_byte}
 use Rattle.mh_profile.specs.declared.named_value.NamedValue.{NamedValue}
 use Rattle.mh_sequences.specs.Reading.{suffix}
-use Rattle.mh_sequences.specs.Runs.{AreRuns}
 use Rattle.mh_sequences.specs.Sequences.{AreSequences, Marked}
 use Rattle.mh_sequences.specs.declared.run.Run.{Run}
 use Rattle.folder_files.specs.declared.place.Place.{Place}
 use Rattle.folder_files.specs.declared.place.Place.TheVariants.{Folder, Mail}
 use Rattle.folder_files.specs.declared.refusal.Refusal.{Refusal}
 use Rattle.folder_files.specs.declared.refusal.Refusal.TheVariants as refusal
-use Rattle.folder_files.specs.declared.step.Answer.{Answer}
 use Rattle.folder_files.specs.declared.step.Step.TheVariants as step
 use Rattle.file_plans.specs.Asking.{attempt_unlock, unlock}
 use Rattle.file_plans.specs.Contents.{Contents, mailbox_in}
 use Rattle.file_plans.specs.Giving.{Gives}
 use Rattle.file_plans.specs.Plan.{Hand, Plan, Return, ask, attempt, bind, converted, lifted, say, ◌>>=◌}
 use Rattle.file_plans.specs.Views.{View, by_view, view_after}
-use Rattle.file_plans.proofs.Giving.{gives_bind, gives_more, gives_on}
-use Rattle.step_plans.specs.CommandFaults.{of_sink, of_stop}
+use Rattle.file_plans.proofs.Giving.{gives_bind, gives_on}
 use Rattle.step_plans.specs.declared.command_fault.CommandFault.{CommandFault}
 use Rattle.step_plans.specs.declared.command_fault.CommandFault.TheVariants as fault
 use Rattle.step_plans.specs.declared.fault.PlanFault.{PlanFault}
@@ -83,7 +80,7 @@ use Rattle.mh_looks.specs.Scan.{entries_seen}
 use Rattle.mh_looks.proofs.Folders.{FolderListed, IsAbsent, IsListed, Tells, folder_gives, messages_listed}
 use Rattle.mh_looks.proofs.Reading.{TextRead, after_read, text_gives}
 use Rattle.mh_looks.proofs.Scanning.{unreadable}
-use Rattle.opened_folders.proofs.FolderGiven.{BeginEnds, BeginErrs, IsBegunIn, IsLongIn, IsUntouched, begun_gives}
+use Rattle.opened_folders.proofs.FolderGiven.{BeginEnds, BeginErrs, IsBegunIn, IsUntouched, begun_gives}
 use Rattle.opened_folders.proofs.KeptGiven.{Ends, Holds, IsClear, context_ends, sequences_end}
 use Rattle.mark_command.specs.Mark.{chosen_from, chosen_marked, mark_changes, opened_marked}
 use Rattle.mark_command.specs.Marking.{marked_for, marks_for, set_among}

@@ -1,5 +1,5 @@
 -- Sets of numbers have one list of runs.
-use Rattle.std.proofs.Common.{◌≡◌, ◌≤◌, ℕ, Bool, List, refl, sym, ◌∙◌, inl, inr}
+use Rattle.std.proofs.Common.{◌≡◌, ◌≤◌, ℕ, Bool, List, sym, ◌∙◌, inl, inr}
 use Rattle.std.specs.Prelude.{IfOk, Result, Ok, Err}
 use Rattle.mh_sequences.specs.Runs.{AreRuns, Numbers, has, numbers_of}
 use Rattle.msg_ranges.proofs.Rising.{lists, lists_numbers}

@@ -1,9 +1,8 @@
 -- What a folder that is begun alone comes to.
-use Rattle.std.proofs.Common.{◌≡◌, ◌⊎◌, inl, inr, ◌<◌, ◌≤◌, ◌^◌, ◌||◌, ◌&&◌, ℕ, Bool, true, false, List, [], length, bytes_eq, Option, Some, None, Result, Ok, Err, refl, sym, ◌∙◌, ap, subst}
-use Rattle.std.specs.Prelude.{is_some, nat_lt, if◌then◌else◌}
+use Rattle.std.proofs.Common.{◌≡◌, inl, inr, ◌<◌, ◌^◌, ◌||◌, ℕ, Bool, true, false, List, [], bytes_eq, Option, Some, None, Result, Ok, Err, refl, sym, ◌∙◌, ap, subst}
+use Rattle.std.specs.Prelude.{is_some}
 use Rattle.std.proofs.lemmas.Slice.Eq.{bytes_eq-Decides}
 use Rattle.mh_base.specs.Entries.{kind_of}
-use Rattle.mh_profile.specs.Reading.{entries_in}
 use Rattle.mh_profile.specs.declared.named_value.NamedValue.{NamedValue}
 use Rattle.mh_sequences.specs.Printing.{text_of, private_entries}
 use Rattle.mh_sequences.specs.Runs.{AreRuns, has}
@@ -18,12 +17,9 @@ use Rattle.folder_files.specs.declared.refusal.Refusal.TheVariants as refusal
 use Rattle.folder_files.proofs.Names.{or_last}
 use Rattle.folder_files.proofs.Sameness.{place_is}
 use Rattle.file_plans.specs.Contents.{Contents, IsListingIn, filled, folder_at, mailbox_in, with_folder}
-use Rattle.file_plans.specs.Giving.{Gives}
 use Rattle.file_plans.specs.Mailboxes.{Folder as FolderValue, Mailbox}
 use Rattle.file_plans.specs.Plan.{Hand}
-use Rattle.file_plans.specs.Views.{View, by_view, first_view}
-use Rattle.file_plans.proofs.Clearing.{without_temps}
-use Rattle.file_plans.proofs.Giving.{gives_more}
+use Rattle.file_plans.specs.Views.{View, first_view}
 use Rattle.file_plans.proofs.Onward.{Is, IsShort}
 use Rattle.step_plans.specs.ContextCommit.{LIMIT_BYTES, AreChanges, context_name, says}
 use Rattle.step_plans.specs.declared.change.ChangeEntry.{ChangeEntry}
@@ -32,8 +28,7 @@ use Rattle.step_plans.specs.declared.command_fault.CommandFault.TheVariants as f
 use Rattle.step_plans.specs.declared.fault.PlanFault.{PlanFault}
 use Rattle.step_plans.specs.declared.fault.PlanFault.TheVariants as plan
 use Rattle.step_plans.proofs.Committed.{committed_in, entries_at, opened, IsTooLong}
-use Rattle.held_messages.specs.declared.held.HeldPair.{HeldPair}
-use Rattle.held_messages.specs.HeldPairs.{AreHeld, held_pairs, homes, settled, with_folder_changed}
+use Rattle.held_messages.specs.HeldPairs.{held_pairs, homes, with_folder_changed}
 use Rattle.held_messages.specs.Highest.{highest}
 use Rattle.held_messages.specs.Settle.{Settled, linked_in}
 use Rattle.held_messages.proofs.Homecoming.{AreEnds, dropped_place, linked_place}
@@ -41,7 +36,6 @@ use Rattle.held_messages.proofs.Telling.{TellsHeld, taken_in}
 use Rattle.sequence_commits.specs.Cutting.{cut_to}
 use Rattle.sequence_commits.specs.PrivateChanges.{private_changes}
 use Rattle.sequence_commits.specs.Reading.{sequences_in}
-use Rattle.sequence_commits.specs.RunsOfAll.{runs_of_all}
 use Rattle.sequence_commits.proofs.RunTests.{all_has, all_runs, none_outside}
 use Rattle.sequence_commits.proofs.SequencesGiven.{with_sequences}
 use Rattle.sequence_commits.proofs.SequencesPledged.{sequences_name}
@@ -53,7 +47,7 @@ use Rattle.opened_folders.specs.Existing.{numbers_settled}
 use Rattle.opened_folders.specs.Kept.{Commits, Kept, kept_of, sequences_kept}
 use Rattle.opened_folders.specs.Opening.{Opened, opened_of}
 use Rattle.opened_folders.proofs.ExistingNumbers.{in_range_or}
-use Rattle.opened_folders.proofs.FolderGiven.{CutEnds, IsBegunIn, IsLongBy, IsLongIn, IsLongText, begun_contents, new_context, new_text, old_context, old_text}
+use Rattle.opened_folders.proofs.FolderGiven.{CutEnds, IsBegunIn, IsLongBy, IsLongText, begun_contents, new_context, new_text, old_context, old_text}
 use Rattle.opened_folders.proofs.KeptGiven.{Ends, Holds, IsClear, after_ends, never_long, After}
 use Rattle.opened_folders.proofs.SettledShown.{context_same, entries_same, held_are, listing_is, shows, text_same, there_shown, top_is}
 use Rattle.std.specs.List.{list_all}

@@ -1,11 +1,10 @@
 -- A command's work on a folder, and its end.
-use Rattle.std.proofs.Common.{◌≡◌, ℕ, List, Result, Ok, Err, refl, sym, ap, subst}
+use Rattle.std.proofs.Common.{◌≡◌, ℕ, Result, Ok, Err, refl, sym, ap, subst}
 use Rattle.folder_files.specs.declared.place.Place.{Place}
 use Rattle.folder_files.specs.declared.refusal.Which.TheVariants.{Files, Source, Out}
-use Rattle.file_plans.specs.Asking.{stop_cause}
 use Rattle.file_plans.specs.Follows.{State, Follows}
 use Rattle.file_plans.specs.Plan.{Plan, bind}
-use Rattle.file_plans.specs.Runs.{FilesFailed, InFailed, NoMemory, OutFailed, exit_of}
+use Rattle.file_plans.specs.Runs.{exit_of}
 use Rattle.file_plans.proofs.Following.{end_off, end_on, refuses}
 use Rattle.step_plans.specs.CommandFaults.{command_cause}
 use Rattle.step_plans.specs.declared.command_fault.CommandFault.{CommandFault}

@@ -1,66 +1,44 @@
 -- Beginning a folder alone.
-use Rattle.std.proofs.Common.{◌≡◌, ◌⊎◌, inl, inr, ◌<◌, ◌≤◌, ◌^◌, ◌+◌, ◌&&◌, ◌||◌, ◌==◌, ◌∷◌, ℕ, Bool, true, false, List, [], length, Option, None, Some, Result, Ok, Err, refl, sym, ◌∙◌, ap, subst}
-use Rattle.std.specs.Prelude.{IfOk, is_some, if◌then◌else◌}
-use Rattle.mh_base.specs.Entries.{entry_text, kind_of}
-use Rattle.mh_base.specs.declared.entry.Entry.TheVariants.{Number, Sequences}
-use Rattle.std.proofs.lemmas.Bool.Decides.{Decides-eqb}
-use Rattle.mh_base.proofs.EntryKinds.{kind_of-entry_text}
+use Rattle.std.proofs.Common.{◌≡◌, inl, inr, ◌<◌, ◌^◌, ◌+◌, ℕ, true, false, List, [], length, Option, None, Some, Result, Ok, Err, refl, sym, ◌∙◌, ap, subst}
+use Rattle.std.specs.Prelude.{IfOk}
 use Rattle.mh_profile.specs.Reading.{entries_in}
 use Rattle.mh_sequences.specs.Printing.{text_of}
-use Rattle.mh_sequences.specs.Runs.{has}
 use Rattle.mh_sequences.specs.Sequences.{Marked}
 use Rattle.folder_files.specs.Histories.{own, past_of}
-use Rattle.folder_files.specs.Named.{is_temp}
-use Rattle.folder_files.specs.Places.{same_place}
-use Rattle.folder_files.specs.Standing.{is_standing}
 use Rattle.folder_files.specs.Story.{Story, Moment, Grows, GrowsBy}
 use Rattle.folder_files.specs.declared.place.Place.{Place}
 use Rattle.folder_files.specs.declared.place.Place.TheVariants.{Folder, Mail}
-use Rattle.folder_files.proofs.Sameness.{place_is}
 use Rattle.file_plans.specs.Alone.{first_of, world_at}
-use Rattle.file_plans.specs.Contents.{Contents, contents_of, filled, folder_at, mailbox_in, with_folder}
+use Rattle.file_plans.specs.Contents.{Contents, contents_of, filled, folder_at, mailbox_in}
 use Rattle.file_plans.specs.Follows.{State, Follows, deeds_in, filed_in}
-use Rattle.file_plans.specs.Mailboxes.{Folder as FolderValue, Mailbox, is_message_number, mailbox_of, numbered}
+use Rattle.file_plans.specs.Mailboxes.{Folder as FolderValue, Mailbox, mailbox_of}
 use Rattle.file_plans.specs.Plan.{Hand}
 use Rattle.file_plans.specs.Runs.{Deed, Returned, Runs}
-use Rattle.file_plans.specs.Sightings.{AreMade, IsFailed, Made, events_since, has_number}
+use Rattle.file_plans.specs.Sightings.{AreMade, IsFailed, Made, events_since}
 use Rattle.file_plans.specs.Views.{View, first_view}
 use Rattle.file_plans.proofs.Acting.{acts, acts_made}
 use Rattle.file_plans.proofs.Beside.{lone_changes}
 use Rattle.file_plans.proofs.Both.{alone_gave}
-use Rattle.file_plans.proofs.Clearing.{without_temps}
 use Rattle.file_plans.proofs.Contents.{mailbox_is}
 use Rattle.file_plans.proofs.Existing.{puts_in}
 use Rattle.file_plans.proofs.Failing.{made_failed}
-use Rattle.file_plans.proofs.Showing.{number_ok, shows_cleared, shows_made}
 use Rattle.step_plans.specs.ContextCommit.{context_name}
 use Rattle.step_plans.specs.PlanFaults.{plan_cause}
 use Rattle.step_plans.specs.declared.fault.PlanFault.{PlanFault}
-use Rattle.step_plans.proofs.Committed.{entries_at}
 use Rattle.held_messages.specs.declared.held.HeldPair.{HeldPair}
-use Rattle.held_messages.specs.HeldPairs.{AreHeld, held_pairs, homes, is_in_ends, settled, with_folder_changed}
-use Rattle.held_messages.specs.Highest.{IsTop, highest}
-use Rattle.held_messages.specs.Settle.{Settled, settled_in}
-use Rattle.held_messages.proofs.Homecoming.{AreEnds}
-use Rattle.held_messages.proofs.Numbers.{folder_all_held, settled_numbers}
-use Rattle.held_messages.proofs.PairLemmas.{AreApart, ArePairs, are_apart, are_pairs, pairs_listed, pairs_ordered}
-use Rattle.held_messages.proofs.Shown.{shows_settled}
-use Rattle.held_messages.proofs.Telling.{folder_holds, folder_top, highest_small, plain_settled, taken_in}
-use Rattle.held_messages.proofs.Tops.{list_told}
+use Rattle.held_messages.specs.HeldPairs.{held_pairs, settled, with_folder_changed}
+use Rattle.held_messages.specs.Highest.{highest}
+use Rattle.held_messages.specs.Settle.{Settled}
 use Rattle.sequence_commits.specs.CommittedAlone.{AreCommitted}
 use Rattle.sequence_commits.specs.Cutting.{cut_to}
 use Rattle.sequence_commits.specs.PrivateChanges.{entries_seen, private_changes}
 use Rattle.sequence_commits.specs.Reading.{sequences_in}
-use Rattle.sequence_commits.specs.RunsOfAll.{runs_of_all}
 use Rattle.sequence_commits.proofs.AloneCommitted.{shown}
-use Rattle.sequence_commits.proofs.RunTests.{all_has, all_runs, none_outside}
 use Rattle.sequence_commits.proofs.SequencesPledged.{sequences_name}
 use Rattle.opened_folders.specs.BegunAlone.{BeginsAlone, BeginsIfUnfaulted, BeginsInStory, IsBegun}
-use Rattle.opened_folders.specs.Existing.{are_tried, exists_in, numbers_settled}
-use Rattle.opened_folders.specs.Opening.{Opened, begun, opened_of}
+use Rattle.opened_folders.specs.Existing.{numbers_settled}
+use Rattle.opened_folders.specs.Opening.{Opened, begun}
 use Rattle.opened_folders.proofs.FolderGiven.{BeginEnds, CutEnds, IsBegunIn, begun_contents, begun_gives}
-use Rattle.opened_folders.proofs.ExistingNumbers.{in_range_or}
-use Rattle.opened_folders.proofs.TriedAlone.{tried_alone}
 use Rattle.opened_folders.proofs.SettledShown.{entries_same, held_are, listing_is, shows, text_same, there_shown, top_is}
 
 module _ (run : ℕ) (few : run < 2 ^ 128) (path folder ns : List ℕ) (c : Contents) (z : View) (j : Hand) (left : List ℕ) (o : Opened) (b : IsBegunIn true ns run few path folder c z j left o) where

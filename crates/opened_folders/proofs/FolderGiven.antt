@@ -1,16 +1,13 @@
 -- What beginning a folder makes of contents, alone and beside others.
-use Rattle.std.proofs.Common.{◌≡◌, ◌⊎◌, inl, inr, ◌<◌, ◌^◌, ℕ, Bool, true, false, List, [], Option, Some, None, Result, Ok, Err, refl, sym, ◌∙◌, ap, subst, ◌||◌, length}
+use Rattle.std.proofs.Common.{◌≡◌, ◌⊎◌, inl, inr, ◌<◌, ◌^◌, ℕ, Bool, true, false, List, Option, Some, None, Result, Ok, Err, refl, sym, ◌∙◌, ap, subst, ◌||◌, length}
 use Rattle.std.specs.Prelude.{is_some, nat_lt, if◌then◌else◌}
-use Rattle.mh_base.specs.Entries.{entry_text, kind_of}
-use Rattle.mh_base.specs.declared.entry.Entry.TheVariants.{Sequences}
-use Rattle.mh_profile.specs.Reading.{entries_in}
+use Rattle.mh_base.specs.Entries.{kind_of}
 use Rattle.mh_profile.specs.declared.named_value.NamedValue.{NamedValue}
 use Rattle.mh_sequences.specs.Printing.{private_entries, text_of}
 use Rattle.mh_sequences.specs.Reading.{suffix}
 use Rattle.mh_sequences.specs.Sequences.{Marked}
 use Rattle.folder_files.specs.Named.{is_held, is_temp}
 use Rattle.folder_files.specs.Places.{is_parent, same_place}
-use Rattle.folder_files.specs.Standing.{is_standing}
 use Rattle.folder_files.specs.Steps.{has_text, there_answer, read_file_answer}
 use Rattle.folder_files.specs.declared.place.Place.{Place}
 use Rattle.folder_files.specs.declared.place.Place.TheVariants.{Folder, Mail}
@@ -23,13 +20,12 @@ use Rattle.file_plans.specs.Contents.{Contents, IsListingIn, filled, with_folder
 use Rattle.file_plans.specs.Giving.{Gives}
 use Rattle.file_plans.specs.Plan.{Hand, Return, bind, ◌>>=◌}
 use Rattle.file_plans.specs.Views.{Unseen, View, view_after, by_view}
-use Rattle.file_plans.proofs.Clearing.{AreThere, cleared_in, cleared_temps, without_temps}
+use Rattle.file_plans.proofs.Clearing.{cleared_in, cleared_temps, without_temps}
 use Rattle.file_plans.proofs.Giving.{gives_more, gives_on}
 use Rattle.file_plans.proofs.Onward.{Is, IsShort, content_is, fits_at, gone_is, not_gone_there, onward}
 use Rattle.file_plans.proofs.Viewing.{lock_view, make_folder_view, read_view, sync_folder_view}
-use Rattle.step_plans.specs.declared.change.ChangeEntry.{ChangeEntry}
 use Rattle.step_plans.specs.ContextCommit.{LIMIT_BYTES, context_name, context_read, says, settled}
-use Rattle.step_plans.specs.Hands.{known, knowing, temp_name, used}
+use Rattle.step_plans.specs.Hands.{known, temp_name, used}
 use Rattle.step_plans.specs.Locking.{cleared, lock_name}
 use Rattle.step_plans.specs.PlanFaults.{of_stop, Planned}
 use Rattle.step_plans.specs.Replacing.{held_to, synced}

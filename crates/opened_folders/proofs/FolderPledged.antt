@@ -1,6 +1,5 @@
 -- A folder is begun as its command pledges.
-use Rattle.std.proofs.Common.{◌≡◌, ◌⊎◌, inl, inr, ◌<◌, ◌^◌, ◌∷◌, [], ℕ, true, List, Option, Ok, Err, refl, sym, ◌∙◌, ap, subst, arith}
-use Rattle.mh_base.specs.Entries.{entry_text, kind_of}
+use Rattle.std.proofs.Common.{◌≡◌, inl, inr, ◌<◌, ◌^◌, ◌∷◌, [], ℕ, List, Ok, refl, sym, ap, subst, arith}
 use Rattle.mh_base.specs.declared.entry.Entry.TheVariants.{Sequences}
 use Rattle.mh_base.proofs.EntryKinds.{kind_of-entry_text}
 use Rattle.mh_profile.specs.Reading.{entries_in}
@@ -11,11 +10,8 @@ use Rattle.mh_sequences.specs.Sequences.{Marked}
 use Rattle.mh_sequences.specs.declared.run.Run.{Run}
 use Rattle.folder_files.specs.Careful.{HasLock, Makes, makes}
 use Rattle.folder_files.specs.Deeds.{Deed, did, now, on, last, still}
-use Rattle.folder_files.specs.Named.{is_committed}
-use Rattle.folder_files.specs.Places.{is_folder}
 use Rattle.folder_files.specs.declared.place.Place.{Place}
 use Rattle.folder_files.specs.declared.place.Place.TheVariants.{Folder, Mail}
-use Rattle.folder_files.specs.declared.step.Step.{Step}
 use Rattle.folder_files.specs.declared.step.Step.TheVariants as step
 use Rattle.folder_files.specs.declared.step.Answer.{Answer}
 use Rattle.folder_files.specs.declared.step.Answer.TheVariants as answer
@@ -31,7 +27,6 @@ use Rattle.step_plans.specs.PlanFaults.{of_stop}
 use Rattle.step_plans.specs.Replacing.{synced}
 use Rattle.step_plans.specs.Settled.{AreSettled}
 use Rattle.step_plans.specs.declared.fault.PlanFault.TheVariants as fault
-use Rattle.step_plans.proofs.Asks.{asks_cleared}
 use Rattle.step_plans.proofs.Committed.{no_entries}
 use Rattle.step_plans.proofs.Facts.{base_kept, once_kept, settled_kept}
 use Rattle.step_plans.proofs.Going.{Outcome, okay, okay_more, Goes, goes_more, goes_then}
@@ -49,7 +44,7 @@ use Rattle.sequence_commits.specs.Committing.{cut_committed}
 use Rattle.sequence_commits.specs.Cutting.{cut_to}
 use Rattle.sequence_commits.specs.PrivateChanges.{changes_to}
 use Rattle.sequence_commits.specs.Reading.{sequences_in}
-use Rattle.sequence_commits.proofs.SequencesPledged.{CommittedOrSame, HasText, MayReplace, changed_goes, sequences_name}
+use Rattle.sequence_commits.proofs.SequencesPledged.{CommittedOrSame, MayReplace, changed_goes, sequences_name}
 use Rattle.opened_folders.specs.Existing.{numbers_settled}
 use Rattle.opened_folders.specs.Opening.{Opened, begun, folder_locked, locked_begun, locked_by, mail_made, marks_cut, marks_read, opened_of, sequences_read, settled_read, text_by}
 use Rattle.opened_folders.specs.Reads.{HaveRead, TellsText}

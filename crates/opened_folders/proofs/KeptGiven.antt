@@ -1,6 +1,6 @@
 -- Commits of a run that is alone: what they make of the mailbox and of the context's entries.
-use Rattle.std.proofs.Common.{◌≡◌, ◌⊎◌, inl, inr, ◌<◌, ◌^◌, ◌||◌, ◌&&◌, ℕ, Bool, true, false, List, length, Option, Some, None, Result, Ok, Err, refl, sym, ◌∙◌, ap, subst}
-use Rattle.std.specs.Prelude.{nat_lt, if◌then◌else◌}
+use Rattle.std.proofs.Common.{◌≡◌, ◌⊎◌, inl, inr, ◌<◌, ◌^◌, ℕ, Bool, true, false, List, length, Option, Some, None, Result, Ok, Err, refl, sym, ◌∙◌, ap, subst}
+use Rattle.std.specs.Prelude.{nat_lt}
 use Rattle.mh_base.specs.Entries.{kind_of}
 use Rattle.mh_profile.specs.Printing.{printed}
 use Rattle.mh_profile.specs.declared.named_value.NamedValue.{NamedValue}
@@ -8,11 +8,9 @@ use Rattle.mh_sequences.specs.Printing.{private_entries, text_of}
 use Rattle.mh_sequences.specs.Reading.{suffix}
 use Rattle.mh_sequences.specs.Sequences.{Marked}
 use Rattle.folder_files.specs.Named.{is_temp}
-use Rattle.folder_files.specs.Places.{is_parent, same_place}
 use Rattle.folder_files.specs.declared.place.Place.{Place}
 use Rattle.folder_files.specs.declared.place.Place.TheVariants.{Folder, Mail}
-use Rattle.folder_files.proofs.Names.{or_last}
-use Rattle.file_plans.specs.Contents.{Contents, filled, mailbox_in, with_folder}
+use Rattle.file_plans.specs.Contents.{Contents, filled, mailbox_in}
 use Rattle.file_plans.specs.Giving.{Gives}
 use Rattle.file_plans.specs.MailboxChanges.{with_context_text}
 use Rattle.file_plans.specs.Plan.{Hand}
@@ -25,16 +23,15 @@ use Rattle.step_plans.specs.Hands.{temp_name, used}
 use Rattle.step_plans.specs.declared.change.ChangeEntry.{ChangeEntry}
 use Rattle.step_plans.specs.declared.fault.PlanFault.{PlanFault}
 use Rattle.step_plans.specs.declared.fault.PlanFault.TheVariants as fault
-use Rattle.step_plans.proofs.Committed.{CommitEnds, IsTooLong, Knows, Makes, Refused, Stands, committed_in, entries_at, knows_after, new_text, old_text, opened, shows_committed, shows_refused, text_after}
+use Rattle.step_plans.proofs.Committed.{IsTooLong, Makes, committed_in, entries_at, knows_after, new_text, old_text, shows_committed, shows_refused, text_after}
 use Rattle.step_plans.proofs.Named.{temp_is}
-use Rattle.step_plans.proofs.Replaced.{Fails}
 use Rattle.sequence_commits.specs.Committing.{changed_sequences}
 use Rattle.sequence_commits.specs.PrivateChanges.{changes_to, entries_seen, private_changes}
 use Rattle.sequence_commits.specs.SequencesChanged.{with_sequences_text}
 use Rattle.sequence_commits.specs.Telling.{same_told}
-use Rattle.sequence_commits.proofs.SequencesGiven.{EntriesEnd, TextFails, ToldEnds, TooLong, Unchanged, changed_gives, changes_by, context_kept as context_stays, needed_gives, with_sequences}
+use Rattle.sequence_commits.proofs.SequencesGiven.{EntriesEnd, TextFails, ToldEnds, Unchanged, changed_gives, changes_by, context_kept as context_stays, needed_gives, with_sequences}
 use Rattle.sequence_commits.proofs.SequencesShown.{shows_sequences}
-use Rattle.opened_folders.specs.Kept.{Commits, Kept, all_made, context_kept, entries_written, kept_of, sequences_kept, sequences_written, too_long}
+use Rattle.opened_folders.specs.Kept.{Commits, Kept, all_made, context_kept, kept_of, sequences_kept, too_long}
 
 -- these contents show this mailbox, and something else holds of them; the hand knows the context's entries, whose text is not too long
 pub record Holds (F : Contents → Type 0) (path : List ℕ) (k : Kept) (c : Contents) (h : Hand) : Type 0 where

@@ -1,18 +1,13 @@
 -- Small parts of plans.
-use Rattle.std.proofs.Common.{◌≡◌, ℕ, List, Result, Ok, Err}
-use Rattle.std.specs.Prelude.{IsErr, IsErrAnd}
-use Rattle.file_plans.specs.Asking.{stop_cause}
+use Rattle.std.proofs.Common.{◌≡◌, ℕ, List, Ok}
 use Rattle.folder_files.specs.Story.{FilesState}
 use Rattle.file_plans.specs.Follows.{State, Follows, by_hand}
 use Rattle.file_plans.specs.Runs.{Cause}
 use Rattle.mh_profile.specs.declared.named_value.NamedValue.{NamedValue}
 use Rattle.step_plans.specs.Hands.{known, knowing}
-use Rattle.file_plans.specs.Plan.{Hand, Note, Plan, Return, lifted}
-use Rattle.file_plans.specs.declared.asking.Stop.{Stop}
-use Rattle.file_plans.proofs.Following.{done, lift_err, lift_ok, noted, recalled}
-use Rattle.step_plans.specs.PlanFaults.{of_stop, plan_cause}
-use Rattle.step_plans.specs.declared.fault.PlanFault.{PlanFault}
-use Rattle.step_plans.proofs.Faulting.{stop_same}
+use Rattle.file_plans.specs.Plan.{Hand, Note, Return}
+use Rattle.file_plans.proofs.Following.{done, noted, recalled}
+use Rattle.step_plans.specs.PlanFaults.{plan_cause}
 
 -- a value that is the plan's
 pub done_as : {A E : Type 0} {run : ℕ} {cause : E → Cause} {a b : A} {x : State} → b ≡ a → Follows run cause (Return (Ok a)) x x (Ok b)

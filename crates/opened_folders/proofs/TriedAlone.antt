@@ -1,8 +1,7 @@
 -- Alone, each number to which a held message was linked in vain has a message.
-use Rattle.std.proofs.Common.{◌≡◌, ◌⊎◌, inl, inr, ◌≤◌, ◌<◌, ◌||◌, ◌&&◌, ◌+◌, ◌==◌, ℕ, Bool, true, false, max, List, [], ◌∷◌, Option, Some, None, refl, sym, ◌∙◌, ap, subst, arith, nat_lt, nat_le}
-use Rattle.std.specs.Prelude.{is_some, unwrap_or, if◌then◌else◌}
-use Rattle.std.proofs.lemmas.Bool.Decides.{Decides-eqb, Decides-ltb, nat_tests}
-use Rattle.mh_base.specs.Numbers.{IsMsgNum}
+use Rattle.std.proofs.Common.{◌≡◌, ◌≤◌, ◌||◌, ◌+◌, ◌==◌, ℕ, Bool, true, false, max, List, [], ◌∷◌, Option, Some, None, refl, sym, ◌∙◌, ap, arith, nat_lt}
+use Rattle.std.specs.Prelude.{unwrap_or, if◌then◌else◌}
+use Rattle.std.proofs.lemmas.Bool.Decides.{nat_tests}
 use Rattle.held_messages.specs.declared.held.HeldPair.{HeldPair}
 use Rattle.held_messages.specs.HeldPairs.{home_of, homes, is_end, is_in_ends, top_after}
 use Rattle.held_messages.proofs.Numbers.{TopOf, end_small, top_step}

@@ -1,5 +1,5 @@
 -- Which messages a folder has once what was held aside is put back.
-use Rattle.std.specs.Prelude.{◌≡◌, ◌+◌, ◌==◌, ◌&&◌, ◌||◌, ℕ, Bool, false, max, nat_lt, nat_le, unwrap_or, List, [], ◌∷◌, Option}
+use Rattle.std.specs.Prelude.{◌+◌, ◌&&◌, ◌||◌, ℕ, Bool, false, max, nat_le, unwrap_or, List, [], ◌∷◌, Option}
 use Rattle.file_plans.specs.Sightings.{has_number}
 use Rattle.held_messages.specs.HeldPairs.{held_pairs, top_after}
 use Rattle.held_messages.specs.Highest.{highest}

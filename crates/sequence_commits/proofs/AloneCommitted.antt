@@ -1,11 +1,10 @@
 -- A call that commits sequences and runs alone: the folder and the context have their new texts, and nothing else of the mailbox changes.
-use Rattle.std.proofs.Common.{◌≡◌, ◌⊎◌, inl, inr, ◌<◌, ◌^◌, ℕ, ◌+◌, true, false, List, [], length, Option, None, Some, Result, Ok, Err, refl, sym, ◌∙◌, ap, subst}
+use Rattle.std.proofs.Common.{◌≡◌, ◌⊎◌, inl, inr, ℕ, ◌+◌, true, false, List, [], length, Option, None, Some, Result, Ok, Err, refl, sym, ◌∙◌, ap, subst}
 use Rattle.mh_sequences.specs.Printing.{private_entries, text_of}
 use Rattle.mh_sequences.specs.Reading.{suffix}
 use Rattle.mh_sequences.specs.Sequences.{Marked}
 use Rattle.folder_files.specs.Histories.{own, past_of}
 use Rattle.folder_files.specs.Story.{Story, Moment, Grows, GrowsBy}
-use Rattle.folder_files.specs.Worlds.{WorldMap}
 use Rattle.folder_files.specs.declared.place.Place.{Place}
 use Rattle.folder_files.specs.declared.place.Place.TheVariants.{Mail, Folder}
 use Rattle.file_plans.specs.Alone.{world_at, first_of}
@@ -14,7 +13,7 @@ use Rattle.file_plans.specs.Follows.{State, Follows, filed_in, deeds_in}
 use Rattle.file_plans.specs.MailboxChanges.{with_context_text}
 use Rattle.file_plans.specs.Mailboxes.{Mailbox, mailbox_of}
 use Rattle.file_plans.specs.Plan.{Hand}
-use Rattle.file_plans.specs.Runs.{Returned, Deed, Runs, exit_of}
+use Rattle.file_plans.specs.Runs.{Returned, Deed, Runs}
 use Rattle.file_plans.specs.Sightings.{AreMade, events_since, Made, IsFailed}
 use Rattle.file_plans.specs.Views.{View, first_view}
 use Rattle.file_plans.proofs.Acting.{acts, acts_made}
@@ -31,7 +30,7 @@ use Rattle.step_plans.specs.PlanFaults.{plan_cause}
 use Rattle.step_plans.specs.declared.change.ChangeEntry.{ChangeEntry}
 use Rattle.step_plans.specs.declared.fault.PlanFault.{PlanFault}
 use Rattle.step_plans.proofs.Committed.{CommitEnds, shows_committed}
-use Rattle.sequence_commits.specs.CommittedAlone.{AreCommitted, CommitsAlone, CommitsAloneIfTold, IsReady}
+use Rattle.sequence_commits.specs.CommittedAlone.{CommitsAlone, CommitsAloneIfTold}
 use Rattle.sequence_commits.specs.Committing.{changed_sequences}
 use Rattle.sequence_commits.specs.PrivateChanges.{entries_seen, private_changes}
 use Rattle.sequence_commits.specs.SequencesChanged.{with_sequences_text}

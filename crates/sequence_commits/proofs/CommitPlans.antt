@@ -1,5 +1,5 @@
 -- Branches of the plans by which sequences are committed.
-use Rattle.std.proofs.Common.{◌≡◌, ◌<◌, ◌≤◌, ℕ, List, Bool, true, false, Result, Ok, Err, refl, sym, ◌∙◌, ap, length}
+use Rattle.std.proofs.Common.{◌≡◌, ◌<◌, ◌≤◌, ℕ, List, Bool, true, false, Result, Ok, Err, refl, sym, ◌∙◌, length}
 use Rattle.std.specs.Prelude.{◌&&◌, bytes_eq}
 use Rattle.std.proofs.lemmas.Bool.{lt-ltb, le-ltb}
 use Rattle.mh_base.specs.Entries.{entry_text}
@@ -12,7 +12,7 @@ use Rattle.folder_files.specs.Story.{FilesState}
 use Rattle.folder_files.specs.declared.place.Place.{Place}
 use Rattle.file_plans.specs.Plan.{Hand}
 use Rattle.file_plans.specs.Follows.{State, Follows, by_hand}
-use Rattle.file_plans.proofs.Following.{recalled, done, refuses, go, stop}
+use Rattle.file_plans.proofs.Following.{recalled, done, refuses}
 use Rattle.step_plans.specs.ContextCommit.{LIMIT_BYTES, commit_context}
 use Rattle.step_plans.specs.PlanFaults.{plan_cause}
 use Rattle.step_plans.specs.Replacing.{replaced}

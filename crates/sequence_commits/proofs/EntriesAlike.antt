@@ -1,5 +1,5 @@
 -- Lists of entries that are alike.
-use Rattle.std.proofs.Common.{◌≡◌, ℕ, zero, suc, ◌+◌, ◌<◌, ◌≤◌, Bool, true, false, List, [], ◌∷◌, length, drop, get_or, refl, sym, ◌∙◌, ap, arith, add-one, drop-cons}
+use Rattle.std.proofs.Common.{◌≡◌, ℕ, suc, ◌+◌, ◌<◌, ◌≤◌, Bool, true, false, List, [], ◌∷◌, length, drop, get_or, refl, sym, ◌∙◌, ap, arith, add-one, drop-cons}
 use Rattle.std.specs.Prelude.{◌&&◌, bytes_eq}
 use Rattle.std.proofs.lemmas.Bool.{and_left, and_right, and_parts}
 use Rattle.std.proofs.lemmas.List.{drop_all}

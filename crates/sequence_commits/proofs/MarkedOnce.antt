@@ -1,18 +1,17 @@
 -- What a mark makes of sequences.
-use Rattle.std.proofs.Common.{◌≡◌, ℕ, ◌≤◌, Bool, true, false, Option, Some, None, List, [], ◌∷◌, ◌++◌, map, refl, sym, ◌∙◌, ap, subst, ⊎_elim}
-use Rattle.std.specs.Prelude.{◌&&◌, ◌||◌, ◌==◌, not, bytes_eq, IsTrue, if◌then◌else◌}
+use Rattle.std.proofs.Common.{◌≡◌, ℕ, ◌≤◌, Bool, true, false, List, [], ◌∷◌, ◌++◌, refl, sym, ◌∙◌, ap, subst, ⊎_elim}
+use Rattle.std.specs.Prelude.{◌&&◌, ◌||◌, ◌==◌, not, bytes_eq, if◌then◌else◌}
 use Rattle.std.specs.List.{list_any}
 use Rattle.std.proofs.lemmas.Bool.{and_parts, or_cases, or_left, or_right, eqb-true, both_ways}
-use Rattle.std.proofs.lemmas.List.Folds.{list_any-append}
 use Rattle.mh_sequences.specs.declared.mark.Mark.{Mark}
 use Rattle.mh_sequences.specs.declared.mark.Mark.TheVariants.{Add, Delete, Set, Withdraw, Move, Cur}
 use Rattle.mh_sequences.specs.declared.mark.Pair.{Pair}
 use Rattle.mh_sequences.specs.declared.run.Run.{Run}
-use Rattle.mh_sequences.specs.Marks.{IsMarked, marked, marked_cur, marked_public, moved}
+use Rattle.mh_sequences.specs.Marks.{IsMarked, marked, marked_public, moved}
 use Rattle.mh_sequences.specs.Names.{is_seq_name}
 use Rattle.mh_sequences.specs.Runs.{AreRuns, has}
 use Rattle.mh_sequences.specs.Sequences.{AreSequences, Marked, Sequence, member, public_of}
-use Rattle.mh_sequences.proofs.PlaceLemmas.{same_is, same_self}
+use Rattle.mh_sequences.proofs.PlaceLemmas.{same_is}
 use Rattle.sequence_commits.specs.Marking.{AreTargets, IsValidMark, names_of, name_in_mark, marked_by}
 use Rattle.sequence_commits.specs.Together.{sequences_of}
 use Rattle.sequence_commits.proofs.CutOnce.{among_names, member_within}

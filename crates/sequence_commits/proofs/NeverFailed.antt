@@ -1,5 +1,5 @@
 -- A call whose plan tries nothing has returned only where none of its steps failed.
-use Rattle.std.proofs.Common.{◌≡◌, ◌⊎◌, inl, inr, ◌^◌, [], ◌∷◌, ℕ, zero, suc, Bool, true, false, List, Result, Ok, Err, refl, sym, ◌∙◌, nat_lt, length}
+use Rattle.std.proofs.Common.{◌≡◌, inl, inr, ◌^◌, [], ◌∷◌, ℕ, zero, suc, Bool, true, false, List, Result, Ok, Err, refl, sym, ◌∙◌, nat_lt, length}
 use Rattle.std.specs.Prelude.{if◌then◌else◌}
 use Rattle.mh_base.specs.Entries.{kind_of}
 use Rattle.mh_profile.specs.Printing.{printed}
@@ -7,12 +7,11 @@ use Rattle.mh_profile.specs.declared.named_value.NamedValue.{NamedValue}
 use Rattle.mh_sequences.specs.Sequences.{Marked}
 use Rattle.folder_files.specs.Named.{is_temp}
 use Rattle.folder_files.specs.declared.place.Place.{Place}
-use Rattle.folder_files.specs.declared.step.Answer.TheVariants.{Failed}
 use Rattle.folder_files.specs.declared.step.Step.{Step}
 use Rattle.folder_files.specs.declared.step.Step.TheVariants as step
 use Rattle.file_plans.specs.Asking.{list, read, make_folder, create, sync_file, sync_folder, rename, unlink, lock}
 use Rattle.file_plans.specs.Plan.{Hand, Plan, Return, Ask, Try, Say, Hear, Recall, Note, bind, after, ask, ◌>>=◌, converted, lifted}
-use Rattle.file_plans.specs.Runs.{Exit, Returned, FilesFailed, InFailed, OutFailed, NoMemory, Deed, Did, Said, Heard, Runs, AnyFailed}
+use Rattle.file_plans.specs.Runs.{Exit, Returned, FilesFailed, NoMemory, Deed, Did, Said, Heard, Runs, AnyFailed}
 use Rattle.file_plans.specs.declared.answers.Entered.{Entered}
 use Rattle.file_plans.specs.declared.answers.Entered.TheVariants as entered
 use Rattle.file_plans.specs.declared.answers.Listing.{Listing}

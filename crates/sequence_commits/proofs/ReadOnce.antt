@@ -1,6 +1,6 @@
 -- What a text and a context say of a folder's sequences is their one reading.
-use Rattle.std.proofs.Common.{◌≡◌, ℕ, ◌+◌, ◌-◌, ◌≤◌, Bool, true, false, List, [], ◌∷◌, ◌++◌, length, map, take, drop, refl, sym, ◌∙◌, ap, subst, arith, length-append, ⊎_elim}
-use Rattle.std.specs.Prelude.{◌&&◌, ◌||◌, bytes_eq, codes, IsTrue}
+use Rattle.std.proofs.Common.{◌≡◌, ℕ, ◌+◌, ◌-◌, ◌≤◌, Bool, true, List, [], ◌∷◌, ◌++◌, length, map, take, refl, sym, ◌∙◌, ap, subst, arith, length-append, ⊎_elim}
+use Rattle.std.specs.Prelude.{◌&&◌, bytes_eq, codes}
 use Rattle.std.specs.List.{list_any}
 use Rattle.std.proofs.lemmas.Bool.{and_parts, or_cases, or_left, or_right}
 use Rattle.std.proofs.lemmas.List.{take_at}
@@ -10,12 +10,11 @@ use Rattle.mail_headers.specs.Unfolding.{unfolded}
 use Rattle.mh_profile.specs.declared.named_value.NamedValue.{NamedValue}
 use Rattle.mh_sequences.specs.Lists.{lists}
 use Rattle.mh_sequences.specs.Names.{is_seq_name}
-use Rattle.mh_sequences.specs.Reading.{attribute, cur_in, has_field, lists_private, lists_public, suffix, IsReading}
-use Rattle.mh_sequences.specs.Sequences.{AreSequences, Marked, member, public_of}
+use Rattle.mh_sequences.specs.Reading.{attribute, has_field, lists_private, lists_public, suffix, IsReading}
+use Rattle.mh_sequences.specs.Sequences.{AreSequences, Marked}
 use Rattle.mh_sequences.proofs.PlaceLemmas.{same_is, same_self}
 use Rattle.mh_sequences.proofs.Same.{one_reading}
 use Rattle.sequence_commits.specs.Reading.{inner_name, names_in, lists_either, sequences_in}
-use Rattle.sequence_commits.specs.Together.{sequences_of}
 use Rattle.sequence_commits.proofs.Gathering.{is_named, sequences_valid, numbers_together, public_together}
 use Rattle.sequence_commits.proofs.ListedNumbers.{listed_in_range}
 

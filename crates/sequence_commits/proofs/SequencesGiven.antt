@@ -1,5 +1,5 @@
 -- What a commit of a folder's sequences makes of contents, alone and beside others.
-use Rattle.std.proofs.Common.{◌≡◌, ◌⊎◌, inl, inr, ◌<◌, ◌^◌, ◌&&◌, ℕ, Bool, true, false, List, length, Option, Some, None, Result, Ok, Err, refl, sym, ◌∙◌, ap, subst, bytes_eq, nat_lt}
+use Rattle.std.proofs.Common.{◌≡◌, ◌⊎◌, inl, inr, ◌<◌, ◌^◌, ◌&&◌, ℕ, Bool, true, false, List, length, Option, Some, None, Result, Ok, Err, refl, sym, ◌∙◌, ap, subst, nat_lt}
 use Rattle.std.specs.Prelude.{if◌then◌else◌}
 use Rattle.mh_profile.specs.Reading.{entries_in}
 use Rattle.mh_profile.specs.declared.named_value.NamedValue.{NamedValue}
@@ -10,7 +10,7 @@ use Rattle.folder_files.specs.Places.{same_place}
 use Rattle.folder_files.specs.declared.place.Place.{Place}
 use Rattle.file_plans.specs.Contents.{Contents, filled, with_text}
 use Rattle.file_plans.specs.Giving.{Gives}
-use Rattle.file_plans.specs.Plan.{Hand, Return, ◌>>=◌}
+use Rattle.file_plans.specs.Plan.{Hand, Return}
 use Rattle.file_plans.specs.Views.{View, by_view}
 use Rattle.file_plans.proofs.Giving.{gives_more, gives_on}
 use Rattle.file_plans.proofs.Onward.{Is}

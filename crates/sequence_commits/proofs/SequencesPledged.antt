@@ -1,5 +1,5 @@
 -- A commit of a folder's sequences goes as its command pledges.
-use Rattle.std.proofs.Common.{◌≡◌, ◌⊎◌, inl, inr, ◌<◌, ◌^◌, [], ℕ, Bool, true, false, List, Ok, Err, refl, nat_lt, length}
+use Rattle.std.proofs.Common.{◌≡◌, ◌⊎◌, inl, inr, ◌<◌, ◌^◌, ℕ, Bool, true, false, List, Err, refl, nat_lt, length}
 use Rattle.std.specs.Prelude.{if◌then◌else◌}
 use Rattle.mh_base.specs.Entries.{entry_text}
 use Rattle.mh_base.specs.declared.entry.Entry.TheVariants.{Sequences}
@@ -14,19 +14,18 @@ use Rattle.folder_files.specs.declared.place.Place.{Place}
 use Rattle.folder_files.specs.declared.place.Place.TheVariants.{Mail}
 use Rattle.folder_files.specs.declared.step.Step.{Step}
 use Rattle.folder_files.specs.declared.step.Step.TheVariants as step
-use Rattle.file_plans.specs.Plan.{Hand, Return, ◌>>=◌}
+use Rattle.file_plans.specs.Plan.{Hand, Return}
 use Rattle.file_plans.specs.Framing.{AsksOnly}
 use Rattle.file_plans.proofs.Framing.{AnyStep}
 use Rattle.step_plans.specs.Commits.{IsBase}
 use Rattle.step_plans.specs.ContextCommit.{LIMIT_BYTES, context_name, settled}
-use Rattle.step_plans.specs.PlanFaults.{Planned}
 use Rattle.step_plans.specs.Pledges.{Pledge, IsMarked}
 use Rattle.step_plans.specs.Replacing.{replaced}
 use Rattle.step_plans.specs.Settled.{AreSettled}
 use Rattle.step_plans.specs.declared.fault.PlanFault.TheVariants as fault
 use Rattle.step_plans.proofs.Asks.{Commits, asks_commit}
 use Rattle.step_plans.proofs.Facts.{LeavesBase, LeavesLock, base_kept, lock_kept}
-use Rattle.step_plans.proofs.Going.{Outcome, okay, okay_more, Goes, goes_more, goes_then}
+use Rattle.step_plans.proofs.Going.{okay, okay_more, Goes, goes_more, goes_then}
 use Rattle.step_plans.proofs.Lasting.{KeptBy, keeping, lasting}
 use Rattle.step_plans.proofs.Pledged.{HasMarked, Of, Changed, after_written, replaced_goes, IsPledged, Known, commit_goes}
 use Rattle.step_plans.proofs.Stepping.{goes_end, goes_return}

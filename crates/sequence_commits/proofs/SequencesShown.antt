@@ -1,17 +1,17 @@
 -- A new text of a folder's sequences shows as that, and nothing else changes.
-use Rattle.std.proofs.Common.{◌≡◌, ◌&&◌, ℕ, Bool, true, false, List, Option, Some, None, refl, sym, ◌∙◌, ap, bytes_eq}
+use Rattle.std.proofs.Common.{◌≡◌, ◌&&◌, ℕ, Bool, true, false, List, Some, None, refl, sym, ◌∙◌, ap, bytes_eq}
 use Rattle.std.specs.Prelude.{option_map, codes, if◌then◌else◌}
 use Rattle.mh_base.specs.Entries.{IsEntry, kind_of, entry_text}
 use Rattle.mh_base.specs.declared.entry.Entry.{Entry}
-use Rattle.mh_base.specs.declared.entry.Entry.TheVariants.{Number, Backup, Held, Temp, Sequences, LockFile, Other}
+use Rattle.mh_base.specs.declared.entry.Entry.TheVariants.{Number, Backup, Held, Sequences}
 use Rattle.mh_base.proofs.EntryKinds.{kind_of-entry_text}
 use Rattle.folder_files.specs.Named.{is_sequences, is_temp}
 use Rattle.folder_files.specs.Places.{same_place, is_folder}
 use Rattle.folder_files.specs.declared.place.Place.{Place}
-use Rattle.folder_files.specs.declared.place.Place.TheVariants.{Home, Work, Mail, Folder}
+use Rattle.folder_files.specs.declared.place.Place.TheVariants.{Home, Work, Folder}
 use Rattle.folder_files.proofs.Names.{bytes_true, bytes_self, not_both}
 use Rattle.file_plans.specs.Contents.{Contents, mailbox_in, folder_at, with_text}
-use Rattle.file_plans.specs.Mailboxes.{where_folder, where_mail}
+use Rattle.file_plans.specs.Mailboxes.{where_mail}
 use Rattle.file_plans.proofs.Showing.{numbered_same, held_same}
 use Rattle.sequence_commits.specs.SequencesChanged.{folder_with_sequences, with_sequences_text}
 use Rattle.sequence_commits.proofs.SequencesPledged.{sequences_name}

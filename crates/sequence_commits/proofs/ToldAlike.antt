@@ -1,9 +1,8 @@
 -- Sequences of which the same is told are the same.
-use Rattle.std.proofs.Common.{◌≡◌, ℕ, true, List, refl, sym, ap, subst}
+use Rattle.std.proofs.Common.{◌≡◌, ℕ, true, List, subst}
 use Rattle.std.specs.Prelude.{◌&&◌, ◌↔◌, bytes_eq, IfSome, IsTrue}
 use Rattle.std.proofs.lemmas.Bool.{and_parts}
 use Rattle.mh_base.specs.Numbers.{IsMsgNum}
-use Rattle.mh_profile.specs.declared.named_value.NamedValue.{NamedValue}
 use Rattle.mh_sequences.specs.Printing.{private_entries, text_of}
 use Rattle.mh_sequences.specs.Reading.{suffix, IsReading}
 use Rattle.mh_sequences.specs.Sequences.{AreSequences, Marked}

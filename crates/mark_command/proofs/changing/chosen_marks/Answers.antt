@@ -1,7 +1,6 @@
-use Rattle.std.proofs.Common.{ap, sym, ◌∙◌, subst}
+use Rattle.std.proofs.Common.{ap, ◌∙◌, subst}
 use Rattle.mh_sequences.specs.Runs.{AreRuns, numbers_of}
-use Rattle.mark_command.specs.Mark.{chosen_from}
-use Rattle.mark_command.specs.Marking.{marks_for, set_among}
+use Rattle.mark_command.specs.Marking.{marks_for}
 use Rattle.mark_command.proofs.Sets.{numbers_set}
 use Rattle.mark_command.proofs.changing.chosen_marks.Goals as goal
 

@@ -1,13 +1,7 @@
-use Rattle.std.proofs.Common.{◌≡◌, ℕ, List, ap, refl, sym, ◌∙◌, subst, Ok, Result}
-use Rattle.mh_sequences.specs.Sequences.{Marked}
-use Rattle.file_plans.specs.Follows.{Follows, by_hand}
+use Rattle.std.proofs.Common.{◌≡◌, ap, refl, ◌∙◌}
 use Rattle.file_plans.proofs.Following.{go_from, no_room, stop_from}
-use Rattle.step_plans.specs.PlanFaults.{plan_cause}
-use Rattle.step_plans.specs.Hands.{mail_place}
 use Rattle.command_stages.proofs.Causes.{plan_same}
-use Rattle.sequence_commits.specs.Committing.{changed_sequences}
 use Rattle.sequence_commits.specs.Marking.{marked_by_all}
-use Rattle.opened_folders.specs.Opening.{with_sequences}
 use Rattle.opened_folders.proofs.OneStep.{done_as}
 use Rattle.mark_command.specs.Mark.{chosen_from, chosen_marked}
 use Rattle.mark_command.specs.Marking.{marked_for}

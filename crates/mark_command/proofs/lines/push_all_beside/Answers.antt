@@ -1,4 +1,4 @@
-use Rattle.mark_command.proofs.Loops.{all_beside, more_beside}
+use Rattle.mark_command.proofs.Loops.{all_beside}
 use Rattle.mark_command.proofs.lines.push_all_beside.Goals as goal
 
 pub returns : goal.returns

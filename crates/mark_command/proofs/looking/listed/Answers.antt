@@ -1,4 +1,3 @@
-use Rattle.std.proofs.Common.{sym, ap, ◌∙◌}
 use Rattle.file_plans.specs.Sightings.{has_number}
 use Rattle.mark_command.proofs.Sets.{made_from}
 use Rattle.mark_command.proofs.looking.listed.Goals as goal
