@@ -8,6 +8,7 @@ ghost use Rattle.step_plans.specs.Hands.{mail_place};
 ghost use Rattle.command_stages.specs.Endings.{of_plan};
 ghost use Rattle.opened_folders.specs.Opening.{begun};
 ghost use Rattle.mark_command.specs.Mark.{chosen_from, chosen_marked, mark as mark_plan, mark_changes, opened_marked};
+ghost use Rattle.mark_command.specs.MarkPledge.{PromisesSteps};
 ghost use Rattle.mark_command.specs.MarkedAlone.{MarksIfUnfaulted};
 ghost use Rattle.mark_command.specs.Values.{AreMarks};
 
@@ -128,6 +129,7 @@ pub fn mark<F: Files, O: Sink>(
 ) -> Result<(), CommandFault>
     ensures plan { Follows hand.old.run command_cause (mark_plan hand.old.run hand.old.mail job.now) (by_out hand.old.kept (F.state files.old) (O.state out.old)) (by_out hand.new.kept (F.state files.new) (O.state out.new)) result }
     ensures alone { MarksIfUnfaulted hand.old.run hand.old.mail hand.old.kept job.now result (F.state files.old) (F.state files.new) (O.state out.old) (O.state out.new) }
+    ensures steps { PromisesSteps hand.old.run hand.old.mail job.now (by_out hand.old.kept (F.state files.old) (O.state out.old)) (by_out hand.new.kept (F.state files.new) (O.state out.new)) }
     ensures run { hand.new.run ≡ hand.old.run }
     ensures mail { hand.new.mail ≡ hand.old.mail }
 {
