@@ -130,13 +130,23 @@ fn output(alloc: Global, told: &Told) -> Result<MemSink, Fail> {
     Ok(MemSink::new(alloc, numbers(alloc, failing)?))
 }
 
+fn marked<F: Files>(
+    alloc: Global,
+    hand: &mut Hand,
+    files: &mut F,
+    out: &mut MemSink,
+    job: &MarkJob,
+) -> Ending {
+    ended(mark(alloc, hand, files, out, job))
+}
+
 fn mark_in<F: Files>(alloc: Global, files: &mut F, run: u128, told: &Told) -> Result<Called, Fail> {
     let job = job(alloc, told)?;
     let mut hand = hand(alloc, run, told)?;
     let mut out = output(alloc, told)?;
-    let done = mark(alloc, &mut hand, files, &mut out, &job);
+    let ending = marked(alloc, &mut hand, files, &mut out, &job);
     Ok(Called {
-        ending: ended(done),
+        ending,
         out: bytes_of(alloc, out.bytes())?,
     })
 }
@@ -153,15 +163,26 @@ fn read_in<F: Files>(
     }
 }
 
+fn show<F: Files>(
+    alloc: Global,
+    files: &mut F,
+    name: &Name,
+    shown: &mut Bytes,
+) -> Result<(), Fail> {
+    let bytes = read_in(alloc, files, &inbox(alloc)?, name)?;
+    shown.extend(name.bytes())?;
+    shown.extend(b"=")?;
+    shown.extend(bytes.as_slice())?;
+    shown.extend(b" ")?;
+    Ok(())
+}
+
 fn shown_in<F: Files>(alloc: Global, files: &mut F) -> Result<Bytes, Fail> {
     let place = inbox(alloc)?;
     let mut shown = Bytes::new(alloc);
     if let Listing::Names(names) = ask_list(alloc, LOOKER, files, &place)? {
         for name in names.as_slice() {
-            shown.extend(name.bytes())?;
-            shown.extend(b"=")?;
-            shown.extend(read_in(alloc, files, &place, name)?.as_slice())?;
-            shown.extend(b" ")?;
+            show(alloc, files, name, &mut shown)?;
         }
     }
     Ok(shown)
@@ -226,6 +247,24 @@ pub fn call(
     with_counts(left_in(alloc, &mut room, called), steps, locks)
 }
 
+/// The first call, and the end of its run.
+fn first_in(alloc: Global, room: &mut Room, told: &Told) -> Result<Ending, Fail> {
+    let called = mark_in(alloc, room, RUN, told)?;
+    room.end(RUN)?;
+    Ok(called.ending)
+}
+
+fn left_by<F: Files>(alloc: Global, files: &mut F, told: &Told) -> Result<Left, Fail> {
+    let called = mark_in(alloc, files, NEXT, told)?;
+    left_in(alloc, files, called)
+}
+
+fn twice_in(alloc: Global, room: &mut Room, first: &Told, second: &Told) -> Result<Twice, Fail> {
+    let first = first_in(alloc, room, first)?;
+    let left = left_by(alloc, room, second)?;
+    Ok(Twice { first, left })
+}
+
 /// Calls it, and after that run's end once more by another.
 pub fn call_twice(
     alloc: Global,
@@ -235,9 +274,5 @@ pub fn call_twice(
     second: &Told,
 ) -> Result<Twice, Fail> {
     let mut room = Room::new(alloc, world, prompts)?;
-    let first = mark_in(alloc, &mut room, RUN, first)?.ending;
-    room.end(RUN)?;
-    let called = mark_in(alloc, &mut room, NEXT, second)?;
-    let left = left_in(alloc, &mut room, called)?;
-    Ok(Twice { first, left })
+    twice_in(alloc, &mut room, first, second)
 }
