@@ -61,7 +61,7 @@ reads_with m h k folder context just =
     by name n true named = ap (λ b. lists_public (fields_of (text_of m)) name n || b) (lists_same (suffix folder) (private_entries (suffix folder) m.users) context just name n named)
     by name n false bad = refl
 
-clean_both : (xs ys : List ℕ) → list_all is_name_byte xs ≡ true → list_all is_name_byte ys ≡ true → list_all is_name_byte (xs ++ ys) ≡ true
+pub clean_both : (xs ys : List ℕ) → list_all is_name_byte xs ≡ true → list_all is_name_byte ys ≡ true → list_all is_name_byte (xs ++ ys) ≡ true
 clean_both [] ys a b = b
 clean_both (x ∷ xs) ys a b = let parts = and_parts (is_name_byte x) (list_all is_name_byte xs) a in and_from (is_name_byte x) (list_all is_name_byte (xs ++ ys)) parts.0 (clean_both xs ys parts.1 b)
 

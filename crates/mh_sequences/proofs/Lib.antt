@@ -24,3 +24,4 @@ pub mod Same
 pub mod Searching
 pub mod SlotLemmas
 pub mod Stretches
+pub mod Suffixes

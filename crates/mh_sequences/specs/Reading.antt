@@ -28,7 +28,7 @@ is_plain b = nat_le 33 b && nat_le b 126 && not (b == 58) && not (b == 37)
 
 -- any other is a per cent sign and two upper-case hexadecimal digits
 abbrev pub escape : ℕ → List ℕ
-escape b = if is_plain b then b ∷ [] else 37 ∷ digit_glyph true (b / 16) ∷ digit_glyph true (b % 16) ∷ []
+escape b = if is_plain b then b ∷ [] else 37 ∷ digit_glyph true (b / 16 % 16) ∷ digit_glyph true (b % 16) ∷ []
 
 -- a folder's name, escaped, behind a dash
 unfoldable pub suffix : List ℕ → List ℕ
