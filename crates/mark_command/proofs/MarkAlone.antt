@@ -4,6 +4,7 @@ use Rattle.std.specs.Prelude.{nat_lt}
 use Rattle.mh_base.specs.Counts.{Rose}
 use Rattle.mh_base.specs.Streams.{Adds, SinkState}
 use Rattle.mh_profile.specs.Reading.{entries_in}
+use Rattle.mh_sequences.proofs.Suffixes.{suffix_clean}
 use Rattle.folder_files.specs.Histories.{own, past_of}
 use Rattle.folder_files.specs.Story.{FilesState, Grows, GrowsBy, Story}
 use Rattle.folder_files.specs.declared.place.Place.TheVariants.{Folder, Mail}
@@ -78,7 +79,7 @@ module _ (run : ℕ) (path : List ℕ) (job : MarkJob) (h j : Hand) (f g : Files
 
   told : (old new : Story) → Grows run old new (filed_in went.log) → own run (past_of (events_since old new)) ≡ acts ds → (Made IsFailed (own run (past_of (events_since old new))) → ⊥) → MarksAlone run path h job result x y old new
   unfolding mailbox_in
-  told old new grows own_is never = λ added asked start possible alone few known valid clean held are.
+  told old new grows own_is never = λ added asked start possible alone few known valid held are.
       let first = world_at new (first_of (length old.history) added) in
       let c = contents_of first in
       let last = world_at new (first_of (length old.history) added + length added) in
@@ -89,7 +90,7 @@ module _ (run : ℕ) (path : List ℕ) (job : MarkJob) (h j : Hand) (f g : Files
       let work = mark_work path es held job (mailbox_in c) in
       let r = alone_gave (λ q n. false) run old new added (mark run path job) h j ds exit work.text (WorkEnds work)
       (lone_changes run old new (filed_in went.log) added grows asked start possible alone never) own_is went.runs
-      (mark_gives run few path job valid clean c es refl (short_is (c.texts (Mail path) context_name) known_in.1) held are_in (puts_in ds) (first_view c (puts_in ds) (λ q n. false)) h
+      (mark_gives run few path job valid (suffix_clean job.folder) c es refl (short_is (c.texts (Mail path) context_name) known_in.1) held are_in (puts_in ds) (first_view c (puts_in ds) (λ q n. false)) h
       (record { has = (refl, refl); fresh = λ n. refl; unmet = λ n e. refl; hand = refl }) refl refl known_in.0) in
       subst (λ m. ComesTo (mark_work path (entries_in (filled (m.context (Mail path)))) held job m) (mailbox_of last) x y result) (sym is)
       (by_end work r.view (mailbox_of last) (ap mailbox_in r.contents ∙ sym (mailbox_is last)) r.gave result refl)

@@ -1,12 +1,9 @@
 -- What `mark` does that runs alone.
 use Rattle.std.specs.Prelude.{◌≡◌, ◌⊎◌, ◌++◌, ◌+◌, ◌<◌, ◌^◌, ℕ, true, false, List, length, nat_lt, Option, None, Some, Result, Err}
-use Rattle.std.specs.List.{list_all}
 use Rattle.mh_base.specs.Counts.{Rose}
 use Rattle.mh_base.specs.Folders.{is_folder_name}
 use Rattle.mh_base.specs.Streams.{Adds, SinkState}
-use Rattle.mail_headers.specs.Lines.{is_name_byte}
 use Rattle.mh_profile.specs.Reading.{entries_in}
-use Rattle.mh_sequences.specs.Reading.{suffix}
 use Rattle.folder_files.specs.Histories.{IsAlone}
 use Rattle.folder_files.specs.Story.{FilesState, IsPossible, Story}
 use Rattle.folder_files.specs.Worlds.{IsStart}
@@ -37,7 +34,7 @@ abbrev pub MarksAlone : ℕ → List ℕ → Hand → MarkJob → Result Unit Co
 MarksAlone run path h job result x y earlier later =
     (added : List ℕ) → later.asked ≡ earlier.asked ++ added → IsStart later.start → IsPossible earlier → IsAlone run later.start later.history added →
     let first = first_of (length earlier.history) added in
-    run < 2 ^ 128 → HasReadContext (mailbox_at later first) path h → is_folder_name job.folder ≡ true → list_all is_name_byte (suffix job.folder) ≡ true →
+    run < 2 ^ 128 → HasReadContext (mailbox_at later first) path h → is_folder_name job.folder ≡ true →
     (held : Homes) → AreHomesAt run ((mailbox_at later first).folders (Folder path job.folder)) held →
     ComesTo (mark_work path (entries_in (filled ((mailbox_at later first).context (Mail path)))) held job (mailbox_at later first)) (mailbox_at later (first + length added)) x y result
 

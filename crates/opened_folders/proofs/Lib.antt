@@ -4,6 +4,7 @@ pub mod ExistingNumbers
 pub mod FolderAlone
 pub mod FolderGiven
 pub mod FolderPledged
+pub mod HomesFound
 pub mod KeptGiven
 pub mod OneStep
 pub mod SettledShown
