@@ -1,0 +1,4 @@
+pub mod Items
+pub mod Said
+pub mod SaidFolder
+pub mod Texts
