@@ -1,5 +1,5 @@
 -- How a command ends, and what shows it.
-use Rattle.std.proofs.Common.{◌≡◌, ◌++◌, inl, inr, ◌^◌, ◌∷◌, [], ℕ, Bool, true, false, List, Option, Some, None, Result, Ok, Err, nat_lt, bytes_eq, refl, subst}
+use Rattle.std.proofs.Common.{◌≡◌, ◌++◌, inl, inr, ◌^◌, ◌∷◌, [], ℕ, Bool, true, false, List, Option, Some, None, Result, Ok, Err, nat_lt, refl, subst}
 use Rattle.std.specs.Prelude.{codes, map, if◌then◌else◌}
 use Rattle.std.specs.Str.{chars}
 use Rattle.mh_base.specs.Folders.{is_folder_name, without_plus}
@@ -19,7 +19,7 @@ use Rattle.folder_files.specs.declared.step.Answer.TheVariants as answer
 use Rattle.file_plans.specs.Plan.{Hand, Plan, Return, Recall, fresh, ◌>>=◌, lifted}
 use Rattle.file_plans.specs.Rules.{Keeps}
 use Rattle.file_plans.specs.Runs as runs
-use Rattle.file_plans.specs.Runs.{Exit, Returned, InFailed, Runs}
+use Rattle.file_plans.specs.Runs.{Returned, Runs}
 use Rattle.file_plans.proofs.Acting.{acts}
 use Rattle.file_plans.proofs.Soundness.{IsSound, AllSound, long_above}
 use Rattle.file_plans.proofs.Keeping.{run_keeps}
@@ -27,14 +27,18 @@ use Rattle.step_plans.specs.ContextCommit.{context_name, LIMIT_BYTES}
 use Rattle.step_plans.specs.Hands.{temp_name}
 use Rattle.step_plans.specs.declared.command_fault.CommandFault.{CommandFault}
 use Rattle.step_plans.specs.declared.command_fault.CommandFault.TheVariants as fault
-use Rattle.step_plans.proofs.Coming.{Comes, comes_to, comes_on, comes_stop, comes_more, comes_then, comes_lifted, comes_clean, comes_keeps, NoneFailed, anything}
+use Rattle.step_plans.proofs.Coming.{Comes, comes_to, comes_more, comes_then, comes_lifted, comes_clean, comes_keeps, NoneFailed, anything}
 use Rattle.step_plans.proofs.Going.{Outcome}
 use Rattle.step_plans.proofs.Past.{did_step}
 use Rattle.command_stages.specs.Texts.{too_large, text_read}
 use Rattle.mh_looks.specs.Scan.{entries_seen, scan}
-use Rattle.mh_looks.proofs.Ending.{ScanShows, no_folder, bad_spec, absent, empty_range, empty_sequence, long_file, long_text, held, meddled, TextEnds, text_comes, comes_recall, comes_at, ScanEnds, scan_comes}
+use Rattle.mh_looks.proofs.Ending.{ScanShows, no_folder, bad_spec, absent, empty_range, empty_sequence, long_file, long_text, held, meddled, TextEnds, text_comes, comes_at, ScanEnds, scan_comes}
 use Rattle.command_line.specs.Causes.{IsAboveLimit, ShowsCommandFault}
-use Rattle.command_line.specs.Command.{profile_name, path_of, stored_of, folder_of, context_seen, context_entered, job_of, scan_begun, scan_by, no_command, command_by, command}
+use Rattle.command_line.specs.Command.{command, command_by, context_entered, context_seen, folder_found, job_of, no_command, scan_begun, scan_by, word_by}
+use Rattle.command_line.specs.CommandNames.{command_of, named}
+use Rattle.command_line.specs.Profile.{folder_of, path_of, profile_name, stored_of}
+use Rattle.command_line.specs.declared.name.CommandName.{CommandName}
+use Rattle.command_line.specs.declared.name.CommandName.TheVariants.{Mark, Scan}
 use Rattle.command_words.specs.Ended.{plain, wrong_word}
 use Rattle.command_words.specs.FolderWords.{one_folder, folders}
 use Rattle.command_words.specs.ScanWords.{with_folder, folder_said, words_of, items_said, scan_said}
@@ -109,45 +113,54 @@ module _ (run : ℕ) where
       (λ later j text q. comes_at later (after_context mail a q.0) j fresh _ (EnterEnds mail a) q.1 q.2 (seen_comes mail a q.0 (entries_in text)))
       (λ later j e q. long_shows (Mail mail) context_name (after_profile a) later q.0 e q.1 q.2)
 
-  -- the folder acted on, and `scan`
-  begun_comes : (profile : List NamedValue) (words : ScanWords) (a b : Answer) (j : Hand) → j.next ≡ 0
-      → Comes (after_context (path_of profile) a b) j (Recall (λ h. Return (folder_of words.folder (entries_seen h.context) profile)) >>= (λ folder. scan run (path_of profile) (job_of folder words profile))) Faults
-  begun_comes profile words a b j first = comes_recall own j _ rest Faults (go words.folder)
+  -- the folder that is acted on
+  NamedEnds : List ℕ → Answer → Outcome (Result (List ℕ) CommandFault)
+  NamedEnds mail a later j (Ok folder) = (b : Answer) × (later ≡ after_context mail a b) × (j.next ≡ 0)
+  NamedEnds mail a later j (Err e) = ShowsCommandFault run e later
+
+  folder_comes : (profile : List NamedValue) (said : Option (List ℕ)) (a b : Answer) (j : Hand) → j.next ≡ 0
+      → Comes (after_context (path_of profile) a b) j (Recall (λ h. Return (folder_of said (entries_seen h.context) profile))) (NamedEnds (path_of profile) a)
+  unfolding Comes
+  folder_comes profile said a b j first = go said
+    where
+      stored : List ℕ
+      stored = stored_of (entries_seen j.context) profile
+
+      by_name : (c : Bool) → NamedEnds (path_of profile) a (after_context (path_of profile) a b) j (if c then Ok (without_plus stored) else Err (fault.Refused (refusal.BadFolder stored)))
+      by_name true = (b, refl, first)
+      by_name false = inr (path_of profile, a, b, refl)
+
+      go : (folder : Option (List ℕ)) → NamedEnds (path_of profile) a (after_context (path_of profile) a b) j (folder_of folder (entries_seen j.context) profile)
+      go (Some name) = (b, refl, first)
+      go None = by_name (is_folder_name (without_plus stored))
+
+  named_comes : (profile : List NamedValue) (said : Option (List ℕ)) (a : Answer) → Comes (after_profile a) fresh (folder_found profile said) (NamedEnds (path_of profile) a)
+  unfolding folder_found
+  named_comes profile said a =
+      comes_then (after_profile a) fresh (context_entered (Mail (path_of profile))) (λ entered. Recall (λ h. Return (folder_of said (entries_seen h.context) profile))) (EnterEnds (path_of profile) a) (NamedEnds (path_of profile) a) (entered_comes (path_of profile) a)
+      (λ later j u q. comes_at later (after_context (path_of profile) a q.0) j j _ (NamedEnds (path_of profile) a) q.1 refl (folder_comes profile said a q.0 j q.2)) (λ later j e q. q)
+
+  -- `scan` on it
+  scanned_comes : (profile : List NamedValue) (words : ScanWords) (a b : Answer) (j : Hand) → j.next ≡ 0 → (folder : List ℕ) → Comes (after_context (path_of profile) a b) j (scan run (path_of profile) (job_of folder words profile)) Faults
+  scanned_comes profile words a b j first folder =
+      comes_more own j (scan run (path_of profile) (job_of folder words profile)) (ScanEnds run (path_of profile) (job_of folder words profile) j numbered) Faults shows
+      (scan_comes run (path_of profile) (job_of folder words profile) j numbered own (λ z. none_made (Mail (path_of profile)) (temp_name run j.next) (path_of profile) a b z))
     where
       own : List Deed
       own = after_context (path_of profile) a b
 
-      rest : List ℕ → Plan (Result Unit CommandFault)
-      rest folder = scan run (path_of profile) (job_of folder words profile)
-
       numbered : nat_lt j.next (2 ^ 64) ≡ true
       numbered = rw first refl
 
-      shows : (folder : List ℕ) (later : List Deed) (i : Hand) (r : Result Unit CommandFault) → ScanEnds run (path_of profile) (job_of folder words profile) j numbered later i r → Faults later i r
-      shows folder later i (Ok u) q = tt
-      shows folder later i (Err e) q = scan_shows run (path_of profile) folder e later q
-
-      scanned : (folder : List ℕ) → Comes own j (rest folder) Faults
-      scanned folder =
-          comes_more own j (rest folder) (ScanEnds run (path_of profile) (job_of folder words profile) j numbered) Faults (shows folder)
-          (scan_comes run (path_of profile) (job_of folder words profile) j numbered own (λ z. none_made (Mail (path_of profile)) (temp_name run j.next) (path_of profile) a b z))
-
-      stored : List ℕ
-      stored = stored_of (entries_seen j.context) profile
-
-      by_name : (c : Bool) → Comes own j (Return (if c then Ok (without_plus stored) else Err (fault.Refused (refusal.BadFolder stored))) >>= rest) Faults
-      by_name true = comes_on own j (without_plus stored) rest Faults (scanned (without_plus stored))
-      by_name false = comes_stop own j (fault.Refused (refusal.BadFolder stored)) rest Faults (inr (path_of profile, a, b, refl))
-
-      go : (folder : Option (List ℕ)) → Comes own j (Return (folder_of folder (entries_seen j.context) profile) >>= rest) Faults
-      go (Some name) = comes_on own j name rest Faults (scanned name)
-      go None = by_name (is_folder_name (without_plus stored))
+      shows : (later : List Deed) (i : Hand) (r : Result Unit CommandFault) → ScanEnds run (path_of profile) (job_of folder words profile) j numbered later i r → Faults later i r
+      shows later i (Ok u) q = tt
+      shows later i (Err e) q = scan_shows run (path_of profile) folder e later q
 
   scan_begun_comes : (profile : List NamedValue) (words : ScanWords) (a : Answer) → Comes (after_profile a) fresh (scan_begun run profile words) Faults
   unfolding scan_begun
   scan_begun_comes profile words a =
-      comes_then (after_profile a) fresh (context_entered (Mail (path_of profile))) _ (EnterEnds (path_of profile) a) Faults (entered_comes (path_of profile) a)
-      (λ later j u q. comes_at later (after_context (path_of profile) a q.0) j j _ Faults q.1 refl (begun_comes profile words a q.0 j q.2)) (λ later j e q. q)
+      comes_then (after_profile a) fresh (folder_found profile words.folder) (λ folder. scan run (path_of profile) (job_of folder words profile)) (NamedEnds (path_of profile) a) Faults (named_comes profile words.folder a)
+      (λ later j folder q. comes_at later (after_context (path_of profile) a q.0) j j _ Faults q.1 refl (scanned_comes profile words a q.0 j q.2 folder)) (λ later j e q. q)
 
   -- the words
   module _ (profile : List NamedValue) (a : Answer) where
@@ -173,13 +186,14 @@ module _ (run : ℕ) where
     with_items words (Ok items) = with_one words items (one_folder (folders items))
     with_items words (Err wrong) = refused wrong _
 
-    by_words : (words : List (List ℕ)) → Comes own fresh (command_by run profile words) CommandEnds
-    by_words [] = refused _ None
-    by_words (name ∷ words) = go (bytes_eq name (codes "scan"))
-      where
-        go : (b : Bool) → Comes own fresh (if b then scan_by run profile (scan_said profile (map chars words)) else Return (Err (no_command (Some name)))) CommandEnds
-        go true = with_items (profile_words (codes "scan") profile ++ map chars words) (read_in scan_table 0 (profile_words (codes "scan") profile ++ map chars words))
-        go false = refused _ (Some name)
+    by_word : (word : List ℕ) (words : List (List ℕ)) (name : Option CommandName) → (name ≡ Some Mark → ⊥) → Comes own fresh (word_by run profile word words name) CommandEnds
+    by_word word words None other = refused _ (Some word)
+    by_word word words (Some Scan) other = with_items (profile_words (codes "scan") profile ++ map chars words) (read_in scan_table 0 (profile_words (codes "scan") profile ++ map chars words))
+    by_word word words (Some Mark) other = absurd (other refl)
+
+    by_words : (words : List (List ℕ)) → (command_of words ≡ Some Mark → ⊥) → Comes own fresh (command_by run profile words) CommandEnds
+    by_words [] other = refused _ None
+    by_words (word ∷ words) other = by_word word words (named word) other
 
   -- the profile
   abbrev ProfileEnds : Outcome (Result (List ℕ) Ended)
@@ -191,20 +205,20 @@ module _ (run : ℕ) where
       comes_lifted [] fresh plain (text_read Home profile_name) (TextEnds Home profile_name [] fresh) ProfileEnds (text_comes Home profile_name [] fresh) (λ later j text q. q)
       (λ later j e q. long_shows Home profile_name [] later q.0 e q.1 q.2)
 
-  command_comes : (words : List (List ℕ)) → Comes [] fresh (command run words) CommandEnds
+  command_comes : (words : List (List ℕ)) → (command_of words ≡ Some Mark → ⊥) → Comes [] fresh (command run words) CommandEnds
   unfolding command
-  command_comes words =
+  command_comes words other =
       comes_then [] fresh (lifted plain (text_read Home profile_name)) (λ text. command_by run (entries_in text) words) ProfileEnds CommandEnds profile_comes
-      (λ later j text q. comes_at later (after_profile q.0) j fresh (command_by run (entries_in text) words) CommandEnds q.1 q.2 (by_words (entries_in text) q.0 words)) (λ later j e q. q)
+      (λ later j text q. comes_at later (after_profile q.0) j fresh (command_by run (entries_in text) words) CommandEnds q.1 q.2 (by_words (entries_in text) q.0 words other)) (λ later j e q. q)
 
-  -- where the plan of a command returns, no step of the call has failed, and its deeds show the fault, if there is one
+  -- where the plan of a command that looks returns, no step of the call has failed, and its deeds show the fault, if there is one
   abbrev pub EndsAs : List runs.Deed → Hand → Result Unit Ended → Type 0
   EndsAs past h (Ok u) = NoneFailed (acts past)
   EndsAs past h (Err e) = ShowsCommandFault run e.fault (acts past) × NoneFailed (acts past)
 
-  pub command_ends : (words : List (List ℕ)) → Keeps anything [] fresh (command run words) EndsAs
-  command_ends words =
-      comes_keeps [] [] fresh (command run words) Ends refl (comes_more [] fresh (command run words) (λ later j r. NoneFailed later × CommandEnds later j r) Ends both (comes_clean [] fresh (command run words) CommandEnds (λ m. m) (command_comes words)))
+  pub command_ends : (words : List (List ℕ)) → (command_of words ≡ Some Mark → ⊥) → Keeps anything [] fresh (command run words) EndsAs
+  command_ends words other =
+      comes_keeps [] [] fresh (command run words) Ends refl (comes_more [] fresh (command run words) (λ later j r. NoneFailed later × CommandEnds later j r) Ends both (comes_clean [] fresh (command run words) CommandEnds (λ m. m) (command_comes words other)))
     where
       Ends : Outcome (Result Unit Ended)
       Ends later j (Ok u) = NoneFailed later
@@ -215,9 +229,5 @@ module _ (run : ℕ) where
       both later j (Err e) q = (q.1, q.0)
 
   -- so does each run of it
-  pub run_ends : (words : List (List ℕ)) (ds : List runs.Deed) (j : Hand) (r : Result Unit Ended) → Runs (command run words) fresh ds j (Returned r) → EndsAs ds j r
-  run_ends words ds j r f = (run_keeps anything [] fresh (command run words) ds j (Returned r) EndsAs (command_ends words) f).gave
-
-  -- and none of them reads the input
-  pub never_hears : (words : List (List ℕ)) (ds : List runs.Deed) (j : Hand) (exit : Exit (Result Unit Ended)) → Runs (command run words) fresh ds j exit → exit ≡ InFailed → ⊥
-  never_hears words ds j exit f is = (run_keeps anything [] fresh (command run words) ds j InFailed EndsAs (command_ends words) (subst (λ x. Runs (command run words) fresh ds j x) is f)).gave
+  pub run_ends : (words : List (List ℕ)) → (command_of words ≡ Some Mark → ⊥) → (ds : List runs.Deed) (j : Hand) (r : Result Unit Ended) → Runs (command run words) fresh ds j (Returned r) → EndsAs ds j r
+  run_ends words other ds j r f = (run_keeps anything [] fresh (command run words) ds j (Returned r) EndsAs (command_ends words other) f).gave

@@ -3,6 +3,8 @@ pub mod Giving
 pub mod MindsMarks
 pub mod Plans
 pub mod Pledging
+pub mod Refusals
 pub mod SaidFolder
 pub mod Texts
+pub mod TwoAnswers
 pub mod Unlinked

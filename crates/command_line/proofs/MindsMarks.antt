@@ -1,6 +1,7 @@
 -- A command that keeps the context by naming the current folder minds the marks of all sequences.
-use Rattle.std.proofs.Common.{◌≡◌, inl, inr, ◌<◌, ◌^◌, ℕ, false, List, Option, Some, None, Result, refl, sym, ◌∙◌, ap, subst}
+use Rattle.std.proofs.Common.{◌≡◌, inl, inr, ◌<◌, ◌^◌, ◌∷◌, [], ℕ, false, List, Option, Some, None, Result, refl, sym, ◌∙◌, ap, subst}
 use Rattle.mh_profile.specs.Names.{is_attribute}
+use Rattle.mh_profile.specs.declared.named_value.NamedValue.{NamedValue}
 use Rattle.folder_files.specs.Commands.{IsMadeIn}
 use Rattle.folder_files.specs.Deeds.{Deed}
 use Rattle.folder_files.specs.Histories.{Changes}
@@ -10,13 +11,18 @@ use Rattle.folder_files.specs.declared.place.Place.TheVariants.{Folder, Mail}
 use Rattle.folder_files.specs.declared.step.Step.{Step}
 use Rattle.folder_files.specs.declared.step.Step.TheVariants as step
 use Rattle.file_plans.specs.Asking.{reading_of}
-use Rattle.file_plans.specs.Follows.{filed_in, State, Follows}
+use Rattle.file_plans.specs.Follows.{deeds_in, filed_in, State, Follows}
+use Rattle.file_plans.specs.Plan.{Hand, Plan}
+use Rattle.file_plans.specs.Rules.{AreKept, IfOkay, Keeps}
+use Rattle.file_plans.specs.Runs.{Cause, Deed as Done, exit_of}
 use Rattle.file_plans.specs.StaysCareful.{IsOwnStep, only_looks, careful}
 use Rattle.step_plans.specs.ContextCommit.{changed}
-use Rattle.step_plans.specs.Pledges.{IsMarked, MayAsk}
-use Rattle.step_plans.proofs.FirstAnswer.{answered}
+use Rattle.file_plans.proofs.Keeping.{run_keeps}
+use Rattle.step_plans.specs.Pledges.{IsMarked, MayAsk, Pledge}
 use Rattle.step_plans.proofs.KeptPledges.{look_changes}
-use Rattle.step_plans.proofs.StoryMay.{goes_may}
+use Rattle.step_plans.proofs.Ruling.{rules_of}
+use Rattle.step_plans.proofs.Safe.{story_may}
+use Rattle.step_plans.proofs.StoryMay.{StoryMay}
 use Rattle.marks_law.specs.Apart.{by_text}
 use Rattle.marks_law.specs.Minding.{KeepsMarks, Minds}
 use Rattle.marks_law.proofs.Minded.{Considerate, MindfulApart}
@@ -30,10 +36,14 @@ use Rattle.command_stages.specs.Current.{current_name}
 use Rattle.mh_looks.specs.ScanPledge.{MarksCurrent, scan_pledge}
 use Rattle.command_stages.proofs.FolderLines.{current_valid}
 use Rattle.command_line.specs.Command.{command}
-use Rattle.command_line.specs.CommandPledge.{path_by}
+use Rattle.command_line.specs.CommandNames.{command_of, named}
+use Rattle.command_line.specs.CommandPledge.{command_pledge, entries_by, path_by, word_pledge}
+use Rattle.command_line.specs.Profile.{path_of}
+use Rattle.command_line.specs.declared.name.CommandName.{CommandName}
+use Rattle.command_line.specs.declared.name.CommandName.TheVariants.{Mark, Scan}
 use Rattle.command_words.specs.Ended.{ended_cause}
 use Rattle.command_words.specs.declared.ended.Ended.{Ended}
-use Rattle.command_line.proofs.Pledging.{Ends, answered_goes, command_answers, first, next_by}
+use Rattle.command_line.proofs.Pledging.{Answered, End, answers, follows_pledged, plan_by, pledge_at, read_keeps}
 
 -- a step in the mail directory changes no folder
 other_place : (mail path folder : List ℕ) (p : Place) → Mail mail ≡ p → Folder path folder ≡ p → ⊥
@@ -100,13 +110,42 @@ module _ (run : ℕ) (mail : List ℕ) where
     private = λ path folder sequence before s may. (may_private path folder sequence before s may, may_consider path folder sequence before s may);
   }
 
--- a call that follows a command keeps the marks of all sequences
-pub command_keeps_sequences : (run : ℕ) → run < 2 ^ 128 → (words : List (List ℕ)) (x y : State) (result : Result Unit Ended) → Follows run ended_cause (command run words) x y result → KeepsSequences run x.files.story y.files.story
-command_keeps_sequences run few words x y result f =
-    let c = command_answers run few words x y result f in
-    sequences_kept (scan_pledge run (path_by c.answer)) (minds_sequences run (path_by c.answer)) x.files.story y.files.story (start_same x.files.story y.files.story f.went.grows)
-    (goes_may (scan_pledge run (path_by c.answer)) ended_cause (answered (first run few words) (λ a. next_by run few words (reading_of a)) c.answer) x y result (Ends run few words c.answer) (answered_goes run few words x.hand c.answer) c.follows)
+-- a command that looks pledges so
+pledge_looks : (run : ℕ) (words : List (List ℕ)) (profile context : List NamedValue) → (command_of words ≡ Some Mark → ⊥) → command_pledge run words profile context ≡ scan_pledge run (path_of profile)
+pledge_looks run [] profile context other = refl
+pledge_looks run (word ∷ words) profile context other = go (named word) other
   where
+    go : (name : Option CommandName) → (name ≡ Some Mark → ⊥) → word_pledge run profile context words name ≡ scan_pledge run (path_of profile)
+    go None other = refl
+    go (Some Scan) other = refl
+    go (Some Mark) other = absurd (other refl)
+
+-- the own steps of a call's story, where its plan keeps the rules of a pledge
+keeps_may : {T E : Type 0} (w : Pledge) (cause : E → Cause) (plan : Plan (Result T E)) (x y : State) (result : Result T E) (Q : List Done → Hand → Result T E → Type 0) → Keeps (rules_of w) [] x.hand plan Q → (f : Follows w.run cause plan x y result) → StoryMay w x.files.story y.files.story
+keeps_may w cause plan x y result Q k f = told x.files.story y.files.story f.went.grows (run_keeps (rules_of w) [] x.hand plan (deeds_in f.went.log) y.hand (exit_of cause result) Q k f.went.runs).kept
+  where
+    told : (old new : Option Story) → GrowsBy w.run old new (filed_in f.went.log) → AreKept (rules_of w) [] (deeds_in f.went.log) → StoryMay w old new
+    told None None g l = tt
+    told (Some old) (Some new) g l = λ unused. story_may w old new f.went.log unused g l
+    told None (Some new) g l = absurd g
+    told (Some old) None g l = absurd g
+
+-- a call that follows a command that looks keeps the marks of all sequences
+pub command_keeps_sequences : (run : ℕ) → run < 2 ^ 128 → (words : List (List ℕ)) → (command_of words ≡ Some Mark → ⊥) → (x y : State) (result : Result Unit Ended) → Follows run ended_cause (command run words) x y result
+    → KeepsSequences run x.files.story y.files.story
+command_keeps_sequences run few words other x y result f =
+    sequences_kept (scan_pledge run path) (minds_sequences run path) x.files.story y.files.story (start_same x.files.story y.files.story f.went.grows)
+    (may_by (answers run few words x y result f))
+  where
+    path : List ℕ
+    path = path_by (answers run few words x y result f).first
+
+    may_by : (t : Answered run few words x.hand y.hand (deeds_in f.went.log) (exit_of ended_cause result)) → StoryMay (scan_pledge run (path_by t.first)) x.files.story y.files.story
+    may_by t =
+        subst (λ w. StoryMay w x.files.story y.files.story) (pledge_looks run words (entries_by t.first) (entries_by t.second) other)
+        (keeps_may (pledge_at run few words t.first t.second) ended_cause (plan_by run few words (reading_of t.first) t.second) x y result (IfOkay (End run few words t.first)) (read_keeps run few words x.hand (reading_of t.first) t.second)
+        (follows_pledged run few words x y result f t))
+
     start_same : (old new : Option Story) → GrowsBy run old new (filed_in f.went.log) → SameStart old new
     start_same None None g = tt
     start_same (Some old) (Some new) g = g.start

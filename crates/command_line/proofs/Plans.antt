@@ -1,14 +1,9 @@
 -- The plans of commands, and the errors with which they end.
-use Rattle.std.proofs.Common.{◌≡◌, inl, inr, ◌++◌, ◌∷◌, [], ℕ, List, Bool, true, false, Option, None, Some, Result, Ok, Err, refl, sym, ap, subst, bytes_eq}
-use Rattle.std.specs.Prelude.{if◌then◌else◌, codes, map, length, IsErr, IsErrAnd}
-use Rattle.std.specs.Str.{chars}
-use Rattle.mh_base.specs.Folders.{is_folder_name, without_plus}
-use Rattle.mh_words.specs.declared.item.Item.{Item}
-use Rattle.mh_words.specs.Whole.{Wrong, read_in}
+use Rattle.std.proofs.Common.{◌≡◌, inl, inr, ◌∷◌, [], ℕ, List, Option, None, Some, Result, Ok, Err, refl, sym, ◌∙◌, ap, subst}
+use Rattle.std.specs.Prelude.{codes, map, length, IsErr, IsErrAnd}
 use Rattle.mh_profile.specs.declared.named_value.NamedValue.{NamedValue}
 use Rattle.folder_files.specs.Story.{FilesState}
-use Rattle.folder_files.specs.declared.refusal.Refusal.TheVariants as refusal
-use Rattle.file_plans.specs.Plan.{Hand, Plan, Return, Note, lifted}
+use Rattle.file_plans.specs.Plan.{Hand, Plan, Recall, Return, Note, lifted}
 use Rattle.file_plans.specs.Follows.{State, Follows, by_hand}
 use Rattle.file_plans.specs.Runs.{Cause, OfPlan}
 use Rattle.file_plans.proofs.Following.{SameCause, recalled, noted, done, refuses, no_room_at, lift_err}
@@ -16,15 +11,14 @@ use Rattle.step_plans.specs.CommandFaults.{command_cause}
 use Rattle.step_plans.specs.Hands.{knowing}
 use Rattle.step_plans.specs.declared.command_fault.CommandFault.{CommandFault}
 use Rattle.step_plans.specs.declared.command_fault.CommandFault.TheVariants as fault
-use Rattle.command_line.specs.Command.{value_or, context_seen, scan_begun, scan_by, no_command, command_by}
-use Rattle.command_words.specs.Ended.{plain, ended_cause}
-use Rattle.command_words.specs.FolderWords.{folders, one_folder, named_folder}
-use Rattle.command_words.specs.Results.{IsSaid}
-use Rattle.command_words.specs.ScanWords.{with_folder, folder_said, items_said, scan_said}
-use Rattle.command_words.specs.Tables.{scan_table}
-use Rattle.command_words.specs.Words.{profile_words}
+use Rattle.command_words.specs.Ended.{Ending, plain, ended_cause}
+use Rattle.command_words.specs.Results.{IsNamed, IsSaid}
 use Rattle.command_words.specs.declared.ended.Ended.{Ended}
-use Rattle.command_words.specs.declared.scan.ScanWords.{ScanWords}
+use Rattle.command_line.specs.Command.{context_seen, command_by, no_command, word_by}
+use Rattle.command_line.specs.CommandNames.{named}
+use Rattle.command_line.specs.Profile.{value_or}
+use Rattle.command_line.specs.declared.name.CommandName.{CommandName}
+use Rattle.command_line.proofs.Refusals.{IsRefusal}
 
 plain_each : (e : CommandFault) → ended_cause (plain e) ≡ command_cause e
 plain_each e = refl
@@ -36,41 +30,34 @@ pub context_known : (run : ℕ) (es : List NamedValue) (h j : Hand) (f : FilesSt
 unfolding context_seen
 context_known run es h j f e = rw e (recalled (λ i. Note (knowing es i) (Return (Ok tt))) (noted (knowing es h) done))
 
+-- the folder that the hand chooses
+pub folder_chosen : {run : ℕ} (value : Hand → Result (List ℕ) CommandFault) (r : Result (List ℕ) CommandFault) {h : Hand} {f : FilesState} → IsNamed (value h) r → Follows run command_cause (Recall (λ i. Return (value i))) (by_hand h f) (by_hand h f) r
+folder_chosen value (Ok name) is = recalled (λ i. Return (value i)) (rw is done)
+folder_chosen value (Err (fault.Refused r)) is = recalled (λ i. Return (value i)) (rw is (refuses _ refl))
+folder_chosen value (Err (fault.Faulted w)) is = absurd is
+folder_chosen value (Err (fault.Locked p)) is = absurd is
+folder_chosen value (Err (fault.Meddled p x)) is = absurd is
+folder_chosen value (Err fault.Memory) is = no_room_at refl
+
 pub inbox_none : (value : Option (List ℕ)) → value ≡ None → codes "inbox" ≡ value_or value (codes "inbox")
 inbox_none value none = rw none refl
 
 -- a refusal of words is the plan's
-abbrev IsPlanned : Result ScanWords Ended → Type 0
-IsPlanned (Ok w) = Unit {0}
-IsPlanned (Err e) = ended_cause e ≡ OfPlan
+refusal_planned : (e : Ended) → IsRefusal e.fault → ended_cause e ≡ OfPlan
+refusal_planned e r = ap command_cause r.1
 
-named_planned : (items : List Item) (word : List ℕ) → IsPlanned (with_folder items (named_folder word))
-named_planned items word = go (is_folder_name (without_plus word))
-  where
-    go : (b : Bool) → IsPlanned (with_folder items (if b then Ok (without_plus word) else Err (fault.Refused (refusal.BadFolder word))))
-    go true = tt
-    go false = refl
+refuses_words : {A : Type 0} {run : ℕ} (plan : Result A Ended → Ending Unit) (value : Result A Ended) (e : Ended) {x : State} → ((f : Ended) → plan (Err f) ≡ Return (Err f)) → ((f : Ended) → value ≡ Err f → IsRefusal f.fault) → IsSaid value (Err e) → Follows run ended_cause (plan value) x x (Err e)
+refuses_words {run = run} plan value e {x = x} ends planned (inl is) =
+    subst (λ p. Follows run ended_cause p x x (Err e)) (sym (ap plan is ∙ ends e)) (refuses e (refusal_planned e (planned e is)))
+refuses_words {run = run} plan value e ends planned (inr memory) = no_room_at (ap command_cause memory)
 
-folder_planned : (words : List (List ℕ)) (items : List Item) (r : Result (Option (List ℕ)) Wrong) → IsPlanned (folder_said words items r)
-folder_planned words items (Ok None) = tt
-folder_planned words items (Ok (Some word)) = named_planned items word
-folder_planned words items (Err wrong) = refl
+pub refused_words : {A : Type 0} {run : ℕ} (plan : Result A Ended → Ending Unit) (value : Result A Ended) (e : Ended) (r : Result Unit Ended) {x : State} → ((f : Ended) → plan (Err f) ≡ Return (Err f)) → ((f : Ended) → value ≡ Err f → IsRefusal f.fault) → IsSaid value (Err e)
+    → IsErr r × IsErrAnd r (λ f. f ≡ e) → Follows run ended_cause (plan value) x x r
+refused_words plan value e (Ok u) ends planned said is = absurd (let no = is.0 in cc)
+refused_words plan value e (Err f) ends planned said is = rw is.1 (refuses_words plan value e ends planned said)
 
-said_planned : (words : List (List ℕ)) (r : Result (List Item) Wrong) → IsPlanned (items_said words r)
-said_planned words (Ok items) = folder_planned words items (one_folder (folders items))
-said_planned words (Err wrong) = refl
-
-pub refuses_words : {run : ℕ} (profile : List NamedValue) (words : List (List ℕ)) (e : Ended) {x : State} → IsSaid (scan_said profile words) (Err e) → Follows run ended_cause (scan_by run profile (scan_said profile words)) x x (Err e)
-refuses_words {run = run} profile words e {x = x} (inl is) =
-    subst (λ v. Follows run ended_cause (scan_by run profile v) x x (Err e)) (sym is) (refuses e (subst IsPlanned is (said_planned (profile_words (codes "scan") profile ++ words) (read_in scan_table 0 (profile_words (codes "scan") profile ++ words)))))
-refuses_words {run = run} profile words e (inr memory) = no_room_at (ap command_cause memory)
-
-pub refused_words : {run : ℕ} (profile : List NamedValue) (words : List (List ℕ)) (e : Ended) (r : Result Unit Ended) {x : State} → IsSaid (scan_said profile words) (Err e) → IsErr r × IsErrAnd r (λ f. f ≡ e) → Follows run ended_cause (scan_by run profile (scan_said profile words)) x x r
-refused_words profile words e (Ok u) said is = absurd (let no = is.0 in cc)
-refused_words profile words e (Err f) said is = rw is.1 (refuses_words profile words e said)
-
-pub scan_on : {run : ℕ} (profile : List NamedValue) (value : Result ScanWords Ended) (words : ScanWords) {x y : State} {r : Result Unit Ended} → value ≡ Ok words → Follows run ended_cause (lifted plain (scan_begun run profile words)) x y r → Follows run ended_cause (scan_by run profile value) x y r
-scan_on profile value words is f = rw is f
+pub words_on : {A : Type 0} {run : ℕ} (plan : Result A Ended → Ending Unit) (value : Result A Ended) (words : A) {x y : State} {r : Result Unit Ended} → value ≡ Ok words → Follows run ended_cause (plan (Ok words)) x y r → Follows run ended_cause (plan value) x y r
+words_on plan value words is f = rw is f
 
 -- a call of the layer below that ended this one
 pub ends_off : {A E F : Type 0} {run : ℕ} {cause : E → Cause} {other : F → Cause} (from : E → F) {p : Plan (Result A E)} {x y : State} {e : E} (r : Result A F) → SameCause cause other from →
@@ -82,9 +69,11 @@ pub named_none : {A : Type 0} {run : ℕ} (profile : List NamedValue) (f : A →
 named_none profile f [] e is same = rw same (refuses _ refl)
 named_none profile f (w ∷ words) e is same = cc
 
-pub named_scan : {run : ℕ} (profile : List NamedValue) (words rest : List (List ℕ)) (name : List ℕ) {x y : State} {r : Result Unit Ended} → words ≡ name ∷ rest → bytes_eq name (codes "scan") ≡ true →
-    Follows run ended_cause (scan_by run profile (scan_said profile (map chars rest))) x y r → Follows run ended_cause (command_by run profile words) x y r
-named_scan profile words rest name is same f = rw (is, same) f
+pub named_some : {run : ℕ} (profile : List NamedValue) (words rest : List (List ℕ)) (word : List ℕ) {x y : State} {r : Result Unit Ended} → words ≡ word ∷ rest → Follows run ended_cause (word_by run profile word rest (named word)) x y r → Follows run ended_cause (command_by run profile words) x y r
+named_some profile words rest word is f = rw is f
 
-pub named_other : {run : ℕ} (profile : List NamedValue) (words rest : List (List ℕ)) (name : List ℕ) (e : Ended) {x : State} → words ≡ name ∷ rest → bytes_eq name (codes "scan") ≡ false → e ≡ no_command (Some name) → Follows run ended_cause (command_by run profile words) x x (Err e)
-named_other profile words rest name e is other same = rw (is, other, same) (refuses _ refl)
+pub word_on : {run : ℕ} (profile : List NamedValue) (word : List ℕ) (words : List (List ℕ)) (value name : Option CommandName) {x y : State} {r : Result Unit Ended} → value ≡ name → Follows run ended_cause (word_by run profile word words name) x y r → Follows run ended_cause (word_by run profile word words value) x y r
+word_on profile word words value name is f = rw is f
+
+pub word_none : {run : ℕ} (profile : List NamedValue) (word : List ℕ) (words : List (List ℕ)) (value : Option CommandName) (e : Ended) {x : State} → value ≡ None → e ≡ no_command (Some word) → Follows run ended_cause (word_by run profile word words value) x x (Err e)
+word_none profile word words value e is same = rw (is, same) (refuses _ refl)

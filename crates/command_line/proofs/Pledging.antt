@@ -1,145 +1,315 @@
--- A command goes as the mail directory's pledge that its profile names.
-use Rattle.std.proofs.Common.{◌≡◌, ◌⊎◌, inl, inr, ◌<◌, ◌^◌, ◌++◌, ℕ, Bool, true, false, List, [], ◌∷◌, Some, Result, Ok, Err, refl, subst, arith, map, codes, bytes_eq, if◌then◌else◌}
+-- A command goes as pledged: by the mail directory that its profile names, its words and the context.
+use Rattle.std.proofs.Common.{◌≡◌, ◌⊎◌, inl, inr, ◌<◌, ◌^◌, ◌++◌, ℕ, List, [], ◌∷◌, Option, None, Some, Result, Ok, Err, refl, sym, subst, map}
 use Rattle.std.specs.Str.{chars}
 use Rattle.mh_profile.specs.declared.named_value.NamedValue.{NamedValue}
 use Rattle.mh_profile.specs.Reading.{entries_in}
-use Rattle.mh_words.specs.Whole.{read_in}
-use Rattle.folder_files.specs.Deeds.{Deed, did}
-use Rattle.folder_files.specs.declared.place.Place.{Place}
+use Rattle.folder_files.specs.Deeds.{Deed, HasFailed}
 use Rattle.folder_files.specs.declared.place.Place.TheVariants.{Home, Mail}
 use Rattle.folder_files.specs.declared.step.Answer.{Answer}
 use Rattle.folder_files.specs.declared.step.Step.{Step}
 use Rattle.folder_files.specs.declared.step.Step.TheVariants.{Read}
 use Rattle.file_plans.specs.Asking.{read, reading_of}
 use Rattle.file_plans.specs.Follows.{State, Follows, deeds_in}
-use Rattle.file_plans.specs.Plan.{Hand, Return, Ask, ask, bind, ◌>>=◌, lifted}
-use Rattle.file_plans.specs.StaysCareful.{only_looks}
+use Rattle.file_plans.specs.Plan.{Hand, Plan, Return, Ask, Recall, after, ask, bind, ◌>>=◌, lifted}
+use Rattle.file_plans.specs.Rules.{Gave, IfOkay, Keeps}
+use Rattle.file_plans.specs.Runs.{Deed as Done, Did, Exit, Runs, exit_of}
 use Rattle.file_plans.specs.declared.answers.Reading.{Reading}
 use Rattle.file_plans.specs.declared.answers.Reading.TheVariants as reading
 use Rattle.file_plans.proofs.Acting.{acts, acts_made}
+use Rattle.file_plans.proofs.Keeping.{keeps_lifted, run_keeps}
 use Rattle.step_plans.specs.ContextCommit.{LIMIT_BYTES, context_name}
 use Rattle.step_plans.specs.Finished.{AreFinished, HasCommitted, OnlyLooked}
+use Rattle.step_plans.specs.Hands.{knowing}
+use Rattle.step_plans.specs.Pledges.{Pledge}
+use Rattle.step_plans.specs.Settled.{AreSettled}
+use Rattle.step_plans.specs.declared.command_fault.CommandFault.{CommandFault}
 use Rattle.step_plans.proofs.Facts.{none_settled, settled_kept}
-use Rattle.step_plans.proofs.FirstAnswer.{Answers, answered, acts_begin, follows_answered, goes_gave}
-use Rattle.step_plans.proofs.Going.{Outcome, okay, Goes, goes_then, goes_more, goes_lifted, okay_more}
+use Rattle.step_plans.proofs.Going.{ByActs, Sound, Soundly, goes_keeps, okay}
 use Rattle.step_plans.proofs.Pledged.{Of}
-use Rattle.step_plans.proofs.Promising.{goes_promises}
-use Rattle.command_stages.specs.Texts.{text_by, text_read}
+use Rattle.step_plans.proofs.Promising.{keeps_pledge}
+use Rattle.step_plans.proofs.Ruling.{rules_of}
+use Rattle.command_stages.specs.Texts.{Commanded, text_by, text_read, too_large}
 use Rattle.mh_looks.specs.Scan.{entries_seen, scan}
 use Rattle.mh_looks.specs.ScanPledge.{scan_pledge}
-use Rattle.mh_looks.proofs.LooksLeave.{Looked, Looks, text_goes, goes_chosen}
-use Rattle.mh_looks.proofs.Pledging.{Noted, noted_after, scan_goes}
-use Rattle.command_line.specs.Command.{path_of, profile_name, folder_of, context_seen, context_entered, job_of, scan_begun, scan_by, command_by, no_command, command}
-use Rattle.command_line.specs.CommandPledge.{HaveBegun, KeepsPledge, path_by, text_of}
+use Rattle.mh_looks.proofs.Pledging.{Noted, scan_goes}
+use Rattle.opened_folders.proofs.EndedKept.{Still, keeps_more}
+use Rattle.mark_command.specs.Mark.{mark}
+use Rattle.mark_command.specs.MarkPledge.{pledge_by}
+use Rattle.mark_command.specs.declared.job.MarkAct.{MarkAct}
+use Rattle.mark_command.proofs.MarkPledged.{mark_keeps}
 use Rattle.command_words.specs.Ended.{Ending, ended_cause, plain}
+use Rattle.command_words.specs.MarkWords.{mark_said}
 use Rattle.command_words.specs.ScanWords.{scan_said}
-use Rattle.command_words.specs.Tables.{scan_table}
-use Rattle.command_words.specs.Words.{profile_words}
 use Rattle.command_words.specs.declared.ended.Ended.{Ended}
+use Rattle.command_words.specs.declared.mark.MarkWords.{MarkWords}
 use Rattle.command_words.specs.declared.scan.ScanWords.{ScanWords}
-use Rattle.command_line.proofs.SaidFolder.{acted_valid}
-use Rattle.command_words.proofs.SaidFolder.{IsValid, items_valid}
+use Rattle.command_words.proofs.SaidFolder.{IsValid}
+use Rattle.command_line.specs.Command.{command, command_by, context_entered, context_seen, folder_found, job_of, mark_begun, mark_by, mark_job, no_command, scan_begun, scan_by, word_by}
+use Rattle.command_line.specs.CommandNames.{command_of, named}
+use Rattle.command_line.specs.CommandPledge.{HaveBegun, IsDone, KeepsPledge, command_pledge, entries_by, marks_pledge, on_named, path_by, text_of, word_pledge}
+use Rattle.command_line.specs.Profile.{folder_of, path_of, profile_name}
+use Rattle.command_line.specs.declared.name.CommandName.{CommandName}
+use Rattle.command_line.specs.declared.name.CommandName.TheVariants.{Mark, Scan}
+use Rattle.command_line.proofs.SaidFolder.{acted_valid, scan_valid}
+use Rattle.command_line.proofs.TwoAnswers.{Onward, TwoAnswers, acts_begin_with, follows_so, keeps_after, keeps_ended, rest_by, two_answers}
 
-module _ (run : ℕ) (few : run < 2 ^ 128) (path : List ℕ) where
-  tells : (deeds : List Deed) (piece : List ℕ) → Unit {0}
-  tells deeds piece = tt
+abbrev pub profile_step : Step
+profile_step = Read Home profile_name LIMIT_BYTES
 
-  seen_goes : (own later : List Deed) (h : Hand) (entries : List NamedValue) → Looked own later → Goes (scan_pledge run path) later h (context_seen entries) (okay (Looks own))
-  unfolding Goes context_seen
-  seen_goes own later h entries f = λ s. (omega arith, f)
+abbrev pub context_step : List NamedValue → Step
+context_step profile = Read (Mail (path_of profile)) context_name LIMIT_BYTES
 
-  entered_goes : (own : List Deed) (h : Hand) (place : Place) → Goes (scan_pledge run path) own h (context_entered place) (okay (Looks own))
-  unfolding context_entered
-  entered_goes own h place =
-      goes_then (scan_pledge run path) own h (text_read place context_name) _ (Looks own) (Looks own) (text_goes (scan_pledge run path) tells own h place context_name) (λ later j text f. seen_goes own later j (entries_in text) f)
+-- the context was read so: the folder is named, and the work goes on
+abbrev on_context_plainly : List NamedValue → Option (List ℕ) → (List ℕ → Commanded Unit) → Reading → Commanded Unit
+on_context_plainly profile said act r = ((text_by r >>= (λ text. context_seen (entries_in text))) >>= (λ entered. Recall (λ h. Return (folder_of said (entries_seen h.context) profile)))) >>= act
 
--- `scan` by its words
-module _ (run : ℕ) (few : run < 2 ^ 128) (profile : List NamedValue) where
-  begun_after : (own later : List Deed) (j : Hand) (folder : List ℕ) (words : ScanWords) → Looked own later → IsValid words.folder → folder_of words.folder (entries_seen j.context) profile ≡ Ok folder
-      → Goes (scan_pledge run (path_of profile)) later j (scan run (path_of profile) (job_of folder words profile)) (okay (Of (Noted (path_of profile) own)))
-  begun_after own later j folder words f valid e =
-      goes_more (scan_pledge run (path_of profile)) later j (scan run (path_of profile) (job_of folder words profile)) (okay (Of (Noted (path_of profile) later))) (okay (Of (Noted (path_of profile) own)))
-      (okay_more (Of (Noted (path_of profile) later)) (Of (Noted (path_of profile) own)) (λ last i u g. noted_after (path_of profile) own later last f g))
-      (scan_goes run few (path_of profile) later j (job_of folder words profile) (acted_valid words.folder (entries_seen j.context) profile folder valid e))
+abbrev pub on_context : List NamedValue → Option (List ℕ) → (List ℕ → Commanded Unit) → Reading → Ending Unit
+on_context profile said act r = lifted plain (on_context_plainly profile said act r)
 
-  begun_goes : (own : List Deed) (h : Hand) (words : ScanWords) → IsValid words.folder → Goes (scan_pledge run (path_of profile)) own h (scan_begun run profile words) (okay (Of (Noted (path_of profile) own)))
+context_asked : (profile : List NamedValue) (said : Option (List ℕ)) (act : List ℕ → Commanded Unit) → lifted plain (folder_found profile said >>= act) ≡ Ask (context_step profile) (λ b. on_context profile said act (reading_of b))
+unfolding folder_found context_entered text_read read ask lifted bind ◌>>=◌
+context_asked profile said act = refl
+
+-- what is done next, by the words: the context is read, or the command ends
+module _ (run : ℕ) (profile : List NamedValue) where
+  abbrev scan_acts : ScanWords → List ℕ → Commanded Unit
+  scan_acts words folder = scan run (path_of profile) (job_of folder words profile)
+
+  abbrev mark_acts : MarkWords → List ℕ → Commanded Unit
+  mark_acts words folder = mark run (path_of profile) (mark_job folder words profile)
+
+  scan_onward : (value : Result ScanWords Ended) → Onward (context_step profile) (scan_by run profile value)
   unfolding scan_begun
-  begun_goes own h words valid =
-      goes_then (scan_pledge run (path_of profile)) own h (context_entered (Mail (path_of profile))) _ (Looks own) (Of (Noted (path_of profile) own)) (entered_goes run few (path_of profile) own h (Mail (path_of profile)))
-      (λ later j u f. goes_chosen (scan_pledge run (path_of profile)) later j (λ k. folder_of words.folder (entries_seen k.context) profile) _ (Of (Noted (path_of profile) own))
-      (λ folder e. begun_after own later j folder words f valid e))
+  scan_onward (Ok words) = inr (λ b. on_context profile words.folder (scan_acts words) (reading_of b), context_asked profile words.folder (scan_acts words))
+  scan_onward (Err e) = inl (Err e, refl)
 
-  by_goes : (own : List Deed) (h : Hand) (r : Result ScanWords Ended) → ((words : ScanWords) → r ≡ Ok words → IsValid words.folder) → Goes (scan_pledge run (path_of profile)) own h (scan_by run profile r) (okay (Of (Noted (path_of profile) own)))
-  unfolding Goes
-  by_goes own h (Ok words) valid = goes_lifted (scan_pledge run (path_of profile)) own h plain (scan_begun run profile words) (Of (Noted (path_of profile) own)) (begun_goes own h words (valid words refl))
-  by_goes own h (Err e) valid = tt
+  mark_onward : (value : Result MarkWords Ended) → Onward (context_step profile) (mark_by run profile value)
+  unfolding mark_begun
+  mark_onward (Ok words) = inr (λ b. on_context profile words.folder (mark_acts words) (reading_of b), context_asked profile words.folder (mark_acts words))
+  mark_onward (Err e) = inl (Err e, refl)
 
-  named_goes : (own : List Deed) (h : Hand) (words : List (List ℕ)) → Goes (scan_pledge run (path_of profile)) own h (command_by run profile words) (okay (Of (Noted (path_of profile) own)))
-  unfolding Goes
-  named_goes own h [] = tt
-  named_goes own h (name ∷ words) = go (bytes_eq name (codes "scan"))
+  word_onward : (word : List ℕ) (words : List (List ℕ)) (name : Option CommandName) → Onward (context_step profile) (word_by run profile word words name)
+  word_onward word words None = inl (Err (no_command (Some word)), refl)
+  word_onward word words (Some Scan) = scan_onward (scan_said profile (map chars words))
+  word_onward word words (Some Mark) = mark_onward (mark_said profile (map chars words))
+
+  named_onward : (words : List (List ℕ)) → Onward (context_step profile) (command_by run profile words)
+  named_onward [] = inl (Err (no_command None), refl)
+  named_onward (word ∷ words) = word_onward word words (named word)
+
+-- a command is done so
+pub record Finished (name : Option CommandName) (path : List ℕ) (past : List Done) (h : Hand) (u : Unit {0}) : Type 0 where
+  pub is_done : IsDone name path (acts past)
+  pub unfailed : HasFailed (acts past) → ⊥
+
+-- the folder is named after the context was read so, and the work keeps the rules
+module _ (w : Pledge) (past : List Done) (h : Hand) (sound : Sound w (acts past) h) (profile : List NamedValue) (said : Option (List ℕ)) (act : List ℕ → Commanded Unit) (P : List Done → Hand → Unit → Type 0) where
+  acts_by : (es : List NamedValue) → ((folder : List ℕ) → folder_of said es profile ≡ Ok folder → Keeps (rules_of w) past (knowing es h) (act folder) (IfOkay P)) → (value : Result (List ℕ) CommandFault) → folder_of said es profile ≡ value
+      → Keeps (rules_of w) past (knowing es h) (after act value) (IfOkay P)
+  unfolding Keeps
+  acts_by es f (Ok folder) is = f folder is
+  acts_by es f (Err e) is = (sound.numbered, tt)
+
+  plainly_keeps : (r : Reading) → ((folder : List ℕ) → folder_of said (entries_in (text_of r)) profile ≡ Ok folder → Keeps (rules_of w) past (knowing (entries_in (text_of r)) h) (act folder) (IfOkay P))
+      → Keeps (rules_of w) past h (on_context_plainly profile said act r) (IfOkay P)
+  unfolding Keeps context_seen bind ◌>>=◌
+  plainly_keeps (reading.Content bytes) f = (sound.numbered, acts_by (entries_in bytes) f (folder_of said (entries_in bytes) profile) refl)
+  plainly_keeps (reading.Long l) f = (sound.numbered, tt)
+  plainly_keeps reading.Gone f = (sound.numbered, acts_by (entries_in []) f (folder_of said (entries_in []) profile) refl)
+
+  context_keeps : (r : Reading) → ((folder : List ℕ) → folder_of said (entries_in (text_of r)) profile ≡ Ok folder → Keeps (rules_of w) past (knowing (entries_in (text_of r)) h) (act folder) (IfOkay P))
+      → Keeps (rules_of w) past h (on_context profile said act r) (IfOkay P)
+  context_keeps r f = keeps_lifted (rules_of w) past h plain (on_context_plainly profile said act r) P (plainly_keeps r f)
+
+-- the deeds of two readings
+abbrev two_readings : List NamedValue → Answer → Answer → List Done
+two_readings profile a b = Did profile_step a ∷ (Did (context_step profile) b ∷ [])
+
+two_settled : (profile : List NamedValue) (a b : Answer) → AreSettled (acts (two_readings profile a b))
+two_settled profile a b = settled_kept _ (context_step profile) b tt (settled_kept [] profile_step a tt none_settled)
+
+known_sound : (w : Pledge) (own : List Deed) (h : Hand) (es : List NamedValue) → Sound w own h → Sound w own (knowing es h)
+known_sound w own h es s = record { numbered = s.numbered; unfailed = s.unfailed }
+
+module _ (run : ℕ) (few : run < 2 ^ 128) (profile : List NamedValue) (h : Hand) where
+  abbrev path : List ℕ
+  path = path_of profile
+
+  abbrev look : Pledge
+  look = scan_pledge run path
+
+  -- `scan`
+  scan_done : (a b : Answer) (later : List Done) (j : Hand) (r : Result Unit CommandFault) → Sound look (acts later) j → okay (Of (Noted path (acts (two_readings profile a b)))) (acts later) j r → IfOkay (Finished (Some Scan) path) later j r
+  scan_done a b later j (Ok u) s f = record { is_done = record { settled = f.settled (two_settled profile a b); done = parts f.done }; unfailed = s.unfailed }
     where
-      all : List (List ℕ)
-      all = profile_words (codes "scan") profile ++ map chars words
+      parts : HasCommitted (Mail path) context_name (acts later) ⊎ (OnlyLooked (acts (two_readings profile a b)) → OnlyLooked (acts later)) → HasCommitted (Mail path) context_name (acts later) ⊎ OnlyLooked (acts later)
+      parts (inl c) = inl c
+      parts (inr o) = inr (o (tt, tt, tt))
+  scan_done a b later j (Err e) s f = tt
 
-      go : (b : Bool) → Goes (scan_pledge run (path_of profile)) own h (if b then scan_by run profile (scan_said profile (map chars words)) else Return (Err (no_command (Some name)))) (okay (Of (Noted (path_of profile) own)))
-      go true = by_goes own h (scan_said profile (map chars words)) (λ said e. items_valid all (read_in scan_table 0 all) said e)
-      go false = tt
+  scan_keeps : (words : ScanWords) → IsValid words.folder → (a b : Answer) (es : List NamedValue) (folder : List ℕ) → folder_of words.folder es profile ≡ Ok folder → Sound look (acts (two_readings profile a b)) h
+      → Keeps (rules_of look) (two_readings profile a b) (knowing es h) (scan_acts run profile words folder) (IfOkay (Finished (Some Scan) path))
+  scan_keeps words valid a b es folder is sound =
+      keeps_more (rules_of look) past j plan (ByActs (Soundly look (okay (Of (Noted path (acts past)))))) (IfOkay (Finished (Some Scan) path)) (λ later i r q. scan_done a b later i r q.0 q.1)
+      (goes_keeps look past (acts past) j plan (okay (Of (Noted path (acts past)))) refl (known_sound look (acts past) h es sound)
+      (scan_goes run few path (acts past) j (job_of folder words profile) (acted_valid words.folder es profile folder valid is)))
+    where
+      past : List Done
+      past = two_readings profile a b
+
+      j : Hand
+      j = knowing es h
+
+      plan : Plan (Result Unit CommandFault)
+      plan = scan_acts run profile words folder
+
+  scan_words_keep : (b : Answer) (value : Result ScanWords Ended) → ((words : ScanWords) → value ≡ Ok words → IsValid words.folder)
+      → Keeps (rules_of look) [] h (Ask profile_step (λ c. rest_by (context_step profile) (scan_by run profile value) (scan_onward run profile value) b)) (IfOkay (Finished (Some Scan) path))
+  scan_words_keep b (Ok words) valid =
+      keeps_after look Home (Mail path) profile_name context_name LIMIT_BYTES h (on_context profile words.folder (scan_acts run profile words) (reading_of b)) (IfOkay (Finished (Some Scan) path))
+      (λ c d sound. context_keeps look (two_readings profile c d) h sound profile words.folder (scan_acts run profile words) (Finished (Some Scan) path) (reading_of b)
+      (λ folder is. scan_keeps words (valid words refl) c d (entries_by b) folder is sound))
+  scan_words_keep b (Err e) valid = keeps_ended look Home profile_name LIMIT_BYTES h (Err e) (IfOkay (Finished (Some Scan) path)) (λ c. tt)
+
+  -- `mark`
+  mark_done : (a b : Answer) (later : List Done) (j : Hand) (r : Result Unit CommandFault) → IfOkay (Still (acts (two_readings profile a b))) later j r → IfOkay (Finished (Some Mark) path) later j r
+  mark_done a b later j (Ok u) f = record { is_done = f.settled (two_settled profile a b); unfailed = f.unfailed }
+  mark_done a b later j (Err e) f = tt
+
+  module _ (words : MarkWords) (a b : Answer) (es : List NamedValue) (folder : List ℕ) where
+    abbrev MarkKeeps : Pledge → Type 0
+    MarkKeeps w = Sound w (acts (two_readings profile a b)) h → Keeps (rules_of w) (two_readings profile a b) (knowing es h) (mark_acts run profile words folder) (IfOkay (Finished (Some Mark) path))
+
+    marked_so : MarkKeeps (on_named run profile words (Ok folder))
+    unfolding mark
+    marked_so sound =
+        let w = on_named run profile words (Ok folder) in
+        keeps_more (rules_of w) (two_readings profile a b) (knowing es h) (mark_acts run profile words folder) (IfOkay (Still (acts (two_readings profile a b)))) (IfOkay (Finished (Some Mark) path)) (mark_done a b)
+        (mark_keeps run few path (mark_job folder words profile) words.act (two_readings profile a b) (knowing es h) (known_sound w (acts (two_readings profile a b)) h es sound))
+
+    marked_at : folder_of words.folder es profile ≡ Ok folder → MarkKeeps (on_named run profile words (folder_of words.folder es profile))
+    marked_at is = subst (λ v. MarkKeeps (on_named run profile words v)) (sym is) marked_so
+
+  mark_words_keep : (b : Answer) (value : Result MarkWords Ended)
+      → Keeps (rules_of (marks_pledge run profile (entries_by b) value)) [] h (Ask profile_step (λ c. rest_by (context_step profile) (mark_by run profile value) (mark_onward run profile value) b)) (IfOkay (Finished (Some Mark) path))
+  mark_words_keep b (Ok words) =
+      keeps_after w Home (Mail path) profile_name context_name LIMIT_BYTES h (on_context profile words.folder (mark_acts run profile words) (reading_of b)) (IfOkay (Finished (Some Mark) path))
+      (λ c d sound. context_keeps w (two_readings profile c d) h sound profile words.folder (mark_acts run profile words) (Finished (Some Mark) path) (reading_of b)
+      (λ folder is. marked_at words c d (entries_by b) folder is sound))
+    where
+      w : Pledge
+      w = on_named run profile words (folder_of words.folder (entries_by b) profile)
+  mark_words_keep b (Err e) = keeps_ended look Home profile_name LIMIT_BYTES h (Err e) (IfOkay (Finished (Some Mark) path)) (λ c. tt)
+
+  -- the command that the words name
+  word_keeps : (b : Answer) (word : List ℕ) (words : List (List ℕ)) (name : Option CommandName)
+      → Keeps (rules_of (word_pledge run profile (entries_by b) words name)) [] h (Ask profile_step (λ c. rest_by (context_step profile) (word_by run profile word words name) (word_onward run profile word words name) b)) (IfOkay (Finished name path))
+  word_keeps b word words None = keeps_ended look Home profile_name LIMIT_BYTES h (Err (no_command (Some word))) (IfOkay (Finished None path)) (λ c. tt)
+  word_keeps b word words (Some Scan) = scan_words_keep b (scan_said profile (map chars words)) (λ said e. scan_valid profile (map chars words) said e)
+  word_keeps b word words (Some Mark) = mark_words_keep b (mark_said profile (map chars words))
+
+  named_keeps : (b : Answer) (words : List (List ℕ))
+      → Keeps (rules_of (command_pledge run words profile (entries_by b))) [] h (Ask profile_step (λ c. rest_by (context_step profile) (command_by run profile words) (named_onward run profile words) b)) (IfOkay (Finished (command_of words) path))
+  named_keeps b [] = keeps_ended look Home profile_name LIMIT_BYTES h (Err (no_command None)) (IfOkay (Finished None path)) (λ c. tt)
+  named_keeps b (word ∷ words) = word_keeps b word words (named word)
+
+-- whose pledge it is
+pub pledge_run : (run : ℕ) (words : List (List ℕ)) (profile context : List NamedValue) → (command_pledge run words profile context).run ≡ run
+pledge_run run [] profile context = refl
+pledge_run run (word ∷ words) profile context = go (named word)
+  where
+    on : (said : MarkWords) (value : Result (List ℕ) CommandFault) → (on_named run profile said value).run ≡ run
+    on said (Err e) = refl
+    on said (Ok folder) = by said.act
+      where
+        by : (act : Option MarkAct) → (pledge_by run (path_of profile) (mark_job folder said profile) act).run ≡ run
+        by None = refl
+        by (Some a) = refl
+
+    marks_by : (value : Result MarkWords Ended) → (marks_pledge run profile context value).run ≡ run
+    marks_by (Ok said) = on said (folder_of said.folder context profile)
+    marks_by (Err e) = refl
+
+    go : (name : Option CommandName) → (word_pledge run profile context words name).run ≡ run
+    go None = refl
+    go (Some Scan) = refl
+    go (Some Mark) = marks_by (mark_said profile (map chars words))
 
 module _ (run : ℕ) (few : run < 2 ^ 128) (words : List (List ℕ)) where
   -- the command, by what reading the profile gave
   abbrev pub next_by : Reading → Ending Unit
   next_by r = lifted plain (text_by r) >>= (λ text. command_by run (entries_in text) words)
 
-  abbrev pub first : Step
-  first = Read Home profile_name LIMIT_BYTES
-
-  command_is : command run words ≡ Ask first (λ a. next_by (reading_of a))
+  command_is : command run words ≡ Ask profile_step (λ a. next_by (reading_of a))
   unfolding command text_read read ask lifted bind ◌>>=◌
   command_is = refl
 
-  next_goes : (own : List Deed) (h : Hand) (r : Reading) → Goes (scan_pledge run (path_of (entries_in (text_of r)))) own h (next_by r) (okay (Of (Noted (path_of (entries_in (text_of r))) own)))
-  unfolding Goes lifted bind ◌>>=◌
-  next_goes own h (reading.Content bytes) = named_goes run few (entries_in bytes) own h words
-  next_goes own h (reading.Long l) = tt
-  next_goes own h reading.Gone = named_goes run few (entries_in []) own h words
+  abbrev step_by : Reading → Step
+  step_by r = context_step (entries_in (text_of r))
 
-  finished_by : (path : List ℕ) (a : Answer) (later : List Deed) → Noted path (did first a ∷ []) later → AreFinished (Mail path) context_name later
-  finished_by path a later f = record { settled = f.settled (settled_kept [] first a tt none_settled); done = parts f.done }
-    where
-      parts : HasCommitted (Mail path) context_name later ⊎ (OnlyLooked (did first a ∷ []) → OnlyLooked later) → HasCommitted (Mail path) context_name later ⊎ OnlyLooked later
-      parts (inl c) = inl c
-      parts (inr o) = inr (o (tt, tt))
+  onward_by : (r : Reading) → Onward (step_by r) (next_by r)
+  unfolding lifted bind ◌>>=◌
+  onward_by (reading.Content bytes) = named_onward run (entries_in bytes) words
+  onward_by (reading.Long l) = inl (Err (plain (too_large l)), refl)
+  onward_by reading.Gone = named_onward run (entries_in []) words
 
-  abbrev pub Ends : Answer → Outcome (Result Unit Ended)
-  Ends a = okay (Of (AreFinished (Mail (path_by a)) context_name))
+  abbrev pub plan_by : Reading → Answer → Ending Unit
+  plan_by r b = Ask profile_step (λ c. rest_by (step_by r) (next_by r) (onward_by r) b)
 
-  -- whatever the profile was, the rest goes as pledged
-  pub answered_goes : (h : Hand) (a : Answer) → Goes (scan_pledge run (path_by a)) [] h (answered first (λ b. next_by (reading_of b)) a) (Ends a)
-  unfolding Goes
-  answered_goes h a = (
-    (λ s. (record { is_own = only_looks tt; marks = tt; steps = λ no. absurd (no tt) }, tt)),
-    λ b row live.
-        goes_more (scan_pledge run (path_by a)) (did first b ∷ []) h (next_by (reading_of a)) (okay (Of (Noted (path_by a) (did first b ∷ [])))) (Ends a)
-        (okay_more (Of (Noted (path_by a) (did first b ∷ []))) (Of (AreFinished (Mail (path_by a)) context_name)) (λ later j u f. finished_by (path_by a) b later f))
-        (next_goes (did first b ∷ []) h (reading_of a)),
-  )
+  -- whatever the profile and the context were, the call keeps the rules of its pledge
+  pub read_keeps : (h : Hand) (r : Reading) (b : Answer) → Keeps (rules_of (command_pledge run words (entries_in (text_of r)) (entries_by b))) [] h (plan_by r b) (IfOkay (Finished (command_of words) (path_of (entries_in (text_of r)))))
+  unfolding lifted bind ◌>>=◌
+  read_keeps h (reading.Content bytes) b = named_keeps run few (entries_in bytes) h b words
+  read_keeps h (reading.Long l) b = keeps_ended (command_pledge run words (entries_in []) (entries_by b)) Home profile_name LIMIT_BYTES h (Err (plain (too_large l))) (IfOkay (Finished (command_of words) (path_of (entries_in [])))) (λ c. tt)
+  read_keeps h reading.Gone b = named_keeps run few (entries_in []) h b words
 
-  pub command_answers : (x y : State) (result : Result Unit Ended) → Follows run ended_cause (command run words) x y result → Answers run ended_cause first (λ a. next_by (reading_of a)) x y result
-  command_answers x y result f = follows_answered run ended_cause first (λ a. next_by (reading_of a)) x y result (subst (λ p. Follows run ended_cause p x y result) command_is f)
+  -- the answers to the first two steps of a run of the command
+  abbrev pub Answered : Hand → Hand → List Done → Exit (Result Unit Ended) → Type 0
+  Answered h j ds exit = TwoAnswers profile_step (λ a. step_by (reading_of a)) (λ a. next_by (reading_of a)) (λ a. onward_by (reading_of a)) h j ds exit
 
-  begun_by : (a : Answer) (own : List Deed) → (own ≡ []) ⊎ ((newer : List Deed) × (own ≡ newer ++ did first a ∷ [])) → HaveBegun (path_by a) own
-  begun_by a own (inl e) = inl e
-  begun_by a own (inr b) = inr (b.0, a, b.1, refl)
+  pub answers_of : (h j : Hand) (ds : List Done) (exit : Exit (Result Unit Ended)) → Runs (command run words) h ds j exit → Answered h j ds exit
+  answers_of h j ds exit f =
+      two_answers profile_step (λ a. step_by (reading_of a)) (λ a. next_by (reading_of a)) h j ds exit (λ a. onward_by (reading_of a)) (subst (λ p. Runs p h ds j exit) command_is f)
 
-  -- a call that follows a command keeps the pledge of the mail directory that the profile names
-  pub command_keeps : (x y : State) (result : Result Unit Ended) → Follows run ended_cause (command run words) x y result → KeepsPledge run x y result
-  command_keeps x y result f =
-      let c = command_answers x y result f in record {
-        path = path_by c.answer;
-        own = acts (deeds_in c.follows.went.log);
-        made = acts_made run x.files.story y.files.story c.follows.went.log c.follows.went.grows;
-        begun = begun_by c.answer (acts (deeds_in c.follows.went.log)) (acts_begin first c.answer (deeds_in c.follows.went.log) c.begins);
-        finished = λ e. goes_gave (scan_pledge run (path_by c.answer)) ended_cause (answered first (λ a. next_by (reading_of a)) c.answer) x y result (Ends c.answer) (answered_goes x.hand c.answer) c.follows tt e;
-        promises = goes_promises (scan_pledge run (path_by c.answer)) ended_cause (answered first (λ a. next_by (reading_of a)) c.answer) x y result (Ends c.answer) (answered_goes x.hand c.answer) c.follows;
-      }
+  abbrev pub End : Answer → List Done → Hand → Unit → Type 0
+  End a = Finished (command_of words) (path_by a)
+
+  abbrev pub pledge_at : Answer → Answer → Pledge
+  pledge_at a b = command_pledge run words (entries_by a) (entries_by b)
+
+  -- where the command is Done, no step has failed, and it is done as it pledged
+  ended_so : (h j : Hand) (ds : List Done) (result : Result Unit Ended) → (t : Answered h j ds (exit_of ended_cause result)) → result ≡ Ok tt → Finished (command_of words) (path_by t.first) ds j tt
+  ended_so h j ds result t e =
+      let kept = run_keeps (rules_of (pledge_at t.first t.second)) [] h (plan_by (reading_of t.first) t.second) ds j (exit_of ended_cause result) (IfOkay (End t.first)) (read_keeps h (reading_of t.first) t.second) t.runs in
+      subst (λ r. Gave (rules_of (pledge_at t.first t.second)) (IfOkay (End t.first)) ds j (exit_of ended_cause r)) e kept.gave
+
+  module _ (x y : State) (result : Result Unit Ended) (f : Follows run ended_cause (command run words) x y result) where
+    abbrev deeds : List Done
+    deeds = deeds_in f.went.log
+
+    abbrev answers : Answered x.hand y.hand deeds (exit_of ended_cause result)
+    answers = answers_of x.hand y.hand deeds (exit_of ended_cause result) f.went.runs
+
+    -- it follows the plan with the answers that it got
+    pub follows_pledged : (t : Answered x.hand y.hand deeds (exit_of ended_cause result)) → Follows (pledge_at t.first t.second).run ended_cause (plan_by (reading_of t.first) t.second) x y result
+    follows_pledged t =
+        subst (λ n. Follows n ended_cause (plan_by (reading_of t.first) t.second) x y result) (sym (pledge_run run words (entries_by t.first) (entries_by t.second)))
+        (follows_so run ended_cause (command run words) (plan_by (reading_of t.first) t.second) x y result f t.runs)
+
+    pub command_clean : result ≡ Ok tt → HasFailed (acts deeds) → ⊥
+    command_clean e = (ended_so x.hand y.hand deeds result answers e).unfailed
+
+    -- a call that follows a command keeps the pledge that its profile, its words and the context make
+    pub command_keeps : KeepsPledge run words x y result
+    command_keeps = kept_by answers
+      where
+        kept_by : Answered x.hand y.hand deeds (exit_of ended_cause result) → KeepsPledge run words x y result
+        kept_by t = record {
+          profile = t.first;
+          context = t.second;
+          own = acts deeds;
+          made = acts_made run x.files.story y.files.story f.went.log f.went.grows;
+          begun = acts_begin_with profile_step t.first (step_by (reading_of t.first)) t.second deeds t.begin;
+          finished = λ e. (ended_so x.hand y.hand deeds result t e).is_done;
+          promises = keeps_pledge (pledge_at t.first t.second) ended_cause (plan_by (reading_of t.first) t.second) x y result (IfOkay (End t.first)) (read_keeps x.hand (reading_of t.first) t.second) (follows_pledged t);
+        }

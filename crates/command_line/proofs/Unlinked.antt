@@ -1,6 +1,6 @@
--- A command links nothing, so no own Link ever met a name.
-use Rattle.std.proofs.Common.{◌≡◌, inl, inr, ◌&&◌, ◌||◌, ℕ, Bool, true, false, List, [], ◌∷◌, Some, None, Result, Ok, Err, refl, ◌∙◌, ap, bytes_eq}
-use Rattle.std.specs.Prelude.{codes, map, not, if◌then◌else◌}
+-- A command that looks links nothing, so no own Link ever met a name.
+use Rattle.std.proofs.Common.{◌≡◌, inl, inr, ◌&&◌, ◌||◌, ℕ, Bool, true, false, List, [], ◌∷◌, Some, None, Result, Ok, Err, refl, ◌∙◌, ap, Option}
+use Rattle.std.specs.Prelude.{map, not}
 use Rattle.std.specs.Str.{chars}
 use Rattle.mh_base.specs.Entries.{entry_text}
 use Rattle.mh_base.specs.declared.entry.Entry.TheVariants.{Number, Sequences}
@@ -35,7 +35,11 @@ use Rattle.command_stages.specs.Texts.{text_by, text_read}
 use Rattle.command_stages.specs.Current.{current_change, made_current}
 use Rattle.mh_looks.specs.Scan.{shown_by, one_shown, all_shown, ordered, entries_seen, chosen_by, scan}
 use Rattle.mh_looks.specs.declared.job.ScanJob.{ScanJob}
-use Rattle.command_line.specs.Command.{profile_name, path_of, folder_of, job_of, context_seen, context_entered, scan_begun, scan_by, no_command, command_by, command}
+use Rattle.command_line.specs.Command.{command, command_by, context_entered, context_seen, folder_found, job_of, no_command, scan_begun, scan_by, word_by}
+use Rattle.command_line.specs.CommandNames.{command_of, named}
+use Rattle.command_line.specs.Profile.{folder_of, path_of, profile_name}
+use Rattle.command_line.specs.declared.name.CommandName.{CommandName}
+use Rattle.command_line.specs.declared.name.CommandName.TheVariants.{Mark, Scan}
 use Rattle.command_words.specs.Ended.{plain}
 use Rattle.command_words.specs.ScanWords.{scan_said}
 use Rattle.command_words.specs.declared.ended.Ended.{Ended}
@@ -133,6 +137,78 @@ entered_nothing : (p : Place) → LinksNothing (context_entered p)
 unfolding context_entered
 entered_nothing p = asks_then IsUnlinked (text_read p context_name) (λ text. context_seen (entries_in text)) (text_nothing p context_name) (λ text. seen_nothing (entries_in text))
 
+found_nothing : (profile : List NamedValue) (said : Option (List ℕ)) → LinksNothing (folder_found profile said)
+unfolding folder_found
+found_nothing profile said =
+    asks_then IsUnlinked (context_entered (Mail (path_of profile))) _ (entered_nothing (Mail (path_of profile))) (λ u. value_nothing (λ h. folder_of said (entries_seen h.context) profile))
+
+begun_nothing : (run : ℕ) (profile : List NamedValue) (words : ScanWords) → LinksNothing (scan_begun run profile words)
+unfolding scan_begun
+begun_nothing run profile words = asks_then IsUnlinked (folder_found profile words.folder) _ (found_nothing profile words.folder) (λ folder. scan_nothing run (path_of profile) (job_of folder words profile))
+
+by_nothing : (r : Reading) → LinksNothing (text_by r)
+unfolding AsksOnly
+text_by_nothing (reading.Content bytes) = tt
+text_by_nothing (reading.Long l) = tt
+text_by_nothing reading.Gone = tt
+
+text_nothing : (p : Place) (n : List ℕ) → LinksNothing (text_read p n)
+unfolding text_read
+text_nothing p n = asks_then IsUnlinked (lifted of_stop (read p n LIMIT_BYTES)) text_by (asks_lifted IsUnlinked of_stop (read p n LIMIT_BYTES) (reads p n LIMIT_BYTES)) text_by_nothing
+
+names_nothing : (folder : List ℕ) (l : Listing) → LinksNothing (names_by folder l)
+unfolding AsksOnly
+names_nothing folder (listing.Names names) = tt
+names_nothing folder listing.Gone = tt
+
+folder_nothing : (p : Place) (folder : List ℕ) → LinksNothing (folder_listed p folder)
+unfolding folder_listed
+folder_nothing p folder = asks_then IsUnlinked (lifted of_stop (list p)) (names_by folder) (asks_lifted IsUnlinked of_stop (list p) (lists p)) (names_nothing folder)
+
+shown_nothing : (p : Place) (n : ℕ) (r : Reading) → LinksNothing (shown_by p n r)
+unfolding AsksOnly say lifted bind ◌>>=◌
+shown_nothing p n (reading.Content bytes) = tt
+shown_nothing p n (reading.Long l) = tt
+shown_nothing p n reading.Gone = tt
+
+one_nothing : (p : Place) (n : ℕ) → LinksNothing (one_shown p n)
+unfolding one_shown
+one_nothing p n = asks_then IsUnlinked (lifted of_stop (read p (entry_text (Number n)) LIMIT_BYTES)) (shown_by p n) (asks_lifted IsUnlinked of_stop (read p (entry_text (Number n)) LIMIT_BYTES) (reads p (entry_text (Number n)) LIMIT_BYTES)) (shown_nothing p n)
+
+all_nothing : (p : Place) (ns : List ℕ) → LinksNothing (all_shown p ns)
+unfolding all_shown
+all_nothing p [] = asks_none IsUnlinked (Ok tt)
+all_nothing p (n ∷ ns) = asks_then IsUnlinked (one_shown p n) (λ u. all_shown p ns) (one_nothing p n) (λ u. all_nothing p ns)
+
+commits_nothing : (p : Place) → Commits IsUnlinked p context_name
+commits_nothing p = record { make = tt; lock = tt; list = tt; clear = λ temp is. tt; read = tt; create = λ temp bytes. tt; sync_file = λ temp. tt; rename = λ temp. tt; sync = tt; unlock = tt }
+
+current_nothing : (run : ℕ) (mail folder : List ℕ) → LinksNothing (made_current run mail folder)
+unfolding made_current
+current_nothing run mail folder =
+    asks_then IsUnlinked (lifted (of_plan folder) (commit_context run (Mail mail) (current_change folder))) (λ u. Return (Ok tt))
+    (asks_lifted IsUnlinked (of_plan folder) (commit_context run (Mail mail) (current_change folder)) (asks_commit IsUnlinked run (Mail mail) (current_change folder) (commits_nothing (Mail mail)))) (λ u. asks_none IsUnlinked (Ok tt))
+
+value_nothing : {A : Type 0} (value : Hand → A) → LinksNothing (Recall (λ h. Return (value h)))
+unfolding AsksOnly
+value_nothing value = λ h. tt
+
+scan_nothing : (run : ℕ) (mail : List ℕ) (job : ScanJob) → LinksNothing (scan run mail job)
+unfolding scan
+scan_nothing run mail job =
+    asks_then IsUnlinked (folder_listed (Folder mail job.folder) job.folder) _ (folder_nothing (Folder mail job.folder) job.folder) (λ names.
+    asks_then IsUnlinked (text_read (Folder mail job.folder) (entry_text Sequences)) _ (text_nothing (Folder mail job.folder) (entry_text Sequences)) (λ text.
+    asks_then IsUnlinked (Recall (λ h. Return (chosen_by job names text (entries_seen h.context)))) _ (value_nothing (λ h. chosen_by job names text (entries_seen h.context))) (λ numbers.
+    asks_then IsUnlinked (all_shown (Folder mail job.folder) (ordered job.reverse numbers)) _ (all_nothing (Folder mail job.folder) (ordered job.reverse numbers)) (λ u. current_nothing run mail job.folder))))
+
+seen_nothing : (es : List NamedValue) → LinksNothing (context_seen es)
+unfolding AsksOnly context_seen
+seen_nothing es = λ h. tt
+
+entered_nothing : (p : Place) → LinksNothing (context_entered p)
+unfolding context_entered
+entered_nothing p = asks_then IsUnlinked (text_read p context_name) (λ text. context_seen (entries_in text)) (text_nothing p context_name) (λ text. seen_nothing (entries_in text))
+
 begun_nothing : (run : ℕ) (profile : List NamedValue) (words : ScanWords) → LinksNothing (scan_begun run profile words)
 unfolding scan_begun
 begun_nothing run profile words =
@@ -143,18 +219,19 @@ by_nothing : (run : ℕ) (profile : List NamedValue) (value : Result ScanWords E
 by_nothing run profile (Ok words) = asks_lifted IsUnlinked plain (scan_begun run profile words) (begun_nothing run profile words)
 by_nothing run profile (Err e) = asks_none IsUnlinked (Err e)
 
-named_nothing : (run : ℕ) (profile : List NamedValue) (words : List (List ℕ)) → LinksNothing (command_by run profile words)
-named_nothing run profile [] = asks_none IsUnlinked (Err (no_command None))
-named_nothing run profile (name ∷ words) = go (bytes_eq name (codes "scan"))
-  where
-    go : (b : Bool) → LinksNothing (if b then scan_by run profile (scan_said profile (map chars words)) else Return (Err (no_command (Some name))))
-    go true = by_nothing run profile (scan_said profile (map chars words))
-    go false = asks_none IsUnlinked (Err (no_command (Some name)))
+word_nothing : (run : ℕ) (profile : List NamedValue) (word : List ℕ) (words : List (List ℕ)) (name : Option CommandName) → (name ≡ Some Mark → ⊥) → LinksNothing (word_by run profile word words name)
+word_nothing run profile word words None other = asks_none IsUnlinked (Err (no_command (Some word)))
+word_nothing run profile word words (Some Scan) other = by_nothing run profile (scan_said profile (map chars words))
+word_nothing run profile word words (Some Mark) other = absurd (other refl)
 
-pub command_nothing : (run : ℕ) (words : List (List ℕ)) → LinksNothing (command run words)
+named_nothing : (run : ℕ) (profile : List NamedValue) (words : List (List ℕ)) → (command_of words ≡ Some Mark → ⊥) → LinksNothing (command_by run profile words)
+named_nothing run profile [] other = asks_none IsUnlinked (Err (no_command None))
+named_nothing run profile (word ∷ words) other = word_nothing run profile word words (named word) other
+
+pub command_nothing : (run : ℕ) (words : List (List ℕ)) → (command_of words ≡ Some Mark → ⊥) → LinksNothing (command run words)
 unfolding command
-command_nothing run words =
-    asks_then IsUnlinked (lifted plain (text_read Home profile_name)) (λ text. command_by run (entries_in text) words) (asks_lifted IsUnlinked plain (text_read Home profile_name) (text_nothing Home profile_name)) (λ text. named_nothing run (entries_in text) words)
+command_nothing run words other =
+    asks_then IsUnlinked (lifted plain (text_read Home profile_name)) (λ text. command_by run (entries_in text) words) (asks_lifted IsUnlinked plain (text_read Home profile_name) (text_nothing Home profile_name)) (λ text. named_nothing run (entries_in text) words other)
 
 -- so is each step of each run of it
 abbrev AreUnlinked : List Deed → Type 0
@@ -217,5 +294,5 @@ unmet_over past (Said piece ∷ ds) p x none f = unmet_over past ds p x none f
 unmet_over past (Heard piece ∷ ds) p x none f = unmet_over past ds p x none f
 
 -- a call that follows a command meets its contents as they are
-pub command_first : (run : ℕ) (words : List (List ℕ)) (c : Contents) (ns : List ℕ) (h j : Hand) (ds : List Deed) (exit : Exit (Result Unit Ended)) → Runs (command run words) h ds j exit → IsFirst (first_view c ns (is_first_met (acts ds)))
-command_first run words c ns h j ds exit runs = record { seen = refl; unmet = λ p x. unmet_over [] ds p x refl (run_unlinked (command run words) h j ds exit (command_nothing run words) runs) }
+pub command_first : (run : ℕ) (words : List (List ℕ)) → (command_of words ≡ Some Mark → ⊥) → (c : Contents) (ns : List ℕ) (h j : Hand) (ds : List Deed) (exit : Exit (Result Unit Ended)) → Runs (command run words) h ds j exit → IsFirst (first_view c ns (is_first_met (acts ds)))
+command_first run words other c ns h j ds exit runs = record { seen = refl; unmet = λ p x. unmet_over [] ds p x refl (run_unlinked (command run words) h j ds exit (command_nothing run words other) runs) }

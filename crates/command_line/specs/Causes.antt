@@ -15,7 +15,7 @@ use Rattle.step_plans.specs.Endings.{IsHeld, IsMeddled, IsLongRead, IsLongText}
 use Rattle.step_plans.specs.declared.command_fault.CommandFault.{CommandFault}
 use Rattle.step_plans.specs.declared.command_fault.CommandFault.TheVariants as fault
 use Rattle.command_stages.specs.Current.{current_change}
-use Rattle.command_line.specs.Command.{profile_name}
+use Rattle.command_line.specs.Profile.{profile_name}
 
 -- the profile was read, and that is all
 abbrev pub ReadsProfile : List Deed → Type 0

@@ -1,6 +1,8 @@
 -- What a call of a command keeps.
-use Rattle.std.specs.Prelude.{◌≡◌, ◌⊎◌, ◌++◌, ℕ, List, [], ◌∷◌, Result, Ok}
+use Rattle.std.specs.Prelude.{◌≡◌, ◌⊎◌, ◌++◌, ℕ, List, [], ◌∷◌, map, Option, None, Some, Result, Ok, Err}
+use Rattle.std.specs.Str.{chars}
 use Rattle.mh_profile.specs.Reading.{entries_in}
+use Rattle.mh_profile.specs.declared.named_value.NamedValue.{NamedValue}
 use Rattle.folder_files.specs.Deeds.{Deed, did}
 use Rattle.folder_files.specs.declared.place.Place.TheVariants.{Home, Mail}
 use Rattle.folder_files.specs.declared.step.Answer.{Answer}
@@ -12,10 +14,20 @@ use Rattle.file_plans.specs.declared.answers.Reading.{Reading}
 use Rattle.file_plans.specs.declared.answers.Reading.TheVariants as reading
 use Rattle.step_plans.specs.ContextCommit.{LIMIT_BYTES, context_name}
 use Rattle.step_plans.specs.Finished.{AreFinished}
+use Rattle.step_plans.specs.Pledges.{Pledge}
 use Rattle.step_plans.specs.Promises.{Promises}
+use Rattle.step_plans.specs.Settled.{AreSettled}
+use Rattle.step_plans.specs.declared.command_fault.CommandFault.{CommandFault}
 use Rattle.mh_looks.specs.ScanPledge.{scan_pledge}
-use Rattle.command_line.specs.Command.{path_of, profile_name}
+use Rattle.mark_command.specs.MarkPledge.{pledge_by}
+use Rattle.command_words.specs.MarkWords.{mark_said}
 use Rattle.command_words.specs.declared.ended.Ended.{Ended}
+use Rattle.command_words.specs.declared.mark.MarkWords.{MarkWords}
+use Rattle.command_line.specs.Command.{mark_job}
+use Rattle.command_line.specs.CommandNames.{command_of, named}
+use Rattle.command_line.specs.Profile.{folder_of, path_of, profile_name}
+use Rattle.command_line.specs.declared.name.CommandName.{CommandName}
+use Rattle.command_line.specs.declared.name.CommandName.TheVariants.{Mark, Scan}
 
 -- the text that was read; the empty one where there is none
 abbrev pub text_of : Reading → List ℕ
@@ -23,20 +35,55 @@ text_of (reading.Content bytes) = bytes
 text_of (reading.Long l) = []
 text_of reading.Gone = []
 
+-- the entries that the answer to a reading gave
+abbrev pub entries_by : Answer → List NamedValue
+entries_by a = entries_in (text_of (reading_of a))
+
 -- the path of the mail directory, by the answer to the reading of the profile
 abbrev pub path_by : Answer → List ℕ
-path_by a = path_of (entries_in (text_of (reading_of a)))
+path_by a = path_of (entries_by a)
 
--- the run's first step read the profile, which names this path; or it made no step
-abbrev pub HaveBegun : List ℕ → List Deed → Type 0
-HaveBegun path own = (own ≡ []) ⊎ ((newer : List Deed) × (a : Answer) × (own ≡ newer ++ did (Read Home profile_name LIMIT_BYTES) a ∷ []) × (path ≡ path_by a))
+-- the run made no step; or its first step read the profile, with this answer; and if it made a second one, that read the context of the
+-- mail directory that the profile names, with this answer
+abbrev pub HaveBegun : Answer → Answer → List Deed → Type 0
+HaveBegun a b own =
+    (own ≡ [])
+    ⊎ ((own ≡ did (Read Home profile_name LIMIT_BYTES) a ∷ [])
+    ⊎ ((newer : List Deed) × (own ≡ newer ++ did (Read (Mail (path_by a)) context_name LIMIT_BYTES) b ∷ did (Read Home profile_name LIMIT_BYTES) a ∷ [])))
 
--- the call began with the profile, which names the path of a mail directory; it kept the pledge of that mail directory;
--- and where it ended well its commits were made safe, and the context was committed or nothing was changed
-pub record KeepsPledge (run : ℕ) (x y : State) (result : Result Unit Ended) : Type 0 where
-  pub path : List ℕ
+-- what a `mark` on the folder that is acted on pledges; where none can be, what a command pledges that looks
+abbrev pub on_named : ℕ → List NamedValue → MarkWords → Result (List ℕ) CommandFault → Pledge
+on_named run profile words (Ok folder) = pledge_by run (path_of profile) (mark_job folder words profile) words.act
+on_named run profile words (Err e) = scan_pledge run (path_of profile)
+
+abbrev pub marks_pledge : ℕ → List NamedValue → List NamedValue → Result MarkWords Ended → Pledge
+marks_pledge run profile context (Ok words) = on_named run profile words (folder_of words.folder context profile)
+marks_pledge run profile context (Err e) = scan_pledge run (path_of profile)
+
+abbrev pub word_pledge : ℕ → List NamedValue → List NamedValue → List (List ℕ) → Option CommandName → Pledge
+word_pledge run profile context words None = scan_pledge run (path_of profile)
+word_pledge run profile context words (Some Scan) = scan_pledge run (path_of profile)
+word_pledge run profile context words (Some Mark) = marks_pledge run profile context (mark_said profile (map chars words))
+
+-- what a command pledges, by its words, the entries of the profile and those of the context
+abbrev pub command_pledge : ℕ → List (List ℕ) → List NamedValue → List NamedValue → Pledge
+command_pledge run [] profile context = scan_pledge run (path_of profile)
+command_pledge run (word ∷ words) profile context = word_pledge run profile context words (named word)
+
+-- what a command has done that is done: each commit was made safe; and one that only looks at a folder made it the current one, or changed
+-- nothing
+abbrev pub IsDone : Option CommandName → List ℕ → List Deed → Type 0
+IsDone None path own = AreFinished (Mail path) context_name own
+IsDone (Some Scan) path own = AreFinished (Mail path) context_name own
+IsDone (Some Mark) path own = AreSettled own
+
+-- the call began with the profile, which names the path of a mail directory, and with the context of that; it kept the pledge that these and
+-- its words make
+pub record KeepsPledge (run : ℕ) (words : List (List ℕ)) (x y : State) (result : Result Unit Ended) : Type 0 where
+  pub profile : Answer
+  pub context : Answer
   pub own : List Deed
   pub made : AreMade run x.files.story y.files.story own
-  pub begun : HaveBegun path own
-  pub finished : result ≡ Ok tt → AreFinished (Mail path) context_name own
-  pub promises : Promises (scan_pledge run path) x y
+  pub begun : HaveBegun profile context own
+  pub finished : result ≡ Ok tt → IsDone (command_of words) (path_by profile) own
+  pub promises : Promises (command_pledge run words (entries_by profile) (entries_by context)) x y

@@ -1,4 +1,6 @@
 pub mod Causes
 pub mod Command
+pub mod CommandNames
 pub mod CommandPledge
 pub mod Outcomes
+pub mod Profile

@@ -1,18 +1,26 @@
 -- What a command comes to, by its words and the mailbox. Nothing here knows of steps.
-use Rattle.std.specs.Prelude.{ℕ, List, [], ◌∷◌, map, None, Some, Result, Ok, Err, bytes_eq, codes, if◌then◌else◌}
+use Rattle.std.specs.Prelude.{ℕ, List, [], ◌∷◌, map, Option, None, Some, Result, Ok, Err}
 use Rattle.std.specs.Str.{chars}
 use Rattle.mh_profile.specs.declared.named_value.NamedValue.{NamedValue}
 use Rattle.mh_profile.specs.Reading.{entries_in}
-use Rattle.folder_files.specs.declared.place.Place.TheVariants.{Mail}
+use Rattle.folder_files.specs.declared.place.Place.TheVariants.{Folder, Mail}
 use Rattle.file_plans.specs.Mailboxes.{Mailbox}
 use Rattle.step_plans.specs.declared.command_fault.CommandFault.{CommandFault}
 use Rattle.command_stages.specs.Works.{Work, refused_at, readable}
 use Rattle.mh_looks.specs.Outcomes.{scan_work}
-use Rattle.command_line.specs.Command.{profile_name, path_of, folder_of, job_of, no_command}
+use Rattle.opened_folders.specs.HomesOf.{homes_at}
+use Rattle.mark_command.specs.Outcomes.{mark_work}
 use Rattle.command_words.specs.Ended.{plain}
+use Rattle.command_words.specs.MarkWords.{mark_said}
 use Rattle.command_words.specs.ScanWords.{scan_said}
 use Rattle.command_words.specs.declared.ended.Ended.{Ended}
+use Rattle.command_words.specs.declared.mark.MarkWords.{MarkWords}
 use Rattle.command_words.specs.declared.scan.ScanWords.{ScanWords}
+use Rattle.command_line.specs.Command.{job_of, mark_job, no_command}
+use Rattle.command_line.specs.CommandNames.{named}
+use Rattle.command_line.specs.Profile.{folder_of, path_of, profile_name}
+use Rattle.command_line.specs.declared.name.CommandName.{CommandName}
+use Rattle.command_line.specs.declared.name.CommandName.TheVariants.{Mark, Scan}
 
 abbrev pub plainly : Result Unit CommandFault → Result Unit Ended
 plainly (Ok u) = Ok u
@@ -22,31 +30,56 @@ plainly (Err e) = Err (plain e)
 abbrev pub of_stage : Work CommandFault → Work Ended
 of_stage w = record { text = w.text; end = plainly w.end; mailbox = w.mailbox }
 
+-- the work on a folder, by the context's entries and the folder
+abbrev pub FolderWork : Type 0
+FolderWork = List NamedValue → List ℕ → Work CommandFault
+
 -- the folder that is acted on
-abbrev pub in_folder : Mailbox → List NamedValue → List NamedValue → ScanWords → Result (List ℕ) CommandFault → Work CommandFault
-in_folder m profile context words (Ok folder) = scan_work (path_of profile) context (job_of folder words profile) m
-in_folder m profile context words (Err e) = refused_at m e
+abbrev pub in_folder : Mailbox → List NamedValue → FolderWork → Result (List ℕ) CommandFault → Work CommandFault
+in_folder m context work (Ok folder) = work context folder
+in_folder m context work (Err e) = refused_at m e
 
 -- the context that is read
-abbrev pub with_context : Mailbox → List NamedValue → ScanWords → Result (List ℕ) CommandFault → Work CommandFault
-with_context m profile words (Ok text) = in_folder m profile (entries_in text) words (folder_of words.folder (entries_in text) profile)
-with_context m profile words (Err e) = refused_at m e
+abbrev pub with_context : Mailbox → List NamedValue → Option (List ℕ) → FolderWork → Result (List ℕ) CommandFault → Work CommandFault
+with_context m profile said work (Ok text) = in_folder m (entries_in text) work (folder_of said (entries_in text) profile)
+with_context m profile said work (Err e) = refused_at m e
 
--- the words of `scan`
-abbrev pub with_words : Mailbox → List NamedValue → Result ScanWords Ended → Work Ended
-with_words m profile (Ok words) = of_stage (with_context m profile words (readable (m.context (Mail (path_of profile)))))
-with_words m profile (Err e) = refused_at m e
+-- the work on the folder that the words name, or else the context or the profile
+abbrev pub on_folder : Mailbox → List NamedValue → Option (List ℕ) → FolderWork → Work CommandFault
+on_folder m profile said work = with_context m profile said work (readable (m.context (Mail (path_of profile))))
 
--- the command's name
-abbrev pub named_work : Mailbox → List NamedValue → List (List ℕ) → Work Ended
-named_work m profile [] = refused_at m (no_command None)
-named_work m profile (name ∷ words) = if bytes_eq name (codes "scan") then with_words m profile (scan_said profile (map chars words)) else refused_at m (no_command (Some name))
+-- `scan`
+abbrev pub scans : Mailbox → List NamedValue → ScanWords → FolderWork
+scans m profile words context folder = scan_work (path_of profile) context (job_of folder words profile) m
+
+abbrev pub scan_words_work : Mailbox → List NamedValue → Result ScanWords Ended → Work Ended
+scan_words_work m profile (Ok words) = of_stage (on_folder m profile words.folder (scans m profile words))
+scan_words_work m profile (Err e) = refused_at m e
+
+-- `mark`: what other runs hold aside in the folder goes first where it goes alone
+abbrev pub marks : ℕ → Mailbox → List NamedValue → MarkWords → FolderWork
+marks run m profile words context folder =
+    mark_work (path_of profile) context (homes_at run (m.folders (Folder (path_of profile) folder))) (mark_job folder words profile) m
+
+abbrev pub mark_words_work : ℕ → Mailbox → List NamedValue → Result MarkWords Ended → Work Ended
+mark_words_work run m profile (Ok words) = of_stage (on_folder m profile words.folder (marks run m profile words))
+mark_words_work run m profile (Err e) = refused_at m e
+
+-- the command of this name
+abbrev pub word_work : ℕ → Mailbox → List NamedValue → List ℕ → List (List ℕ) → Option CommandName → Work Ended
+word_work run m profile word words None = refused_at m (no_command (Some word))
+word_work run m profile word words (Some Scan) = scan_words_work m profile (scan_said profile (map chars words))
+word_work run m profile word words (Some Mark) = mark_words_work run m profile (mark_said profile (map chars words))
+
+abbrev pub named_work : ℕ → Mailbox → List NamedValue → List (List ℕ) → Work Ended
+named_work run m profile [] = refused_at m (no_command None)
+named_work run m profile (word ∷ words) = word_work run m profile word words (named word)
 
 -- the profile that is read
-abbrev pub with_profile : Mailbox → List (List ℕ) → Result (List ℕ) CommandFault → Work Ended
-with_profile m words (Ok text) = named_work m (entries_in text) words
-with_profile m words (Err e) = refused_at m (plain e)
+abbrev pub with_profile : ℕ → Mailbox → List (List ℕ) → Result (List ℕ) CommandFault → Work Ended
+with_profile run m words (Ok text) = named_work run m (entries_in text) words
+with_profile run m words (Err e) = refused_at m (plain e)
 
--- what a command comes to, in its stages: the profile, the words, the context, the folder, the work
-unfoldable pub work_of : List (List ℕ) → Mailbox → Work Ended
-work_of words m = with_profile m words (readable (m.home profile_name))
+-- what a command comes to, in its stages: the profile, the words, the context, the folder, the work; this run is the one that held nothing aside
+unfoldable pub work_of : ℕ → List (List ℕ) → Mailbox → Work Ended
+work_of run words m = with_profile run m words (readable (m.home profile_name))

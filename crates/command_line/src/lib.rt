@@ -2,5 +2,11 @@
 #![tactic(auto)]
 
 mod command;
+mod current;
+mod marking;
+mod name;
+mod profile;
+mod scanning;
 
 pub use command::run_command;
+pub use name::CommandName;

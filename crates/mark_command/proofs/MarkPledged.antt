@@ -36,6 +36,7 @@ use Rattle.command_stages.specs.Current.{current_change, made_current}
 use Rattle.command_stages.specs.Endings.{of_plan}
 use Rattle.opened_folders.specs.Opening.{Opened, begun, with_sequences}
 use Rattle.opened_folders.specs.Reads.{HaveRead}
+use Rattle.opened_folders.proofs.EndedKept.{Still, ended_keeps, keeps_more, none_keeps}
 use Rattle.opened_folders.proofs.FolderPledged.{Begins, HasBegun, begun_goes}
 use Rattle.std.specs.Prelude.{◌++◌, Option, None, Some}
 use Rattle.folder_files.specs.declared.step.Answer.{Answer}
@@ -44,7 +45,7 @@ use Rattle.folder_files.specs.declared.step.Step.TheVariants as step
 use Rattle.file_plans.specs.Asking.{attempt_unlock, unlock}
 use Rattle.file_plans.specs.Follows.{Follows, State}
 use Rattle.file_plans.specs.Plan.{ask, attempt}
-use Rattle.file_plans.specs.Rules.{Keeps, Rules}
+use Rattle.file_plans.specs.Rules.{IfOkay, Keeps, Rules}
 use Rattle.file_plans.specs.Runs.{Deed as Done, Did}
 use Rattle.file_plans.specs.StaysCareful.{only_looks}
 use Rattle.file_plans.proofs.Acting.{acts, acts_append}
@@ -263,69 +264,42 @@ module _ (run : ℕ) (few : run < 2 ^ 128) (path : List ℕ) (job : MarkJob) whe
     lets = λ later temp f lock m. tt;
   }
 
-  abbrev Any : Outcome Unit
-  Any later j u = Unit {0}
+  -- what was settled of commits stays so
+  abbrev StillBy : List Deed → Outcome Unit
+  StillBy own later j u = AreSettled own → AreSettled later
 
-  noted_goes : (own : List Deed) (h : Hand) → HasListed at own → Goes v own h (made_current run path job.folder) (okay Any)
+  noted_goes : (own : List Deed) (h : Hand) → HasListed at own → Goes v own h (made_current run path job.folder) (okay (StillBy own))
   unfolding made_current
   noted_goes own h listed =
-      goes_then v own h (lifted (of_plan job.folder) (commit_context run (Mail path) current)) _ (Of (Known v own (Mail path) current h)) Any
+      goes_then v own h (lifted (of_plan job.folder) (commit_context run (Mail path) current)) _ (Of (Known v own (Mail path) current h)) (StillBy own)
       (goes_lifted v own h (of_plan job.folder) (commit_context run (Mail path) current) (Of (Known v own (Mail path) current h))
       (commit_goes v few path serves_context current AnyStep (HasListed at) listed_pledged own h listed))
-      (λ later j u k. goes_return v later j tt (okay Any) tt)
+      (λ later j u k. goes_return v later j tt (okay (StillBy own)) k.settled_still)
 
-  looks_go : (own : List Deed) (h : Hand) → Goes v own h (mark_looks run path job) (okay Any)
+  noted_after : (own later : List Deed) (h : Hand) → (AreSettled own → AreSettled later) → HasListed at later → Goes v later h (made_current run path job.folder) (okay (StillBy own))
+  noted_after own later h f listed =
+      goes_more v later h (made_current run path job.folder) (okay (StillBy later)) (okay (StillBy own)) (okay_more (StillBy later) (StillBy own) (λ last j u g s. g (f s))) (noted_goes later h listed)
+
+  looks_go : (own : List Deed) (h : Hand) → Goes v own h (mark_looks run path job) (okay (StillBy own))
   unfolding mark_looks
   looks_go own h =
-      goes_then v own h (folder_listed at job.folder) _ (Lists v tells_any at own) Any (listed_goes v tells_any own h at job.folder) (λ later j names f.
-      goes_then v later j (text_read at (entry_text Sequences)) _ (Looks later) Any (text_goes v tells_any later j at (entry_text Sequences)) (λ next i text g.
-      goes_chosen v next i (λ k. sequences_seen job names text (entries_seen k.context)) _ Any (λ m is.
-      goes_then v next i (lines_said (lines_for job.names m)) _ (λ last k u. last ≡ next) Any (lines_go v tells_any next i (lines_for job.names m)) (λ last k u e.
-      goes_at v last next k (made_current run path job.folder) (okay Any) e (noted_goes next k (g.listed at f.1))))))
-
--- the end of a command: the lock falls, or nothing is done
-abbrev Whatever : {R : Type 0} → List Done → Hand → R → Type 0
-Whatever past h r = Unit {0}
-
-module _ (w : Pledge) where
-  unlocked : (past : List Done) (h : Hand) (p : Place) (a : Answer) → AreNumbered w.run h.next (acts past) → AreNumbered w.run h.next (acts (past ++ Did (step.Unlock p) a ∷ []))
-  unlocked past h p a n = rw (acts_append [] past (Did (step.Unlock p) a ∷ [])) (tt, n)
-
-  may_unlock : (own : List Deed) (p : Place) → MayAsk w own (step.Unlock p)
-  may_unlock own p = record { is_own = only_looks tt; marks = tt; steps = λ no. absurd (no tt) }
-
-  finished_keeps : (past : List Done) (h : Hand) (p : Place) → AreNumbered w.run h.next (acts past) → Keeps (rules_of w) past h (finished p) Whatever
-  unfolding Keeps finished unlock ask lifted bind ◌>>=◌
-  finished_keeps past h p n = (n, may_unlock (acts past) p, unlocked past h p answer.Failed n, λ a row live. (unlocked past h p a n, tt))
-
-  given_up_keeps : (past : List Done) (h : Hand) (p : Place) (e : CommandFault) → AreNumbered w.run h.next (acts past) → Keeps (rules_of w) past h (given_up p e) Whatever
-  unfolding Keeps given_up attempt_unlock attempt lifted bind ◌>>=◌
-  given_up_keeps past h p e n = (n, may_unlock (acts past) p, λ a row. (unlocked past h p a n, tt))
-
-  ended_keeps : (past : List Done) (h : Hand) (p : Place) (r : Result Unit CommandFault) → AreNumbered w.run h.next (acts past) → Keeps (rules_of w) past h (ended p r) Whatever
-  unfolding Keeps
-  ended_keeps past h p (Ok u) n = finished_keeps past h p n
-  ended_keeps past h p (Err (fault.Refused r)) n = given_up_keeps past h p (fault.Refused r) n
-  ended_keeps past h p (Err (fault.Faulted which)) n = (n, tt)
-  ended_keeps past h p (Err (fault.Locked q)) n = given_up_keeps past h p (fault.Locked q) n
-  ended_keeps past h p (Err (fault.Meddled q x)) n = (n, tt)
-  ended_keeps past h p (Err fault.Memory) n = (n, tt)
-
-none_keeps : (pledge : Pledge) (past : List Done) (h : Hand) (e : CommandFault) → AreNumbered pledge.run h.next (acts past) → Keeps {R = Result Unit CommandFault} (rules_of pledge) past h (Return (Err e)) Whatever
-unfolding Keeps
-none_keeps pledge past h e n = (n, tt)
+      goes_then v own h (folder_listed at job.folder) _ (Lists v tells_any at own) (StillBy own) (listed_goes v tells_any own h at job.folder) (λ later j names f.
+      goes_then v later j (text_read at (entry_text Sequences)) _ (Looks later) (StillBy own) (text_goes v tells_any later j at (entry_text Sequences)) (λ next i text g.
+      goes_chosen v next i (λ k. sequences_seen job names text (entries_seen k.context)) _ (StillBy own) (λ m is.
+      goes_then v next i (lines_said (lines_for job.names m)) _ (λ last k u. last ≡ next) (StillBy own) (lines_go v tells_any next i (lines_for job.names m)) (λ last k u e.
+      goes_at v last next k (made_current run path job.folder) (okay (StillBy own)) e (noted_after own next k (λ s. g.settled (f.0.settled s)) (g.listed at f.1))))))
 
 module _ (run : ℕ) (few : run < 2 ^ 128) (path : List ℕ) (job : MarkJob) where
-  sound_at_first : (w : Pledge) (h : Hand) → Sound w [] h
-  sound_at_first w h = record { numbered = tt; unfailed = λ z. elim z [ ] }
-
-  changes_keep : (a : MarkAct) (h : Hand) → Keeps (rules_of (mark_pledge run path job a)) [] h (mark_changes run path job a) Whatever
+  changes_keep : (a : MarkAct) (past : List Done) (h : Hand) → Sound (mark_pledge run path job a) (acts past) h → Keeps (rules_of (mark_pledge run path job a)) past h (mark_changes run path job a) (IfOkay (Still (acts past)))
   unfolding mark_changes ◌>>=◌
-  changes_keep a h =
-      keeps_bind u [] h (lifted (of_plan job.folder) (begun run p (Mail path) job.folder)) (after work) (ByActs (Soundly w (okay Begun))) Whatever
-      (goes_keeps w [] [] h (lifted (of_plan job.folder) (begun run p (Mail path) job.folder)) (okay Begun) refl (sound_at_first w h) (begin_goes run few path job a [] h))
+  changes_keep a past h sound =
+      keeps_bind u past h (lifted (of_plan job.folder) (begun run p (Mail path) job.folder)) (after work) (ByActs (Soundly w (okay Begun))) (IfOkay (Still own))
+      (goes_keeps w past own h (lifted (of_plan job.folder) (begun run p (Mail path) job.folder)) (okay Begun) refl sound (begin_goes run few path job a own h))
       (λ later j r q. goes_on_by later j r q.0 q.1)
     where
+      own : List Deed
+      own = acts past
+
       w : Pledge
       w = mark_pledge run path job a
 
@@ -339,20 +313,42 @@ module _ (run : ℕ) (few : run < 2 ^ 128) (path : List ℕ) (job : MarkJob) whe
       work o = bind (opened_marked run path job a o) (ended p)
 
       Begun : Outcome Opened
-      Begun later j o = HasBegun w [] path job.folder later o
+      Begun later j o = HasBegun w own path job.folder later o
 
-      goes_on_by : (later : List Done) (j : Hand) (r : Result Opened CommandFault) → Sound w (acts later) j → okay Begun (acts later) j r → Keeps u later j (after work r) Whatever
+      still : (later last : List Done) (i : Hand) (e : Result Unit CommandFault) → (AreSettled own → AreSettled (acts later)) → Sound w (acts last) i → okay (Of (IsMarkedSo run few path job a (acts later))) (acts last) i e → IfOkay (Still own) last i e
+      still later last i (Ok u) f s m = record { settled = λ x. m.settled_still (f x); unfailed = s.unfailed }
+      still later last i (Err e) f s m = tt
+
+      goes_on_by : (later : List Done) (j : Hand) (r : Result Opened CommandFault) → Sound w (acts later) j → okay Begun (acts later) j r → Keeps u later j (after work r) (IfOkay (Still own))
       goes_on_by later j (Ok o) s b =
-          keeps_bind u later j (opened_marked run path job a o) (ended p) (ByActs (Soundly w (okay (Of (IsMarkedSo run few path job a (acts later)))))) Whatever
-          (goes_keeps w later (acts later) j (opened_marked run path job a o) (okay (Of (IsMarkedSo run few path job a (acts later)))) refl s (opened_goes run few path job a [] (acts later) o b j))
-          (λ last i e q. ended_keeps w last i p e q.0.numbered)
-      goes_on_by later j (Err e) s b = none_keeps w later j e s.numbered
+          keeps_bind u later j (opened_marked run path job a o) (ended p) (ByActs (Soundly w (okay (Of (IsMarkedSo run few path job a (acts later)))))) (IfOkay (Still own))
+          (goes_keeps w later (acts later) j (opened_marked run path job a o) (okay (Of (IsMarkedSo run few path job a (acts later)))) refl s (opened_goes run few path job a own (acts later) o b j))
+          (λ last i e q. ended_keeps w own last i p e q.0.numbered (still later last i e b.held.settled q.0 q.1))
+      goes_on_by later j (Err e) s b = none_keeps w own later j e s.numbered
+
+  looked_so : (own : List Deed) (past : List Done) (h : Hand) (r : Result Unit CommandFault) → Sound (looks_pledge run path job) (acts past) h → okay (StillBy run few path job own) (acts past) h r → IfOkay (Still own) past h r
+  looked_so own past h (Ok u) s f = record { settled = f; unfailed = s.unfailed }
+  looked_so own past h (Err e) s f = tt
+
+  looks_keep : (past : List Done) (h : Hand) → Sound (looks_pledge run path job) (acts past) h → Keeps (rules_of (looks_pledge run path job)) past h (mark_looks run path job) (IfOkay (Still (acts past)))
+  looks_keep past h sound =
+      keeps_more (rules_of (looks_pledge run path job)) past h (mark_looks run path job) (ByActs (Soundly (looks_pledge run path job) (okay (StillBy run few path job (acts past))))) (IfOkay (Still (acts past)))
+      (λ later j r q. looked_so (acts past) later j r q.0 q.1)
+      (goes_keeps (looks_pledge run path job) past (acts past) h (mark_looks run path job) (okay (StillBy run few path job (acts past))) refl sound (looks_go run few path job (acts past) h))
+
+  -- a `mark` keeps the rules of its pledge, whatever its run has done before
+  pub mark_keeps : (act : Option MarkAct) (past : List Done) (h : Hand) → Sound (pledge_by run path job act) (acts past) h → Keeps (rules_of (pledge_by run path job act)) past h (mark_by_act run path job act) (IfOkay (Still (acts past)))
+  mark_keeps None past h sound = looks_keep past h sound
+  mark_keeps (Some a) past h sound = changes_keep a past h sound
 
   -- a `mark` promises what its pledge says
   pub mark_promises : (x y : State) (result : Result Unit CommandFault) → Follows run command_cause (mark run path job) x y result → Promises (pledge_by run path job job.act) x y
   unfolding mark
   mark_promises x y result f = go job.act f
     where
+      sound : (w : Pledge) → Sound w [] x.hand
+      sound w = record { numbered = tt; unfailed = λ z. elim z [ ] }
+
       go : (act : Option MarkAct) → Follows run command_cause (mark_by_act run path job act) x y result → Promises (pledge_by run path job act) x y
-      go None f = goes_promises (looks_pledge run path job) command_cause (mark_looks run path job) x y result (okay (Any run few path job)) (looks_go run few path job [] x.hand) f
-      go (Some a) f = keeps_pledge (mark_pledge run path job a) command_cause (mark_changes run path job a) x y result Whatever (changes_keep a x.hand) f
+      go None f = keeps_pledge (looks_pledge run path job) command_cause (mark_looks run path job) x y result (IfOkay (Still [])) (mark_keeps None [] x.hand (sound (looks_pledge run path job))) f
+      go (Some a) f = keeps_pledge (mark_pledge run path job a) command_cause (mark_changes run path job a) x y result (IfOkay (Still [])) (mark_keeps (Some a) [] x.hand (sound (mark_pledge run path job a))) f

@@ -5,6 +5,7 @@ use Rattle.mh_base.specs.Streams.{Adds, AddsPart}
 use Rattle.folder_files.specs.Deeds as deeds
 use Rattle.folder_files.specs.Histories.{own, past_of}
 use Rattle.folder_files.specs.Story.{Story, Grows, GrowsBy}
+use Rattle.folder_files.specs.Worlds.{WorldMap}
 use Rattle.folder_files.specs.declared.place.Place.{Place}
 use Rattle.folder_files.specs.declared.refusal.Refusal.{Refusal}
 use Rattle.folder_files.specs.declared.refusal.Which.{Which}
@@ -32,26 +33,29 @@ use Rattle.step_plans.specs.Promises.{Promises}
 use Rattle.step_plans.specs.declared.command_fault.CommandFault.{CommandFault}
 use Rattle.step_plans.specs.declared.command_fault.CommandFault.TheVariants as fault
 use Rattle.command_stages.specs.Works.{Work}
+use Rattle.opened_folders.specs.BegunWork.{AreHomesAt}
+use Rattle.opened_folders.specs.HomesOf.{homes_at}
+use Rattle.opened_folders.proofs.HomesFound.{homes_there}
 use Rattle.command_line.specs.Causes.{ShowsCommandFault}
 use Rattle.command_line.specs.Command.{command}
 use Rattle.command_words.specs.Ended.{ended_cause}
 use Rattle.command_line.specs.Outcomes.{work_of}
 use Rattle.command_words.specs.declared.ended.Ended.{Ended}
-use Rattle.command_line.proofs.Ending.{EndsAs, run_ends, never_hears}
-use Rattle.command_line.proofs.Giving.{IsLateEnd, DecidesEnd, ByFault, CommandEnds, command_gives}
+use Rattle.command_line.proofs.Ending.{EndsAs, run_ends}
+use Rattle.command_line.proofs.Giving.{AreAllHomes, IsLateEnd, DecidesEnd, ByFault, CommandEnds, command_gives}
 use Rattle.command_line.proofs.MindsMarks.{command_keeps_sequences}
-use Rattle.command_line.proofs.Pledging.{command_keeps}
+use Rattle.command_line.proofs.Pledging.{command_clean, command_keeps}
 use Rattle.command_line.proofs.Unlinked.{command_first}
 use Rattle.mh_tools.proofs.Told.{adds_none, fault_undone}
 use Rattle.mh_tools.specs.AnswersAlone.{HasOutcome, IsUnfaulted, HasOutcomeAlone, AloneIfTold, AnswersAlone}
-use Rattle.mh_tools.specs.Calls.{Call, begins, ends, MadeBy}
+use Rattle.mh_tools.specs.Calls.{Call, LooksOnly, begins, ends, MadeBy}
 use Rattle.mh_tools.specs.FollowsItsPlan.{TellsStatus, FollowsItsPlan}
-use Rattle.mh_tools.specs.IsCaused.{IsCaused}
+use Rattle.mh_tools.specs.IsCaused.{IsCaused, IsShown}
 use Rattle.mh_tools.specs.KeepsMail.{KeepsMail, KeepsMarks}
 use Rattle.mh_tools.specs.Lines.{error_line_of}
 use Rattle.mh_tools.specs.Outcome.{error_of, answered, outcome_of}
 use Rattle.mh_tools.specs.Status.{fault_status, ended_status, ended_word, IsVerdict}
-use Rattle.mh_tools.specs.TellsWhatItSaw.{SomeAgrees, IsLate, TellsWhatItSaw}
+use Rattle.mh_tools.specs.TellsWhatItSaw.{SomeAgrees, IsLate, TellsIfItLooks}
 use Rattle.mh_tools.specs.declared.status.Status.{Status}
 use Rattle.mh_tools.specs.declared.status.Status.TheVariants.{Done, Refused, Faulted, Locked, Meddled, NoMemory}
 
@@ -86,6 +90,15 @@ fault_meddled fault.Memory q y e = cc
 
 verdict_at : (s t : Status) → s ≡ t → IsVerdict t → IsVerdict s
 verdict_at s t e v = rw e v
+
+-- a count that is the same has not risen
+no_rise : (n : ℕ) → Rose n n → ⊥
+no_rise n r = omega (arith, r)
+
+failed_once : (own : List deeds.Deed) → Made IsFailed own → deeds.HasFailed own
+failed_once [] m = absurd m
+failed_once (d ∷ own) (inl e) = deeds.now e
+failed_once (d ∷ own) (inr m) = deeds.on (failed_once own m)
 
 -- how the plan's run ended
 exit_fault : (e : Ended) (k : CommandFault) → e.fault ≡ k → exit_of ended_cause (Err e) ≡ exit_by {T = Unit {0}} e (command_cause k)
@@ -142,25 +155,19 @@ module _ (c : Call) (plan : FollowsItsPlan c) where
       go (inl e) = (rw e at v, e)
       go (inr e) = absurd (rw e at v)
 
-  -- what is shown where the plan returned
-  shown_at : (r : Result Unit Ended) → outcome ≡ r → exit ≡ Returned r → EndsAs run (deeds_in went.log) plan.left r
-  shown_at r is e = run_ends run c.words (deeds_in went.log) plan.left r (subst (λ x. Runs (command run c.words) fresh (deeds_in went.log) plan.left x) e went.runs)
+  -- what is shown where the plan of a command returned that looks
+  module _ (looks : LooksOnly c) where
+    shown_at : (r : Result Unit Ended) → outcome ≡ r → exit ≡ Returned r → EndsAs run (deeds_in went.log) plan.left r
+    shown_at r is e = run_ends run c.words looks (deeds_in went.log) plan.left r (subst (λ x. Runs (command run c.words) fresh (deeds_in went.log) plan.left x) e went.runs)
 
-  no_failure : (r : Result Unit Ended) → EndsAs run (deeds_in went.log) plan.left r → Made IsFailed steps → ⊥
-  no_failure (Ok tt) s = s
-  no_failure (Err e) s = s.1
-
-  clean_verdict : IsVerdict (ended_status outcome) → Made IsFailed steps → ⊥
-  clean_verdict v = no_failure outcome (shown_at outcome refl (exit_verdict outcome v))
-
-  -- a fault of the plan is shown
-  fault_shown : (r : Result Unit Ended) (s : Status) (k : CommandFault) → outcome ≡ r → ended_status r ≡ s → (s ≡ Done → ⊥) → ((f : CommandFault) → fault_status f ≡ s → f ≡ k) → command_cause k ≡ OfPlan → ShowsCommandFault run k steps × (Made IsFailed steps → ⊥)
-  fault_shown (Ok tt) s k is e never only cause = absurd (never (sym e))
-  fault_shown (Err x) s k is e never only cause =
-      let f : x.fault ≡ k = only x.fault e in
-      let at : exit ≡ Returned (Err x) = ap (exit_of ended_cause) is ∙ (exit_fault x k f ∙ ap (exit_by {T = Unit {0}} x) cause) in
-      let shows = shown_at (Err x) is at in
-      (subst (λ j. ShowsCommandFault run j steps) f shows.0, shows.1)
+    -- a fault of the plan is shown
+    fault_shown : (r : Result Unit Ended) (s : Status) (k : CommandFault) → outcome ≡ r → ended_status r ≡ s → (s ≡ Done → ⊥) → ((f : CommandFault) → fault_status f ≡ s → f ≡ k) → command_cause k ≡ OfPlan → ShowsCommandFault run k steps × (Made IsFailed steps → ⊥)
+    fault_shown (Ok tt) s k is e never only cause = absurd (never (sym e))
+    fault_shown (Err x) s k is e never only cause =
+        let f : x.fault ≡ k = only x.fault e in
+        let at : exit ≡ Returned (Err x) = ap (exit_of ended_cause) is ∙ (exit_fault x k f ∙ ap (exit_by {T = Unit {0}} x) cause) in
+        let shows = shown_at (Err x) is at in
+        (subst (λ j. ShowsCommandFault run j steps) f shows.0, shows.1)
 
   -- a fault of the surroundings
   faulted : (r : Result Unit Ended) (w : Which) → outcome ≡ r → ended_status r ≡ Faulted w → (e : Ended) × (exit ≡ exit_by {T = Unit {0}} e (command_cause (fault.Faulted w)))
@@ -173,20 +180,20 @@ module _ (c : Call) (plan : FollowsItsPlan c) where
       (went.files_cause x.1, failed_made (deeds_in went.log) (run_failed (command run c.words) fresh (deeds_in went.log) plan.left exit went.runs x.1))
 
   no_source : ended_status outcome ≡ Faulted Source → ⊥
-  no_source e = let x = faulted outcome Source refl e in never_hears run c.words (deeds_in went.log) plan.left exit went.runs x.1
+  no_source e = let x = faulted outcome Source refl e in no_rise c.before.input.faults (went.in_cause x.1)
 
   out_fault : ended_status outcome ≡ Faulted Out → exit ≡ OutFailed
   out_fault e = (faulted outcome Out refl e).1
 
   module _ (few : run < 2 ^ 128) where
     abbrev work : Mailbox → Work Ended
-    work m = work_of c.words m
+    work m = work_of run c.words m
 
     -- by contents that agree
-    seen : (d : Contents) → AgreesWith d steps → GaveSeen plan.left (work (mailbox_in d)).text (said_of (deeds_in went.log)) exit (CommandEnds false (work (mailbox_in d)))
-    seen d agrees =
+    seen : LooksOnly c → (d : Contents) → AgreesWith d steps → GaveSeen plan.left (work (mailbox_in d)).text (said_of (deeds_in went.log)) exit (CommandEnds false (work (mailbox_in d)))
+    seen looks d agrees =
         seen_gave (command run c.words) fresh plan.left (deeds_in went.log) exit (work (mailbox_in d)).text (CommandEnds false (work (mailbox_in d))) d agrees went.runs
-        (command_gives false run d few c.words (first_view d (numbers_put steps []) (is_first_met steps)) refl (λ beside. command_first run c.words d (numbers_put steps []) fresh plan.left (deeds_in went.log) exit went.runs))
+        (command_gives false run d few (λ e. absurd (cc (e))) c.words (λ is. absurd (looks is)) (first_view d (numbers_put steps []) (is_first_met steps)) refl (command_first run c.words looks d (numbers_put steps []) fresh plan.left (deeds_in went.log) exit went.runs))
 
     -- what an end says of the work
     ends_verdict : (alone : Bool) (w : Work Ended) (z : View) (j : Hand) (left : List ℕ) (r : Result Unit Ended) → IsVerdict (ended_status r) → CommandEnds alone w z j left r → (left ≡ []) × DecidesEnd alone w z r
@@ -212,9 +219,9 @@ module _ (c : Call) (plan : FollowsItsPlan c) where
       verdict : (ended_status outcome ≡ ended_status (work m).end) ⊎ (IsLate (ended_status outcome) × IsLate (ended_status (work m).end))
       text : Adds c.before.out.told c.after.out.told (work m).text
 
-    there_in : (d : Contents) → AgreesWith d steps → IsVerdict (ended_status outcome) → IsThere (mailbox_in d)
-    there_in d agrees v =
-        let g = seen d agrees in
+    there_in : LooksOnly c → (d : Contents) → AgreesWith d steps → IsVerdict (ended_status outcome) → IsThere (mailbox_in d)
+    there_in looks d agrees v =
+        let g = seen looks d agrees in
         let e = ends_verdict false (work (mailbox_in d)) g.view plan.left g.gave.left outcome v (g.gave.returned outcome (exit_verdict outcome v)) in
         record { verdict = by g.view e.1; text = all_said (said_of (deeds_in went.log)) g.gave.left (work (mailbox_in d)).text g.gave.prefix e.0 said_adds }
       where
@@ -222,30 +229,41 @@ module _ (c : Call) (plan : FollowsItsPlan c) where
         by z (inl is) = inl (ap ended_status (sym is.0))
         by z (inr late) = inr (late_status outcome late.1.1, late_status (work (mailbox_in d)).end late.1.0)
 
-    is_there : (m : Mailbox) → MailboxAgrees m steps → IsVerdict (ended_status outcome) → IsThere m
-    is_there m agrees v = subst IsThere agrees.shown (there_in agrees.contents agrees.agrees v)
+    is_there : LooksOnly c → (m : Mailbox) → MailboxAgrees m steps → IsVerdict (ended_status outcome) → IsThere m
+    is_there looks m agrees v = subst IsThere agrees.shown (there_in looks agrees.contents agrees.agrees v)
 
-    part_said : (m : Mailbox) → MailboxAgrees m steps → AddsPart c.before.out.told c.after.out.told (work m).text
-    part_said m agrees =
+    part_said : LooksOnly c → (m : Mailbox) → MailboxAgrees m steps → AddsPart c.before.out.told c.after.out.told (work m).text
+    part_said looks m agrees =
         subst (λ n. AddsPart c.before.out.told c.after.out.told (work n).text) agrees.shown
-        (let g = (seen agrees.contents agrees.agrees).gave in (said_of (deeds_in went.log), g.left, g.prefix, said_adds))
+        (let g = (seen looks agrees.contents agrees.agrees).gave in (said_of (deeds_in went.log), g.left, g.prefix, said_adds))
 
-    some_text : (m : Mailbox) → MailboxAgrees m steps → exit ≡ OutFailed → (work m).text ≢ []
-    some_text m agrees e = subst (λ n. (work n).text ≢ []) agrees.shown ((seen agrees.contents agrees.agrees).gave.cut e)
+    some_text : LooksOnly c → (m : Mailbox) → MailboxAgrees m steps → exit ≡ OutFailed → (work m).text ≢ []
+    some_text looks m agrees e = subst (λ n. (work n).text ≢ []) agrees.shown ((seen looks agrees.contents agrees.agrees).gave.cut e)
+
+    is_done : (r : Result Unit Ended) → ended_status r ≡ Done → r ≡ Ok tt
+    is_done (Ok tt) e = refl
+    is_done (Err x) e = absurd (fault_undone x.fault e)
+
+    shown : LooksOnly c → IsShown c steps
+    unfolding outcome_of
+    shown looks =
+        record {
+          refused = λ r q. fault_shown looks outcome (Refused r) (fault.Refused r) refl (settle (Refused r) q (λ e. cc (e))) (λ e. cc (e)) (λ f e. fault_refused f r e) refl;
+          out = λ q m agrees. some_text looks m agrees (out_fault (settle (Faulted Out) q (λ e. cc (e))));
+          locked = λ place q. fault_shown looks outcome (Locked place) (fault.Locked place) refl (settle (Locked place) q (λ e. cc (e))) (λ e. cc (e)) (λ f e. fault_locked f place e) refl;
+          meddled = λ place name q. fault_shown looks outcome (Meddled place name) (fault.Meddled place name) refl (settle (Meddled place name) q (λ e. cc (e))) (λ e. cc (e)) (λ f e. fault_meddled f place name e) refl;
+        }
 
     pub caused : IsCaused c
-    unfolding outcome_of
     caused =
         record {
           deeds = steps;
           made = made;
-          done = λ q. clean_verdict (verdict_at (ended_status outcome) Done (settle Done q (λ e. cc (e))) tt);
-          refused = λ r q. fault_shown outcome (Refused r) (fault.Refused r) refl (settle (Refused r) q (λ e. cc (e))) (λ e. cc (e)) (λ f e. fault_refused f r e) refl;
+          done = λ q m. command_clean run few c.words (begins c fresh) (ends c plan.left) outcome plan.follows (is_done outcome (settle Done q (λ e. cc (e)))) (failed_once steps m);
           files = λ q. files_at (settle (Faulted Files) q (λ e. cc (e)));
           source = λ q. no_source (settle (Faulted Source) q (λ e. cc (e)));
-          out = λ q. let e = out_fault (settle (Faulted Out) q (λ e. cc (e))) in (went.out_cause e, λ m agrees. some_text m agrees e);
-          locked = λ place q. fault_shown outcome (Locked place) (fault.Locked place) refl (settle (Locked place) q (λ e. cc (e))) (λ e. cc (e)) (λ f e. fault_locked f place e) refl;
-          meddled = λ place name q. fault_shown outcome (Meddled place name) (fault.Meddled place name) refl (settle (Meddled place name) q (λ e. cc (e))) (λ e. cc (e)) (λ f e. fault_meddled f place name e) refl;
+          out = λ q. went.out_cause (out_fault (settle (Faulted Out) q (λ e. cc (e))));
+          shown = shown;
         }
 
     some_agrees : (old new : Option Story) → GrowsBy run old new (filed_in went.log) → AreMade run old new steps → SomeAgrees old steps
@@ -254,20 +272,20 @@ module _ (c : Call) (plan : FollowsItsPlan c) where
     some_agrees (Some old) None grows made_ = absurd grows
     some_agrees (Some old) (Some new) grows made_ = λ possible. possible_agrees run old new (filed_in went.log) (deeds_in went.log) grows possible (sym made_)
 
-    pub tells : TellsWhatItSaw c
+    pub tells : TellsIfItLooks c
     unfolding outcome_of
-    tells =
+    tells looks =
         record {
           deeds = steps;
           made = made;
           exists = some_agrees c.before.files.story c.after.files.story went.grows made;
-          prefix = λ m agrees. part_said m agrees;
-          whole = λ m agrees v. (is_there m agrees (verdict_so v).0).text;
+          prefix = λ m agrees. part_said looks m agrees;
+          whole = λ m agrees v. (is_there looks m agrees (verdict_so v).0).text;
           verdict = λ m agrees v. so m agrees (verdict_so v);
         }
       where
         so : (m : Mailbox) → MailboxAgrees m steps → IsVerdict (ended_status outcome) × (c.status ≡ ended_status outcome) → (c.status ≡ ended_status (work m).end) ⊎ (IsLate c.status × IsLate (ended_status (work m).end))
-        so m agrees s = by (is_there m agrees s.0).verdict
+        so m agrees s = by (is_there looks m agrees s.0).verdict
           where
             by : (ended_status outcome ≡ ended_status (work m).end) ⊎ (IsLate (ended_status outcome) × IsLate (ended_status (work m).end)) → (c.status ≡ ended_status (work m).end) ⊎ (IsLate c.status × IsLate (ended_status (work m).end))
             by (inl is) = inl (s.1 ∙ is)
@@ -276,17 +294,17 @@ module _ (c : Call) (plan : FollowsItsPlan c) where
     pub keeps : KeepsMail c
     keeps =
         let k = command_keeps run few c.words (begins c fresh) (ends c plan.left) outcome plan.follows in
-        record { path = k.path; deeds = k.own; made = k.made; begun = k.begun; finished = λ q. k.finished (is_done outcome (settle Done q (λ e. cc (e)))); promises = moved k.promises }
+        record { profile = k.profile; context = k.context; deeds = k.own; made = k.made; begun = k.begun; finished = λ q. k.finished (is_done outcome (settle Done q (λ e. cc (e)))); promises = moved k.promises }
       where
         moved : {w : Pledge} → Promises w (begins c fresh) (ends c plan.left) → Promises w (begins c fresh) (ends c fresh)
         moved p = record { careful = p.careful; as_pledged = p.as_pledged; by_bases = p.by_bases; safe = p.safe; in_order = p.in_order }
 
-        is_done : (r : Result Unit Ended) → ended_status r ≡ Done → r ≡ Ok tt
-        is_done (Ok tt) e = refl
-        is_done (Err x) e = absurd (fault_undone x.fault e)
-
     pub marks : KeepsMarks c
-    marks = command_keeps_sequences run few c.words (begins c fresh) (ends c plan.left) outcome plan.follows
+    marks looks = command_keeps_sequences run few c.words looks (begins c fresh) (ends c plan.left) outcome plan.follows
+
+    -- where what other runs hold aside goes
+    all_homes : (w : WorldMap) → AreAllHomes run (contents_of w)
+    all_homes w p = subst (λ m. AreHomesAt run (m.folders p) (homes_at run (m.folders p))) (mailbox_is w) (homes_there run w p)
 
     -- alone
     error_told : (r : Result Unit Ended) (s : Status) → s ≡ ended_status r → IsVerdict s → TellsStatus (ended_word r) c.before.err c.after.err s → (Rose c.before.err.faults c.after.err.faults → ⊥) → Adds c.before.err.told c.after.err.told (error_of r)
@@ -341,7 +359,7 @@ module _ (c : Call) (plan : FollowsItsPlan c) where
               let v : IsVerdict (ended_status outcome) = subst (λ q. IsVerdict (ended_status q)) (sym same) (subst (λ f. IsVerdict (fault_status f)) (sym e) tt) in
               inr (answers_by w z j g.left after there g.prefix v (g.returned outcome (exit_verdict outcome v)))
           go (fault.Faulted Files) e = absurd (unfaulted.files (went.files_cause (at (fault.Faulted Files) e)))
-          go (fault.Faulted Source) e = absurd (never_hears run c.words (deeds_in went.log) plan.left exit went.runs (at (fault.Faulted Source) e))
+          go (fault.Faulted Source) e = absurd (no_rise c.before.input.faults (went.in_cause (at (fault.Faulted Source) e)))
           go (fault.Faulted Out) e = absurd (unfaulted.out (went.out_cause (at (fault.Faulted Out) e)))
           go (fault.Locked p) e = absurd (ended_at (fault.Locked p) e refl refl)
           go (fault.Meddled p y) e = absurd (ended_at (fault.Meddled p y) e refl refl)
@@ -355,7 +373,7 @@ module _ (c : Call) (plan : FollowsItsPlan c) where
           let d = contents_of (world_at new first) in
           let w = work (mailbox_in d) in
           let g = alone_gave (λ p x. false) run old new added (command run c.words) fresh plan.left (deeds_in went.log) exit w.text (CommandEnds true w) (lone_changes run old new (filed_in went.log) added grows asked start possible alone never) (sym made_) went.runs
-          (command_gives true run d few c.words (first_view d (puts_in (deeds_in went.log)) (λ p x. false)) refl (λ beside. absurd (cc (beside)))) in
+          (command_gives true run d few (λ e. all_homes (world_at new first)) c.words (λ is. refl) (first_view d (puts_in (deeds_in went.log)) (λ p x. false)) refl (record { seen = refl; unmet = λ p x. refl })) in
           subst (λ m. (c.status ≡ NoMemory) ⊎ HasOutcome (answered (work m)) (mailbox_at new (first + length added)) c) (sym (mailbox_is (world_at new first)))
           (by_end w g.view plan.left (mailbox_at new (first + length added)) (ap mailbox_in g.contents ∙ sym (mailbox_is (world_at new (first + length added)))) g.gave outcome refl)
 

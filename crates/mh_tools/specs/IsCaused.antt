@@ -12,22 +12,27 @@ use Rattle.file_plans.specs.Sightings.{Made, IsFailed}
 use Rattle.step_plans.specs.ContextCommit.{TRIES}
 use Rattle.step_plans.specs.Endings.{IsHeld, IsMeddled}
 use Rattle.command_line.specs.Causes.{ShowsRefusal}
-use Rattle.mh_tools.specs.Calls.{Call, MadeBy}
+use Rattle.mh_tools.specs.Calls.{Call, LooksOnly, MadeBy}
 use Rattle.mh_tools.specs.TellsWhatItSaw.{outcome_on}
 use Rattle.mh_tools.specs.declared.status.Status.TheVariants.{Done, Refused, Faulted, Locked, Meddled}
 
--- Where each answer comes from, by the answers to the call's own steps. Done, refusals, a lock and a name that was changed come only where no step
--- failed. A refusal comes only where what shows it was answered. A fault comes only where the count of that which failed rose: of the files where a step
--- failed, of the output where there is a text to write; the input never fails, since no command that there is reads it. Locked comes only of a mail
--- directory, after that lock was held by another run 64 times. Meddled comes only where a directory was gone that the run had looked for, made or locked, or a name
--- that it had met, or where its fresh name was taken. Want of memory alone is free.
+-- Of a command that only looks at a folder: a refusal comes only where what shows it was answered, and where no step failed; a fault of the output
+-- only where there is a text to write. Locked comes only of a mail directory, after that lock was held by another run 64 times. Meddled comes only where
+-- a directory was gone that the run had looked for, made or locked, or a name that it had met, or where its fresh name was taken.
+pub record IsShown (c : Call) (deeds : List Deed) : Type 0 where
+  pub refused : (r : Refusal) → c.status ≡ Refused r → ShowsRefusal r deeds × (Made IsFailed deeds → ⊥)
+  pub out : c.status ≡ Faulted Out → (m : Mailbox) → MailboxAgrees m deeds → (outcome_on c m).output ≢ []
+  pub locked : (place : Place) → c.status ≡ Locked place → ((mail : List ℕ) × (place ≡ Mail mail) × IsHeld place TRIES deeds) × (Made IsFailed deeds → ⊥)
+  pub meddled : (place : Place) (name : List ℕ) → c.status ≡ Meddled place name → IsMeddled c.setting.run place name deeds × (Made IsFailed deeds → ⊥)
+
+-- Where each answer comes from, by the answers to the call's own steps. Done comes only where no step failed. A fault comes only where the count of that
+-- which failed rose: of the files where a step failed; the input never fails, since no command that there is reads it. What else is shown is said of the
+-- commands that only look at a folder. Want of memory alone is free.
 pub record IsCaused (c : Call) : Type 0 where
   pub deeds : List Deed
   pub made : MadeBy c deeds
   pub done : c.status ≡ Done → Made IsFailed deeds → ⊥
-  pub refused : (r : Refusal) → c.status ≡ Refused r → ShowsRefusal r deeds × (Made IsFailed deeds → ⊥)
   pub files : c.status ≡ Faulted Files → Rose c.before.files.faults c.after.files.faults × Made IsFailed deeds
   pub source : c.status ≢ Faulted Source
-  pub out : c.status ≡ Faulted Out → Rose c.before.out.faults c.after.out.faults × ((m : Mailbox) → MailboxAgrees m deeds → (outcome_on c m).output ≢ [])
-  pub locked : (place : Place) → c.status ≡ Locked place → ((mail : List ℕ) × (place ≡ Mail mail) × IsHeld place TRIES deeds) × (Made IsFailed deeds → ⊥)
-  pub meddled : (place : Place) (name : List ℕ) → c.status ≡ Meddled place name → IsMeddled c.setting.run place name deeds × (Made IsFailed deeds → ⊥)
+  pub out : c.status ≡ Faulted Out → Rose c.before.out.faults c.after.out.faults
+  pub shown : LooksOnly c → IsShown c deeds

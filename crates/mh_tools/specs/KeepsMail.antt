@@ -1,28 +1,28 @@
 -- What a call keeps of the mail, and of the marks of messages.
 use Rattle.std.specs.Prelude.{◌≡◌, ℕ, List}
 use Rattle.folder_files.specs.Deeds.{Deed}
-use Rattle.folder_files.specs.declared.place.Place.TheVariants.{Mail}
+use Rattle.folder_files.specs.declared.step.Answer.{Answer}
 use Rattle.file_plans.specs.Plan.{fresh}
-use Rattle.step_plans.specs.ContextCommit.{context_name}
-use Rattle.step_plans.specs.Finished.{AreFinished}
 use Rattle.step_plans.specs.Promises.{Promises}
-use Rattle.mh_looks.specs.ScanPledge.{scan_pledge}
 use Rattle.sequence_marks.specs.KeepsSequences.{KeepsSequences}
-use Rattle.command_line.specs.CommandPledge.{HaveBegun}
-use Rattle.mh_tools.specs.Calls.{Call, MadeBy, begins, ends}
+use Rattle.command_line.specs.CommandNames.{command_of}
+use Rattle.command_line.specs.CommandPledge.{HaveBegun, IsDone, command_pledge, entries_by, path_by}
+use Rattle.mh_tools.specs.Calls.{Call, LooksOnly, MadeBy, begins, ends}
 use Rattle.mh_tools.specs.declared.status.Status.TheVariants.{Done}
 
--- The call began with the profile, which names the path of a mail directory. By the pledge of that mail directory its own steps are careful, under their
--- locks and of its command's kinds; where the others are careful no mail is lost and no number taken; and where they are orderly too, and locks honest,
--- its commits are made from the texts that they replace. At Done its commits were made safe, and the context was committed or nothing was changed.
+-- The call began with the profile, which names the path of a mail directory, and then with the context of that. By the pledge that these and its words make
+-- its own steps are careful, under their locks and of its command's kinds; where the others are careful no mail is lost and no number taken; and where
+-- they are orderly too, and locks honest, its commits are made from the texts that they replace. At Done its commits were made safe; and a command that
+-- only looks at a folder made it the current one, or changed nothing.
 pub record KeepsMail (c : Call) : Type 0 where
-  pub path : List ℕ
+  pub profile : Answer
+  pub context : Answer
   pub deeds : List Deed
   pub made : MadeBy c deeds
-  pub begun : HaveBegun path deeds
-  pub finished : c.status ≡ Done → AreFinished (Mail path) context_name deeds
-  pub promises : Promises (scan_pledge c.setting.run path) (begins c fresh) (ends c fresh)
+  pub begun : HaveBegun profile context deeds
+  pub finished : c.status ≡ Done → IsDone (command_of c.words) (path_by profile) deeds
+  pub promises : Promises (command_pledge c.setting.run c.words (entries_by profile) (entries_by context)) (begins c fresh) (ends c fresh)
 
--- no mark of a sequence that users name passes to another message, where the others mind them
+-- no mark of a sequence that users name passes to another message, where the others mind them; so it is with commands that only look at a folder
 abbrev pub KeepsMarks : Call → Type 0
-KeepsMarks c = KeepsSequences c.setting.run c.before.files.story c.after.files.story
+KeepsMarks c = LooksOnly c → KeepsSequences c.setting.run c.before.files.story c.after.files.story

@@ -25,6 +25,7 @@ error_of (Err e) = error_line_of e.word (fault_status e.fault)
 abbrev pub answered : Work Ended → Outcome
 answered w = record { status = ended_status w.end; output = w.text; error = error_of w.end; mailbox = w.mailbox }
 
--- what a call answers alone; no command that there is looks at its setting or at the input
+-- what a call answers alone; no command that there is looks at the input, nor at its setting but for its own run's number, which tells what other
+-- runs hold aside
 unfoldable pub outcome_of : List (List ℕ) → Mailbox → SettingParts → Option (List ℕ) → Outcome
-outcome_of words m setting input = answered (work_of words m)
+outcome_of words m setting input = answered (work_of setting.run words m)

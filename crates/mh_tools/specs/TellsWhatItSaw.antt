@@ -7,7 +7,7 @@ use Rattle.folder_files.specs.declared.refusal.Refusal.TheVariants.{TooLarge}
 use Rattle.file_plans.specs.Agreeing.{MailboxAgrees}
 use Rattle.file_plans.specs.Mailboxes.{Mailbox}
 use Rattle.step_plans.specs.ContextCommit.{LIMIT_BYTES}
-use Rattle.mh_tools.specs.Calls.{Call, MadeBy}
+use Rattle.mh_tools.specs.Calls.{Call, LooksOnly, MadeBy}
 use Rattle.mh_tools.specs.Outcome.{Outcome, outcome_of}
 use Rattle.mh_tools.specs.Status.{IsVerdict}
 use Rattle.mh_tools.specs.declared.status.Status.{Status}
@@ -38,3 +38,7 @@ pub record TellsWhatItSaw (c : Call) : Type 0 where
   pub prefix : (m : Mailbox) → MailboxAgrees m deeds → AddsPart c.before.out.told c.after.out.told (outcome_on c m).output
   pub whole : (m : Mailbox) → MailboxAgrees m deeds → IsVerdict c.status → Adds c.before.out.told c.after.out.told (outcome_on c m).output
   pub verdict : (m : Mailbox) → MailboxAgrees m deeds → IsVerdict c.status → (c.status ≡ (outcome_on c m).status) ⊎ (IsLate c.status × IsLate (outcome_on c m).status)
+
+-- so does a command that only looks at a folder
+abbrev pub TellsIfItLooks : Call → Type 0
+TellsIfItLooks c = LooksOnly c → TellsWhatItSaw c

@@ -7,7 +7,7 @@ ghost use Rattle.mh_tools.specs.FollowsItsPlan.{FollowsItsPlan, TellsStatus, tol
 ghost use Rattle.mh_tools.specs.IsCaused.{IsCaused};
 ghost use Rattle.mh_tools.specs.KeepsMail.{KeepsMail, KeepsMarks};
 ghost use Rattle.mh_tools.specs.Status.{ended_status, ended_word, fault_status};
-ghost use Rattle.mh_tools.specs.TellsWhatItSaw.{TellsWhatItSaw};
+ghost use Rattle.mh_tools.specs.TellsWhatItSaw.{TellsIfItLooks};
 
 use crate::lines::error_line;
 use crate::{Setting, Status};
@@ -72,7 +72,7 @@ pub fn mh<F: Files, I: Source, O: Sink, E: Sink>(
 ) -> Status
     ensures plan { FollowsItsPlan (called (map string_bytes words.now.items) setting.now (around (F.state files.old) (I.state input.old) (O.state out.old) (E.state err.old)) (around (F.state files.new) (I.state input.new) (O.state out.new) (E.state err.new)) result) }
     ensures caused { IsCaused (called (map string_bytes words.now.items) setting.now (around (F.state files.old) (I.state input.old) (O.state out.old) (E.state err.old)) (around (F.state files.new) (I.state input.new) (O.state out.new) (E.state err.new)) result) }
-    ensures seen { TellsWhatItSaw (called (map string_bytes words.now.items) setting.now (around (F.state files.old) (I.state input.old) (O.state out.old) (E.state err.old)) (around (F.state files.new) (I.state input.new) (O.state out.new) (E.state err.new)) result) }
+    ensures seen { TellsIfItLooks (called (map string_bytes words.now.items) setting.now (around (F.state files.old) (I.state input.old) (O.state out.old) (E.state err.old)) (around (F.state files.new) (I.state input.new) (O.state out.new) (E.state err.new)) result) }
     ensures alone { AnswersAlone (called (map string_bytes words.now.items) setting.now (around (F.state files.old) (I.state input.old) (O.state out.old) (E.state err.old)) (around (F.state files.new) (I.state input.new) (O.state out.new) (E.state err.new)) result) }
     ensures keeps { KeepsMail (called (map string_bytes words.now.items) setting.now (around (F.state files.old) (I.state input.old) (O.state out.old) (E.state err.old)) (around (F.state files.new) (I.state input.new) (O.state out.new) (E.state err.new)) result) }
     ensures marks { KeepsMarks (called (map string_bytes words.now.items) setting.now (around (F.state files.old) (I.state input.old) (O.state out.old) (E.state err.old)) (around (F.state files.new) (I.state input.new) (O.state out.new) (E.state err.new)) result) }

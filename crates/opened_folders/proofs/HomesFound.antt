@@ -1,7 +1,7 @@
 -- Where what is held aside in a folder goes alone: it is found by number and by run.
 use Rattle.std.proofs.Common.{◌≡◌, ◌⊎◌, inl, inr, ◌≤◌, ◌<◌, ◌^◌, ◌+◌, ◌++◌, ◌&&◌, ◌||◌, ◌==◌, ℕ, zero, suc, Bool, true, false, List, [], ◌∷◌, Option, None, Some, refl, sym, ◌∙◌, ap, subst, arith, nat_lt}
 use Rattle.std.specs.Prelude.{not, is_some, nat_le, if◌then◌else◌}
-use Rattle.std.proofs.lemmas.Bool.{and_from, and_parts, leb-true, lt-ltb, ltb-true}
+use Rattle.std.proofs.lemmas.Bool.{and_from, and_parts, eqb-false, leb-true, lt-ltb, ltb-false, ltb-true}
 use Rattle.std.proofs.lemmas.Bool.Decides.{Decides-eqb}
 use Rattle.folder_files.specs.Places.{is_folder}
 use Rattle.folder_files.specs.Worlds.{WorldMap}
@@ -10,7 +10,6 @@ use Rattle.folder_files.proofs.Names.{num_itself, or_case, or_left}
 use Rattle.file_plans.specs.Mailboxes.{Folder as FolderValue, as_folder, is_message_number, mailbox_of, numbered}
 use Rattle.held_messages.specs.HeldPairs.{AreInOrder, has_pair, is_before, is_pair}
 use Rattle.held_messages.specs.declared.held.HeldPair.{HeldPair}
-use Rattle.held_messages.proofs.Unique.{pair_is}
 use Rattle.opened_folders.specs.BegunWork.{AreHomes, AreHomesAt}
 use Rattle.opened_folders.specs.HomesOf.{homes_at, homes_of, pairs_at, pairs_from, top_from}
 
@@ -32,30 +31,28 @@ earlier_from : (n r m s : ℕ) (hs : List HeldPair) → (n < m) ⊎ ((n ≡ m) �
 earlier_from n r m s [] l f = tt
 earlier_from n r m s (h ∷ hs) l f = (behind n r m s h l f.0, f.1)
 
+order_by : (own : ℕ) (f : FolderValue) (n r k : ℕ) (rest : List HeldPair) (b : Bool) → FromOn n (r + 1) (pairs_at own f n (r + 1) k ++ rest)
+    → FromOn n r ((if b then record { run = r; number = n } ∷ pairs_at own f n (r + 1) k else pairs_at own f n (r + 1) k) ++ rest)
+order_by own f n r k rest true more = (inr (refl, omega arith), more)
+order_by own f n r k rest false more = earlier_from n r n (r + 1) (pairs_at own f n (r + 1) k ++ rest) (inr (refl, omega arith)) more
+
 at_order : (own : ℕ) (f : FolderValue) (n r k : ℕ) (rest : List HeldPair) → FromOn (n + 1) 0 rest → FromOn n r (pairs_at own f n r k ++ rest)
 unfolding pairs_at
 at_order own f n r zero rest o = earlier_from n r (n + 1) 0 rest (inl (omega arith)) o
-at_order own f n r (suc k) rest o = go (not (r == own) && is_some (f.held r n))
-  where
-    more : FromOn n (r + 1) (pairs_at own f n (r + 1) k ++ rest)
-    more = at_order own f n (r + 1) k rest o
-
-    go : (b : Bool) → FromOn n r ((if b then record { run = r; number = n } ∷ pairs_at own f n (r + 1) k else pairs_at own f n (r + 1) k) ++ rest)
-    go true = (inr (refl, omega arith), more)
-    go false = earlier_from n r n (r + 1) (pairs_at own f n (r + 1) k ++ rest) (inr (refl, omega arith)) more
+at_order own f n r (suc k) rest o = order_by own f n r k rest (not (r == own) && is_some (f.held r n)) (at_order own f n (r + 1) k rest o)
 
 from_order : (own : ℕ) (f : FolderValue) (n k : ℕ) → FromOn n 0 (pairs_from own f n k)
 unfolding pairs_from
 from_order own f n zero = tt
 from_order own f n (suc k) = at_order own f n 0 (2 ^ 128) (pairs_from own f (n + 1) k) (from_order own f (n + 1) k)
 
+or_right : (a b : Bool) → b ≡ true → a || b ≡ true
+or_right true b e = refl
+or_right false b e = e
+
 is_next : (h k : HeldPair) → AtOrBehind h.number (h.run + 1) k → is_before h k ≡ true
 is_next h k (inl l) = rw (lt-ltb h.number k.number l) refl
-is_next h k (inr l) = let e = l.1 in right (nat_lt h.number k.number) ((h.number == k.number) && nat_lt h.run k.run) (and_from (h.number == k.number) (nat_lt h.run k.run) ((Decides-eqb h.number k.number).1 l.0) (lt-ltb h.run k.run (omega (arith, e))))
-  where
-    right : (a b : Bool) → b ≡ true → a || b ≡ true
-    right true b e = refl
-    right false b e = e
+is_next h k (inr l) = let e = l.1 in or_right (nat_lt h.number k.number) ((h.number == k.number) && nat_lt h.run k.run) (and_from (h.number == k.number) (nat_lt h.run k.run) ((Decides-eqb h.number k.number).1 l.0) (lt-ltb h.run k.run (omega (arith, e))))
 
 in_order : (n r : ℕ) (hs : List HeldPair) → FromOn n r hs → AreInOrder hs
 in_order n r [] f = tt
@@ -80,55 +77,54 @@ record IsWithin (own : ℕ) (f : FolderValue) (m s k r n : ℕ) : Type 0 where
   high : r < s + k
   others : IsOthers own f r n
 
+pair_at : (r n : ℕ) (h : HeldPair) → is_pair r n h ≡ true → (h.number ≡ n) × (h.run ≡ r)
+pair_at r n h e =
+    let p = and_parts (h.run == r) (h.number == n) e in
+    ((Decides-eqb h.number n).0 p.1, (Decides-eqb h.run r).0 p.0)
+
+further : (own : ℕ) (f : FolderValue) (m s k r n : ℕ) → IsWithin own f m (s + 1) k r n → IsWithin own f m s (suc k) r n
+further own f m s k r n w = let l = w.low in let h = w.high in record { number = w.number; low = omega (arith, l); high = omega (arith, h); others = w.others }
+
+within_here : (own : ℕ) (f : FolderValue) (m s k r n : ℕ) → not (s == own) && is_some (f.held s m) ≡ true → (m ≡ n) × (s ≡ r) → IsWithin own f m s (suc k) r n
+within_here own f m s k r n is q =
+    let same : s ≡ r = q.1 in
+    record { number = q.0; low = omega (arith, same); high = omega (arith, same); others = subst (λ x. IsOthers own f x n) q.1 (subst (λ y. IsOthers own f s y) q.0 is) }
+
+within_by : (own : ℕ) (f : FolderValue) (m s k r n : ℕ) (b : Bool) → not (s == own) && is_some (f.held s m) ≡ b → (has_pair r n (pairs_at own f m (s + 1) k) ≡ true → IsWithin own f m (s + 1) k r n)
+    → has_pair r n (if b then record { run = s; number = m } ∷ pairs_at own f m (s + 1) k else pairs_at own f m (s + 1) k) ≡ true → IsWithin own f m s (suc k) r n
+within_by own f m s k r n true is more there = elim (or_case (is_pair r n (record { run = s; number = m })) (has_pair r n (pairs_at own f m (s + 1) k)) there) [
+  | inl p ↦ within_here own f m s k r n is (pair_at r n (record { run = s; number = m }) p)
+  | inr p ↦ further own f m s k r n (more p)
+]
+within_by own f m s k r n false is more there = further own f m s k r n (more there)
+
 at_within : (own : ℕ) (f : FolderValue) (m s k r n : ℕ) → has_pair r n (pairs_at own f m s k) ≡ true → IsWithin own f m s k r n
 unfolding pairs_at
 at_within own f m s zero r n e = cc (e)
-at_within own f m s (suc k) r n e = go (not (s == own) && is_some (f.held s m)) refl e
-  where
-    further : IsWithin own f m (s + 1) k r n → IsWithin own f m s (suc k) r n
-    further w = let l = w.low in let h = w.high in record { number = w.number; low = omega (arith, l); high = omega (arith, h); others = w.others }
+at_within own f m s (suc k) r n e = within_by own f m s k r n (not (s == own) && is_some (f.held s m)) refl (λ p. at_within own f m (s + 1) k r n p) e
 
-    go : (b : Bool) → not (s == own) && is_some (f.held s m) ≡ b → has_pair r n (if b then record { run = s; number = m } ∷ pairs_at own f m (s + 1) k else pairs_at own f m (s + 1) k) ≡ true → IsWithin own f m s (suc k) r n
-    go true is there = elim (or_case (is_pair r n (record { run = s; number = m })) (has_pair r n (pairs_at own f m (s + 1) k)) there) [
-      | inl p ↦ (let q = pair_is r n (record { run = s; number = m }) p in let same : s ≡ r = q.1 in record { number = q.0; low = omega (arith, same); high = omega (arith, same); others = subst (λ x. IsOthers own f x n) q.1 (subst (λ y. IsOthers own f s y) q.0 is) })
-      | inr p ↦ further (at_within own f m (s + 1) k r n p)
-    ]
-    go false is there = further (at_within own f m (s + 1) k r n there)
+split_at : (s r : ℕ) → s ≤ r → (s ≡ r) ⊎ (s < r)
+split_at s r low = by (nat_lt s r) refl
+  where
+    by : (b : Bool) → nat_lt s r ≡ b → (s ≡ r) ⊎ (s < r)
+    by true e = inr (ltb-true s r e)
+    by false e = let least : r ≤ s = ltb-false s r e in inl (omega (arith, low, least))
+
+has_here : (s r n : ℕ) → s ≡ r → is_pair r n (record { run = s; number = n }) ≡ true
+has_here s r n e = rw ((Decides-eqb s r).1 e, num_itself n) refl
+
+has_by : (own : ℕ) (f : FolderValue) (s k r n : ℕ) (b : Bool) → not (s == own) && is_some (f.held s n) ≡ b → IsOthers own f r n → (s ≡ r) ⊎ (s < r) → (s < r → has_pair r n (pairs_at own f n (s + 1) k) ≡ true)
+    → has_pair r n (if b then record { run = s; number = n } ∷ pairs_at own f n (s + 1) k else pairs_at own f n (s + 1) k) ≡ true
+has_by own f s k r n true here is (inl e) more = or_left (is_pair r n (record { run = s; number = n })) (has_pair r n (pairs_at own f n (s + 1) k)) (has_here s r n e)
+has_by own f s k r n true here is (inr l) more = or_right (is_pair r n (record { run = s; number = n })) (has_pair r n (pairs_at own f n (s + 1) k)) (more l)
+has_by own f s k r n false here is (inl e) more = absurd (cc (sym here ∙ subst (λ x. IsOthers own f x n) (sym e) is))
+has_by own f s k r n false here is (inr l) more = more l
 
 at_has : (own : ℕ) (f : FolderValue) (s k r n : ℕ) → s ≤ r → r < s + k → IsOthers own f r n → has_pair r n (pairs_at own f n s k) ≡ true
 unfolding pairs_at
 at_has own f s zero r n low high is = absurd (omega (arith, low, high))
-at_has own f s (suc k) r n low high is = go (not (s == own) && is_some (f.held s n)) refl
-  where
-    right : (a b : Bool) → b ≡ true → a || b ≡ true
-    right true b e = refl
-    right false b e = e
-
-    on : (s < r) → has_pair r n (pairs_at own f n (s + 1) k) ≡ true
-    on l = at_has own f (s + 1) k r n (omega (arith, l)) (omega (arith, high)) is
-
-    split : (s ≡ r) ⊎ (s < r)
-    split = by (nat_lt s r) refl
-      where
-        by : (b : Bool) → nat_lt s r ≡ b → (s ≡ r) ⊎ (s < r)
-        by true e = inr (ltb-true s r e)
-        by false e = inl (omega (arith, low, not_less e))
-          where
-            not_less : nat_lt s r ≡ false → r ≤ s
-            not_less e = grind (arith, e)
-
-    first : s ≡ r → is_pair r n (record { run = s; number = n }) ≡ true
-    first e = rw ((Decides-eqb s r).1 e, num_itself n) refl
-
-    go : (b : Bool) → not (s == own) && is_some (f.held s n) ≡ b → has_pair r n (if b then record { run = s; number = n } ∷ pairs_at own f n (s + 1) k else pairs_at own f n (s + 1) k) ≡ true
-    go true here = elim split [
-      | inl e ↦ or_left (is_pair r n (record { run = s; number = n })) (has_pair r n (pairs_at own f n (s + 1) k)) (first e)
-      | inr l ↦ right (is_pair r n (record { run = s; number = n })) (has_pair r n (pairs_at own f n (s + 1) k)) (on l)
-    ]
-    go false here = elim split [
-      | inl e ↦ absurd (cc (sym here ∙ subst (λ x. IsOthers own f x n) (sym e) is))
-      | inr l ↦ on l
-    ]
+at_has own f s (suc k) r n low high is =
+    has_by own f s k r n (not (s == own) && is_some (f.held s n)) refl is (split_at s r low) (λ l. at_has own f (s + 1) k r n (omega (arith, l)) (omega (arith, high)) is)
 
 record IsAmong (own : ℕ) (f : FolderValue) (m k r n : ℕ) : Type 0 where
   low : m ≤ n
@@ -144,47 +140,41 @@ from_among own f m (suc k) r n e = elim (or_case (has_pair r n (pairs_at own f m
   | inr p ↦ (let w = from_among own f (m + 1) k r n p in let l = w.low in let h = w.high in record { low = omega (arith, l); high = omega (arith, h); run = w.run; others = w.others })
 ]
 
+has_either : (own : ℕ) (f : FolderValue) (m k r n : ℕ) → r < 2 ^ 128 → IsOthers own f r n → (m ≡ n) ⊎ (m < n) → (m < n → has_pair r n (pairs_from own f (m + 1) k) ≡ true)
+    → has_pair r n (pairs_at own f m 0 (2 ^ 128)) || has_pair r n (pairs_from own f (m + 1) k) ≡ true
+has_either own f m k r n small is (inl same) more =
+    or_left (has_pair r n (pairs_at own f m 0 (2 ^ 128))) (has_pair r n (pairs_from own f (m + 1) k)) (subst (λ x. has_pair r n (pairs_at own f x 0 (2 ^ 128)) ≡ true) (sym same) (at_has own f 0 (2 ^ 128) r n (omega arith) small is))
+has_either own f m k r n small is (inr l) more = or_right (has_pair r n (pairs_at own f m 0 (2 ^ 128))) (has_pair r n (pairs_from own f (m + 1) k)) (more l)
+
 from_has : (own : ℕ) (f : FolderValue) (m k r n : ℕ) → m ≤ n → n < m + k → r < 2 ^ 128 → IsOthers own f r n → has_pair r n (pairs_from own f m k) ≡ true
 unfolding pairs_from
 from_has own f m zero r n low high small is = absurd (omega (arith, low, high))
-from_has own f m (suc k) r n low high small is = has_both r n (pairs_at own f m 0 (2 ^ 128)) (pairs_from own f (m + 1) k) ∙ go (nat_lt m n) refl
-  where
-    right : (a b : Bool) → b ≡ true → a || b ≡ true
-    right true b e = refl
-    right false b e = e
-
-    go : (b : Bool) → nat_lt m n ≡ b → has_pair r n (pairs_at own f m 0 (2 ^ 128)) || has_pair r n (pairs_from own f (m + 1) k) ≡ true
-    go true e = let l = ltb-true m n e in right (has_pair r n (pairs_at own f m 0 (2 ^ 128))) (has_pair r n (pairs_from own f (m + 1) k)) (from_has own f (m + 1) k r n (omega (arith, l)) (omega (arith, high)) small is)
-    go false e =
-        let same : n ≡ m = omega (arith, low, not_less) in
-        or_left (has_pair r n (pairs_at own f m 0 (2 ^ 128))) (has_pair r n (pairs_from own f (m + 1) k))
-        (subst (λ x. has_pair r n (pairs_at own f x 0 (2 ^ 128)) ≡ true) same (at_has own f 0 (2 ^ 128) r n (omega arith) small is))
-      where
-        not_less : n ≤ m
-        not_less = grind (arith, e)
+from_has own f m (suc k) r n low high small is =
+    has_both r n (pairs_at own f m 0 (2 ^ 128)) (pairs_from own f (m + 1) k)
+    ∙ has_either own f m k r n small is (split_at m n low) (λ l. from_has own f (m + 1) k r n (omega (arith, l)) (omega (arith, high)) small is)
 
 -- the highest number
+above_by : (f : FolderValue) (k n : ℕ) (b : Bool) → is_some (f.messages (suc k)) ≡ b → n ≤ suc k → is_some (f.messages n) ≡ true → (n ≤ k → n ≤ top_from f k) → n ≤ (if b then suc k else top_from f k)
+above_by f k n true e l is more = l
+above_by f k n false e l is more = by (n == suc k) refl
+  where
+    by : (b : Bool) → (n == suc k) ≡ b → n ≤ top_from f k
+    by true q = absurd (cc (sym e ∙ (ap (λ x. is_some (f.messages x)) (sym ((Decides-eqb n (suc k)).0 q)) ∙ is)))
+    by false q = more (omega (arith, l, eqb-false n (suc k) q))
+
 top_above : (f : FolderValue) (k n : ℕ) → n ≤ k → is_some (f.messages n) ≡ true → n ≤ top_from f k
 unfolding top_from
 top_above f zero n l is = l
-top_above f (suc k) n l is = go (is_some (f.messages (suc k))) refl
-  where
-    go : (b : Bool) → is_some (f.messages (suc k)) ≡ b → n ≤ (if b then suc k else top_from f k)
-    go true e = l
-    go false e = top_above f k n (by (n == suc k) refl) is
-      where
-        by : (b : Bool) → (n == suc k) ≡ b → n ≤ k
-        by true q = let same : n ≡ suc k = (Decides-eqb n (suc k)).0 q in absurd (cc (sym e ∙ (ap (λ x. is_some (f.messages x)) (sym same) ∙ is)))
-        by false q = grind (arith, q, l)
+top_above f (suc k) n l is = above_by f k n (is_some (f.messages (suc k))) refl l is (λ m. top_above f k n m is)
+
+there_by : (f : FolderValue) (k : ℕ) (b : Bool) → is_some (f.messages (suc k)) ≡ b → (top_from f k ≡ 0) ⊎ (is_some (f.messages (top_from f k)) ≡ true) → ((if b then suc k else top_from f k) ≡ 0) ⊎ (is_some (f.messages (if b then suc k else top_from f k)) ≡ true)
+there_by f k true e more = inr e
+there_by f k false e more = more
 
 top_there : (f : FolderValue) (k : ℕ) → (top_from f k ≡ 0) ⊎ (is_some (f.messages (top_from f k)) ≡ true)
 unfolding top_from
 top_there f zero = inl refl
-top_there f (suc k) = go (is_some (f.messages (suc k))) refl
-  where
-    go : (b : Bool) → is_some (f.messages (suc k)) ≡ b → ((if b then suc k else top_from f k) ≡ 0) ⊎ (is_some (f.messages (if b then suc k else top_from f k)) ≡ true)
-    go true e = inr e
-    go false e = top_there f k
+top_there f (suc k) = there_by f k (is_some (f.messages (suc k))) refl (top_there f k)
 
 -- a folder with no number that a message may not have
 pub record AreNumbers (f : FolderValue) : Type 0 where

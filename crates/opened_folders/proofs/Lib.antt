@@ -1,4 +1,5 @@
 pub mod BegunWorks
+pub mod EndedKept
 pub mod EndingParts
 pub mod ExistingNumbers
 pub mod FolderAlone

@@ -2,7 +2,7 @@ use Rattle.std.proofs.Common.{refl, ap}
 use Rattle.file_plans.proofs.Following.{go, stop, no_room}
 use Rattle.command_line.specs.Command.{context_entered}
 use Rattle.command_line.proofs.Plans.{context_known}
-use Rattle.command_line.proofs.command.enter_context.Goals as goal
+use Rattle.command_line.proofs.current.enter_context.Goals as goal
 
 pub returns-in_err-duplicate-clause-plan : goal.returns-in_err-duplicate-clause-plan
 returns-in_err-duplicate-clause-plan g c = no_room _ c.from_residual.ensures refl

@@ -4,14 +4,19 @@ use Rattle.std.specs.String.{string_bytes}
 use Rattle.file_plans.specs.Plan.{fresh}
 use Rattle.file_plans.proofs.Following.{no_room, lift_ok}
 use Rattle.step_plans.specs.CommandFaults.{command_cause}
-use Rattle.command_line.specs.Command.{scan_begun}
 use Rattle.command_words.specs.Ended.{plain, ended_cause}
 use Rattle.command_words.specs.ScanWords.{scan_said}
-use Rattle.command_line.proofs.Plans.{plain_same, refused_words, scan_on, ends_off}
-use Rattle.command_line.proofs.command.run_scan.Goals as goal
+use Rattle.command_line.specs.Command.{scan_begun, scan_by}
+use Rattle.command_line.proofs.Plans.{ends_off, plain_same, refused_words, words_on}
+use Rattle.command_line.proofs.Refusals.{scan_refuses}
+use Rattle.command_line.proofs.scanning.run_scan.Goals as goal
 
 pub returns-in_err-words : goal.returns-in_err-words
-returns-in_err-words g c = (fresh, refused_words c.args.profile.now (map chars (map string_bytes c.args.words.now)) _ _ c.in_err-words.ensures c.from_residual.ensures)
+returns-in_err-words g c = (
+  fresh,
+  refused_words (scan_by c.args.run c.args.profile.now) (scan_said c.args.profile.now (map chars (map string_bytes c.args.words.now))) _ _ (λ f. refl)
+      (λ f is. scan_refuses c.args.profile.now (map chars (map string_bytes c.args.words.now)) f is) c.in_err-words.ensures c.from_residual.ensures,
+)
 
 pub returns-in_err-path : goal.returns-in_err-path
 returns-in_err-path g c = (fresh, no_room _ c.from_residual-in_err-path.ensures refl)
@@ -19,13 +24,13 @@ returns-in_err-path g c = (fresh, no_room _ c.from_residual-in_err-path.ensures 
 pub returns-in_err-begin_scan : goal.returns-in_err-begin_scan
 returns-in_err-begin_scan g c = (
   c.begin_scan.new.hand.kept,
-  scan_on c.args.profile.now (scan_said c.args.profile.now (map chars (map string_bytes c.args.words.now))) c.in_ok-words.words c.in_ok-words.ensures
+  words_on (scan_by c.args.run c.args.profile.now) (scan_said c.args.profile.now (map chars (map string_bytes c.args.words.now))) c.in_ok-words.words c.in_ok-words.ensures
       (ends_off plain _ plain_same (rw (c.new-hand.ensures.run, c.new-hand.ensures.kept) at c.in_err-begin_scan.ensures) c.from_residual-in_err-begin_scan.ensures),
 )
 
 pub returns : goal.returns
 returns g c = (
   c.begin_scan.new.hand.kept,
-  scan_on c.args.profile.now (scan_said c.args.profile.now (map chars (map string_bytes c.args.words.now))) c.in_ok-words.words c.in_ok-words.ensures
+  words_on (scan_by c.args.run c.args.profile.now) (scan_said c.args.profile.now (map chars (map string_bytes c.args.words.now))) c.in_ok-words.words c.in_ok-words.ensures
       (lift_ok c.args.run command_cause ended_cause plain (scan_begun c.args.run c.args.profile.now c.in_ok-words.words) _ _ tt (rw (c.new-hand.ensures.run, c.new-hand.ensures.kept) at c.in_ok-begin_scan.ensures)),
 )

@@ -1,0 +1,96 @@
+-- What words refuse is a refusal.
+use Rattle.std.proofs.Common.{◌≡◌, ◌++◌, ℕ, Bool, true, false, List, [], ◌∷◌, Option, Some, None, Result, Ok, Err, length, refl, subst}
+use Rattle.std.specs.Prelude.{codes, if◌then◌else◌}
+use Rattle.mh_base.specs.Folders.{is_folder_name, without_plus}
+use Rattle.mh_base.specs.declared.word.WordWhy.TheVariants.{Missing}
+use Rattle.mh_profile.specs.declared.named_value.NamedValue.{NamedValue}
+use Rattle.mh_words.specs.Whole.{Wrong, read_in}
+use Rattle.mh_words.specs.declared.item.Item.{Item}
+use Rattle.folder_files.specs.declared.refusal.Refusal.{Refusal}
+use Rattle.folder_files.specs.declared.refusal.Refusal.TheVariants as refusal
+use Rattle.step_plans.specs.declared.command_fault.CommandFault.{CommandFault}
+use Rattle.step_plans.specs.declared.command_fault.CommandFault.TheVariants as fault
+use Rattle.command_words.specs.Ended.{wrong_at}
+use Rattle.command_words.specs.FolderWords.{folder_named, folders, named_folder, one_folder, some_named}
+use Rattle.command_words.specs.MarkWords.{folder_said as mark_words_said, items_said as mark_items, lacks_sequence, mark_said, with_folder as mark_folder, with_names, word_said}
+use Rattle.command_words.specs.ScanWords.{folder_said, items_said, scan_said, with_folder}
+use Rattle.command_words.specs.SequenceNames.{unless_wrong, wrong_names}
+use Rattle.command_words.specs.Switches.{values}
+use Rattle.command_words.specs.Tables.{mark_table, scan_table}
+use Rattle.command_words.specs.Words.{profile_words}
+use Rattle.command_words.specs.declared.ended.Ended.{Ended}
+use Rattle.command_words.specs.declared.mark.MarkWords.{MarkWords}
+use Rattle.command_words.specs.declared.scan.ScanWords.{ScanWords}
+use Rattle.command_words.specs.declared.tables.TheConstants.{SEQUENCE}
+use Rattle.command_line.specs.Profile.{folder_of, stored_of}
+
+abbrev pub IsRefusal : CommandFault → Type 0
+IsRefusal e = (r : Refusal) × (e ≡ fault.Refused r)
+
+abbrev Refuses : Result ScanWords Ended → Type 0
+Refuses (Ok w) = Unit {0}
+Refuses (Err e) = IsRefusal e.fault
+
+named_refuses : (items : List Item) (word : List ℕ) → Refuses (with_folder items (named_folder word))
+named_refuses items word = go (is_folder_name (without_plus word))
+  where
+    go : (b : Bool) → Refuses (with_folder items (if b then Ok (without_plus word) else Err (fault.Refused (refusal.BadFolder word))))
+    go true = tt
+    go false = (refusal.BadFolder word, refl)
+
+one_refuses : (words : List (List ℕ)) (items : List Item) (r : Result (Option (List ℕ)) Wrong) → Refuses (folder_said words items r)
+one_refuses words items (Ok None) = tt
+one_refuses words items (Ok (Some word)) = named_refuses items word
+one_refuses words items (Err wrong) = (refusal.BadSwitch wrong.place wrong.why, refl)
+
+items_refuse : (words : List (List ℕ)) (r : Result (List Item) Wrong) → Refuses (items_said words r)
+items_refuse words (Ok items) = one_refuses words items (one_folder (folders items))
+items_refuse words (Err wrong) = (refusal.BadSwitch wrong.place wrong.why, refl)
+
+-- the words of `scan`
+pub scan_refuses : (profile : List NamedValue) (words : List (List ℕ)) (e : Ended) → scan_said profile words ≡ Err e → IsRefusal e.fault
+scan_refuses profile words e is = subst Refuses is (items_refuse (profile_words (codes "scan") profile ++ words) (read_in scan_table 0 (profile_words (codes "scan") profile ++ words)))
+
+-- the words of `mark`
+abbrev MarkRefuses : Result MarkWords Ended → Type 0
+MarkRefuses (Ok w) = Unit {0}
+MarkRefuses (Err e) = IsRefusal e.fault
+
+names_refuse : (folder : Option (List ℕ)) (items : List Item) (words wrong : List (List ℕ)) → MarkRefuses (with_names folder items (unless_wrong words wrong))
+names_refuse folder items words [] = tt
+names_refuse folder items words (word ∷ wrong) = (refusal.BadSequenceName word, refl)
+
+mark_folder_refuses : (items : List Item) (word : Option (List ℕ)) → MarkRefuses (mark_folder items (folder_named word))
+mark_folder_refuses items None = names_refuse None items (values SEQUENCE items) (wrong_names (values SEQUENCE items))
+mark_folder_refuses items (Some word) = go (is_folder_name (without_plus word))
+  where
+    go : (b : Bool) → MarkRefuses (mark_folder items (some_named (if b then Ok (without_plus word) else Err (fault.Refused (refusal.BadFolder word)))))
+    go true = names_refuse (Some (without_plus word)) items (values SEQUENCE items) (wrong_names (values SEQUENCE items))
+    go false = (refusal.BadFolder word, refl)
+
+mark_word_refuses : (words : List (List ℕ)) (items : List Item) (word : Option (List ℕ)) → MarkRefuses (word_said words items word)
+mark_word_refuses words items word = go (lacks_sequence items)
+  where
+    go : (b : Bool) → MarkRefuses (if b then Err (wrong_at words (record { place = length words; why = Missing })) else mark_folder items (folder_named word))
+    go true = (refusal.BadSwitch (length words) Missing, refl)
+    go false = mark_folder_refuses items word
+
+mark_one_refuses : (words : List (List ℕ)) (items : List Item) (r : Result (Option (List ℕ)) Wrong) → MarkRefuses (mark_words_said words items r)
+mark_one_refuses words items (Ok word) = mark_word_refuses words items word
+mark_one_refuses words items (Err wrong) = (refusal.BadSwitch wrong.place wrong.why, refl)
+
+mark_items_refuse : (words : List (List ℕ)) (r : Result (List Item) Wrong) → MarkRefuses (mark_items words r)
+mark_items_refuse words (Ok items) = mark_one_refuses words items (one_folder (folders items))
+mark_items_refuse words (Err wrong) = (refusal.BadSwitch wrong.place wrong.why, refl)
+
+pub mark_refuses : (profile : List NamedValue) (words : List (List ℕ)) (e : Ended) → mark_said profile words ≡ Err e → IsRefusal e.fault
+mark_refuses profile words e is = subst MarkRefuses is (mark_items_refuse (profile_words (codes "mark") profile ++ words) (read_in mark_table 0 (profile_words (codes "mark") profile ++ words)))
+
+-- the folder that is acted on
+pub folder_refuses : (said : Option (List ℕ)) (context profile : List NamedValue) (e : CommandFault) → folder_of said context profile ≡ Err e → IsRefusal e
+folder_refuses (Some name) context profile e is = cc
+folder_refuses None context profile e is = go (stored_of context profile) (is_folder_name (without_plus (stored_of context profile))) is
+  where
+    go : (word : List ℕ) (b : Bool) → (if b then Ok (without_plus word) else Err (fault.Refused (refusal.BadFolder word))) ≡ Err e → IsRefusal e
+    go word true is = cc
+    go word false is = (refusal.BadFolder word, cc (is))

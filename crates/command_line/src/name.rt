@@ -1,0 +1,25 @@
+// The commands that there are, by name.
+ghost use Rattle.std.specs.Prelude.{◌≡◌};
+ghost use Rattle.command_line.specs.CommandNames.{named};
+
+/// A command.
+#[derive(Clone, Copy, Debug, PartialEq, Eq)]
+pub enum CommandName {
+    Scan,
+    Mark,
+}
+
+impl CommandName {
+    /// The command of this name, if there is one.
+    pub(crate) fn read(word: &str) -> Option<CommandName>
+        ensures { result ≡ named word.now }
+    {
+        if word == "scan" {
+            Some(CommandName::Scan)
+        } else if word == "mark" {
+            Some(CommandName::Mark)
+        } else {
+            None
+        }
+    }
+}
