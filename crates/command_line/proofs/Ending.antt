@@ -114,7 +114,7 @@ module _ (run : ℕ) where
       (λ later j e q. long_shows (Mail mail) context_name (after_profile a) later q.0 e q.1 q.2)
 
   -- the folder that is acted on
-  NamedEnds : List ℕ → Answer → Outcome (Result (List ℕ) CommandFault)
+  abbrev NamedEnds : List ℕ → Answer → Outcome (Result (List ℕ) CommandFault)
   NamedEnds mail a later j (Ok folder) = (b : Answer) × (later ≡ after_context mail a b) × (j.next ≡ 0)
   NamedEnds mail a later j (Err e) = ShowsCommandFault run e later
 

@@ -144,7 +144,7 @@ module _ (run : ℕ) (few : run < 2 ^ 128) (profile : List NamedValue) (h : Hand
     where
       parts : HasCommitted (Mail path) context_name (acts later) ⊎ (OnlyLooked (acts (two_readings profile a b)) → OnlyLooked (acts later)) → HasCommitted (Mail path) context_name (acts later) ⊎ OnlyLooked (acts later)
       parts (inl c) = inl c
-      parts (inr o) = inr (o (tt, tt, tt))
+      parts (inr o) = inr (o (tt, (tt, tt)))
   scan_done a b later j (Err e) s f = tt
 
   scan_keeps : (words : ScanWords) → IsValid words.folder → (a b : Answer) (es : List NamedValue) (folder : List ℕ) → folder_of words.folder es profile ≡ Ok folder → Sound look (acts (two_readings profile a b)) h
@@ -165,6 +165,7 @@ module _ (run : ℕ) (few : run < 2 ^ 128) (profile : List NamedValue) (h : Hand
 
   scan_words_keep : (b : Answer) (value : Result ScanWords Ended) → ((words : ScanWords) → value ≡ Ok words → IsValid words.folder)
       → Keeps (rules_of look) [] h (Ask profile_step (λ c. rest_by (context_step profile) (scan_by run profile value) (scan_onward run profile value) b)) (IfOkay (Finished (Some Scan) path))
+  unfolding scan_onward
   scan_words_keep b (Ok words) valid =
       keeps_after look Home (Mail path) profile_name context_name LIMIT_BYTES h (on_context profile words.folder (scan_acts run profile words) (reading_of b)) (IfOkay (Finished (Some Scan) path))
       (λ c d sound. context_keeps look (two_readings profile c d) h sound profile words.folder (scan_acts run profile words) (Finished (Some Scan) path) (reading_of b)
@@ -192,6 +193,7 @@ module _ (run : ℕ) (few : run < 2 ^ 128) (profile : List NamedValue) (h : Hand
 
   mark_words_keep : (b : Answer) (value : Result MarkWords Ended)
       → Keeps (rules_of (marks_pledge run profile (entries_by b) value)) [] h (Ask profile_step (λ c. rest_by (context_step profile) (mark_by run profile value) (mark_onward run profile value) b)) (IfOkay (Finished (Some Mark) path))
+  unfolding mark_onward
   mark_words_keep b (Ok words) =
       keeps_after w Home (Mail path) profile_name context_name LIMIT_BYTES h (on_context profile words.folder (mark_acts run profile words) (reading_of b)) (IfOkay (Finished (Some Mark) path))
       (λ c d sound. context_keeps w (two_readings profile c d) h sound profile words.folder (mark_acts run profile words) (Finished (Some Mark) path) (reading_of b)
@@ -204,12 +206,14 @@ module _ (run : ℕ) (few : run < 2 ^ 128) (profile : List NamedValue) (h : Hand
   -- the command that the words name
   word_keeps : (b : Answer) (word : List ℕ) (words : List (List ℕ)) (name : Option CommandName)
       → Keeps (rules_of (word_pledge run profile (entries_by b) words name)) [] h (Ask profile_step (λ c. rest_by (context_step profile) (word_by run profile word words name) (word_onward run profile word words name) b)) (IfOkay (Finished name path))
+  unfolding word_onward
   word_keeps b word words None = keeps_ended look Home profile_name LIMIT_BYTES h (Err (no_command (Some word))) (IfOkay (Finished None path)) (λ c. tt)
   word_keeps b word words (Some Scan) = scan_words_keep b (scan_said profile (map chars words)) (λ said e. scan_valid profile (map chars words) said e)
   word_keeps b word words (Some Mark) = mark_words_keep b (mark_said profile (map chars words))
 
   named_keeps : (b : Answer) (words : List (List ℕ))
       → Keeps (rules_of (command_pledge run words profile (entries_by b))) [] h (Ask profile_step (λ c. rest_by (context_step profile) (command_by run profile words) (named_onward run profile words) b)) (IfOkay (Finished (command_of words) path))
+  unfolding named_onward
   named_keeps b [] = keeps_ended look Home profile_name LIMIT_BYTES h (Err (no_command None)) (IfOkay (Finished None path)) (λ c. tt)
   named_keeps b (word ∷ words) = word_keeps b word words (named word)
 
@@ -247,7 +251,7 @@ module _ (run : ℕ) (few : run < 2 ^ 128) (words : List (List ℕ)) where
   abbrev step_by : Reading → Step
   step_by r = context_step (entries_in (text_of r))
 
-  onward_by : (r : Reading) → Onward (step_by r) (next_by r)
+  pub onward_by : (r : Reading) → Onward (step_by r) (next_by r)
   unfolding lifted bind ◌>>=◌
   onward_by (reading.Content bytes) = named_onward run (entries_in bytes) words
   onward_by (reading.Long l) = inl (Err (plain (too_large l)), refl)
@@ -258,7 +262,7 @@ module _ (run : ℕ) (few : run < 2 ^ 128) (words : List (List ℕ)) where
 
   -- whatever the profile and the context were, the call keeps the rules of its pledge
   pub read_keeps : (h : Hand) (r : Reading) (b : Answer) → Keeps (rules_of (command_pledge run words (entries_in (text_of r)) (entries_by b))) [] h (plan_by r b) (IfOkay (Finished (command_of words) (path_of (entries_in (text_of r)))))
-  unfolding lifted bind ◌>>=◌
+  unfolding onward_by lifted bind ◌>>=◌
   read_keeps h (reading.Content bytes) b = named_keeps run few (entries_in bytes) h b words
   read_keeps h (reading.Long l) b = keeps_ended (command_pledge run words (entries_in []) (entries_by b)) Home profile_name LIMIT_BYTES h (Err (plain (too_large l))) (IfOkay (Finished (command_of words) (path_of (entries_in [])))) (λ c. tt)
   read_keeps h reading.Gone b = named_keeps run few (entries_in []) h b words
@@ -271,7 +275,7 @@ module _ (run : ℕ) (few : run < 2 ^ 128) (words : List (List ℕ)) where
   answers_of h j ds exit f =
       two_answers profile_step (λ a. step_by (reading_of a)) (λ a. next_by (reading_of a)) h j ds exit (λ a. onward_by (reading_of a)) (subst (λ p. Runs p h ds j exit) command_is f)
 
-  abbrev pub End : Answer → List Done → Hand → Unit → Type 0
+  abbrev pub End : Answer → List Done → Hand → Unit {0} → Type 0
   End a = Finished (command_of words) (path_by a)
 
   abbrev pub pledge_at : Answer → Answer → Pledge
@@ -284,10 +288,10 @@ module _ (run : ℕ) (few : run < 2 ^ 128) (words : List (List ℕ)) where
       subst (λ r. Gave (rules_of (pledge_at t.first t.second)) (IfOkay (End t.first)) ds j (exit_of ended_cause r)) e kept.gave
 
   module _ (x y : State) (result : Result Unit Ended) (f : Follows run ended_cause (command run words) x y result) where
-    abbrev deeds : List Done
+    abbrev pub deeds : List Done
     deeds = deeds_in f.went.log
 
-    abbrev answers : Answered x.hand y.hand deeds (exit_of ended_cause result)
+    abbrev pub answers : Answered x.hand y.hand deeds (exit_of ended_cause result)
     answers = answers_of x.hand y.hand deeds (exit_of ended_cause result) f.went.runs
 
     -- it follows the plan with the answers that it got

@@ -14,14 +14,12 @@ use Rattle.command_words.specs.Ended.{wrong_at}
 use Rattle.command_words.specs.FolderWords.{folder_named, folders, named_folder, one_folder, some_named}
 use Rattle.command_words.specs.MarkWords.{folder_said as mark_words_said, items_said as mark_items, lacks_sequence, mark_said, with_folder as mark_folder, with_names, word_said}
 use Rattle.command_words.specs.ScanWords.{folder_said, items_said, scan_said, with_folder}
-use Rattle.command_words.specs.SequenceNames.{unless_wrong, wrong_names}
-use Rattle.command_words.specs.Switches.{values}
+use Rattle.command_words.specs.SequenceNames.{unless_wrong}
 use Rattle.command_words.specs.Tables.{mark_table, scan_table}
 use Rattle.command_words.specs.Words.{profile_words}
 use Rattle.command_words.specs.declared.ended.Ended.{Ended}
 use Rattle.command_words.specs.declared.mark.MarkWords.{MarkWords}
 use Rattle.command_words.specs.declared.scan.ScanWords.{ScanWords}
-use Rattle.command_words.specs.declared.tables.TheConstants.{SEQUENCE}
 use Rattle.command_line.specs.Profile.{folder_of, stored_of}
 
 abbrev pub IsRefusal : CommandFault → Type 0
@@ -61,11 +59,11 @@ names_refuse folder items words [] = tt
 names_refuse folder items words (word ∷ wrong) = (refusal.BadSequenceName word, refl)
 
 mark_folder_refuses : (items : List Item) (word : Option (List ℕ)) → MarkRefuses (mark_folder items (folder_named word))
-mark_folder_refuses items None = names_refuse None items (values SEQUENCE items) (wrong_names (values SEQUENCE items))
+mark_folder_refuses items None = names_refuse None items _ _
 mark_folder_refuses items (Some word) = go (is_folder_name (without_plus word))
   where
     go : (b : Bool) → MarkRefuses (mark_folder items (some_named (if b then Ok (without_plus word) else Err (fault.Refused (refusal.BadFolder word)))))
-    go true = names_refuse (Some (without_plus word)) items (values SEQUENCE items) (wrong_names (values SEQUENCE items))
+    go true = names_refuse (Some (without_plus word)) items _ _
     go false = (refusal.BadFolder word, refl)
 
 mark_word_refuses : (words : List (List ℕ)) (items : List Item) (word : Option (List ℕ)) → MarkRefuses (word_said words items word)

@@ -12,15 +12,12 @@ use Rattle.step_plans.specs.declared.command_fault.CommandFault.TheVariants as f
 use Rattle.command_words.specs.Ended.{wrong_at}
 use Rattle.command_words.specs.FolderWords.{folder_named, folders, one_folder, some_named}
 use Rattle.command_words.specs.MarkWords.{folder_said as mark_words_said, items_said as mark_items, lacks_sequence, mark_said, with_folder as mark_folder, with_names, word_said}
-use Rattle.command_words.specs.SequenceNames.{named_sequences}
-use Rattle.command_words.specs.Switches.{values}
 use Rattle.command_words.specs.ScanWords.{scan_said}
 use Rattle.command_words.specs.Tables.{mark_table, scan_table}
 use Rattle.command_words.specs.Words.{profile_words}
 use Rattle.command_words.specs.declared.ended.Ended.{Ended}
 use Rattle.command_words.specs.declared.mark.MarkWords.{MarkWords}
 use Rattle.command_words.specs.declared.scan.ScanWords.{ScanWords}
-use Rattle.command_words.specs.declared.tables.TheConstants.{SEQUENCE}
 use Rattle.command_line.specs.Profile.{folder_of, stored_of}
 use Rattle.command_words.proofs.SaidFolder.{IsValid, items_valid, named_valid, ok_same}
 
@@ -43,11 +40,11 @@ names_valid folder items (Ok names) valid = valid
 names_valid folder items (Err e) valid = tt
 
 mark_folder_valid : (items : List Item) (word : Option (List ℕ)) → MarkValid (mark_folder items (folder_named word))
-mark_folder_valid items None = names_valid None items (named_sequences (values SEQUENCE items)) tt
+mark_folder_valid items None = names_valid None items _ tt
 mark_folder_valid items (Some word) = go (is_folder_name (without_plus word)) refl
   where
     go : (b : Bool) → is_folder_name (without_plus word) ≡ b → MarkValid (mark_folder items (some_named (if b then Ok (without_plus word) else Err (fault.Refused (refusal.BadFolder word)))))
-    go true is = names_valid (Some (without_plus word)) items (named_sequences (values SEQUENCE items)) is
+    go true is = names_valid (Some (without_plus word)) items _ is
     go false is = tt
 
 mark_word_valid : (words : List (List ℕ)) (items : List Item) (word : Option (List ℕ)) → MarkValid (word_said words items word)

@@ -14,7 +14,7 @@ use Rattle.file_plans.specs.Runs.{Cause, Deed, Did, Exit, Heard, Runs, Said, exi
 use Rattle.file_plans.specs.StaysCareful.{only_looks}
 use Rattle.file_plans.proofs.Acting.{acts, acts_over}
 use Rattle.step_plans.specs.Pledges.{MayAsk, Pledge}
-use Rattle.step_plans.proofs.FirstAnswer.{BeginsWith, answered, runs_answered}
+use Rattle.step_plans.proofs.FirstAnswer.{BeginsWith, answered}
 use Rattle.step_plans.proofs.Going.{Sound}
 use Rattle.step_plans.proofs.Ruling.{rules_of}
 
@@ -38,15 +38,15 @@ pub record TwoAnswers {R : Type 0} (s : Step) (t : Answer → Step) (next : Answ
   pub begin : BeginWith s first (t first) second ds
   pub runs : Runs (Ask s (λ c. rest_by (t first) (next first) (onward first) second)) h ds j x
 
-tail_of : (d e : Deed) (ds rest : List Deed) → ◌≡◌ {A = List Deed} (d ∷ ds) (e ∷ rest) → (d ≡ e) × (ds ≡ rest)
-tail_of d e ds rest same = cc
+head_is : (d e : Deed) (ds rest : List Deed) → ◌≡◌ {A = List Deed} (d ∷ ds) (e ∷ rest) → d ≡ e
+head_is d e ds rest same = cc
 
 no_deeds : (d : Deed) (ds : List Deed) → ◌≡◌ {A = List Deed} (d ∷ ds) [] → ⊥
 no_deeds d ds same = cc
 
 headed : (s : Step) (a : Answer) (d : Deed) (ds : List Deed) → BeginsWith s a (d ∷ ds) → d ≡ Did s a
 headed s a d ds (inl none) = absurd (no_deeds d ds none)
-headed s a d ds (inr b) = (tail_of d (Did s a) ds b.0 b.1).0
+headed s a d ds (inr b) = head_is d (Did s a) ds b.0 b.1
 
 alone_with : (s : Step) (a : Answer) (t : Step) (b : Answer) (d : Deed) (ds : List Deed) → d ≡ Did s a → ds ≡ [] → BeginWith s a t b (d ∷ ds)
 alone_with s a t b d ds head none = inr (inl (λ i. head i ∷ none i))
@@ -54,6 +54,16 @@ alone_with s a t b d ds head none = inr (inl (λ i. head i ∷ none i))
 both_with : (s : Step) (a : Answer) (t : Step) (b : Answer) (d : Deed) (ds : List Deed) → d ≡ Did s a → BeginsWith t b ds → BeginWith s a t b (d ∷ ds)
 both_with s a t b d ds head (inl none) = alone_with s a t b d ds head none
 both_with s a t b d ds head (inr more) = inr (inr (more.0, λ i. head i ∷ more.1 i))
+
+began_with : (s t : Step) (a : Answer) (ds : List Deed) → t ≡ s → BeginsWith s a (Did t a ∷ ds)
+began_with s t a ds e = inr (ds, ap (λ z. Did z a ∷ ds) e)
+
+runs_answered : {R : Type 0} (s : Step) (next : Answer → Plan R) (h j : Hand) (ds : List Deed) (x : Exit R) → Runs (Ask s next) h ds j x → (a : Answer) × BeginsWith s a ds × Runs (answered s next a) h ds j x
+unfolding Runs
+runs_answered s next h j [] x f = (Failed, inl refl, f)
+runs_answered s next h j (Did t a ∷ ds) x f = (a, began_with s t a ds f.0, f)
+runs_answered s next h j (Said piece ∷ ds) x f = absurd f
+runs_answered s next h j (Heard piece ∷ ds) x f = absurd f
 
 record Second {R : Type 0} (s : Step) (a : Answer) (t : Step) (k : Answer → Plan R) (h j : Hand) (ds : List Deed) (x : Exit R) : Type 0 where
   answer : Answer
@@ -147,8 +157,8 @@ keeps_after w p q n m limit h rest Q f = (
   λ a row live. (
     (tt, tt),
     may_read w (did (Read p n limit) a ∷ []) q m limit,
-    (tt, tt, tt),
-    λ b row_b live_b. f a b (record { numbered = (tt, tt, tt); unfailed = unfailed a b live live_b }),
+    (tt, (tt, tt)),
+    λ b row_b live_b. f a b (record { numbered = (tt, (tt, tt)); unfailed = unfailed a b live live_b }),
   ),
 )
   where

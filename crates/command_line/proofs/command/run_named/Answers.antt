@@ -10,4 +10,4 @@ returns-in-None g c = (fresh, named_none c.args.profile.now string_bytes c.args.
 pub returns-in-Some : goal.returns-in-Some
 returns-in-Some g c =
     let f = c.run_word.ensures in
-    (f.0, named_some c.args.profile.now (map string_bytes c.args.words.now) (map string_bytes c.in-Some.rest.now) (string_bytes c.in-Some.word.now) (search rules) f.1)
+    (f.0, named_some c.args.profile.now (map string_bytes c.args.words.now) (map string_bytes c.in-Some.rest.now) c.as_str.result.now (search rules) f.1)

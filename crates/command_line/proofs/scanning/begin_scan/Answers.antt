@@ -3,16 +3,16 @@ use Rattle.file_plans.proofs.Following.{go, no_room, stop, whole}
 use Rattle.command_line.specs.Command.{scan_begun}
 use Rattle.command_line.proofs.scanning.begin_scan.Goals as goal
 
-pub returns-in_err-enter_folder : goal.returns-in_err-enter_folder
+pub returns-in_err-folder : goal.returns-in_err-folder
 unfolding scan_begun
-returns-in_err-enter_folder g c = stop _ (whole c.in_err-enter_folder.ensures.plan) c.from_residual.ensures
+returns-in_err-folder g c = stop _ (whole c.in_err-folder.ensures.plan) c.from_residual.ensures
 
 pub returns-in_err-negation : goal.returns-in_err-negation
 unfolding scan_begun
-returns-in_err-negation g c = go _ (whole c.in_ok-enter_folder.ensures.plan) (no_room _ c.from_residual-in_err-negation.ensures refl)
+returns-in_err-negation g c = go _ (whole c.in_ok-folder.ensures.plan) (no_room _ c.from_residual-in_err-negation.ensures refl)
 
 pub returns : goal.returns
 unfolding scan_begun
 returns g c =
-    go _ (whole c.in_ok-enter_folder.ensures.plan)
-    (rw (c.in_ok-enter_folder.ensures.run, c.in_ok-enter_folder.ensures.mail, c.requires, c.in_ok-negation.ensures) at c.scan.ensures.plan)
+    go _ (whole c.in_ok-folder.ensures.plan)
+    (rw (c.in_ok-folder.ensures.run, c.in_ok-folder.ensures.mail, c.requires, c.in_ok-negation.ensures) at c.scan.ensures.plan)
