@@ -35,11 +35,13 @@ use Rattle.mh_looks.specs.Scan.{entries_seen, scan}
 use Rattle.mh_looks.proofs.Ending.{ScanShows, no_folder, bad_spec, absent, empty_range, empty_sequence, long_file, long_text, held, meddled, TextEnds, text_comes, comes_recall, comes_at, ScanEnds, scan_comes}
 use Rattle.command_line.specs.Causes.{IsAboveLimit, ShowsCommandFault}
 use Rattle.command_line.specs.Command.{profile_name, path_of, stored_of, folder_of, context_seen, context_entered, job_of, scan_begun, scan_by, no_command, command_by, command}
-use Rattle.command_line.specs.Ended.{plain, wrong_word}
-use Rattle.command_line.specs.ScanWords.{one_folder, folders, with_folder, folder_said, words_of, items_said, scan_said}
-use Rattle.command_line.specs.Words.{scan_table, profile_words}
-use Rattle.command_line.specs.declared.ended.Ended.{Ended}
-use Rattle.command_line.specs.declared.scan_words.ScanWords.{ScanWords}
+use Rattle.command_words.specs.Ended.{plain, wrong_word}
+use Rattle.command_words.specs.FolderWords.{one_folder, folders}
+use Rattle.command_words.specs.ScanWords.{with_folder, folder_said, words_of, items_said, scan_said}
+use Rattle.command_words.specs.Tables.{scan_table}
+use Rattle.command_words.specs.Words.{profile_words}
+use Rattle.command_words.specs.declared.ended.Ended.{Ended}
+use Rattle.command_words.specs.declared.scan.ScanWords.{ScanWords}
 
 -- what shows the end of `scan` shows that of a command
 scan_shows : (run : ℕ) (mail folder : List ℕ) (e : CommandFault) (own : List Deed) → ScanShows run mail folder e own → ShowsCommandFault run e own

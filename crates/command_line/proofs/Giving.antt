@@ -32,12 +32,14 @@ use Rattle.mh_looks.proofs.Folders.{IsFresh}
 use Rattle.mh_looks.proofs.Reading.{after_read, TextRead, text_gives}
 use Rattle.mh_looks.proofs.Scanning.{IsLate, Decides, ScanEnds, scan_gives}
 use Rattle.command_line.specs.Command.{profile_name, path_of, stored_of, folder_of, job_of, context_seen, context_entered, scan_begun, scan_by, no_command, command_by, command}
-use Rattle.command_line.specs.Ended.{plain}
+use Rattle.command_words.specs.Ended.{plain}
 use Rattle.command_line.specs.Outcomes.{plainly, of_stage, in_folder, with_context, with_words, named_work, with_profile, work_of}
-use Rattle.command_line.specs.ScanWords.{folders, one_folder, named_folder, with_folder, folder_said, items_said, scan_said}
-use Rattle.command_line.specs.Words.{scan_table, profile_words}
-use Rattle.command_line.specs.declared.ended.Ended.{Ended}
-use Rattle.command_line.specs.declared.scan_words.ScanWords.{ScanWords}
+use Rattle.command_words.specs.FolderWords.{folders, one_folder, named_folder}
+use Rattle.command_words.specs.ScanWords.{with_folder, folder_said, items_said, scan_said}
+use Rattle.command_words.specs.Tables.{scan_table}
+use Rattle.command_words.specs.Words.{profile_words}
+use Rattle.command_words.specs.declared.ended.Ended.{Ended}
+use Rattle.command_words.specs.declared.scan.ScanWords.{ScanWords}
 
 -- an end that the last commit alone decides
 abbrev pub IsLateEnd : Result Unit Ended → Type 0

@@ -1,6 +1,5 @@
 pub mod Ending
 pub mod Giving
-pub mod Items
 pub mod MindsMarks
 pub mod Plans
 pub mod Pledging

@@ -31,8 +31,8 @@ use Rattle.mh_looks.specs.ScanPledge.{MarksCurrent, scan_pledge}
 use Rattle.command_stages.proofs.FolderLines.{current_valid}
 use Rattle.command_line.specs.Command.{command}
 use Rattle.command_line.specs.CommandPledge.{path_by}
-use Rattle.command_line.specs.Ended.{ended_cause}
-use Rattle.command_line.specs.declared.ended.Ended.{Ended}
+use Rattle.command_words.specs.Ended.{ended_cause}
+use Rattle.command_words.specs.declared.ended.Ended.{Ended}
 use Rattle.command_line.proofs.Pledging.{Ends, answered_goes, command_answers, first, next_by}
 
 -- a step in the mail directory changes no folder

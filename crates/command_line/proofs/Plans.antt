@@ -17,11 +17,14 @@ use Rattle.step_plans.specs.Hands.{knowing}
 use Rattle.step_plans.specs.declared.command_fault.CommandFault.{CommandFault}
 use Rattle.step_plans.specs.declared.command_fault.CommandFault.TheVariants as fault
 use Rattle.command_line.specs.Command.{value_or, context_seen, scan_begun, scan_by, no_command, command_by}
-use Rattle.command_line.specs.Ended.{plain, ended_cause}
-use Rattle.command_line.specs.ScanWords.{folders, one_folder, named_folder, with_folder, folder_said, items_said, scan_said, IsSaid}
-use Rattle.command_line.specs.Words.{scan_table, profile_words}
-use Rattle.command_line.specs.declared.ended.Ended.{Ended}
-use Rattle.command_line.specs.declared.scan_words.ScanWords.{ScanWords}
+use Rattle.command_words.specs.Ended.{plain, ended_cause}
+use Rattle.command_words.specs.FolderWords.{folders, one_folder, named_folder}
+use Rattle.command_words.specs.Results.{IsSaid}
+use Rattle.command_words.specs.ScanWords.{with_folder, folder_said, items_said, scan_said}
+use Rattle.command_words.specs.Tables.{scan_table}
+use Rattle.command_words.specs.Words.{profile_words}
+use Rattle.command_words.specs.declared.ended.Ended.{Ended}
+use Rattle.command_words.specs.declared.scan.ScanWords.{ScanWords}
 
 plain_each : (e : CommandFault) → ended_cause (plain e) ≡ command_cause e
 plain_each e = refl

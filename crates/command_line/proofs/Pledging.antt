@@ -31,12 +31,14 @@ use Rattle.mh_looks.proofs.LooksLeave.{Looked, Looks, text_goes, goes_chosen}
 use Rattle.mh_looks.proofs.Pledging.{Noted, noted_after, scan_goes}
 use Rattle.command_line.specs.Command.{path_of, profile_name, folder_of, context_seen, context_entered, job_of, scan_begun, scan_by, command_by, no_command, command}
 use Rattle.command_line.specs.CommandPledge.{HaveBegun, KeepsPledge, path_by, text_of}
-use Rattle.command_line.specs.Ended.{Ending, ended_cause, plain}
-use Rattle.command_line.specs.ScanWords.{scan_said}
-use Rattle.command_line.specs.Words.{profile_words, scan_table}
-use Rattle.command_line.specs.declared.ended.Ended.{Ended}
-use Rattle.command_line.specs.declared.scan_words.ScanWords.{ScanWords}
-use Rattle.command_line.proofs.SaidFolder.{IsValid, acted_valid, items_valid}
+use Rattle.command_words.specs.Ended.{Ending, ended_cause, plain}
+use Rattle.command_words.specs.ScanWords.{scan_said}
+use Rattle.command_words.specs.Tables.{scan_table}
+use Rattle.command_words.specs.Words.{profile_words}
+use Rattle.command_words.specs.declared.ended.Ended.{Ended}
+use Rattle.command_words.specs.declared.scan.ScanWords.{ScanWords}
+use Rattle.command_line.proofs.SaidFolder.{acted_valid}
+use Rattle.command_words.proofs.SaidFolder.{IsValid, items_valid}
 
 module _ (run : ℕ) (few : run < 2 ^ 128) (path : List ℕ) where
   tells : (deeds : List Deed) (piece : List ℕ) → Unit {0}

@@ -36,10 +36,10 @@ use Rattle.command_stages.specs.Current.{current_change, made_current}
 use Rattle.mh_looks.specs.Scan.{shown_by, one_shown, all_shown, ordered, entries_seen, chosen_by, scan}
 use Rattle.mh_looks.specs.declared.job.ScanJob.{ScanJob}
 use Rattle.command_line.specs.Command.{profile_name, path_of, folder_of, job_of, context_seen, context_entered, scan_begun, scan_by, no_command, command_by, command}
-use Rattle.command_line.specs.Ended.{plain}
-use Rattle.command_line.specs.ScanWords.{scan_said}
-use Rattle.command_line.specs.declared.ended.Ended.{Ended}
-use Rattle.command_line.specs.declared.scan_words.ScanWords.{ScanWords}
+use Rattle.command_words.specs.Ended.{plain}
+use Rattle.command_words.specs.ScanWords.{scan_said}
+use Rattle.command_words.specs.declared.ended.Ended.{Ended}
+use Rattle.command_words.specs.declared.scan.ScanWords.{ScanWords}
 use Rattle.command_line.proofs.Giving.{IsFirst}
 
 -- any step but a Link

@@ -16,10 +16,11 @@ use Rattle.command_stages.specs.Texts.{Commanded, text_read}
 use Rattle.command_stages.specs.Current.{current_name}
 use Rattle.mh_looks.specs.Scan.{entries_seen, scan}
 use Rattle.mh_looks.specs.declared.job.ScanJob.{ScanJob}
-use Rattle.command_line.specs.declared.ended.Ended.{Ended}
-use Rattle.command_line.specs.declared.scan_words.ScanWords.{ScanWords}
-use Rattle.command_line.specs.Ended.{plain, wrong_word, Ending}
-use Rattle.command_line.specs.ScanWords.{named_folder, scan_said}
+use Rattle.command_words.specs.declared.ended.Ended.{Ended}
+use Rattle.command_words.specs.declared.scan.ScanWords.{ScanWords}
+use Rattle.command_words.specs.Ended.{plain, wrong_word, Ending}
+use Rattle.command_words.specs.FolderWords.{named_folder}
+use Rattle.command_words.specs.ScanWords.{scan_said}
 
 -- the profile, in the home directory
 abbrev pub profile_name : List ℕ

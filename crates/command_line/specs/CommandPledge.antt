@@ -15,7 +15,7 @@ use Rattle.step_plans.specs.Finished.{AreFinished}
 use Rattle.step_plans.specs.Promises.{Promises}
 use Rattle.mh_looks.specs.ScanPledge.{scan_pledge}
 use Rattle.command_line.specs.Command.{path_of, profile_name}
-use Rattle.command_line.specs.declared.ended.Ended.{Ended}
+use Rattle.command_words.specs.declared.ended.Ended.{Ended}
 
 -- the text that was read; the empty one where there is none
 abbrev pub text_of : Reading → List ℕ

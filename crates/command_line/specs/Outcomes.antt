@@ -9,10 +9,10 @@ use Rattle.step_plans.specs.declared.command_fault.CommandFault.{CommandFault}
 use Rattle.command_stages.specs.Works.{Work, refused_at, readable}
 use Rattle.mh_looks.specs.Outcomes.{scan_work}
 use Rattle.command_line.specs.Command.{profile_name, path_of, folder_of, job_of, no_command}
-use Rattle.command_line.specs.Ended.{plain}
-use Rattle.command_line.specs.ScanWords.{scan_said}
-use Rattle.command_line.specs.declared.ended.Ended.{Ended}
-use Rattle.command_line.specs.declared.scan_words.ScanWords.{ScanWords}
+use Rattle.command_words.specs.Ended.{plain}
+use Rattle.command_words.specs.ScanWords.{scan_said}
+use Rattle.command_words.specs.declared.ended.Ended.{Ended}
+use Rattle.command_words.specs.declared.scan.ScanWords.{ScanWords}
 
 abbrev pub plainly : Result Unit CommandFault → Result Unit Ended
 plainly (Ok u) = Ok u

@@ -8,9 +8,9 @@ ghost use Rattle.file_plans.specs.Follows.{Follows, by_hand, by_out};
 ghost use Rattle.step_plans.specs.CommandFaults.{command_cause};
 ghost use Rattle.mh_looks.specs.Scan.{entries_seen};
 ghost use Rattle.command_stages.specs.Texts.{text_read};
-ghost use Rattle.command_line.specs.ScanWords.{scan_said};
-ghost use Rattle.command_line.specs.Ended.{ended_cause};
-ghost use Rattle.command_line.specs.Results.{IsNamed};
+ghost use Rattle.command_words.specs.ScanWords.{scan_said};
+ghost use Rattle.command_words.specs.Ended.{ended_cause};
+ghost use Rattle.command_words.specs.Results.{IsNamed};
 ghost use Rattle.command_line.specs.Command.{
   profile_name as profile_name_of,
   path_of,
@@ -26,9 +26,8 @@ ghost use Rattle.command_line.specs.Command.{
   command as command_plan,
 };
 
-use crate::ended::Ended;
-use crate::scan_words::{ScanWords, read_folder, scan_words};
 use command_stages::read_text;
+use command_words::{Ended, ScanWords, read_folder, scan_words};
 use folder_files::{Files, Place, Refusal};
 use mail_text::show_bytes;
 use mh_base::{Bytes, Duplicate, FolderName, Name, Sink, Text, WordWhy};

@@ -2,9 +2,5 @@
 #![tactic(auto)]
 
 mod command;
-mod ended;
-mod scan_words;
-mod words;
 
 pub use command::run_command;
-pub use ended::Ended;

@@ -34,9 +34,9 @@ use Rattle.step_plans.specs.declared.command_fault.CommandFault.TheVariants as f
 use Rattle.command_stages.specs.Works.{Work}
 use Rattle.command_line.specs.Causes.{ShowsCommandFault}
 use Rattle.command_line.specs.Command.{command}
-use Rattle.command_line.specs.Ended.{ended_cause}
+use Rattle.command_words.specs.Ended.{ended_cause}
 use Rattle.command_line.specs.Outcomes.{work_of}
-use Rattle.command_line.specs.declared.ended.Ended.{Ended}
+use Rattle.command_words.specs.declared.ended.Ended.{Ended}
 use Rattle.command_line.proofs.Ending.{EndsAs, run_ends, never_hears}
 use Rattle.command_line.proofs.Giving.{IsLateEnd, DecidesEnd, ByFault, CommandEnds, command_gives}
 use Rattle.command_line.proofs.MindsMarks.{command_keeps_sequences}

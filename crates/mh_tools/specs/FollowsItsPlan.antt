@@ -7,8 +7,8 @@ use Rattle.mh_base.specs.Streams.{SinkState, Adds, AddsPart}
 use Rattle.file_plans.specs.Plan.{Hand, fresh}
 use Rattle.file_plans.specs.Follows.{Follows}
 use Rattle.command_line.specs.Command.{command}
-use Rattle.command_line.specs.Ended.{ended_cause}
-use Rattle.command_line.specs.declared.ended.Ended.{Ended}
+use Rattle.command_words.specs.Ended.{ended_cause}
+use Rattle.command_words.specs.declared.ended.Ended.{Ended}
 use Rattle.mh_tools.specs.Calls.{Call, begins, ends}
 use Rattle.mh_tools.specs.Lines.{error_line_of}
 use Rattle.mh_tools.specs.Status.{ended_status, ended_word}

@@ -3,7 +3,7 @@ use Rattle.std.specs.Prelude.{ℕ, List, [], Option, Result, Ok, Err}
 use Rattle.file_plans.specs.Mailboxes.{Mailbox}
 use Rattle.command_stages.specs.Works.{Work}
 use Rattle.command_line.specs.Outcomes.{work_of}
-use Rattle.command_line.specs.declared.ended.Ended.{Ended}
+use Rattle.command_words.specs.declared.ended.Ended.{Ended}
 use Rattle.mh_tools.specs.Lines.{error_line_of}
 use Rattle.mh_tools.specs.Setting.{SettingParts}
 use Rattle.mh_tools.specs.Status.{fault_status, ended_status}

@@ -2,7 +2,7 @@
 use Rattle.std.specs.Prelude.{ℕ, List, Option, None, Result, Ok, Err}
 use Rattle.step_plans.specs.declared.command_fault.CommandFault.{CommandFault}
 use Rattle.step_plans.specs.declared.command_fault.CommandFault.TheVariants as fault
-use Rattle.command_line.specs.declared.ended.Ended.{Ended}
+use Rattle.command_words.specs.declared.ended.Ended.{Ended}
 use Rattle.mh_tools.specs.declared.status.Status.{Status}
 use Rattle.mh_tools.specs.declared.status.Status.TheVariants.{Done, Refused, Faulted, Locked, Meddled, NoMemory}
 

@@ -11,7 +11,8 @@ ghost use Rattle.mh_tools.specs.TellsWhatItSaw.{TellsWhatItSaw};
 
 use crate::lines::error_line;
 use crate::{Setting, Status};
-use command_line::{Ended, run_command};
+use command_line::run_command;
+use command_words::Ended;
 use folder_files::Files;
 use mh_base::{Bytes, Sink, SinkFault, Source};
 use std::alloc::Global;

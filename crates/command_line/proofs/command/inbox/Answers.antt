@@ -2,7 +2,8 @@ use Rattle.std.proofs.Common.{rules, ◌∙◌}
 use Rattle.std.specs.Prelude.{codes}
 use Rattle.mh_profile.specs.Changes.{value_of}
 use Rattle.command_line.proofs.Plans.{inbox_none}
-use Rattle.command_line.proofs.Texts.{chars_inbox, if_text}
+use Rattle.command_line.proofs.Texts.{chars_inbox}
+use Rattle.command_words.proofs.Texts.{if_text}
 use Rattle.command_line.proofs.command.inbox.Goals as goal
 
 pub returns-in-None : goal.returns-in-None

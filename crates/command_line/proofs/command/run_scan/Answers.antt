@@ -5,8 +5,8 @@ use Rattle.file_plans.specs.Plan.{fresh}
 use Rattle.file_plans.proofs.Following.{no_room, lift_ok}
 use Rattle.step_plans.specs.CommandFaults.{command_cause}
 use Rattle.command_line.specs.Command.{scan_begun}
-use Rattle.command_line.specs.Ended.{plain, ended_cause}
-use Rattle.command_line.specs.ScanWords.{scan_said}
+use Rattle.command_words.specs.Ended.{plain, ended_cause}
+use Rattle.command_words.specs.ScanWords.{scan_said}
 use Rattle.command_line.proofs.Plans.{plain_same, refused_words, scan_on, ends_off}
 use Rattle.command_line.proofs.command.run_scan.Goals as goal
 

@@ -1,9 +1,0 @@
-use Rattle.std.proofs.Common.{◌≡◌, ◌++◌, drop, map}
-use Rattle.std.specs.Prelude.{codes}
-use Rattle.std.specs.Str.{chars}
-use Rattle.std.specs.String.{string_bytes}
-use Rattle.command_line.specs.Words.{profile_words}
-use Rattle.command_line.proofs.scan_words.all_words.Given as goal
-
-abbrev pub invariant-loop-word : goal.invariant-loop-word
-invariant-loop-word l = l.all ++ map (λ w. chars (string_bytes w)) (drop l.word-index l.words) ≡ profile_words (codes "scan") l.fn.profile ++ map (λ w. chars (string_bytes w)) l.words

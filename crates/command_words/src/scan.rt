@@ -1,0 +1,90 @@
+// What the words of `scan` say.
+ghost use Rattle.std.specs.Prelude.{◌≡◌, IfOk, Ok, map, false};
+ghost use Rattle.std.specs.Str.{chars};
+ghost use Rattle.std.specs.String.{string_bytes};
+ghost use Rattle.command_words.specs.Results.{IsSaid};
+ghost use Rattle.command_words.specs.ScanWords.{
+  reversed_by as reversed_by_of,
+  is_reversed as is_reversed_of,
+  words_of,
+  items_said as items_said_of,
+  scan_said,
+};
+
+use crate::ended::Ended;
+use crate::folder_word::{folder_said, folder_word};
+use crate::message_words::messages_or;
+use crate::tables::scan_table;
+use crate::words::all_words;
+use crate::wrong_word::{read_items, wrong_at};
+use mh_base::{FolderName, TextList, WordWhy};
+use mh_profile::Entries;
+use mh_words::{Item, ItemList};
+use std::alloc::{AllocError, Global};
+
+/// The words of `scan`: the folder, where they name one; the messages' names; whether the last message
+/// comes first.
+#[derive(Drop)]
+pub struct ScanWords {
+    pub folder: Option<FolderName>,
+    pub specs: TextList,
+    pub reverse: bool,
+}
+
+/// Whether the last comes first, with one item more.
+fn reversed_by(item: &Item, before: bool) -> bool
+    ensures { result ≡ reversed_by_of item.now before }
+{
+    match item {
+        Item::Switch { index, .. } => *index == 0,
+        _ => before,
+    }
+}
+
+fn is_reversed(items: &ItemList) -> bool
+    ensures { result ≡ is_reversed_of items.now false }
+{
+    let mut reverse = false;
+    for item in items.as_slice() {
+        reverse = reversed_by(item, reverse);
+    }
+    reverse
+}
+
+#[tactic(auto, using(crate::proofs::Texts::chars_all))]
+fn words_said(
+    alloc: Global,
+    items: &ItemList,
+    folder: Option<FolderName>,
+) -> Result<ScanWords, AllocError>
+    ensures { IfOk result (λ words. words ≡ words_of folder items.now) }
+{
+    Ok(ScanWords {
+        folder,
+        specs: messages_or(alloc, "all", items)?,
+        reverse: is_reversed(items),
+    })
+}
+
+/// What the items of the words say.
+fn items_said(alloc: Global, words: &TextList, items: &ItemList) -> Result<ScanWords, Ended>
+    ensures { IsSaid (items_said_of words.now (Ok items.now)) result }
+{
+    match folder_word(items) {
+        Ok(word) => {
+            let folder = folder_said(alloc, word)?;
+            Ok(words_said(alloc, items, folder)?)
+        }
+        Err(place) => Err(wrong_at(alloc, words, place, WordWhy::Extra)?),
+    }
+}
+
+/// What the words of `scan` say, those of the profile first.
+pub fn scan_words(alloc: Global, profile: &Entries, words: &[String]) -> Result<ScanWords, Ended>
+    ensures { IsSaid (scan_said profile.now (map chars (map string_bytes words.now))) result }
+{
+    let table = scan_table(alloc)?;
+    let all = all_words(alloc, profile, b"scan", words)?;
+    let items = read_items(alloc, &table, &all)?;
+    items_said(alloc, &all, &items)
+}
