@@ -1,17 +1,17 @@
 -- The items of words, one after another.
-use Rattle.std.proofs.Common.{◌≡◌, ◌++◌, ◌∷◌, [], ℕ, suc, ◌+◌, ◌<◌, ◌≤◌, Bool, false, List, Option, None, Some, Ok, Err, sym, ◌∙◌, ap, drop, get_or, length, add-one, append_assoc, append-nil}
+use Rattle.std.proofs.Common.{◌≡◌, ◌++◌, ◌∷◌, [], ℕ, suc, ◌+◌, ◌<◌, ◌≤◌, Bool, List, Option, None, Some, Ok, Err, refl, sym, ◌∙◌, ap, drop, get_or, length, add-one, append_assoc, append-nil}
 use Rattle.std.specs.Prelude.{option_map, map}
 use Rattle.std.specs.Borrow.{Bor}
+use Rattle.std.specs.List.{flat_map}
 use Rattle.std.proofs.Math.Seq.{drop-cons}
 use Rattle.std.proofs.lemmas.List.{drop_all}
 use Rattle.mh_base.specs.declared.word.WordWhy.TheVariants.{Extra}
 use Rattle.mh_words.specs.declared.item.Item.{Item}
-use Rattle.command_words.specs.Results.{IsOneFolder}
 use Rattle.command_words.specs.FolderWords.{folders, one_folder, remaining, IsFolderSeen}
-use Rattle.command_words.specs.MessageWords.{message_in, messages}
-use Rattle.command_words.specs.ScanWords.{reversed_by, is_reversed}
+use Rattle.command_words.specs.Results.{IsOneFolder}
+use Rattle.command_words.specs.Switches.{choice_in, last_or, last_choice}
 
-next : {A : Type 0} (l : List A) (i : ℕ) (x : A) → i < length l → x ≡ get_or l i x → drop i l ≡ x ∷ drop (i + 1) l
+pub next : {A : Type 0} (l : List A) (i : ℕ) (x : A) → i < length l → x ≡ get_or l i x → drop i l ≡ x ∷ drop (i + 1) l
 next l i x h is = rw (add-one, drop-cons l i x) (ap (λ y. y ∷ drop (suc i) l) (sym is))
 
 abbrev pub IsLeft : List Item → ℕ → Option (Bor (List ℕ)) → Type 0
@@ -27,22 +27,26 @@ pub seen_all : (items : List Item) (i : ℕ) (found : Option (Bor (List ℕ))) �
 seen_all items i None h left = sym left ∙ ap (λ l. one_folder (folders l)) (drop_all i items h)
 seen_all items i (Some w) h left = sym left ∙ ap (λ l. remaining (Some w.now) (folders l)) (drop_all i items h)
 
-pub message_more : (items : List Item) (i : ℕ) (item : Item) (old new : List (List ℕ)) → i < length items → item ≡ get_or items i item → new ≡ old ++ message_in item → old ++ messages (drop i items) ≡ messages items → new ++ messages (drop (i + 1) items) ≡ messages items
-message_more items i item old new h is put left =
-    ap (λ l. l ++ messages (drop (i + 1) items)) put ∙ append_assoc old (message_in item) (messages (drop (i + 1) items)) ∙ ap (λ l. old ++ messages l) (sym (next items i item h is)) ∙ left
+-- what the items have, one after another
+pub texts_more : (f : Item → List (List ℕ)) (items : List Item) (i : ℕ) (item : Item) (old new : List (List ℕ)) → i < length items → item ≡ get_or items i item → new ≡ old ++ f item → old ++ flat_map f (drop i items) ≡ flat_map f items → new ++ flat_map f (drop (i + 1) items) ≡ flat_map f items
+texts_more f items i item old new h is put left =
+    ap (λ l. l ++ flat_map f (drop (i + 1) items)) put ∙ append_assoc old (f item) (flat_map f (drop (i + 1) items)) ∙ ap (λ l. old ++ flat_map f l) (sym (next items i item h is)) ∙ left
 
-pub messages_all : (items : List Item) (i : ℕ) (words : List (List ℕ)) → length items ≤ i → words ++ messages (drop i items) ≡ messages items → words ≡ messages items
-messages_all items i words h left = sym (append-nil words) ∙ ap (λ l. words ++ messages l) (sym (drop_all i items h)) ∙ left
+pub texts_all : (f : Item → List (List ℕ)) (items : List Item) (i : ℕ) (words : List (List ℕ)) → length items ≤ i → words ++ flat_map f (drop i items) ≡ flat_map f items → words ≡ flat_map f items
+texts_all f items i words h left = sym (append-nil words) ∙ ap (λ l. words ++ flat_map f l) (sym (drop_all i items h)) ∙ left
 
-pub reversed_more : (items : List Item) (i : ℕ) (item : Item) (old new : Bool) → i < length items → item ≡ get_or items i item → new ≡ reversed_by item old → is_reversed (drop i items) old ≡ is_reversed items false → is_reversed (drop (i + 1) items) new ≡ is_reversed items false
-reversed_more items i item old new h is put left = ap (is_reversed (drop (i + 1) items)) put ∙ ap (λ l. is_reversed l old) (sym (next items i item h is)) ∙ left
+last_append : (before : Option Bool) (xs ys : List Bool) → last_or before (xs ++ ys) ≡ last_or (last_or before xs) ys
+last_append before [] ys = refl
+last_append before (x ∷ xs) ys = last_append (Some x) xs ys
 
-pub reversed_all : (items : List Item) (i : ℕ) (reverse : Bool) → length items ≤ i → is_reversed (drop i items) reverse ≡ is_reversed items false → reverse ≡ is_reversed items false
-reversed_all items i reverse h left = ap (λ l. is_reversed l reverse) (sym (drop_all i items h)) ∙ left
+pub choice_more : (on off : ℕ) (items : List Item) (i : ℕ) (item : Item) (old new : Option Bool) → i < length items → item ≡ get_or items i item → new ≡ last_or old (choice_in on off item) → last_or old (flat_map (choice_in on off) (drop i items)) ≡ last_choice on off items →
+    last_or new (flat_map (choice_in on off) (drop (i + 1) items)) ≡ last_choice on off items
+choice_more on off items i item old new h is put left =
+    let rest = flat_map (choice_in on off) (drop (i + 1) items) in
+    ap (λ o. last_or o rest) put ∙ sym (last_append old (choice_in on off item) rest) ∙ ap (λ l. last_or old (flat_map (choice_in on off) l)) (sym (next items i item h is)) ∙ left
 
-pub word_more : {A : Type 0} (f : A → List ℕ) (words : List A) (i : ℕ) (word : A) (old new all : List (List ℕ)) → i < length words → word ≡ get_or words i word → new ≡ old ++ f word ∷ [] → old ++ map f (drop i words) ≡ all → new ++ map f (drop (i + 1) words) ≡ all
-word_more f words i word old new all h is put left =
-    ap (λ l. l ++ map f (drop (i + 1) words)) put ∙ append_assoc old (f word ∷ []) (map f (drop (i + 1) words)) ∙ ap (λ l. old ++ map f l) (sym (next words i word h is)) ∙ left
+pub choice_all : (on off : ℕ) (items : List Item) (i : ℕ) (last : Option Bool) → length items ≤ i → last_or last (flat_map (choice_in on off) (drop i items)) ≡ last_choice on off items → last ≡ last_choice on off items
+choice_all on off items i last h left = ap (λ l. last_or last (flat_map (choice_in on off) l)) (sym (drop_all i items h)) ∙ left
 
 pub words_all : {A : Type 0} (f : A → List ℕ) (words : List A) (i : ℕ) (now all : List (List ℕ)) → length words ≤ i → now ++ map f (drop i words) ≡ all → now ≡ all
 words_all f words i now all h left = sym (append-nil now) ∙ ap (λ l. now ++ map f l) (sym (drop_all i words h)) ∙ left

@@ -1,3 +1,5 @@
 pub mod Items
+pub mod Said
 pub mod SaidFolder
+pub mod SequenceNames
 pub mod Texts

@@ -9,17 +9,13 @@ use Rattle.mail_text.specs.ShownBytes.{shown}
 use Rattle.command_words.specs.MessageWords.{names_or}
 use Rattle.command_words.specs.Words.{is_some_text}
 
-pub chars_reverse : chars (codes "reverse") ≡ codes "reverse"
-unfolding chars
-chars_reverse = refl
-
-pub chars_noreverse : chars (codes "noreverse") ≡ codes "noreverse"
-unfolding chars
-chars_noreverse = refl
-
 pub chars_all : chars (codes "all") ≡ codes "all"
 unfolding chars
 chars_all = refl
+
+pub chars_cur : chars (codes "cur") ≡ codes "cur"
+unfolding chars
+chars_cur = refl
 
 pub shown_more : (parts : List (Bor (List ℕ))) (part : Bor (List ℕ)) (old new : List (List ℕ)) → new ≡ old ++ map shown (filter is_some_text (part.now ∷ [])) → old ≡ map shown (filter is_some_text (map (λ i. i.now) parts)) → new ≡ map shown (filter is_some_text (map (λ i. i.now) (parts ++ part ∷ [])))
 shown_more parts part old new put e =

@@ -48,6 +48,15 @@ IsFolderSeen found item (Err place) = (rest : List FolderWord) → remaining fou
 abbrev pub named_folder : List ℕ → Result (List ℕ) CommandFault
 named_folder word = if is_folder_name (without_plus word) then Ok (without_plus word) else Err (fault.Refused (refusal.BadFolder word))
 
+abbrev pub some_named : Result (List ℕ) CommandFault → Result (Option (List ℕ)) CommandFault
+some_named (Ok name) = Ok (Some name)
+some_named (Err e) = Err e
+
+-- the same of a word, where there is one
+abbrev pub folder_named : Option (List ℕ) → Result (Option (List ℕ)) CommandFault
+folder_named None = Ok None
+folder_named (Some word) = some_named (named_folder word)
+
 -- the folder of this word, where there is one
 abbrev pub IsSaidFolder : Option (List ℕ) → Result (Option (List ℕ)) CommandFault → Type 0
 IsSaidFolder None (Ok None) = Unit {0}

@@ -1,7 +1,10 @@
 pub mod Ended
 pub mod FolderWords
+pub mod MarkWords
 pub mod MessageWords
 pub mod Results
 pub mod ScanWords
+pub mod SequenceNames
+pub mod Switches
 pub mod Tables
 pub mod Words

@@ -1,33 +1,22 @@
 -- What the words of `scan` say.
-use Rattle.std.specs.Prelude.{◌++◌, codes, ℕ, ◌==◌, Bool, false, List, [], ◌∷◌, Option, None, Some, Result, Ok, Err}
+use Rattle.std.specs.Prelude.{◌++◌, codes, ℕ, false, unwrap_or, List, Option, None, Some, Result, Ok, Err}
 use Rattle.mh_words.specs.declared.item.Item.{Item}
-use Rattle.mh_words.specs.declared.item.Item.TheVariants.{Folder, Message, Switch, Component}
 use Rattle.mh_words.specs.Whole.{Wrong, read_in}
 use Rattle.mh_profile.specs.declared.named_value.NamedValue.{NamedValue}
 use Rattle.step_plans.specs.declared.command_fault.CommandFault.{CommandFault}
 use Rattle.command_words.specs.Ended.{plain, wrong_at}
 use Rattle.command_words.specs.FolderWords.{folders, one_folder, named_folder}
 use Rattle.command_words.specs.MessageWords.{messages, names_or}
+use Rattle.command_words.specs.Switches.{last_choice}
 use Rattle.command_words.specs.Tables.{scan_table}
 use Rattle.command_words.specs.Words.{profile_words}
 use Rattle.command_words.specs.declared.ended.Ended.{Ended}
 use Rattle.command_words.specs.declared.scan.ScanWords.{ScanWords}
+use Rattle.command_words.specs.declared.tables.TheConstants.{REVERSE, NOREVERSE}
 
--- the switch at index 0 reverses, and the one at 1 does not
-abbrev pub reversed_by : Item → Bool → Bool
-reversed_by (Folder text place) before = before
-reversed_by (Message text place) before = before
-reversed_by (Switch index value place) before = index == 0
-reversed_by (Component name value place) before = before
-
--- the last one counts
-abbrev pub is_reversed : List Item → Bool → Bool
-is_reversed [] before = before
-is_reversed (item ∷ items) before = is_reversed items (reversed_by item before)
-
--- what the items say beside the folder
+-- what the items say beside the folder; of the two switches the last counts
 abbrev pub words_of : Option (List ℕ) → List Item → ScanWords
-words_of folder items = record { folder = folder; specs = names_or (codes "all") (messages items); reverse = is_reversed items false }
+words_of folder items = record { folder = folder; specs = names_or (codes "all") (messages items); reverse = unwrap_or (last_choice REVERSE NOREVERSE items) false }
 
 abbrev pub with_folder : List Item → Result (List ℕ) CommandFault → Result ScanWords Ended
 with_folder items (Ok name) = Ok (words_of (Some name) items)

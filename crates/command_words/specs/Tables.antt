@@ -1,12 +1,24 @@
 -- The switches of commands.
 use Rattle.std.specs.Prelude.{ℕ, List, [], ◌∷◌, codes, false}
-use Rattle.mh_words.specs.declared.table.Kind.TheVariants.{Flag}
+use Rattle.mh_words.specs.declared.table.Kind.{Kind}
+use Rattle.mh_words.specs.declared.table.Kind.TheVariants.{Flag, Value}
 use Rattle.mh_words.specs.declared.table.Switch.{Switch}
 use Rattle.mh_words.specs.declared.table.SwitchTable.{SwitchTable}
 
-abbrev pub flag : List ℕ → Switch
-flag name = record { name = name; kind = Flag }
+abbrev pub switch : List ℕ → Kind → Switch
+switch name kind = record { name = name; kind = kind }
+
+abbrev pub table_of : List Switch → SwitchTable
+table_of switches = record { switches = switches; components = false }
 
 -- the switches of `scan`
 abbrev pub scan_table : SwitchTable
-scan_table = record { switches = flag (codes "reverse") ∷ flag (codes "noreverse") ∷ []; components = false }
+scan_table = table_of (switch (codes "reverse") Flag ∷ switch (codes "noreverse") Flag ∷ [])
+
+-- the switches of `mark`
+abbrev pub mark_table : SwitchTable
+mark_table =
+    table_of
+    (switch (codes "add") Flag ∷ switch (codes "delete") Flag ∷ switch (codes "list") Flag
+    ∷ switch (codes "sequence") Value ∷ switch (codes "public") Flag ∷ switch (codes "nopublic") Flag
+    ∷ switch (codes "zero") Flag ∷ switch (codes "nozero") Flag ∷ [])

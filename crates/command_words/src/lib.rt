@@ -3,12 +3,16 @@
 
 mod ended;
 mod folder_word;
+mod mark;
 mod message_words;
 mod scan;
+mod sequence_names;
+mod switches;
 mod tables;
 mod words;
 mod wrong_word;
 
 pub use ended::Ended;
 pub use folder_word::read_folder;
+pub use mark::{MarkWords, mark_words};
 pub use scan::{ScanWords, scan_words};

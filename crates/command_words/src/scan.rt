@@ -1,11 +1,9 @@
 // What the words of `scan` say.
-ghost use Rattle.std.specs.Prelude.{◌≡◌, IfOk, Ok, map, false};
+ghost use Rattle.std.specs.Prelude.{◌≡◌, IfOk, Ok, map};
 ghost use Rattle.std.specs.Str.{chars};
 ghost use Rattle.std.specs.String.{string_bytes};
 ghost use Rattle.command_words.specs.Results.{IsSaid};
 ghost use Rattle.command_words.specs.ScanWords.{
-  reversed_by as reversed_by_of,
-  is_reversed as is_reversed_of,
   words_of,
   items_said as items_said_of,
   scan_said,
@@ -14,12 +12,13 @@ ghost use Rattle.command_words.specs.ScanWords.{
 use crate::ended::Ended;
 use crate::folder_word::{folder_said, folder_word};
 use crate::message_words::messages_or;
-use crate::tables::scan_table;
+use crate::switches::last_choice;
+use crate::tables::{NOREVERSE, REVERSE, scan_table};
 use crate::words::all_words;
 use crate::wrong_word::{read_items, wrong_at};
 use mh_base::{FolderName, TextList, WordWhy};
 use mh_profile::Entries;
-use mh_words::{Item, ItemList};
+use mh_words::ItemList;
 use std::alloc::{AllocError, Global};
 
 /// The words of `scan`: the folder, where they name one; the messages' names; whether the last message
@@ -29,26 +28,6 @@ pub struct ScanWords {
     pub folder: Option<FolderName>,
     pub specs: TextList,
     pub reverse: bool,
-}
-
-/// Whether the last comes first, with one item more.
-fn reversed_by(item: &Item, before: bool) -> bool
-    ensures { result ≡ reversed_by_of item.now before }
-{
-    match item {
-        Item::Switch { index, .. } => *index == 0,
-        _ => before,
-    }
-}
-
-fn is_reversed(items: &ItemList) -> bool
-    ensures { result ≡ is_reversed_of items.now false }
-{
-    let mut reverse = false;
-    for item in items.as_slice() {
-        reverse = reversed_by(item, reverse);
-    }
-    reverse
 }
 
 #[tactic(auto, using(crate::proofs::Texts::chars_all))]
@@ -62,7 +41,7 @@ fn words_said(
     Ok(ScanWords {
         folder,
         specs: messages_or(alloc, "all", items)?,
-        reverse: is_reversed(items),
+        reverse: last_choice(REVERSE, NOREVERSE, items).unwrap_or(false),
     })
 }
 

@@ -1,19 +1,48 @@
-// The switches of commands.
-ghost use Rattle.std.specs.Prelude.{◌≡◌, IfOk};
+// The switches of commands, and their places in the tables.
+ghost use Rattle.std.specs.Prelude.{◌≡◌, ◌++◌, ◌∷◌, [], IfOk, OnOk};
 ghost use Rattle.std.specs.Str.{chars};
-ghost use Rattle.command_words.specs.Tables.{flag as flag_of, scan_table as scan_table_of};
+ghost use Rattle.command_words.specs.Tables.{
+  switch as switch_of,
+  scan_table as scan_table_of,
+  mark_table as mark_table_of,
+};
 
 use mh_base::{List, Text};
-use mh_words::{Kind, Switch, SwitchTable};
+use mh_words::{Kind, Switch, SwitchList, SwitchTable};
 use std::alloc::{AllocError, Global};
 
-fn flag(alloc: Global, name: &str) -> Result<Switch, AllocError>
-    ensures { IfOk result (λ s. s ≡ flag_of (chars name.now)) }
+// The places of the switches of `scan` in its table.
+pub(crate) const REVERSE: u64 = 0;
+
+pub(crate) const NOREVERSE: u64 = 1;
+
+// The places of the switches of `mark` in its table.
+pub(crate) const ADD: u64 = 0;
+
+pub(crate) const DELETE: u64 = 1;
+
+pub(crate) const LIST: u64 = 2;
+
+pub(crate) const SEQUENCE: u64 = 3;
+
+pub(crate) const PUBLIC: u64 = 4;
+
+pub(crate) const NOPUBLIC: u64 = 5;
+
+pub(crate) const ZERO: u64 = 6;
+
+pub(crate) const NOZERO: u64 = 7;
+
+fn push_switch(
+    alloc: Global,
+    switches: &mut SwitchList,
+    name: &str,
+    kind: Kind,
+) -> Result<(), AllocError>
+    ensures { OnOk result (switches.new ≡ switches.old ++ switch_of (chars name.now) kind ∷ []) }
 {
-    Ok(Switch {
-        name: Text::from_str(alloc, name)?,
-        kind: Kind::Flag,
-    })
+    let name = Text::from_str(alloc, name)?;
+    switches.push(Switch { name, kind })
 }
 
 /// The switches of `scan`.
@@ -21,8 +50,27 @@ pub(crate) fn scan_table(alloc: Global) -> Result<SwitchTable, AllocError>
     ensures { IfOk result (λ table. table ≡ scan_table_of) }
 {
     let mut switches = List::new(alloc);
-    switches.push(flag(alloc, "reverse")?)?;
-    switches.push(flag(alloc, "noreverse")?)?;
+    push_switch(alloc, &mut switches, "reverse", Kind::Flag)?;
+    push_switch(alloc, &mut switches, "noreverse", Kind::Flag)?;
+    Ok(SwitchTable {
+        switches,
+        components: false,
+    })
+}
+
+/// The switches of `mark`.
+pub(crate) fn mark_table(alloc: Global) -> Result<SwitchTable, AllocError>
+    ensures { IfOk result (λ table. table ≡ mark_table_of) }
+{
+    let mut switches = List::new(alloc);
+    push_switch(alloc, &mut switches, "add", Kind::Flag)?;
+    push_switch(alloc, &mut switches, "delete", Kind::Flag)?;
+    push_switch(alloc, &mut switches, "list", Kind::Flag)?;
+    push_switch(alloc, &mut switches, "sequence", Kind::Value)?;
+    push_switch(alloc, &mut switches, "public", Kind::Flag)?;
+    push_switch(alloc, &mut switches, "nopublic", Kind::Flag)?;
+    push_switch(alloc, &mut switches, "zero", Kind::Flag)?;
+    push_switch(alloc, &mut switches, "nozero", Kind::Flag)?;
     Ok(SwitchTable {
         switches,
         components: false,

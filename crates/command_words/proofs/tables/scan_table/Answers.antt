@@ -1,12 +1,15 @@
-use Rattle.std.proofs.Common.{ap, ◌∙◌, ◌∷◌, [], ◌++◌, false}
+use Rattle.std.proofs.Common.{ap, ◌∙◌, ◌∷◌, [], ◌++◌, List}
 use Rattle.std.specs.Prelude.{codes}
-use Rattle.command_words.specs.Tables.{flag}
-use Rattle.command_words.proofs.Texts.{chars_reverse, chars_noreverse}
+use Rattle.std.specs.Str.{chars}
+use Rattle.mh_words.specs.declared.table.Kind.TheVariants.{Flag}
+use Rattle.mh_words.specs.declared.table.Switch.{Switch}
+use Rattle.command_words.specs.Tables.{switch, table_of}
 use Rattle.command_words.proofs.tables.scan_table.Goals as goal
 
 pub returns : goal.returns
+unfolding chars
 returns c =
-    ap (λ l. record { switches = l; components = false })
-    (c.in_ok-push-2.ensures.ok ∙ ap (λ l. l ++ c.in_ok-flag-2.field-0 ∷ []) (c.in_ok-push.ensures.ok ∙ ap (λ l. l ++ c.in_ok-flag.field-0 ∷ []) c.new-switches.ensures)
-    ∙ ap (λ a. a ∷ c.in_ok-flag-2.field-0 ∷ []) (c.in_ok-flag.ensures ∙ ap flag chars_reverse)
-    ∙ ap (λ b. flag (codes "reverse") ∷ b ∷ []) (c.in_ok-flag-2.ensures ∙ ap flag chars_noreverse))
+    let put = λ (s : Switch) (l : List Switch). l ++ s ∷ [] in
+    ap table_of
+    (c.in_ok-push_switch-2.ensures ∙ ap (put (switch (codes "noreverse") Flag))
+    (c.in_ok-push_switch.ensures ∙ ap (put (switch (codes "reverse") Flag)) c.new-switches.ensures))

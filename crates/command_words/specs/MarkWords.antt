@@ -1,0 +1,103 @@
+-- What the words of `mark` say.
+use Rattle.std.specs.Prelude.{◌++◌, ◌&&◌, ◌||◌, not, codes, ℕ, Bool, true, false, is_none, unwrap_or, List, length}
+use Rattle.std.specs.Prelude.{Option, None, Some, Result, Ok, Err, if◌then◌else◌}
+use Rattle.mh_base.specs.declared.word.WordWhy.TheVariants.{Missing}
+use Rattle.mh_words.specs.declared.item.Item.{Item}
+use Rattle.mh_words.specs.Whole.{Wrong, read_in}
+use Rattle.mh_profile.specs.declared.named_value.NamedValue.{NamedValue}
+use Rattle.step_plans.specs.declared.command_fault.CommandFault.{CommandFault}
+use Rattle.mark_command.specs.declared.job.MarkAct.{MarkAct}
+use Rattle.mark_command.specs.declared.job.MarkAct.TheVariants.{Add, Delete, Set, SetOthers}
+use Rattle.command_words.specs.Ended.{plain, wrong_at}
+use Rattle.command_words.specs.FolderWords.{folders, one_folder, folder_named}
+use Rattle.command_words.specs.MessageWords.{messages, names_or}
+use Rattle.command_words.specs.SequenceNames.{named_sequences}
+use Rattle.command_words.specs.Switches.{last_choice, is_given, values}
+use Rattle.command_words.specs.Tables.{mark_table}
+use Rattle.command_words.specs.Words.{profile_words}
+use Rattle.command_words.specs.declared.ended.Ended.{Ended}
+use Rattle.command_words.specs.declared.mark.MarkWords.{MarkWords}
+use Rattle.command_words.specs.declared.tables.TheConstants.{ADD, DELETE, LIST, SEQUENCE, PUBLIC, NOPUBLIC, ZERO, NOZERO}
+
+-- with `-zero` the sequences have the chosen messages alone
+abbrev pub adding : Bool → MarkAct
+adding true = Set
+adding false = Add
+
+-- with `-zero` they have just the messages that are not chosen
+abbrev pub deleting : Bool → MarkAct
+deleting true = SetOthers
+deleting false = Delete
+
+-- by whether messages are added or taken out; where neither is said, they may be added by default
+abbrev pub act_by : Option Bool → Bool → Bool → Option MarkAct
+act_by (Some true) by_default zero = Some (adding zero)
+act_by (Some false) by_default zero = Some (deleting zero)
+act_by None true zero = Some (adding zero)
+act_by None false zero = None
+
+-- a sequence is named, and the sequences are not listed
+abbrev pub adds_by_default : List Item → Bool
+adds_by_default items = is_given SEQUENCE items && not (is_given LIST items)
+
+-- of `-zero` and `-nozero` the last counts
+abbrev pub has_zero : List Item → Bool
+has_zero items = unwrap_or (last_choice ZERO NOZERO items) false
+
+-- what is done to the sequences: of `-add` and `-delete` the last counts
+abbrev pub act_of : List Item → Option MarkAct
+act_of items = act_by (last_choice ADD DELETE items) (adds_by_default items) (has_zero items)
+
+-- the messages' names; where there are none, the current message where something is done
+abbrev pub specs_of : Option MarkAct → List Item → List (List ℕ)
+specs_of (Some act) items = names_or (codes "cur") (messages items)
+specs_of None items = messages items
+
+-- what the items say beside the folder and the sequences; where nothing is done, the sequences are listed
+abbrev pub words_of : Option (List ℕ) → List (List ℕ) → List Item → MarkWords
+words_of folder names items = record {
+  folder = folder;
+  specs = specs_of (act_of items) items;
+  names = names;
+  act = act_of items;
+  list = is_given LIST items || is_none (act_of items);
+  public = last_choice PUBLIC NOPUBLIC items;
+}
+
+-- messages are to be added or taken out, and no sequence is named
+abbrev pub lacks_sequence : List Item → Bool
+lacks_sequence items = (is_given ADD items || is_given DELETE items) && not (is_given SEQUENCE items)
+
+-- a word is missing after the last of these
+abbrev pub missing_after : List (List ℕ) → Wrong
+missing_after words = record { place = length words; why = Missing }
+
+abbrev pub with_names : Option (List ℕ) → List Item → Result (List (List ℕ)) CommandFault → Result MarkWords Ended
+with_names folder items (Ok names) = Ok (words_of folder names items)
+with_names folder items (Err e) = Err (plain e)
+
+abbrev pub with_folder : List Item → Result (Option (List ℕ)) CommandFault → Result MarkWords Ended
+with_folder items (Ok folder) = with_names folder items (named_sequences (values SEQUENCE items))
+with_folder items (Err e) = Err (plain e)
+
+-- a sequence that is missing comes first, then a wrong name of the folder, then one of a sequence
+abbrev pub word_said : List (List ℕ) → List Item → Option (List ℕ) → Result MarkWords Ended
+word_said words items word =
+    if lacks_sequence items then Err (wrong_at words (missing_after words)) else with_folder items (folder_named word)
+
+abbrev pub folder_said : List (List ℕ) → List Item → Result (Option (List ℕ)) Wrong → Result MarkWords Ended
+folder_said words items (Ok word) = word_said words items word
+folder_said words items (Err wrong) = Err (wrong_at words wrong)
+
+abbrev pub items_said : List (List ℕ) → Result (List Item) Wrong → Result MarkWords Ended
+items_said words (Ok items) = folder_said words items (one_folder (folders items))
+items_said words (Err wrong) = Err (wrong_at words wrong)
+
+-- the words of the profile's entry, and then the command's
+abbrev pub mark_line : List NamedValue → List (List ℕ) → List (List ℕ)
+mark_line profile words = profile_words (codes "mark") profile ++ words
+
+-- what the words of `mark` say, those of the profile first, or the refusal: of a switch, then of a second folder, then
+-- for want of a sequence, then of a folder's name, then of the first wrong name of a sequence
+abbrev pub mark_said : List NamedValue → List (List ℕ) → Result MarkWords Ended
+mark_said profile words = items_said (mark_line profile words) (read_in mark_table 0 (mark_line profile words))

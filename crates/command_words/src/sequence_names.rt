@@ -1,0 +1,34 @@
+// The sequences that words name.
+ghost use Rattle.command_words.specs.Results.{IsNamed};
+ghost use Rattle.command_words.specs.SequenceNames.{named_sequence, named_sequences};
+
+use folder_files::Refusal;
+use mh_base::{Duplicate, List, Text, TextList};
+use mh_sequences::{SeqFault, SeqName, SeqNameList};
+use std::alloc::Global;
+use step_plans::CommandFault;
+
+/// The name that a word is.
+fn read_name(alloc: Global, word: &Text) -> Result<SeqName, CommandFault>
+    ensures { IsNamed (named_sequence word.now) result }
+{
+    match SeqName::read(alloc, word) {
+        Ok(name) => Ok(name),
+        Err(SeqFault::BadName) => {
+            let word = word.duplicate(alloc)?;
+            Err(CommandFault::Refused(Refusal::BadSequenceName(word)))
+        }
+        Err(SeqFault::Memory) => Err(CommandFault::Memory),
+    }
+}
+
+/// The names that these words are, or the refusal of the first that is none.
+pub(crate) fn sequence_names(alloc: Global, words: &TextList) -> Result<SeqNameList, CommandFault>
+    ensures { IsNamed (named_sequences words.now) result }
+{
+    let mut names = List::new(alloc);
+    for word in words.as_slice() {
+        names.push(read_name(alloc, word)?)?;
+    }
+    Ok(names)
+}
