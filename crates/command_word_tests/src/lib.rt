@@ -1,0 +1,9 @@
+//! Tests of the words of commands. There is nothing here but tests.
+#![tactic(auto)]
+
+#[cfg(test)]
+mod given;
+#[cfg(test)]
+mod mark;
+#[cfg(test)]
+mod scan;

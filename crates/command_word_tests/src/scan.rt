@@ -1,0 +1,53 @@
+// Words of `scan` and what they say, worked out by hand.
+use crate::given::{Row, ended_shown, folder_text, profile, push_texts, words};
+use command_words::{Ended, ScanWords, read_folder, scan_words};
+use mh_base::Text;
+use std::alloc::{AllocError, Global};
+use std::test::Fail;
+
+fn said_shown(alloc: Global, said: &ScanWords) -> Result<String, AllocError> {
+    let mut shown = format!(in alloc; "{} {}", folder_text(&said.folder), said.reverse)?;
+    push_texts(&mut shown, &said.specs)?;
+    Ok(shown)
+}
+
+fn shown(alloc: Global, said: &Result<ScanWords, Ended>) -> Result<String, AllocError> {
+    match said {
+        Ok(said) => said_shown(alloc, said),
+        Err(ended) => ended_shown(alloc, ended),
+    }
+}
+
+/// The folder, whether the last message comes first, and the messages' names.
+const ROWS: &[Row] = &[
+    ("", "", "- false all"),
+    ("", "-reverse +inbox 1 last:2", "inbox true 1 last:2"),
+    ("scan: -rev 3", "-norev", "- false 3"),
+    ("mark: -zero", "-rev", "- true all"),
+    ("", "+a 1 +b", "Extra @2 [+b]"),
+    ("scan: +a", "+b", "Extra @1 [+b]"),
+    ("", "+..", "bad folder +.."),
+    ("", "1 -x +a +b", "Unknown @1 [-x]"),
+];
+
+#[test]
+fn words_of_scan(rt: HostRuntime) -> Result<(), Fail> {
+    let alloc = rt.alloc();
+    for (entries, line, want) in ROWS {
+        let said = scan_words(alloc, &profile(alloc, entries)?, &words(alloc, line)?);
+        assert_eq!(rt; shown(alloc, &said)?.as_str(), *want, "{entries} {line}");
+    }
+    Ok(())
+}
+
+#[test]
+fn a_folder_has_its_plus_sign_or_none(rt: HostRuntime) -> Result<(), Fail> {
+    let alloc = rt.alloc();
+    for word in ["+a/b", "a/b"] {
+        match read_folder(alloc, &Text::from_str(alloc, word)?) {
+            Ok(name) => assert_eq!(rt; name.text().as_str(), "a/b"),
+            Err(_) => assert!(rt; false, "{word}"),
+        }
+    }
+    Ok(())
+}
