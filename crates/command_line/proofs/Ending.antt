@@ -16,7 +16,7 @@ use Rattle.folder_files.specs.declared.refusal.Refusal.TheVariants as refusal
 use Rattle.folder_files.specs.declared.step.Step.TheVariants as step
 use Rattle.folder_files.specs.declared.step.Answer.{Answer}
 use Rattle.folder_files.specs.declared.step.Answer.TheVariants as answer
-use Rattle.file_plans.specs.Plan.{Hand, Plan, Return, Recall, fresh, ◌>>=◌, lifted}
+use Rattle.file_plans.specs.Plan.{Hand, Return, Recall, fresh, lifted}
 use Rattle.file_plans.specs.Rules.{Keeps}
 use Rattle.file_plans.specs.Runs as runs
 use Rattle.file_plans.specs.Runs.{Returned, Runs}
@@ -34,14 +34,14 @@ use Rattle.command_stages.specs.Texts.{too_large, text_read}
 use Rattle.mh_looks.specs.Scan.{entries_seen, scan}
 use Rattle.mh_looks.proofs.Ending.{ScanShows, no_folder, bad_spec, absent, empty_range, empty_sequence, long_file, long_text, held, meddled, TextEnds, text_comes, comes_at, ScanEnds, scan_comes}
 use Rattle.command_line.specs.Causes.{IsAboveLimit, ShowsCommandFault}
-use Rattle.command_line.specs.Command.{command, command_by, context_entered, context_seen, folder_found, job_of, no_command, scan_begun, scan_by, word_by}
+use Rattle.command_line.specs.Command.{command, command_by, context_entered, context_seen, folder_found, job_of, scan_begun, scan_by, word_by}
 use Rattle.command_line.specs.CommandNames.{command_of, named}
 use Rattle.command_line.specs.Profile.{folder_of, path_of, profile_name, stored_of}
 use Rattle.command_line.specs.declared.name.CommandName.{CommandName}
 use Rattle.command_line.specs.declared.name.CommandName.TheVariants.{Mark, Scan}
 use Rattle.command_words.specs.Ended.{plain, wrong_word}
 use Rattle.command_words.specs.FolderWords.{one_folder, folders}
-use Rattle.command_words.specs.ScanWords.{with_folder, folder_said, words_of, items_said, scan_said}
+use Rattle.command_words.specs.ScanWords.{with_folder, folder_said, words_of, items_said}
 use Rattle.command_words.specs.Tables.{scan_table}
 use Rattle.command_words.specs.Words.{profile_words}
 use Rattle.command_words.specs.declared.ended.Ended.{Ended}

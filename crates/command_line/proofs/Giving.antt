@@ -1,5 +1,5 @@
 -- What a command gives, alone and beside others: what it comes to on the mailbox that it finds.
-use Rattle.std.proofs.Common.{◌≡◌, ◌⊎◌, inl, inr, ◌++◌, ◌<◌, ◌^◌, ℕ, Bool, true, false, List, [], ◌∷◌, Option, Some, None, Result, Ok, Err, length, refl, sym, ◌∙◌, ap, subst}
+use Rattle.std.proofs.Common.{◌≡◌, ◌⊎◌, inl, inr, ◌<◌, ◌^◌, ℕ, Bool, true, false, List, [], ◌∷◌, Option, Some, None, Result, Ok, Err, length, refl, sym, ◌∙◌, ap, subst}
 use Rattle.std.specs.Prelude.{nat_lt, map, if◌then◌else◌}
 use Rattle.std.specs.Str.{chars}
 use Rattle.mh_base.specs.Entries.{entry_text}
@@ -39,10 +39,10 @@ use Rattle.command_words.specs.declared.ended.Ended.{Ended}
 use Rattle.command_words.specs.declared.mark.MarkWords.{MarkWords}
 use Rattle.command_words.specs.declared.scan.ScanWords.{ScanWords}
 use Rattle.command_words.proofs.SaidFolder.{IsValid}
-use Rattle.command_line.specs.Command.{context_seen, context_entered, folder_found, job_of, mark_job, scan_begun, scan_by, mark_begun, mark_by, no_command, word_by, command_by, command}
+use Rattle.command_line.specs.Command.{context_seen, context_entered, folder_found, job_of, mark_job, scan_begun, scan_by, mark_begun, mark_by, word_by, command_by, command}
 use Rattle.command_line.specs.CommandNames.{command_of, named}
 use Rattle.command_line.specs.Outcomes.{FolderWork, plainly, of_stage, in_folder, with_context, scans, scan_words_work, marks, mark_words_work, word_work, named_work, with_profile, work_of}
-use Rattle.command_line.specs.Profile.{folder_of, path_of, profile_name, stored_of}
+use Rattle.command_line.specs.Profile.{folder_of, path_of, profile_name}
 use Rattle.command_line.specs.declared.name.CommandName.{CommandName}
 use Rattle.command_line.specs.declared.name.CommandName.TheVariants.{Mark, Scan}
 use Rattle.command_line.proofs.Refusals.{IsRefusal, folder_refuses, mark_refuses, scan_refuses}

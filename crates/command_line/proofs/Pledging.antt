@@ -1,5 +1,5 @@
 -- A command goes as pledged: by the mail directory that its profile names, its words and the context.
-use Rattle.std.proofs.Common.{◌≡◌, ◌⊎◌, inl, inr, ◌<◌, ◌^◌, ◌++◌, ℕ, List, [], ◌∷◌, Option, None, Some, Result, Ok, Err, refl, sym, subst, map}
+use Rattle.std.proofs.Common.{◌≡◌, ◌⊎◌, inl, inr, ◌<◌, ◌^◌, ℕ, List, [], ◌∷◌, Option, None, Some, Result, Ok, Err, refl, sym, subst, map}
 use Rattle.std.specs.Str.{chars}
 use Rattle.mh_profile.specs.declared.named_value.NamedValue.{NamedValue}
 use Rattle.mh_profile.specs.Reading.{entries_in}
@@ -18,7 +18,7 @@ use Rattle.file_plans.specs.declared.answers.Reading.TheVariants as reading
 use Rattle.file_plans.proofs.Acting.{acts, acts_made}
 use Rattle.file_plans.proofs.Keeping.{keeps_lifted, run_keeps}
 use Rattle.step_plans.specs.ContextCommit.{LIMIT_BYTES, context_name}
-use Rattle.step_plans.specs.Finished.{AreFinished, HasCommitted, OnlyLooked}
+use Rattle.step_plans.specs.Finished.{HasCommitted, OnlyLooked}
 use Rattle.step_plans.specs.Hands.{knowing}
 use Rattle.step_plans.specs.Pledges.{Pledge}
 use Rattle.step_plans.specs.Settled.{AreSettled}
@@ -46,7 +46,7 @@ use Rattle.command_words.specs.declared.scan.ScanWords.{ScanWords}
 use Rattle.command_words.proofs.SaidFolder.{IsValid}
 use Rattle.command_line.specs.Command.{command, command_by, context_entered, context_seen, folder_found, job_of, mark_begun, mark_by, mark_job, no_command, scan_begun, scan_by, word_by}
 use Rattle.command_line.specs.CommandNames.{command_of, named}
-use Rattle.command_line.specs.CommandPledge.{HaveBegun, IsDone, KeepsPledge, command_pledge, entries_by, marks_pledge, on_named, path_by, text_of, word_pledge}
+use Rattle.command_line.specs.CommandPledge.{IsDone, KeepsPledge, command_pledge, entries_by, marks_pledge, on_named, path_by, text_of, word_pledge}
 use Rattle.command_line.specs.Profile.{folder_of, path_of, profile_name}
 use Rattle.command_line.specs.declared.name.CommandName.{CommandName}
 use Rattle.command_line.specs.declared.name.CommandName.TheVariants.{Mark, Scan}

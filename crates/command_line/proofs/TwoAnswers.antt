@@ -1,5 +1,5 @@
 -- A call whose pledge the answers to its first two steps name.
-use Rattle.std.proofs.Common.{◌≡◌, ◌≢◌, ◌⊎◌, inl, inr, ◌++◌, ◌∷◌, [], ℕ, List, Result, Ok, refl, sym, ◌∙◌, ap, subst, append_assoc}
+use Rattle.std.proofs.Common.{◌≡◌, ◌≢◌, ◌⊎◌, inl, inr, ◌++◌, ◌∷◌, [], ℕ, List, Result, refl, sym, ◌∙◌, ap, subst, append_assoc}
 use Rattle.folder_files.specs.Deeds as deeds
 use Rattle.folder_files.specs.Deeds.{HasFailed, did, now, on}
 use Rattle.folder_files.specs.declared.step.Answer.{Answer}

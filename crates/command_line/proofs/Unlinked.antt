@@ -1,5 +1,5 @@
 -- A command that looks links nothing, so no own Link ever met a name.
-use Rattle.std.proofs.Common.{◌≡◌, inl, inr, ◌&&◌, ◌||◌, ℕ, Bool, true, false, List, [], ◌∷◌, Some, None, Result, Ok, Err, refl, ◌∙◌, ap, Option}
+use Rattle.std.proofs.Common.{◌≡◌, inl, inr, ◌&&◌, ◌||◌, ℕ, false, List, [], ◌∷◌, Some, None, Result, Ok, Err, refl, ◌∙◌, ap, Option}
 use Rattle.std.specs.Prelude.{map, not}
 use Rattle.std.specs.Str.{chars}
 use Rattle.mh_base.specs.Entries.{entry_text}

@@ -65,7 +65,7 @@ fn folder(
 }
 
 /// Reads the context; the hand knows its entries from here on.
-fn enter_context<F: Files>(
+pub(crate) fn enter_context<F: Files>(
     alloc: Global,
     hand: &mut Hand,
     files: &mut F,

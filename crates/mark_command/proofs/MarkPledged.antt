@@ -38,31 +38,23 @@ use Rattle.opened_folders.specs.Opening.{Opened, begun, with_sequences}
 use Rattle.opened_folders.specs.Reads.{HaveRead}
 use Rattle.opened_folders.proofs.EndedKept.{Still, ended_keeps, keeps_more, none_keeps}
 use Rattle.opened_folders.proofs.FolderPledged.{Begins, HasBegun, begun_goes}
-use Rattle.std.specs.Prelude.{◌++◌, Option, None, Some}
-use Rattle.folder_files.specs.declared.step.Answer.{Answer}
-use Rattle.folder_files.specs.declared.step.Answer.TheVariants as answer
-use Rattle.folder_files.specs.declared.step.Step.TheVariants as step
-use Rattle.file_plans.specs.Asking.{attempt_unlock, unlock}
+use Rattle.std.specs.Prelude.{Option, None, Some}
 use Rattle.file_plans.specs.Follows.{Follows, State}
-use Rattle.file_plans.specs.Plan.{ask, attempt}
 use Rattle.file_plans.specs.Rules.{IfOkay, Keeps, Rules}
-use Rattle.file_plans.specs.Runs.{Deed as Done, Did}
-use Rattle.file_plans.specs.StaysCareful.{only_looks}
-use Rattle.file_plans.proofs.Acting.{acts, acts_append}
+use Rattle.file_plans.specs.Runs.{Deed as Done}
+use Rattle.file_plans.proofs.Acting.{acts}
 use Rattle.file_plans.proofs.Keeping.{keeps_bind}
 use Rattle.step_plans.specs.CommandFaults.{command_cause}
-use Rattle.step_plans.specs.Pledges.{MayAsk}
 use Rattle.step_plans.specs.Promises.{Promises}
-use Rattle.step_plans.specs.declared.command_fault.CommandFault.TheVariants as fault
 use Rattle.step_plans.proofs.Going.{ByActs, Sound, Soundly, goes_keeps}
-use Rattle.step_plans.proofs.Promising.{goes_promises, keeps_pledge}
-use Rattle.step_plans.proofs.Ruling.{AreNumbered, rules_of}
+use Rattle.step_plans.proofs.Promising.{keeps_pledge}
+use Rattle.step_plans.proofs.Ruling.{rules_of}
 use Rattle.command_stages.specs.Listed.{folder_listed}
 use Rattle.command_stages.specs.Texts.{text_read}
 use Rattle.mh_looks.specs.Scan.{entries_seen}
 use Rattle.mh_looks.specs.ScanPledge.{HasListed}
 use Rattle.mh_looks.proofs.LooksLeave.{Lists, Looks, goes_chosen, listed_goes, text_goes}
-use Rattle.opened_folders.specs.Ending.{ended, finished, given_up}
+use Rattle.opened_folders.specs.Ending.{ended}
 use Rattle.mark_command.specs.Lines.{lines_for}
 use Rattle.mark_command.specs.Mark.{chosen_from, chosen_marked, lines_said, mark, mark_by_act, mark_changes, mark_looks, opened_marked, said_if, sequences_seen}
 use Rattle.mark_command.specs.MarkPledge.{MarksFolder, MayLeave, looks_pledge, mark_pledge, pledge_by, told_within}

@@ -1,10 +1,10 @@
 -- The promises of the top call, from the plan that it followed.
-use Rattle.std.proofs.Common.{◌≡◌, ◌≢◌, ◌⊎◌, inl, inr, ◌++◌, ◌<◌, ◌^◌, ℕ, ◌+◌, Bool, true, false, List, [], Option, Some, None, Result, Ok, Err, length, refl, sym, ◌∙◌, ap, subst, append-nil}
+use Rattle.std.proofs.Common.{◌≡◌, ◌≢◌, ◌⊎◌, inl, inr, ◌++◌, ◌<◌, ◌^◌, ℕ, ◌+◌, Bool, true, false, List, [], ◌∷◌, arith, Option, Some, None, Result, Ok, Err, length, refl, sym, ◌∙◌, ap, subst, append-nil}
 use Rattle.mh_base.specs.Counts.{Rose}
-use Rattle.mh_base.specs.Streams.{Adds, AddsPart}
+use Rattle.mh_base.specs.Streams.{Adds, AddsPart, SinkState}
 use Rattle.folder_files.specs.Deeds as deeds
 use Rattle.folder_files.specs.Histories.{own, past_of}
-use Rattle.folder_files.specs.Story.{Story, Grows, GrowsBy}
+use Rattle.folder_files.specs.Story.{FilesState, Story, Grows, GrowsBy}
 use Rattle.folder_files.specs.Worlds.{WorldMap}
 use Rattle.folder_files.specs.declared.place.Place.{Place}
 use Rattle.folder_files.specs.declared.refusal.Refusal.{Refusal}
@@ -13,10 +13,10 @@ use Rattle.folder_files.specs.declared.refusal.Which.TheVariants.{Files, Source,
 use Rattle.file_plans.specs.Agreeing.{MailboxAgrees, AgreesWith, is_first_met, numbers_put}
 use Rattle.file_plans.specs.Alone.{first_of, world_at, mailbox_at}
 use Rattle.file_plans.specs.Contents.{Contents, contents_of, mailbox_in}
-use Rattle.file_plans.specs.Follows.{Went, filed_in, deeds_in}
+use Rattle.file_plans.specs.Follows.{Follows, Went, by_out, filed_in, deeds_in}
 use Rattle.file_plans.specs.Giving as giving
 use Rattle.file_plans.specs.Mailboxes.{Mailbox}
-use Rattle.file_plans.specs.Plan.{Hand, fresh}
+use Rattle.file_plans.specs.Plan.{Hand, Plan, fresh}
 use Rattle.file_plans.specs.Runs.{Exit, Returned, OutFailed, OfPlan, Runs, exit_by, exit_of}
 use Rattle.file_plans.specs.Sightings.{AreMade, Made, events_since, IsFailed}
 use Rattle.file_plans.specs.Text.{said_of}
@@ -91,10 +91,6 @@ fault_meddled fault.Memory q y e = cc
 verdict_at : (s t : Status) → s ≡ t → IsVerdict t → IsVerdict s
 verdict_at s t e v = rw e v
 
--- a count that is the same has not risen
-no_rise : (n : ℕ) → Rose n n → ⊥
-no_rise n r = omega (arith, r)
-
 failed_once : (own : List deeds.Deed) → Made IsFailed own → deeds.HasFailed own
 failed_once [] m = absurd m
 failed_once (d ∷ own) (inl e) = deeds.now e
@@ -103,6 +99,14 @@ failed_once (d ∷ own) (inr m) = deeds.on (failed_once own m)
 -- how the plan's run ended
 exit_fault : (e : Ended) (k : CommandFault) → e.fault ≡ k → exit_of ended_cause (Err e) ≡ exit_by {T = Unit {0}} e (command_cause k)
 exit_fault e k is = ap (λ f. exit_by {T = Unit {0}} e (command_cause f)) is
+
+-- where no input is had, none fails
+no_rise : Rose 0 0 → ⊥
+no_rise r = omega (arith, r)
+
+pub never_source : (run : ℕ) (p : Plan (Result Unit Ended)) (h j : Hand) (f g : FilesState) (x y : SinkState) (r : Result Unit Ended) → Follows run ended_cause p (by_out h f x) (by_out j g y) r → ended_status r ≡ Faulted Source → ⊥
+never_source run p h j f g x y (Ok tt) w e = absurd (cc (e))
+never_source run p h j f g x y (Err z) w e = no_rise (w.went.in_cause (exit_fault z (fault.Faulted Source) (fault_faulted z.fault Source e)))
 
 exit_verdict : (r : Result Unit Ended) → IsVerdict (ended_status r) → exit_of ended_cause r ≡ Returned r
 exit_verdict (Ok tt) v = refl
@@ -178,9 +182,6 @@ module _ (c : Call) (plan : FollowsItsPlan c) where
   files_at e =
       let x = faulted outcome Files refl e in
       (went.files_cause x.1, failed_made (deeds_in went.log) (run_failed (command run c.words) fresh (deeds_in went.log) plan.left exit went.runs x.1))
-
-  no_source : ended_status outcome ≡ Faulted Source → ⊥
-  no_source e = let x = faulted outcome Source refl e in no_rise c.before.input.faults (went.in_cause x.1)
 
   out_fault : ended_status outcome ≡ Faulted Out → exit ≡ OutFailed
   out_fault e = (faulted outcome Out refl e).1
@@ -261,7 +262,7 @@ module _ (c : Call) (plan : FollowsItsPlan c) where
           made = made;
           done = λ q m. command_clean run few c.words (begins c fresh) (ends c plan.left) outcome plan.follows (is_done outcome (settle Done q (λ e. cc (e)))) (failed_once steps m);
           files = λ q. files_at (settle (Faulted Files) q (λ e. cc (e)));
-          source = λ q. no_source (settle (Faulted Source) q (λ e. cc (e)));
+          source = λ q. plan.source (settle (Faulted Source) q (λ e. cc (e)));
           out = λ q. went.out_cause (out_fault (settle (Faulted Out) q (λ e. cc (e))));
           shown = shown;
         }
@@ -359,7 +360,7 @@ module _ (c : Call) (plan : FollowsItsPlan c) where
               let v : IsVerdict (ended_status outcome) = subst (λ q. IsVerdict (ended_status q)) (sym same) (subst (λ f. IsVerdict (fault_status f)) (sym e) tt) in
               inr (answers_by w z j g.left after there g.prefix v (g.returned outcome (exit_verdict outcome v)))
           go (fault.Faulted Files) e = absurd (unfaulted.files (went.files_cause (at (fault.Faulted Files) e)))
-          go (fault.Faulted Source) e = absurd (no_rise c.before.input.faults (went.in_cause (at (fault.Faulted Source) e)))
+          go (fault.Faulted Source) e = absurd (plan.source (ap ended_status same ∙ ap fault_status e))
           go (fault.Faulted Out) e = absurd (unfaulted.out (went.out_cause (at (fault.Faulted Out) e)))
           go (fault.Locked p) e = absurd (ended_at (fault.Locked p) e refl refl)
           go (fault.Meddled p y) e = absurd (ended_at (fault.Meddled p y) e refl refl)

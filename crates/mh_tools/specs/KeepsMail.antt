@@ -1,5 +1,5 @@
 -- What a call keeps of the mail, and of the marks of messages.
-use Rattle.std.specs.Prelude.{◌≡◌, ℕ, List}
+use Rattle.std.specs.Prelude.{◌≡◌, List}
 use Rattle.folder_files.specs.Deeds.{Deed}
 use Rattle.folder_files.specs.declared.step.Answer.{Answer}
 use Rattle.file_plans.specs.Plan.{fresh}

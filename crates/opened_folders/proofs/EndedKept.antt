@@ -1,5 +1,5 @@
 -- A command's end keeps the rules of its pledge.
-use Rattle.std.proofs.Common.{◌≢◌, ◌++◌, ◌∷◌, [], ℕ, List, Result, Ok, Err}
+use Rattle.std.proofs.Common.{◌≢◌, ◌++◌, ◌∷◌, [], List, Result, Ok, Err}
 use Rattle.folder_files.specs.Deeds.{Deed, HasFailed, did, now, on}
 use Rattle.folder_files.specs.declared.place.Place.{Place}
 use Rattle.folder_files.specs.declared.step.Answer.{Answer}
@@ -73,4 +73,3 @@ module _ (w : Pledge) where
 pub none_keeps : (pledge : Pledge) (own : List Deed) (past : List Done) (h : Hand) (e : CommandFault) → AreNumbered pledge.run h.next (acts past) → Keeps (rules_of pledge) past h (Return (Err e)) (IfOkay (Still own))
 unfolding Keeps
 none_keeps pledge own past h e n = (n, tt)
-

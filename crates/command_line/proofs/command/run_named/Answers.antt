@@ -1,4 +1,4 @@
-use Rattle.std.proofs.Common.{rules, refl, map}
+use Rattle.std.proofs.Common.{rules, map}
 use Rattle.std.specs.String.{string_bytes}
 use Rattle.file_plans.specs.Plan.{fresh}
 use Rattle.command_line.proofs.Plans.{named_none, named_some}

@@ -1,11 +1,11 @@
 use Rattle.file_plans.proofs.Following.{beside}
-use Rattle.mh_tools.proofs.Clauses.{caused, tells, answers_alone, keeps, marks}
+use Rattle.mh_tools.proofs.Clauses.{answers_alone, caused, keeps, marks, never_source, tells}
 use Rattle.mh_tools.proofs.top.mh.Goals as goal
 
 pub returns-clause-plan : goal.returns-clause-plan
 returns-clause-plan g c =
     let ran = rw (c.run.ensures, c.as_slice.ensures.value) at c.run_command-outcome.ensures in
-    record { outcome = c.run_command-outcome.result; left = ran.0; follows = beside ran.1; ends_so = c.report.ensures.ends; told = c.report.ensures.told }
+    record { outcome = c.run_command-outcome.result; left = ran.0; follows = beside ran.1; source = never_source _ _ _ _ _ _ _ _ _ ran.1; ends_so = c.report.ensures.ends; told = c.report.ensures.told }
 
 pub returns-clause-caused : goal.returns-clause-caused
 returns-clause-caused g c = caused _ (returns-clause-plan g c) (rw c.run.ensures at c.run.type_inv)
