@@ -35,10 +35,10 @@ use Rattle.mh_looks.specs.Scan.{entries_seen, scan}
 use Rattle.mh_looks.proofs.Ending.{ScanShows, no_folder, bad_spec, absent, empty_range, empty_sequence, long_file, long_text, held, meddled, TextEnds, text_comes, comes_at, ScanEnds, scan_comes}
 use Rattle.command_line.specs.Causes.{IsAboveLimit, ShowsCommandFault}
 use Rattle.command_line.specs.Command.{command, command_by, context_entered, context_seen, folder_found, job_of, scan_begun, scan_by, word_by}
-use Rattle.command_line.specs.CommandNames.{command_of, named}
+use Rattle.command_line.specs.CommandNames.{begins_folders, command_of, named}
 use Rattle.command_line.specs.Profile.{folder_of, path_of, profile_name, stored_of}
 use Rattle.command_line.specs.declared.name.CommandName.{CommandName}
-use Rattle.command_line.specs.declared.name.CommandName.TheVariants.{Mark, Scan}
+use Rattle.command_line.specs.declared.name.CommandName.TheVariants.{Mark, Rmm, Scan}
 use Rattle.command_words.specs.Ended.{plain, wrong_word}
 use Rattle.command_words.specs.FolderWords.{one_folder, folders}
 use Rattle.command_words.specs.ScanWords.{with_folder, folder_said, words_of, items_said}
@@ -186,12 +186,13 @@ module _ (run : ℕ) where
     with_items words (Ok items) = with_one words items (one_folder (folders items))
     with_items words (Err wrong) = refused wrong _
 
-    by_word : (word : List ℕ) (words : List (List ℕ)) (name : Option CommandName) → (name ≡ Some Mark → ⊥) → Comes own fresh (word_by run profile word words name) CommandEnds
+    by_word : (word : List ℕ) (words : List (List ℕ)) (name : Option CommandName) → (begins_folders name ≡ false) → Comes own fresh (word_by run profile word words name) CommandEnds
     by_word word words None other = refused _ (Some word)
     by_word word words (Some Scan) other = with_items (profile_words (codes "scan") profile ++ map chars words) (read_in scan_table 0 (profile_words (codes "scan") profile ++ map chars words))
-    by_word word words (Some Mark) other = absurd (other refl)
+    by_word word words (Some Mark) other = cc (other)
+    by_word word words (Some Rmm) other = cc (other)
 
-    by_words : (words : List (List ℕ)) → (command_of words ≡ Some Mark → ⊥) → Comes own fresh (command_by run profile words) CommandEnds
+    by_words : (words : List (List ℕ)) → (begins_folders (command_of words) ≡ false) → Comes own fresh (command_by run profile words) CommandEnds
     by_words [] other = refused _ None
     by_words (word ∷ words) other = by_word word words (named word) other
 
@@ -205,7 +206,7 @@ module _ (run : ℕ) where
       comes_lifted [] fresh plain (text_read Home profile_name) (TextEnds Home profile_name [] fresh) ProfileEnds (text_comes Home profile_name [] fresh) (λ later j text q. q)
       (λ later j e q. long_shows Home profile_name [] later q.0 e q.1 q.2)
 
-  command_comes : (words : List (List ℕ)) → (command_of words ≡ Some Mark → ⊥) → Comes [] fresh (command run words) CommandEnds
+  command_comes : (words : List (List ℕ)) → (begins_folders (command_of words) ≡ false) → Comes [] fresh (command run words) CommandEnds
   unfolding command
   command_comes words other =
       comes_then [] fresh (lifted plain (text_read Home profile_name)) (λ text. command_by run (entries_in text) words) ProfileEnds CommandEnds profile_comes
@@ -216,7 +217,7 @@ module _ (run : ℕ) where
   EndsAs past h (Ok u) = NoneFailed (acts past)
   EndsAs past h (Err e) = ShowsCommandFault run e.fault (acts past) × NoneFailed (acts past)
 
-  pub command_ends : (words : List (List ℕ)) → (command_of words ≡ Some Mark → ⊥) → Keeps anything [] fresh (command run words) EndsAs
+  pub command_ends : (words : List (List ℕ)) → (begins_folders (command_of words) ≡ false) → Keeps anything [] fresh (command run words) EndsAs
   command_ends words other =
       comes_keeps [] [] fresh (command run words) Ends refl (comes_more [] fresh (command run words) (λ later j r. NoneFailed later × CommandEnds later j r) Ends both (comes_clean [] fresh (command run words) CommandEnds (λ m. m) (command_comes words other)))
     where
@@ -229,5 +230,5 @@ module _ (run : ℕ) where
       both later j (Err e) q = (q.1, q.0)
 
   -- so does each run of it
-  pub run_ends : (words : List (List ℕ)) → (command_of words ≡ Some Mark → ⊥) → (ds : List runs.Deed) (j : Hand) (r : Result Unit Ended) → Runs (command run words) fresh ds j (Returned r) → EndsAs ds j r
+  pub run_ends : (words : List (List ℕ)) → (begins_folders (command_of words) ≡ false) → (ds : List runs.Deed) (j : Hand) (r : Result Unit Ended) → Runs (command run words) fresh ds j (Returned r) → EndsAs ds j r
   run_ends words other ds j r f = (run_keeps anything [] fresh (command run words) ds j (Returned r) EndsAs (command_ends words other) f).gave

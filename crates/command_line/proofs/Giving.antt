@@ -31,22 +31,27 @@ use Rattle.mh_looks.proofs.Scanning.{IsLate, Decides, ScanEnds, scan_gives}
 use Rattle.opened_folders.specs.BegunWork.{AreHomesAt}
 use Rattle.opened_folders.specs.HomesOf.{homes_at}
 use Rattle.mark_command.specs.Mark.{mark}
-use Rattle.mark_command.proofs.MarkGiven.{WorkEnds, mark_gives}
+use Rattle.opened_folders.proofs.WorkGiven.{WorkEnds}
+use Rattle.mark_command.proofs.MarkGiven.{mark_gives}
+use Rattle.refile_command.specs.Rmm.{rmm}
+use Rattle.refile_command.proofs.RmmGiven.{rmm_gives}
 use Rattle.command_words.specs.Ended.{plain}
 use Rattle.command_words.specs.MarkWords.{mark_said}
+use Rattle.command_words.specs.RmmWords.{rmm_said}
 use Rattle.command_words.specs.ScanWords.{scan_said}
 use Rattle.command_words.specs.declared.ended.Ended.{Ended}
 use Rattle.command_words.specs.declared.mark.MarkWords.{MarkWords}
+use Rattle.command_words.specs.declared.rmm.RmmWords.{RmmWords}
 use Rattle.command_words.specs.declared.scan.ScanWords.{ScanWords}
 use Rattle.command_words.proofs.SaidFolder.{IsValid}
-use Rattle.command_line.specs.Command.{context_seen, context_entered, folder_found, job_of, mark_job, scan_begun, scan_by, mark_begun, mark_by, word_by, command_by, command}
-use Rattle.command_line.specs.CommandNames.{command_of, named}
-use Rattle.command_line.specs.Outcomes.{FolderWork, plainly, of_stage, in_folder, with_context, scans, scan_words_work, marks, mark_words_work, word_work, named_work, with_profile, work_of}
+use Rattle.command_line.specs.Command.{context_seen, context_entered, folder_found, job_of, mark_job, scan_begun, scan_by, mark_begun, mark_by, rmm_begun, rmm_by, rmm_job, word_by, command_by, command}
+use Rattle.command_line.specs.CommandNames.{begins_folders, command_of, named}
+use Rattle.command_line.specs.Outcomes.{FolderWork, plainly, of_stage, in_folder, with_context, scans, scan_words_work, marks, mark_words_work, rmms, rmm_words_work, word_work, named_work, with_profile, work_of}
 use Rattle.command_line.specs.Profile.{folder_of, path_of, profile_name}
 use Rattle.command_line.specs.declared.name.CommandName.{CommandName}
-use Rattle.command_line.specs.declared.name.CommandName.TheVariants.{Mark, Scan}
-use Rattle.command_line.proofs.Refusals.{IsRefusal, folder_refuses, mark_refuses, scan_refuses}
-use Rattle.command_line.proofs.SaidFolder.{acted_valid, mark_valid}
+use Rattle.command_line.specs.declared.name.CommandName.TheVariants.{Mark, Rmm, Scan}
+use Rattle.command_line.proofs.Refusals.{IsRefusal, folder_refuses, mark_refuses, rmm_refuses, scan_refuses}
+use Rattle.command_line.proofs.SaidFolder.{acted_valid, mark_valid, rmm_words_valid}
 
 -- an end that the last commit alone decides
 abbrev pub IsLateEnd : Result Unit Ended → Type 0
@@ -271,6 +276,18 @@ mark_stage run c few homes profile words valid v h same unmet begun =
     (homes_at run ((mailbox_in c).folders (Folder (path_of profile) folder))) (homes (Folder (path_of profile) folder)) v.numbers (after_read v (Mail (path_of profile)) context_name) (knowing (entries_in text) h)
     (record { has = (same, refl); fresh = λ x. begun.names (path_of profile) folder x; unmet = λ x is_held. unmet (Folder (path_of profile) folder) x; hand = refl }) same refl refl)
 
+-- `rmm` alone, from the context on
+rmm_stage : (run : ℕ) (c : Contents) → run < 2 ^ 128 → AreAllHomes run c → (profile : List NamedValue) (words : RmmWords) → IsValid words.folder → (v : View) (h : Hand) (same : v.contents ≡ c) → (unmet : (p : Place) (x : List ℕ) → v.met p x ≡ false) → (begun : IsBegun v)
+    → Gives (by_view true) v h (stage true c profile words.folder v h same (λ e. begun) (rmms run (mailbox_in c) profile words)).text (rmm_begun run profile words) (WorkEnds (stage true c profile words.folder v h same (λ e. begun) (rmms run (mailbox_in c) profile words)))
+unfolding rmm_begun
+rmm_stage run c few homes profile words valid v h same unmet begun =
+    stage_gives true c profile words.folder v h same (λ e. begun) (rmms run (mailbox_in c) profile words) WorkEnds (mark_refused c) (λ folder. rmm run (path_of profile) (rmm_job folder words profile))
+    (λ text folder reads is.
+    let short = read_short (c.texts (Mail (path_of profile)) context_name) text reads in
+    rmm_gives run few (path_of profile) (rmm_job folder words profile) (acted_valid words.folder (entries_in text) profile folder valid is) (suffix_clean folder) c (entries_in text) (ap entries_in short.1) short.0
+    (homes_at run ((mailbox_in c).folders (Folder (path_of profile) folder))) (homes (Folder (path_of profile) folder)) v.numbers (after_read v (Mail (path_of profile)) context_name) (knowing (entries_in text) h)
+    (record { has = (same, refl); fresh = λ x. begun.names (path_of profile) folder x; unmet = λ x is_held. unmet (Folder (path_of profile) folder) x; hand = refl }))
+
 module _ (alone : Bool) (run : ℕ) (c : Contents) (few : run < 2 ^ 128) (homes : alone ≡ true → AreAllHomes run c) where
   abbrev box : Mailbox
   box = mailbox_in c
@@ -301,19 +318,35 @@ module _ (alone : Bool) (run : ℕ) (c : Contents) (few : run < 2 ^ 128) (homes 
         subst (λ b. Gives (by_view b) z fresh (mark_words_work run box profile (mark_said profile words)).text (mark_by run profile (mark_said profile words)) (CommandEnds b (mark_words_work run box profile (mark_said profile words)))) (sym only)
         (mark_words_true (homes only) (mark_said profile words) (λ said e. mark_valid profile words said e) (λ e is. mark_refuses profile words e is))
 
-    by_word : (word : List ℕ) (words : List (List ℕ)) (name : Option CommandName) → (name ≡ Some Mark → alone ≡ true) → Gives (by_view alone) z fresh (word_work run box profile word words name).text (word_by run profile word words name) (CommandEnds alone (word_work run box profile word words name))
+    rmm_words_true : AreAllHomes run c → (value : Result RmmWords Ended) → ((words : RmmWords) → value ≡ Ok words → IsValid words.folder) → ((e : Ended) → value ≡ Err e → IsRefusal e.fault)
+        → Gives (by_view true) z fresh (rmm_words_work run box profile value).text (rmm_by run profile value) (CommandEnds true (rmm_words_work run box profile value))
+    unfolding Gives lifted mailbox_in
+    rmm_words_true there (Ok words) valid r =
+        gives_bind (by_view true) z fresh (rmm_words_work run box profile (Ok words)).text (rmm_begun run profile words) (λ q. Return (converted plain q)) (WorkEnds (stage true c profile words.folder z fresh same (λ e. begun) (rmms run box profile words)))
+        (CommandEnds true (rmm_words_work run box profile (Ok words)))
+        (rmm_stage run c few there profile words (valid words refl) z fresh same unmet begun)
+        (λ y j left q e. mark_ends (stage true c profile words.folder z fresh same (λ e. begun) (rmms run box profile words)) y j left q e)
+    rmm_words_true there (Err e) valid r = let is = r e refl in plain_refused true c e is.0 z fresh [] is.1 refl same
+
+    rmm_words_give : alone ≡ true → (words : List (List ℕ)) → Gives (by_view alone) z fresh (rmm_words_work run box profile (rmm_said profile words)).text (rmm_by run profile (rmm_said profile words)) (CommandEnds alone (rmm_words_work run box profile (rmm_said profile words)))
+    rmm_words_give only words =
+        subst (λ b. Gives (by_view b) z fresh (rmm_words_work run box profile (rmm_said profile words)).text (rmm_by run profile (rmm_said profile words)) (CommandEnds b (rmm_words_work run box profile (rmm_said profile words)))) (sym only)
+        (rmm_words_true (homes only) (rmm_said profile words) (λ said e. rmm_words_valid profile words said e) (λ e is. rmm_refuses profile words e is))
+
+    by_word : (word : List ℕ) (words : List (List ℕ)) (name : Option CommandName) → (begins_folders name ≡ true → alone ≡ true) → Gives (by_view alone) z fresh (word_work run box profile word words name).text (word_by run profile word words name) (CommandEnds alone (word_work run box profile word words name))
     unfolding Gives
     by_word word words None only = (refl, inl (refl, λ a. ap mailbox_in same))
     by_word word words (Some Scan) only = scan_words_give (scan_said profile (map chars words)) (λ e is. scan_refuses profile (map chars words) e is)
     by_word word words (Some Mark) only = mark_words_give (only refl) (map chars words)
+    by_word word words (Some Rmm) only = rmm_words_give (only refl) (map chars words)
 
-    by_name : (words : List (List ℕ)) → (command_of words ≡ Some Mark → alone ≡ true) → Gives (by_view alone) z fresh (named_work run box profile words).text (command_by run profile words) (CommandEnds alone (named_work run box profile words))
+    by_name : (words : List (List ℕ)) → (begins_folders (command_of words) ≡ true → alone ≡ true) → Gives (by_view alone) z fresh (named_work run box profile words).text (command_by run profile words) (CommandEnds alone (named_work run box profile words))
     unfolding Gives
     by_name [] only = (refl, inl (refl, λ a. ap mailbox_in same))
     by_name (word ∷ words) only = by_word word words (named word) only
 
-  -- the whole; beside others, of all commands but `mark`
-  module _ (words : List (List ℕ)) (only : command_of words ≡ Some Mark → alone ≡ true) where
+  -- the whole; beside others, of commands that look
+  module _ (words : List (List ℕ)) (only : begins_folders (command_of words) ≡ true → alone ≡ true) where
     abbrev pub whole_work : Work Ended
     whole_work = work_of run words box
 

@@ -36,11 +36,11 @@ use Rattle.command_stages.specs.Current.{current_name}
 use Rattle.mh_looks.specs.ScanPledge.{MarksCurrent, scan_pledge}
 use Rattle.command_stages.proofs.FolderLines.{current_valid}
 use Rattle.command_line.specs.Command.{command}
-use Rattle.command_line.specs.CommandNames.{command_of, named}
+use Rattle.command_line.specs.CommandNames.{begins_folders, command_of, named}
 use Rattle.command_line.specs.CommandPledge.{command_pledge, entries_by, path_by, word_pledge}
 use Rattle.command_line.specs.Profile.{path_of}
 use Rattle.command_line.specs.declared.name.CommandName.{CommandName}
-use Rattle.command_line.specs.declared.name.CommandName.TheVariants.{Mark, Scan}
+use Rattle.command_line.specs.declared.name.CommandName.TheVariants.{Mark, Rmm, Scan}
 use Rattle.command_words.specs.Ended.{ended_cause}
 use Rattle.command_words.specs.declared.ended.Ended.{Ended}
 use Rattle.command_line.proofs.Pledging.{Answered, End, answers, follows_pledged, plan_by, pledge_at, read_keeps}
@@ -111,14 +111,15 @@ module _ (run : ℕ) (mail : List ℕ) where
   }
 
 -- a command that looks pledges so
-pledge_looks : (run : ℕ) (words : List (List ℕ)) (profile context : List NamedValue) → (command_of words ≡ Some Mark → ⊥) → command_pledge run words profile context ≡ scan_pledge run (path_of profile)
+pledge_looks : (run : ℕ) (words : List (List ℕ)) (profile context : List NamedValue) → (begins_folders (command_of words) ≡ false) → command_pledge run words profile context ≡ scan_pledge run (path_of profile)
 pledge_looks run [] profile context other = refl
 pledge_looks run (word ∷ words) profile context other = go (named word) other
   where
-    go : (name : Option CommandName) → (name ≡ Some Mark → ⊥) → word_pledge run profile context words name ≡ scan_pledge run (path_of profile)
+    go : (name : Option CommandName) → (begins_folders name ≡ false) → word_pledge run profile context words name ≡ scan_pledge run (path_of profile)
     go None other = refl
     go (Some Scan) other = refl
-    go (Some Mark) other = absurd (other refl)
+    go (Some Mark) other = cc (other)
+    go (Some Rmm) other = cc (other)
 
 -- the own steps of a call's story, where its plan keeps the rules of a pledge
 keeps_may : {T E : Type 0} (w : Pledge) (cause : E → Cause) (plan : Plan (Result T E)) (x y : State) (result : Result T E) (Q : List Done → Hand → Result T E → Type 0) → Keeps (rules_of w) [] x.hand plan Q → (f : Follows w.run cause plan x y result) → StoryMay w x.files.story y.files.story
@@ -131,7 +132,7 @@ keeps_may w cause plan x y result Q k f = told x.files.story y.files.story f.wen
     told (Some old) None g l = absurd g
 
 -- a call that follows a command that looks keeps the marks of all sequences
-pub command_keeps_sequences : (run : ℕ) → run < 2 ^ 128 → (words : List (List ℕ)) → (command_of words ≡ Some Mark → ⊥) → (x y : State) (result : Result Unit Ended) → Follows run ended_cause (command run words) x y result
+pub command_keeps_sequences : (run : ℕ) → run < 2 ^ 128 → (words : List (List ℕ)) → (begins_folders (command_of words) ≡ false) → (x y : State) (result : Result Unit Ended) → Follows run ended_cause (command run words) x y result
     → KeepsSequences run x.files.story y.files.story
 command_keeps_sequences run few words other x y result f =
     sequences_kept (scan_pledge run path) (minds_sequences run path) x.files.story y.files.story (start_same x.files.story y.files.story f.went.grows)

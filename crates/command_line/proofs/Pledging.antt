@@ -39,17 +39,21 @@ use Rattle.mark_command.specs.declared.job.MarkAct.{MarkAct}
 use Rattle.mark_command.proofs.MarkPledged.{mark_keeps}
 use Rattle.command_words.specs.Ended.{Ending, ended_cause, plain}
 use Rattle.command_words.specs.MarkWords.{mark_said}
+use Rattle.command_words.specs.RmmWords.{rmm_said}
 use Rattle.command_words.specs.ScanWords.{scan_said}
 use Rattle.command_words.specs.declared.ended.Ended.{Ended}
 use Rattle.command_words.specs.declared.mark.MarkWords.{MarkWords}
+use Rattle.command_words.specs.declared.rmm.RmmWords.{RmmWords}
 use Rattle.command_words.specs.declared.scan.ScanWords.{ScanWords}
 use Rattle.command_words.proofs.SaidFolder.{IsValid}
-use Rattle.command_line.specs.Command.{command, command_by, context_entered, context_seen, folder_found, job_of, mark_begun, mark_by, mark_job, no_command, scan_begun, scan_by, word_by}
+use Rattle.refile_command.specs.Rmm.{rmm}
+use Rattle.refile_command.proofs.RmmPledged.{rmm_keeps}
+use Rattle.command_line.specs.Command.{command, command_by, context_entered, context_seen, folder_found, job_of, mark_begun, mark_by, mark_job, no_command, rmm_begun, rmm_by, rmm_job, scan_begun, scan_by, word_by}
 use Rattle.command_line.specs.CommandNames.{command_of, named}
-use Rattle.command_line.specs.CommandPledge.{IsDone, KeepsPledge, command_pledge, entries_by, marks_pledge, on_named, path_by, text_of, word_pledge}
+use Rattle.command_line.specs.CommandPledge.{IsDone, KeepsPledge, command_pledge, entries_by, marks_pledge, on_named, path_by, rmm_on_named, rmms_pledge, text_of, word_pledge}
 use Rattle.command_line.specs.Profile.{folder_of, path_of, profile_name}
 use Rattle.command_line.specs.declared.name.CommandName.{CommandName}
-use Rattle.command_line.specs.declared.name.CommandName.TheVariants.{Mark, Scan}
+use Rattle.command_line.specs.declared.name.CommandName.TheVariants.{Mark, Rmm, Scan}
 use Rattle.command_line.proofs.SaidFolder.{acted_valid, scan_valid}
 use Rattle.command_line.proofs.TwoAnswers.{Onward, TwoAnswers, acts_begin_with, follows_so, keeps_after, keeps_ended, rest_by, two_answers}
 
@@ -78,6 +82,9 @@ module _ (run : ℕ) (profile : List NamedValue) where
   abbrev mark_acts : MarkWords → List ℕ → Commanded Unit
   mark_acts words folder = mark run (path_of profile) (mark_job folder words profile)
 
+  abbrev rmm_acts : RmmWords → List ℕ → Commanded Unit
+  rmm_acts words folder = rmm run (path_of profile) (rmm_job folder words profile)
+
   scan_onward : (value : Result ScanWords Ended) → Onward (context_step profile) (scan_by run profile value)
   unfolding scan_begun
   scan_onward (Ok words) = inr (λ b. on_context profile words.folder (scan_acts words) (reading_of b), context_asked profile words.folder (scan_acts words))
@@ -88,10 +95,16 @@ module _ (run : ℕ) (profile : List NamedValue) where
   mark_onward (Ok words) = inr (λ b. on_context profile words.folder (mark_acts words) (reading_of b), context_asked profile words.folder (mark_acts words))
   mark_onward (Err e) = inl (Err e, refl)
 
+  rmm_onward : (value : Result RmmWords Ended) → Onward (context_step profile) (rmm_by run profile value)
+  unfolding rmm_begun
+  rmm_onward (Ok words) = inr (λ b. on_context profile words.folder (rmm_acts words) (reading_of b), context_asked profile words.folder (rmm_acts words))
+  rmm_onward (Err e) = inl (Err e, refl)
+
   word_onward : (word : List ℕ) (words : List (List ℕ)) (name : Option CommandName) → Onward (context_step profile) (word_by run profile word words name)
   word_onward word words None = inl (Err (no_command (Some word)), refl)
   word_onward word words (Some Scan) = scan_onward (scan_said profile (map chars words))
   word_onward word words (Some Mark) = mark_onward (mark_said profile (map chars words))
+  word_onward word words (Some Rmm) = rmm_onward (rmm_said profile (map chars words))
 
   named_onward : (words : List (List ℕ)) → Onward (context_step profile) (command_by run profile words)
   named_onward [] = inl (Err (no_command None), refl)
@@ -203,6 +216,36 @@ module _ (run : ℕ) (few : run < 2 ^ 128) (profile : List NamedValue) (h : Hand
       w = on_named run profile words (folder_of words.folder (entries_by b) profile)
   mark_words_keep b (Err e) = keeps_ended look Home profile_name LIMIT_BYTES h (Err e) (IfOkay (Finished (Some Mark) path)) (λ c. tt)
 
+  -- `rmm`
+  rmm_done : (a b : Answer) (later : List Done) (j : Hand) (r : Result Unit CommandFault) → IfOkay (Still (acts (two_readings profile a b))) later j r → IfOkay (Finished (Some Rmm) path) later j r
+  rmm_done a b later j (Ok u) f = record { is_done = f.settled (two_settled profile a b); unfailed = f.unfailed }
+  rmm_done a b later j (Err e) f = tt
+
+  module _ (words : RmmWords) (a b : Answer) (es : List NamedValue) (folder : List ℕ) where
+    abbrev RmmKeeps : Pledge → Type 0
+    RmmKeeps w = Sound w (acts (two_readings profile a b)) h → Keeps (rules_of w) (two_readings profile a b) (knowing es h) (rmm_acts run profile words folder) (IfOkay (Finished (Some Rmm) path))
+
+    removed_so : RmmKeeps (rmm_on_named run profile words (Ok folder))
+    removed_so sound =
+        let w = rmm_on_named run profile words (Ok folder) in
+        keeps_more (rules_of w) (two_readings profile a b) (knowing es h) (rmm_acts run profile words folder) (IfOkay (Still (acts (two_readings profile a b)))) (IfOkay (Finished (Some Rmm) path)) (rmm_done a b)
+        (rmm_keeps run few path (rmm_job folder words profile) (two_readings profile a b) (knowing es h) (known_sound w (acts (two_readings profile a b)) h es sound))
+
+    removed_at : folder_of words.folder es profile ≡ Ok folder → RmmKeeps (rmm_on_named run profile words (folder_of words.folder es profile))
+    removed_at is = subst (λ v. RmmKeeps (rmm_on_named run profile words v)) (sym is) removed_so
+
+  rmm_words_keep : (b : Answer) (value : Result RmmWords Ended)
+      → Keeps (rules_of (rmms_pledge run profile (entries_by b) value)) [] h (Ask profile_step (λ c. rest_by (context_step profile) (rmm_by run profile value) (rmm_onward run profile value) b)) (IfOkay (Finished (Some Rmm) path))
+  unfolding rmm_onward
+  rmm_words_keep b (Ok words) =
+      keeps_after w Home (Mail path) profile_name context_name LIMIT_BYTES h (on_context profile words.folder (rmm_acts run profile words) (reading_of b)) (IfOkay (Finished (Some Rmm) path))
+      (λ c d sound. context_keeps w (two_readings profile c d) h sound profile words.folder (rmm_acts run profile words) (Finished (Some Rmm) path) (reading_of b)
+      (λ folder is. removed_at words c d (entries_by b) folder is sound))
+    where
+      w : Pledge
+      w = rmm_on_named run profile words (folder_of words.folder (entries_by b) profile)
+  rmm_words_keep b (Err e) = keeps_ended look Home profile_name LIMIT_BYTES h (Err e) (IfOkay (Finished (Some Rmm) path)) (λ c. tt)
+
   -- the command that the words name
   word_keeps : (b : Answer) (word : List ℕ) (words : List (List ℕ)) (name : Option CommandName)
       → Keeps (rules_of (word_pledge run profile (entries_by b) words name)) [] h (Ask profile_step (λ c. rest_by (context_step profile) (word_by run profile word words name) (word_onward run profile word words name) b)) (IfOkay (Finished name path))
@@ -210,6 +253,7 @@ module _ (run : ℕ) (few : run < 2 ^ 128) (profile : List NamedValue) (h : Hand
   word_keeps b word words None = keeps_ended look Home profile_name LIMIT_BYTES h (Err (no_command (Some word))) (IfOkay (Finished None path)) (λ c. tt)
   word_keeps b word words (Some Scan) = scan_words_keep b (scan_said profile (map chars words)) (λ said e. scan_valid profile (map chars words) said e)
   word_keeps b word words (Some Mark) = mark_words_keep b (mark_said profile (map chars words))
+  word_keeps b word words (Some Rmm) = rmm_words_keep b (rmm_said profile (map chars words))
 
   named_keeps : (b : Answer) (words : List (List ℕ))
       → Keeps (rules_of (command_pledge run words profile (entries_by b))) [] h (Ask profile_step (λ c. rest_by (context_step profile) (command_by run profile words) (named_onward run profile words) b)) (IfOkay (Finished (command_of words) path))
@@ -234,10 +278,19 @@ pledge_run run (word ∷ words) profile context = go (named word)
     marks_by (Ok said) = on said (folder_of said.folder context profile)
     marks_by (Err e) = refl
 
+    removes_by : (value : Result RmmWords Ended) → (rmms_pledge run profile context value).run ≡ run
+    removes_by (Ok said) = by (folder_of said.folder context profile)
+      where
+        by : (value : Result (List ℕ) CommandFault) → (rmm_on_named run profile said value).run ≡ run
+        by (Ok folder) = refl
+        by (Err e) = refl
+    removes_by (Err e) = refl
+
     go : (name : Option CommandName) → (word_pledge run profile context words name).run ≡ run
     go None = refl
     go (Some Scan) = refl
     go (Some Mark) = marks_by (mark_said profile (map chars words))
+    go (Some Rmm) = removes_by (rmm_said profile (map chars words))
 
 module _ (run : ℕ) (few : run < 2 ^ 128) (words : List (List ℕ)) where
   -- the command, by what reading the profile gave

@@ -13,12 +13,14 @@ use Rattle.step_plans.specs.declared.command_fault.CommandFault.TheVariants as f
 use Rattle.command_words.specs.Ended.{wrong_at}
 use Rattle.command_words.specs.FolderWords.{folder_named, folders, named_folder, one_folder, some_named}
 use Rattle.command_words.specs.MarkWords.{folder_said as mark_words_said, items_said as mark_items, lacks_sequence, mark_said, with_folder as mark_folder, with_names, word_said}
+use Rattle.command_words.specs.RmmWords.{folder_said as rmm_words_said, items_said as rmm_items, rmm_said, with_folder as rmm_folder}
 use Rattle.command_words.specs.ScanWords.{folder_said, items_said, scan_said, with_folder}
 use Rattle.command_words.specs.SequenceNames.{unless_wrong}
-use Rattle.command_words.specs.Tables.{mark_table, scan_table}
+use Rattle.command_words.specs.Tables.{mark_table, rmm_table, scan_table}
 use Rattle.command_words.specs.Words.{profile_words}
 use Rattle.command_words.specs.declared.ended.Ended.{Ended}
 use Rattle.command_words.specs.declared.mark.MarkWords.{MarkWords}
+use Rattle.command_words.specs.declared.rmm.RmmWords.{RmmWords}
 use Rattle.command_words.specs.declared.scan.ScanWords.{ScanWords}
 use Rattle.command_line.specs.Profile.{folder_of, stored_of}
 
@@ -83,6 +85,30 @@ mark_items_refuse words (Err wrong) = (refusal.BadSwitch wrong.place wrong.why, 
 
 pub mark_refuses : (profile : List NamedValue) (words : List (List ℕ)) (e : Ended) → mark_said profile words ≡ Err e → IsRefusal e.fault
 mark_refuses profile words e is = subst MarkRefuses is (mark_items_refuse (profile_words (codes "mark") profile ++ words) (read_in mark_table 0 (profile_words (codes "mark") profile ++ words)))
+
+abbrev RmmRefuses : Result RmmWords Ended → Type 0
+RmmRefuses (Ok w) = Unit {0}
+RmmRefuses (Err e) = IsRefusal e.fault
+
+rmm_named_refuses : (items : List Item) (word : List ℕ) → RmmRefuses (rmm_folder items (named_folder word))
+rmm_named_refuses items word = go (is_folder_name (without_plus word))
+  where
+    go : (b : Bool) → RmmRefuses (rmm_folder items (if b then Ok (without_plus word) else Err (fault.Refused (refusal.BadFolder word))))
+    go true = tt
+    go false = (refusal.BadFolder word, refl)
+
+rmm_one_refuses : (words : List (List ℕ)) (items : List Item) (r : Result (Option (List ℕ)) Wrong) → RmmRefuses (rmm_words_said words items r)
+rmm_one_refuses words items (Ok None) = tt
+rmm_one_refuses words items (Ok (Some word)) = rmm_named_refuses items word
+rmm_one_refuses words items (Err wrong) = (refusal.BadSwitch wrong.place wrong.why, refl)
+
+rmm_items_refuse : (words : List (List ℕ)) (r : Result (List Item) Wrong) → RmmRefuses (rmm_items words r)
+rmm_items_refuse words (Ok items) = rmm_one_refuses words items (one_folder (folders items))
+rmm_items_refuse words (Err wrong) = (refusal.BadSwitch wrong.place wrong.why, refl)
+
+-- the words of `rmm`
+pub rmm_refuses : (profile : List NamedValue) (words : List (List ℕ)) (e : Ended) → rmm_said profile words ≡ Err e → IsRefusal e.fault
+rmm_refuses profile words e is = subst RmmRefuses is (rmm_items_refuse (profile_words (codes "rmm") profile ++ words) (read_in rmm_table 0 (profile_words (codes "rmm") profile ++ words)))
 
 -- the folder that is acted on
 pub folder_refuses : (said : Option (List ℕ)) (context profile : List NamedValue) (e : CommandFault) → folder_of said context profile ≡ Err e → IsRefusal e

@@ -14,16 +14,20 @@ use Rattle.mh_looks.specs.Scan.{entries_seen, scan}
 use Rattle.mh_looks.specs.declared.job.ScanJob.{ScanJob}
 use Rattle.mark_command.specs.Mark.{mark}
 use Rattle.mark_command.specs.declared.job.MarkJob.{MarkJob}
+use Rattle.refile_command.specs.Rmm.{rmm}
+use Rattle.refile_command.specs.declared.job.RmmJob.{RmmJob}
 use Rattle.command_words.specs.declared.ended.Ended.{Ended}
 use Rattle.command_words.specs.declared.mark.MarkWords.{MarkWords}
+use Rattle.command_words.specs.declared.rmm.RmmWords.{RmmWords}
 use Rattle.command_words.specs.declared.scan.ScanWords.{ScanWords}
 use Rattle.command_words.specs.Ended.{plain, wrong_word, Ending}
 use Rattle.command_words.specs.MarkWords.{mark_said}
+use Rattle.command_words.specs.RmmWords.{rmm_said}
 use Rattle.command_words.specs.ScanWords.{scan_said}
 use Rattle.command_line.specs.CommandNames.{named}
 use Rattle.command_line.specs.Profile.{folder_of, negation_of, path_of, profile_name}
 use Rattle.command_line.specs.declared.name.CommandName.{CommandName}
-use Rattle.command_line.specs.declared.name.CommandName.TheVariants.{Mark, Scan}
+use Rattle.command_line.specs.declared.name.CommandName.TheVariants.{Mark, Rmm, Scan}
 
 -- the context is read, and the run knows its entries
 unfoldable pub context_seen : List NamedValue → Commanded Unit
@@ -65,6 +69,18 @@ abbrev pub mark_by : ℕ → List NamedValue → Result MarkWords Ended → Endi
 mark_by run profile (Ok words) = lifted plain (mark_begun run profile words)
 mark_by run profile (Err e) = Return (Err e)
 
+abbrev pub rmm_job : List ℕ → RmmWords → List NamedValue → RmmJob
+rmm_job folder words profile = record { folder = folder; specs = words.specs; unlink = words.unlink; negation = negation_of profile }
+
+unfoldable pub rmm_begun : ℕ → List NamedValue → RmmWords → Commanded Unit
+rmm_begun run profile words = do
+  folder ← folder_found profile words.folder
+  rmm run (path_of profile) (rmm_job folder words profile)
+
+abbrev pub rmm_by : ℕ → List NamedValue → Result RmmWords Ended → Ending Unit
+rmm_by run profile (Ok words) = lifted plain (rmm_begun run profile words)
+rmm_by run profile (Err e) = Return (Err e)
+
 -- a word that names no command that there is
 abbrev pub no_command : Option (List ℕ) → Ended
 no_command word = wrong_word (record { place = 0; why = NoCommand }) word
@@ -74,6 +90,7 @@ abbrev pub word_by : ℕ → List NamedValue → List ℕ → List (List ℕ) �
 word_by run profile word words None = Return (Err (no_command (Some word)))
 word_by run profile word words (Some Scan) = scan_by run profile (scan_said profile (map chars words))
 word_by run profile word words (Some Mark) = mark_by run profile (mark_said profile (map chars words))
+word_by run profile word words (Some Rmm) = rmm_by run profile (rmm_said profile (map chars words))
 
 abbrev pub command_by : ℕ → List NamedValue → List (List ℕ) → Ending Unit
 command_by run profile [] = Return (Err (no_command None))

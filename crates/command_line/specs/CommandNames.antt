@@ -1,13 +1,21 @@
 -- The commands that there are, by name.
-use Rattle.std.specs.Prelude.{ℕ, List, [], ◌∷◌, Option, None, Some, bytes_eq, codes, if◌then◌else◌}
+use Rattle.std.specs.Prelude.{ℕ, Bool, true, false, List, [], ◌∷◌, Option, None, Some, bytes_eq, codes, if◌then◌else◌}
 use Rattle.command_line.specs.declared.name.CommandName.{CommandName}
-use Rattle.command_line.specs.declared.name.CommandName.TheVariants.{Mark, Scan}
+use Rattle.command_line.specs.declared.name.CommandName.TheVariants.{Mark, Rmm, Scan}
 
 -- the command of this name
 abbrev pub named : List ℕ → Option CommandName
-named word = if bytes_eq word (codes "scan") then Some Scan else (if bytes_eq word (codes "mark") then Some Mark else None)
+named word =
+    if bytes_eq word (codes "scan") then Some Scan else (if bytes_eq word (codes "mark") then Some Mark else (if bytes_eq word (codes "rmm") then Some Rmm else None))
 
 -- the command that the words of a call name
 abbrev pub command_of : List (List ℕ) → Option CommandName
 command_of [] = None
 command_of (word ∷ words) = named word
+
+-- it begins a folder, by its words at least
+abbrev pub begins_folders : Option CommandName → Bool
+begins_folders None = false
+begins_folders (Some Scan) = false
+begins_folders (Some Mark) = true
+begins_folders (Some Rmm) = true

@@ -20,14 +20,17 @@ use Rattle.step_plans.specs.Settled.{AreSettled}
 use Rattle.step_plans.specs.declared.command_fault.CommandFault.{CommandFault}
 use Rattle.mh_looks.specs.ScanPledge.{scan_pledge}
 use Rattle.mark_command.specs.MarkPledge.{pledge_by}
+use Rattle.refile_command.specs.RmmPledge.{rmm_pledge}
 use Rattle.command_words.specs.MarkWords.{mark_said}
+use Rattle.command_words.specs.RmmWords.{rmm_said}
 use Rattle.command_words.specs.declared.ended.Ended.{Ended}
 use Rattle.command_words.specs.declared.mark.MarkWords.{MarkWords}
-use Rattle.command_line.specs.Command.{mark_job}
+use Rattle.command_words.specs.declared.rmm.RmmWords.{RmmWords}
+use Rattle.command_line.specs.Command.{mark_job, rmm_job}
 use Rattle.command_line.specs.CommandNames.{command_of, named}
 use Rattle.command_line.specs.Profile.{folder_of, path_of, profile_name}
 use Rattle.command_line.specs.declared.name.CommandName.{CommandName}
-use Rattle.command_line.specs.declared.name.CommandName.TheVariants.{Mark, Scan}
+use Rattle.command_line.specs.declared.name.CommandName.TheVariants.{Mark, Rmm, Scan}
 
 -- the text that was read; the empty one where there is none
 abbrev pub text_of : Reading → List ℕ
@@ -60,10 +63,20 @@ abbrev pub marks_pledge : ℕ → List NamedValue → List NamedValue → Result
 marks_pledge run profile context (Ok words) = on_named run profile words (folder_of words.folder context profile)
 marks_pledge run profile context (Err e) = scan_pledge run (path_of profile)
 
+-- the same of `rmm`
+abbrev pub rmm_on_named : ℕ → List NamedValue → RmmWords → Result (List ℕ) CommandFault → Pledge
+rmm_on_named run profile words (Ok folder) = rmm_pledge run (path_of profile) (rmm_job folder words profile)
+rmm_on_named run profile words (Err e) = scan_pledge run (path_of profile)
+
+abbrev pub rmms_pledge : ℕ → List NamedValue → List NamedValue → Result RmmWords Ended → Pledge
+rmms_pledge run profile context (Ok words) = rmm_on_named run profile words (folder_of words.folder context profile)
+rmms_pledge run profile context (Err e) = scan_pledge run (path_of profile)
+
 abbrev pub word_pledge : ℕ → List NamedValue → List NamedValue → List (List ℕ) → Option CommandName → Pledge
 word_pledge run profile context words None = scan_pledge run (path_of profile)
 word_pledge run profile context words (Some Scan) = scan_pledge run (path_of profile)
 word_pledge run profile context words (Some Mark) = marks_pledge run profile context (mark_said profile (map chars words))
+word_pledge run profile context words (Some Rmm) = rmms_pledge run profile context (rmm_said profile (map chars words))
 
 -- what a command pledges, by its words, the entries of the profile and those of the context
 abbrev pub command_pledge : ℕ → List (List ℕ) → List NamedValue → List NamedValue → Pledge
@@ -76,6 +89,7 @@ abbrev pub IsDone : Option CommandName → List ℕ → List Deed → Type 0
 IsDone None path own = AreFinished (Mail path) context_name own
 IsDone (Some Scan) path own = AreFinished (Mail path) context_name own
 IsDone (Some Mark) path own = AreSettled own
+IsDone (Some Rmm) path own = AreSettled own
 
 -- the call began with the profile, which names the path of a mail directory, and with the context of that; it kept the pledge that these and
 -- its words make

@@ -10,17 +10,20 @@ use Rattle.command_stages.specs.Works.{Work, refused_at, readable}
 use Rattle.mh_looks.specs.Outcomes.{scan_work}
 use Rattle.opened_folders.specs.HomesOf.{homes_at}
 use Rattle.mark_command.specs.Outcomes.{mark_work}
+use Rattle.refile_command.specs.RmmOutcome.{rmm_work}
 use Rattle.command_words.specs.Ended.{plain}
 use Rattle.command_words.specs.MarkWords.{mark_said}
+use Rattle.command_words.specs.RmmWords.{rmm_said}
 use Rattle.command_words.specs.ScanWords.{scan_said}
 use Rattle.command_words.specs.declared.ended.Ended.{Ended}
 use Rattle.command_words.specs.declared.mark.MarkWords.{MarkWords}
+use Rattle.command_words.specs.declared.rmm.RmmWords.{RmmWords}
 use Rattle.command_words.specs.declared.scan.ScanWords.{ScanWords}
-use Rattle.command_line.specs.Command.{job_of, mark_job, no_command}
+use Rattle.command_line.specs.Command.{job_of, mark_job, no_command, rmm_job}
 use Rattle.command_line.specs.CommandNames.{named}
 use Rattle.command_line.specs.Profile.{folder_of, path_of, profile_name}
 use Rattle.command_line.specs.declared.name.CommandName.{CommandName}
-use Rattle.command_line.specs.declared.name.CommandName.TheVariants.{Mark, Scan}
+use Rattle.command_line.specs.declared.name.CommandName.TheVariants.{Mark, Rmm, Scan}
 
 abbrev pub plainly : Result Unit CommandFault → Result Unit Ended
 plainly (Ok u) = Ok u
@@ -65,11 +68,21 @@ abbrev pub mark_words_work : ℕ → Mailbox → List NamedValue → Result Mark
 mark_words_work run m profile (Ok words) = of_stage (on_folder m profile words.folder (marks run m profile words))
 mark_words_work run m profile (Err e) = refused_at m e
 
+-- `rmm`: so too
+abbrev pub rmms : ℕ → Mailbox → List NamedValue → RmmWords → FolderWork
+rmms run m profile words context folder =
+    rmm_work (path_of profile) context (homes_at run (m.folders (Folder (path_of profile) folder))) (rmm_job folder words profile) m
+
+abbrev pub rmm_words_work : ℕ → Mailbox → List NamedValue → Result RmmWords Ended → Work Ended
+rmm_words_work run m profile (Ok words) = of_stage (on_folder m profile words.folder (rmms run m profile words))
+rmm_words_work run m profile (Err e) = refused_at m e
+
 -- the command of this name
 abbrev pub word_work : ℕ → Mailbox → List NamedValue → List ℕ → List (List ℕ) → Option CommandName → Work Ended
 word_work run m profile word words None = refused_at m (no_command (Some word))
 word_work run m profile word words (Some Scan) = scan_words_work m profile (scan_said profile (map chars words))
 word_work run m profile word words (Some Mark) = mark_words_work run m profile (mark_said profile (map chars words))
+word_work run m profile word words (Some Rmm) = rmm_words_work run m profile (rmm_said profile (map chars words))
 
 abbrev pub named_work : ℕ → Mailbox → List NamedValue → List (List ℕ) → Work Ended
 named_work run m profile [] = refused_at m (no_command None)

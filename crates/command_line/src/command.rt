@@ -12,6 +12,7 @@ ghost use Rattle.command_line.specs.Profile.{profile_name as profile_name_of};
 
 use crate::marking::run_mark;
 use crate::name::CommandName;
+use crate::removing::run_rmm;
 use crate::scanning::run_scan;
 use command_stages::read_text;
 use command_words::Ended;
@@ -55,6 +56,7 @@ fn run_word<F: Files, O: Sink>(
     match CommandName::read(word) {
         Some(CommandName::Scan) => run_scan(alloc, run, files, out, profile, rest),
         Some(CommandName::Mark) => run_mark(alloc, run, files, out, profile, rest),
+        Some(CommandName::Rmm) => run_rmm(alloc, run, files, profile, rest),
         None => {
             let word = Bytes::from_slice(alloc, word.as_bytes())?;
             Err(no_command(Some(word)))

@@ -6,6 +6,7 @@ mod current;
 mod marking;
 mod name;
 mod profile;
+mod removing;
 mod scanning;
 
 pub use command::run_command;

@@ -7,6 +7,7 @@ ghost use Rattle.command_line.specs.CommandNames.{named};
 pub enum CommandName {
     Scan,
     Mark,
+    Rmm,
 }
 
 impl CommandName {
@@ -18,6 +19,8 @@ impl CommandName {
             Some(CommandName::Scan)
         } else if word == "mark" {
             Some(CommandName::Mark)
+        } else if word == "rmm" {
+            Some(CommandName::Rmm)
         } else {
             None
         }

@@ -2,3 +2,4 @@ pub mod Causes
 pub mod Counting
 pub mod FolderLines
 pub mod Listing
+pub mod Values

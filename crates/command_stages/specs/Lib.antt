@@ -4,4 +4,5 @@ pub mod Endings
 pub mod Listed
 pub mod RunNumbers
 pub mod Texts
+pub mod Values
 pub mod Works

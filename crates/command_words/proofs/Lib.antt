@@ -1,5 +1,6 @@
 pub mod Items
 pub mod Said
 pub mod SaidFolder
+pub mod SaidRmmFolder
 pub mod SequenceNames
 pub mod Texts

@@ -19,7 +19,7 @@ IsValid (Some name) = is_folder_name name ≡ true
 pub ok_same : {A E : Type 0} (a b : A) → ◌≡◌ {A = Result A E} (Ok a) (Ok b) → a ≡ b
 ok_same a b e = cc
 
-no_ok : {A E X : Type 0} (e : E) (a : A) → ◌≡◌ {A = Result A E} (Err e) (Ok a) → X
+pub no_ok : {A E X : Type 0} (e : E) (a : A) → ◌≡◌ {A = Result A E} (Err e) (Ok a) → X
 no_ok e a f = cc
 
 pub named_valid : (word name : List ℕ) → named_folder word ≡ Ok name → is_folder_name name ≡ true

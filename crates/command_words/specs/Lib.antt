@@ -3,6 +3,7 @@ pub mod FolderWords
 pub mod MarkWords
 pub mod MessageWords
 pub mod Results
+pub mod RmmWords
 pub mod ScanWords
 pub mod SequenceNames
 pub mod Switches

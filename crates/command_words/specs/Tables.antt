@@ -22,3 +22,7 @@ mark_table =
     (switch (codes "add") Flag ∷ switch (codes "delete") Flag ∷ switch (codes "list") Flag
     ∷ switch (codes "sequence") Value ∷ switch (codes "public") Flag ∷ switch (codes "nopublic") Flag
     ∷ switch (codes "zero") Flag ∷ switch (codes "nozero") Flag ∷ [])
+
+-- the switches of `rmm`
+abbrev pub rmm_table : SwitchTable
+rmm_table = table_of (switch (codes "unlink") Flag ∷ switch (codes "nounlink") Flag ∷ [])

@@ -5,6 +5,7 @@ ghost use Rattle.command_words.specs.Tables.{
   switch as switch_of,
   scan_table as scan_table_of,
   mark_table as mark_table_of,
+  rmm_table as rmm_table_of,
 };
 
 use mh_base::{List, Text};
@@ -32,6 +33,11 @@ pub(crate) const NOPUBLIC: u64 = 5;
 pub(crate) const ZERO: u64 = 6;
 
 pub(crate) const NOZERO: u64 = 7;
+
+// The places of the switches of `rmm` in its table.
+pub(crate) const UNLINK: u64 = 0;
+
+pub(crate) const NOUNLINK: u64 = 1;
 
 fn push_switch(
     alloc: Global,
@@ -71,6 +77,19 @@ pub(crate) fn mark_table(alloc: Global) -> Result<SwitchTable, AllocError>
     push_switch(alloc, &mut switches, "nopublic", Kind::Flag)?;
     push_switch(alloc, &mut switches, "zero", Kind::Flag)?;
     push_switch(alloc, &mut switches, "nozero", Kind::Flag)?;
+    Ok(SwitchTable {
+        switches,
+        components: false,
+    })
+}
+
+/// The switches of `rmm`.
+pub(crate) fn rmm_table(alloc: Global) -> Result<SwitchTable, AllocError>
+    ensures { IfOk result (λ table. table ≡ rmm_table_of) }
+{
+    let mut switches = List::new(alloc);
+    push_switch(alloc, &mut switches, "unlink", Kind::Flag)?;
+    push_switch(alloc, &mut switches, "nounlink", Kind::Flag)?;
     Ok(SwitchTable {
         switches,
         components: false,

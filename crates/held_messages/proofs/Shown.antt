@@ -164,7 +164,7 @@ module _ (c : Contents) (path name : List ℕ) (h : HeldPair) (is : IsPair h) (m
   shows_home = shows_folder c new path name (given_home h m) (λ q. refl) folder_home (λ q x e. rw e refl) (other_at context_name (held_no_context h) (foreign m ok context_name context_no_number)) refl
 
 -- changes of one folder, one after another
-unchanged : (m : Mailbox) (p : Place) → m ≡ with_folder_changed m p (λ f. f)
+pub unchanged : (m : Mailbox) (p : Place) → m ≡ with_folder_changed m p (λ f. f)
 unchanged m p = λ i. record { folders = λ q. each (same_place p q) (m.folders q) i; home = m.home; work = m.work; context = m.context; outside = m.outside }
   where
     same : (o : Option FolderOf) → o ≡ option_map (λ f. f) o
@@ -175,7 +175,7 @@ unchanged m p = λ i. record { folders = λ q. each (same_place p q) (m.folders 
     each true o = same o
     each false o = refl
 
-twice_changed : (m : Mailbox) (p : Place) (f g : FolderOf → FolderOf) → with_folder_changed (with_folder_changed m p f) p g ≡ with_folder_changed m p (λ x. g (f x))
+pub twice_changed : (m : Mailbox) (p : Place) (f g : FolderOf → FolderOf) → with_folder_changed (with_folder_changed m p f) p g ≡ with_folder_changed m p (λ x. g (f x))
 twice_changed m p f g = λ i. record { folders = λ q. each (same_place p q) (m.folders q) i; home = m.home; work = m.work; context = m.context; outside = m.outside }
   where
     both_maps : (o : Option FolderOf) → option_map g (option_map f o) ≡ option_map (λ x. g (f x)) o

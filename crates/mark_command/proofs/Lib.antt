@@ -3,5 +3,4 @@ pub mod Loops
 pub mod MarkAlone
 pub mod MarkGiven
 pub mod MarkPledged
-pub mod Sets
 pub mod Values

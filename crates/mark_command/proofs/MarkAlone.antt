@@ -36,7 +36,8 @@ use Rattle.mark_command.specs.Mark.{mark}
 use Rattle.mark_command.specs.MarkedAlone.{ComesTo, HasReadContext, MarksAlone, MarksIfUnfaulted, MarksInStory}
 use Rattle.mark_command.specs.Outcomes.{mark_work}
 use Rattle.mark_command.specs.declared.job.MarkJob.{MarkJob}
-use Rattle.mark_command.proofs.MarkGiven.{WorkEnds, mark_gives}
+use Rattle.opened_folders.proofs.WorkGiven.{WorkEnds}
+use Rattle.mark_command.proofs.MarkGiven.{mark_gives}
 
 short_is : (o : Option (List ℕ)) → nat_lt LIMIT_BYTES (length (filled o)) ≡ false → IsShort LIMIT_BYTES o
 short_is None e = tt

@@ -12,7 +12,6 @@ use Rattle.folder_files.specs.declared.place.Place.TheVariants.{Folder, Mail}
 use Rattle.folder_files.specs.declared.refusal.Refusal.{Refusal}
 use Rattle.folder_files.specs.declared.refusal.Refusal.TheVariants as refusal
 use Rattle.folder_files.specs.declared.step.Step.TheVariants as step
-use Rattle.file_plans.specs.Asking.{attempt_unlock, unlock}
 use Rattle.file_plans.specs.Contents.{Contents, mailbox_in}
 use Rattle.file_plans.specs.Giving.{Gives}
 use Rattle.file_plans.specs.Plan.{Hand, Plan, Return, ask, attempt, bind, converted, lifted, say, ◌>>=◌}
@@ -48,16 +47,13 @@ use Rattle.sequence_commits.specs.Committing.{changed_sequences}
 use Rattle.sequence_commits.specs.PrivateChanges.{private_changes}
 use Rattle.sequence_commits.proofs.ChangesTo.{are_changes}
 use Rattle.step_plans.specs.ContextCommit.{AreChanges}
-use Rattle.opened_folders.specs.BegunWork.{AreHomes, AreHomesAt, Homes, after_commits, begun_work}
-use Rattle.opened_folders.specs.Kept.{Commits, Kept, context_kept, sequences_kept}
-use Rattle.opened_folders.specs.Opening.{Opened, begun, with_sequences}
-use Rattle.opened_folders.proofs.BegunWorks.{IsBegunAs, absent_work, begun_as, clear_context, clear_text, homes_are, homes_in, long_work}
+use Rattle.opened_folders.specs.BegunWork.{AreHomesAt, Homes, after_commits, current_work, end_by}
+use Rattle.opened_folders.specs.Kept.{Commits, Kept, sequences_kept}
+use Rattle.opened_folders.specs.Opening.{Opened, with_sequences}
+use Rattle.opened_folders.proofs.BegunWorks.{clear_context, clear_text}
 use Rattle.opened_folders.proofs.SettledShown.{there_shown}
 use Rattle.opened_folders.specs.BegunWork.{runs_in}
 use Rattle.opened_folders.specs.Kept.{kept_of}
-use Rattle.held_messages.specs.HeldPairs.{homes}
-use Rattle.held_messages.specs.Highest.{IsTop}
-use Rattle.held_messages.proofs.Unique.{held_once}
 use Rattle.file_plans.specs.Contents.{folder_at}
 use Rattle.file_plans.specs.Mailboxes.{Folder as FolderValue}
 use Rattle.file_plans.specs.Plan.{after}
@@ -80,52 +76,18 @@ use Rattle.mh_looks.specs.Scan.{entries_seen}
 use Rattle.mh_looks.proofs.Folders.{FolderListed, IsAbsent, IsListed, Tells, folder_gives, messages_listed}
 use Rattle.mh_looks.proofs.Reading.{TextRead, after_read, text_gives}
 use Rattle.mh_looks.proofs.Scanning.{unreadable}
-use Rattle.opened_folders.proofs.FolderGiven.{BeginEnds, BeginErrs, IsBegunIn, IsUntouched, begun_gives}
-use Rattle.opened_folders.proofs.KeptGiven.{Ends, Holds, IsClear, context_ends, sequences_end}
+use Rattle.opened_folders.proofs.FolderGiven.{IsUntouched}
+use Rattle.opened_folders.proofs.KeptGiven.{Ends, Holds, IsClear, sequences_end}
+use Rattle.opened_folders.proofs.WorkGiven.{WorkEnds, changes_give, current_gives, lifted_gives, weaker}
 use Rattle.mark_command.specs.Mark.{chosen_from, chosen_marked, mark_changes, opened_marked}
-use Rattle.mark_command.specs.Marking.{marked_for, marks_for, set_among}
+use Rattle.sequence_commits.specs.RunsOfAll.{set_among}
+use Rattle.mark_command.specs.Marking.{marked_for, marks_for}
 use Rattle.mark_command.specs.Outcomes.{changes_work, chosen_work, marked_work, opened_work}
 use Rattle.mark_command.specs.Lines.{cur_line, cur_lines, is_beside_cur, line_of, lines_beside, lines_for, privacy, sequence_of, spaced}
 use Rattle.mark_command.specs.Mark.{lines_said, said_if}
-use Rattle.mark_command.specs.Outcomes.{current_work, end_by, joined, text_if}
+use Rattle.mark_command.specs.Outcomes.{joined, text_if}
 use Rattle.mark_command.specs.declared.job.MarkAct.{MarkAct}
 use Rattle.mark_command.specs.declared.job.MarkJob.{MarkJob}
-use Rattle.opened_folders.specs.Ending.{ended, finished, given_up}
-
--- alone a command ends as its work says, and the mailbox is then what it says; for want of numbers for names nothing is said
-abbrev pub WorkEnds : Work CommandFault → View → Hand → List ℕ → Result Unit CommandFault → Type 0
-WorkEnds w z j left (Ok u) = (left ≡ []) × (w.end ≡ Ok tt) × (mailbox_in z.contents ≡ w.mailbox)
-WorkEnds w z j left (Err (fault.Refused r)) = (left ≡ []) × (w.end ≡ Err (fault.Refused r)) × (mailbox_in z.contents ≡ w.mailbox)
-WorkEnds w z j left (Err (fault.Faulted which)) = ⊥
-WorkEnds w z j left (Err (fault.Locked q)) = ⊥
-WorkEnds w z j left (Err (fault.Meddled q x)) = ⊥
-WorkEnds w z j left (Err fault.Memory) = Unit {0}
-
--- the folder's lock falls at the end, and nothing else changes
-finished_gives : (w : Work CommandFault) (p : Place) (z : View) (j : Hand) (left : List ℕ) → WorkEnds w z j left (Ok tt) → Gives (by_view true) z j left (finished p) (WorkEnds w)
-unfolding Gives finished unlock ask lifted bind ◌>>=◌
-finished_gives w p z j left f = λ a row live fits. f
-
-given_up_gives : (w : Work CommandFault) (p : Place) (z : View) (j : Hand) (left : List ℕ) (r : Refusal) → WorkEnds w z j left (Err (fault.Refused r)) → Gives (by_view true) z j left (given_up p (fault.Refused r)) (WorkEnds w)
-unfolding Gives given_up attempt_unlock attempt lifted bind ◌>>=◌
-given_up_gives w p z j left r f = λ a row fits. f
-
-pub ended_gives : (w : Work CommandFault) (p : Place) (z : View) (j : Hand) (left : List ℕ) (r : Result Unit CommandFault) → WorkEnds w z j left r → Gives (by_view true) z j left (ended p r) (WorkEnds w)
-unfolding Gives
-ended_gives w p z j left (Ok u) f = finished_gives w p z j left f
-ended_gives w p z j left (Err (fault.Refused r)) f = given_up_gives w p z j left r f
-ended_gives w p z j left (Err (fault.Faulted which)) f = f
-ended_gives w p z j left (Err (fault.Locked q)) f = absurd f
-ended_gives w p z j left (Err (fault.Meddled q x)) f = f
-ended_gives w p z j left (Err fault.Memory) f = f
-
--- a plan with its errors as another layer has them
-lifted_gives : {A E F : Type 0} (v : View) (h : Hand) (text : List ℕ) (from : E → F) (p : Plan (Result A E)) (Q : View → Hand → List ℕ → Result A E → Type 0) → Gives (by_view true) v h [] p Q
-    → Gives (by_view true) v h text (lifted from p) (λ z j left r. (left ≡ text) × ((q : Result A E) × (r ≡ converted from q) × Q z j [] q))
-unfolding Gives lifted
-lifted_gives {A = A} {E = E} v h text from p Q f =
-    gives_bind (by_view true) v h text p (λ r. Return (converted from r)) (λ z j left r. (left ≡ text) × Q z j [] r) (λ z j left r. (left ≡ text) × ((q : Result A E) × (r ≡ converted from q) × Q z j [] q))
-    (silent (by_view true) v h text p Q f) (λ z j left r g. (g.0, (r, refl, g.1)))
 
 -- the lines are said
 line_some : (s : Sequence) → line_of s ≡ [] → ⊥
@@ -195,40 +157,13 @@ module _ (run : ℕ) (few : run < 2 ^ 128) (path : List ℕ) (job : MarkJob) (va
   abbrev mail : Place
   mail = Mail path
 
-  weaker : (F : Contents → Type 0) (k : Kept) (c : Contents) (h : Hand) → Holds F path k c h → Holds (λ d. Unit {0}) path k c h
-  weaker F k c h f = record { shows = f.shows; entries = f.entries; known = f.known; short = f.short; still = tt }
-
-  -- the folder becomes the current one
-  current_ends : (ns : List ℕ) (written : List ℕ) (k : Kept) (z : View) (j : Hand) (left : List ℕ) (q : Result Unit PlanFault) → left ≡ [] → Ends (λ d. Unit {0}) path ns (context_kept path (current_change job.folder) k) z j q
-      → WorkEnds (current_work path job.folder written k) z j left (converted (of_plan job.folder) q)
-  current_ends ns written k z j left (Ok u) none e = (none, ap end_by e.0, ap mailbox_in (e.1.1.0 refl) ∙ e.1.2.shows)
-  current_ends ns written k z j left (Err plan.Faulted) none e = e
-  current_ends ns written k z j left (Err (plan.Locked q)) none e = absurd e
-  current_ends ns written k z j left (Err (plan.Meddled q x)) none e = e
-  current_ends ns written k z j left (Err plan.Full) none e = absurd e
-  current_ends ns written k z j left (Err (plan.Absent q)) none e = absurd e
-  current_ends ns written k z j left (Err (plan.TooLarge l)) none e = (none, ap end_by e.0, e.1)
-  current_ends ns written k z j left (Err plan.Memory) none e = tt
-
-  current_gives : (ns : List ℕ) (written : List ℕ) (k : Kept) (c : Contents) (z : View) (j : Hand) → Is true ns z c → Holds (λ d. Unit {0}) path k c j
-      → Gives (by_view true) z j [] (made_current run path job.folder) (WorkEnds (current_work path job.folder written k))
-  unfolding Gives made_current
-  current_gives ns written k c z j is holds =
-      gives_on (by_view true) z j [] (lifted (of_plan job.folder) (commit_context run mail (current_change job.folder))) (λ done. Return (Ok tt))
-      (λ y i left r. (left ≡ []) × ((q : Result Unit PlanFault) × (r ≡ converted (of_plan job.folder) q) × Ends (λ d. Unit {0}) path ns (context_kept path (current_change job.folder) k) y i q))
-      (WorkEnds (current_work path job.folder written k))
-      (lifted_gives z j [] (of_plan job.folder) (commit_context run mail (current_change job.folder)) (λ y i left r. Ends (λ d. Unit {0}) path ns (context_kept path (current_change job.folder) k) y i r)
-      (context_ends (λ d. Unit {0}) path ns (λ d cs f. tt) run few (current_change job.folder) (current_valid job.folder valid) k c z j [] is holds))
-      (λ y i left u g. subst (λ r. WorkEnds (current_work path job.folder written k) y i left r) (sym g.1.1) (current_ends ns written k y i left g.1.0 g.0 g.1.2))
-      (λ y i left e g. subst (λ r. WorkEnds (current_work path job.folder written k) y i left r) (sym g.1.1) (current_ends ns written k y i left g.1.0 g.0 g.1.2))
-
   -- the sequences are listed, where the job lists, and then the folder becomes the current one
   listed_gives : (ns : List ℕ) (list : Bool) (m : Marked) (k : Kept) (c : Contents) (z : View) (j : Hand) → Is true ns z c → Holds (λ d. Unit {0}) path k c j
       → Gives (by_view true) z j (text_if list (lines_for job.names m)) (said_if list (lines_for job.names m) >>= (λ told. made_current run path job.folder)) (WorkEnds (current_work path job.folder (text_if list (lines_for job.names m)) k))
   listed_gives ns list m k c z j is holds =
       gives_on (by_view true) z j (text_if list (lines_for job.names m)) (said_if list (lines_for job.names m)) (λ told. made_current run path job.folder) (Told z j) (WorkEnds (current_work path job.folder (text_if list (lines_for job.names m)) k))
       (said_gives z j list (lines_for job.names m) (some_for job.names m))
-      (λ y i left u g. rw (g.1, g.2, g.3) (current_gives ns (text_if list (lines_for job.names m)) k c z j is holds))
+      (λ y i left u g. rw (g.1, g.2, g.3) (current_gives run few path job.folder valid ns (text_if list (lines_for job.names m)) k c z j is holds))
       (λ y i left e g. absurd (cc (g.0)))
 
   abbrev Clear : Contents → Type 0
@@ -314,7 +249,7 @@ module _ (run : ℕ) (few : run < 2 ^ 128) (path : List ℕ) (job : MarkJob) (va
         subst (λ x. Gives (by_view true) y i left (then_listed x) (WorkEnds (work_then numbers))) (sym g.0)
         (subst (λ t. Gives (by_view true) y i t (then_listed (with_sequences (made numbers) o)) (WorkEnds (work_then numbers))) (sym g.1)
         (subst (λ x. Gives (by_view true) y i x.text (then_listed (with_sequences (made numbers) o)) (WorkEnds x)) (sym w)
-        (listed_gives ns job.list (made numbers) (commits numbers).kept g.3.0 y i g.3.1 (weaker Clear (commits numbers).kept g.3.0 i g.3.2)))))
+        (listed_gives ns job.list (made numbers) (commits numbers).kept g.3.0 y i g.3.1 (weaker run few path job.folder Clear (commits numbers).kept g.3.0 i g.3.2)))))
         (λ y i left e g. g)
 
     by_value : (value : Result (List ℕ) CommandFault) → chosen_from job o.listing o.sequences ≡ value → Gives (by_view true) z j (chosen_work path job a o.listing o.sequences k value).text
@@ -330,28 +265,6 @@ module _ (run : ℕ) (few : run < 2 ^ 128) (path : List ℕ) (job : MarkJob) (va
     unfolding opened_marked chosen_marked
     opened_gives = by_value (chosen_from job o.listing o.sequences) refl
 
--- two highest numbers of one folder are the same
-one_top : (f : FolderValue) (s t : ℕ) → IsTop f s → IsTop f t → s ≡ t
-one_top f s t a b = same s t (below s t a.attained b.above) (below t s b.attained a.above)
-  where
-    below : (s t : ℕ) → (s ≡ 0) ⊎ (is_some (f.messages s) ≡ true) → ((k : ℕ) → is_some (f.messages k) ≡ true → k ≤ t) → s ≤ t
-    below s t (inl e) above = rw e (omega arith)
-    below s t (inr e) above = above s e
-
-    same : (s t : ℕ) → s ≤ t → t ≤ s → s ≡ t
-    same s t f g = omega (arith, f, g)
-
--- a folder's held messages go to one place each
-one_home : (run : ℕ) (f : FolderValue) (h g : Homes) → AreHomes run f h → AreHomes run f g → h ≡ g
-one_home run f h g a b =
-    let pairs : h.pairs ≡ g.pairs = held_once run f h.pairs g.pairs a.held b.held in
-    let ends : h.ends ≡ g.ends = a.ends ∙ ((λ i. homes (λ k. is_some (f.messages k)) (one_top f a.highest b.highest a.top b.top i) (pairs i)) ∙ sym b.ends) in
-    λ i. record { pairs = pairs i; ends = ends i }
-
-homes_there : (run : ℕ) (f : FolderValue) (o : Option FolderValue) (h : Homes) → o ≡ Some f → AreHomesAt run o h → AreHomes run f h
-homes_there run f None h e a = cc (e)
-homes_there run f (Some g) h e a = let same : g ≡ f = cc in subst (λ x. AreHomes run x h) same a
-
 -- the whole, where the context has these entries and its text is not too long
 module _ (run : ℕ) (few : run < 2 ^ 128) (path : List ℕ) (job : MarkJob) (valid : is_folder_name job.folder ≡ true) (clean : list_all is_name_byte (suffix job.folder) ≡ true)
     (c : Contents) (entries : List NamedValue) (entries_are : entries ≡ entries_at c (Mail path)) (short : IsShort LIMIT_BYTES (c.texts (Mail path) context_name)) where
@@ -363,72 +276,11 @@ module _ (run : ℕ) (few : run < 2 ^ 128) (path : List ℕ) (job : MarkJob) (va
     abbrev work : Work CommandFault
     work = changes_work path entries h job a (mailbox_in c)
 
-    abbrev next : List Run → Marked → Kept → Work CommandFault
-    next = opened_work path job a
-
-    abbrev Begun : View → Hand → List ℕ → Result Opened CommandFault → Type 0
-    Begun z j left r = (left ≡ work.text) × ((q : Result Opened PlanFault) × (r ≡ converted (of_plan job.folder) q) × BeginEnds true ns run few path job.folder c z j [] q)
-
-    work_is : work ≡ begun_work path job.folder entries h (mailbox_in c) next
-    unfolding changes_work
-    work_is = refl
-
-    home : (f : Homes) → c.there at ≡ true → AreHomes run (folder_at c at) f → f ≡ h
-    unfolding mailbox_in
-    home f there is = one_home run (folder_at c at) f h is (homes_there run (folder_at c at) ((mailbox_in c).folders at) h (there_shown c at (c.there at) there) are)
-
-    refused_as : (z : View) (j : Hand) (left : List ℕ) (r : Refusal) → left ≡ work.text → work ≡ refused_at (mailbox_in z.contents) (fault.Refused r) → WorkEnds work z j left (Err (fault.Refused r))
-    refused_as z j left r same w = (same ∙ ap (λ x. x.text) w, ap (λ x. x.end) w, sym (ap (λ x. x.mailbox) w))
-
-    not_begun : (z : View) (j : Hand) (left : List ℕ) (e : PlanFault) → left ≡ work.text → BeginErrs true ns run few path job.folder c z e → WorkEnds work z j left (Err (of_plan job.folder e))
-    not_begun z j left plan.Faulted same f = f
-    not_begun z j left (plan.Locked q) same f = f refl
-    not_begun z j left (plan.Meddled q x) same f = f refl
-    not_begun z j left plan.Full same f = absurd f
-    not_begun z j left (plan.Absent q) same f =
-        let g = f refl in
-        refused_as z j left (refusal.NoFolder job.folder) same (work_is ∙ (absent_work run few path job.folder ns c entries entries_are short clean h next g.0 ∙ ap (λ m. refused_at m (fault.Refused (refusal.NoFolder job.folder))) (sym (ap mailbox_in g.1))))
-    not_begun z j left (plan.TooLarge l) same f =
-        let b = f refl in
-        let is = home (homes_in run few path job.folder ns c entries entries_are short clean b.settled) b.there (homes_are run few path job.folder ns c entries entries_are short clean b.settled b.there b.listing b.holds b.ends_so b.homes_so) in
-        refused_as z j left (refusal.TooLarge l LIMIT_BYTES) same
-        (work_is ∙ subst (λ x. begun_work path job.folder entries x (mailbox_in c) next ≡ refused_at (mailbox_in z.contents) (too_large l)) is
-        (long_work run few path job.folder ns c entries entries_are short clean b.settled b.there b.listing b.holds b.ends_so b.homes_so next l z.contents b.long))
-    not_begun z j left plan.Memory same f = tt
-
-    -- the folder was begun, and the work goes on
-    begun_gives_on : (z : View) (j : Hand) (left : List ℕ) (o : Opened) → left ≡ work.text → IsBegunIn true ns run few path job.folder c z j [] o
-        → Gives (by_view true) z j left (bind (opened_marked run path job a o) (ended at)) (WorkEnds work)
-    begun_gives_on z j left o same b =
-        subst (λ t. Gives (by_view true) z j t (bind (opened_marked run path job a o) (ended at)) (WorkEnds work)) (sym same)
-        (subst (λ w. Gives (by_view true) z j w.text (bind (opened_marked run path job a o) (ended at)) (WorkEnds w)) (sym w_is)
-        (gives_bind (by_view true) z j (next o.listing o.sequences g.1.kept).text (opened_marked run path job a o) (ended at) (WorkEnds (next o.listing o.sequences g.1.kept)) (WorkEnds (next o.listing o.sequences g.1.kept))
-        (opened_gives run few path job valid clean a o g.1.place g.1.name g.1.valid g.1.later g.1.kept g.1.contents z j g.1.is g.1.holds)
-        (λ y i rest r e. ended_gives (next o.listing o.sequences g.1.kept) at y i rest r e)))
-      where
-        g : AreHomes run (folder_at c at) (homes_in run few path job.folder ns c entries entries_are short clean b.settled) × IsBegunAs run few path job.folder ns c entries entries_are short clean (homes_in run few path job.folder ns c entries entries_are short clean b.settled) next o z j
-        g = begun_as run few path job.folder ns c entries entries_are short clean z j [] o b next
-
-        w_is : work ≡ next o.listing o.sequences g.1.kept
-        w_is = work_is ∙ (ap (λ x. begun_work path job.folder entries x (mailbox_in c) next) (sym (home (homes_in run few path job.folder ns c entries entries_are short clean b.settled) (b.there refl) g.0)) ∙ g.1.work)
-
-    pub changes_give : Gives (by_view true) v hand work.text (mark_changes run path job a) (WorkEnds work)
-    unfolding mark_changes
-    changes_give =
-        gives_on (by_view true) v hand work.text (lifted (of_plan job.folder) (begun run at (Mail path) job.folder)) (λ o. bind (opened_marked run path job a o) (ended at)) Begun (WorkEnds work)
-        (lifted_gives v hand work.text (of_plan job.folder) (begun run at (Mail path) job.folder) (BeginEnds true ns run few path job.folder c) (begun_gives true ns run few path job.folder c v hand [] untouched))
-        (λ z j left o g. good z j left o g.0 g.1.0 g.1.1 g.1.2)
-        (λ z j left e g. bad z j left e g.0 g.1.0 g.1.1 g.1.2)
-      where
-        good : (z : View) (j : Hand) (left : List ℕ) (o : Opened) → left ≡ work.text → (q : Result Opened PlanFault) → Ok o ≡ converted (of_plan job.folder) q → BeginEnds true ns run few path job.folder c z j [] q
-            → Gives (by_view true) z j left (bind (opened_marked run path job a o) (ended at)) (WorkEnds work)
-        good z j left o same (Ok u) r e = let is : u ≡ o = cc (r) in begun_gives_on z j left o same (subst (λ x. IsBegunIn true ns run few path job.folder c z j [] x) is e)
-        good z j left o same (Err x) r e = absurd (cc (r))
-
-        bad : (z : View) (j : Hand) (left : List ℕ) (e : CommandFault) → left ≡ work.text → (q : Result Opened PlanFault) → Err e ≡ converted (of_plan job.folder) q → BeginEnds true ns run few path job.folder c z j [] q
-            → WorkEnds work z j left (Err e)
-        bad z j left e same (Ok u) r f = absurd (cc (r))
-        bad z j left e same (Err x) r f = let is : e ≡ of_plan job.folder x = cc (r) in subst (λ q. WorkEnds work z j left (Err q)) (sym is) (not_begun z j left x same f)
+    pub marks_give : Gives (by_view true) v hand work.text (mark_changes run path job a) (WorkEnds work)
+    unfolding mark_changes changes_work
+    marks_give =
+        changes_give run few path job.folder clean c entries entries_are short h are ns v hand untouched (opened_work path job a) (opened_marked run path job a)
+        (λ o z j f. opened_gives run few path job valid clean a o f.place f.name f.valid f.later f.kept f.contents z j f.is f.holds)
 
   -- a `mark` that only lists
   module _ (ns : List ℕ) (v : View) (hand : Hand) (same : v.contents ≡ c) (nums : v.numbers ≡ ns) (known : hand.context ≡ Some entries) where
@@ -548,4 +400,4 @@ module _ (run : ℕ) (few : run < 2 ^ 128) (path : List ℕ) (job : MarkJob) (va
     where
       go : (act : Option MarkAct) → Gives (by_view true) v hand (work_by path entries h job (mailbox_in c) act).text (mark_by_act run path job act) (WorkEnds (work_by path entries h job (mailbox_in c) act))
       go None = looks_give ns v hand same nums known
-      go (Some a) = changes_give a h are ns v hand untouched
+      go (Some a) = marks_give a h are ns v hand untouched

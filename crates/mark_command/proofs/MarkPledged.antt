@@ -9,7 +9,6 @@ use Rattle.mh_sequences.specs.Reading.{suffix}
 use Rattle.mh_sequences.specs.Sequences.{Marked}
 use Rattle.mh_sequences.specs.declared.run.Run.{Run}
 use Rattle.folder_files.specs.Careful.{Kind, Makes, Creates, Puts, Gives, Takes, Removes, Drops, Discards, Commits, Clears, Cuts, Stores}
-use Rattle.folder_files.specs.Commands.{begins_folder, serves_commit}
 use Rattle.folder_files.specs.Deeds.{Deed, on}
 use Rattle.folder_files.specs.declared.place.Place.{Place}
 use Rattle.folder_files.specs.declared.place.Place.TheVariants.{Folder, Mail}
@@ -35,9 +34,12 @@ use Rattle.sequence_commits.proofs.SequencesPledged.{CommittedOrSame, MayReplace
 use Rattle.command_stages.specs.Current.{current_change, made_current}
 use Rattle.command_stages.specs.Endings.{of_plan}
 use Rattle.opened_folders.specs.Opening.{Opened, begun, with_sequences}
-use Rattle.opened_folders.specs.Reads.{HaveRead}
-use Rattle.opened_folders.proofs.EndedKept.{Still, ended_keeps, keeps_more, none_keeps}
-use Rattle.opened_folders.proofs.FolderPledged.{Begins, HasBegun, begun_goes}
+use Rattle.opened_folders.specs.Reads.{HaveSeen}
+use Rattle.folder_files.specs.Commands.{Marking}
+use Rattle.folder_files.specs.declared.step.Step.{Step}
+use Rattle.opened_folders.proofs.EndedKept.{Still, keeps_more}
+use Rattle.opened_folders.proofs.FolderPledged.{HasBegun}
+use Rattle.opened_folders.proofs.WorkPledged.{LetsBegin, begun_keeps, committed_goes, current_goes}
 use Rattle.std.specs.Prelude.{Option, None, Some}
 use Rattle.file_plans.specs.Follows.{Follows, State}
 use Rattle.file_plans.specs.Rules.{IfOkay, Keeps, Rules}
@@ -57,25 +59,10 @@ use Rattle.mh_looks.proofs.LooksLeave.{Lists, Looks, goes_chosen, listed_goes, t
 use Rattle.opened_folders.specs.Ending.{ended}
 use Rattle.mark_command.specs.Lines.{lines_for}
 use Rattle.mark_command.specs.Mark.{chosen_from, chosen_marked, lines_said, mark, mark_by_act, mark_changes, mark_looks, opened_marked, said_if, sequences_seen}
-use Rattle.mark_command.specs.MarkPledge.{MarksFolder, MayLeave, looks_pledge, mark_pledge, pledge_by, told_within}
+use Rattle.mark_command.specs.MarkPledge.{Marks, looks_pledge, mark_pledge, pledge_by}
 use Rattle.mark_command.specs.Marking.{marked_for}
 use Rattle.mark_command.specs.declared.job.MarkAct.{MarkAct}
 use Rattle.mark_command.specs.declared.job.MarkJob.{MarkJob}
-
--- what serves a commit begins a folder too
-serves_begins : (k : Kind) → serves_commit k ≡ true → begins_folder k ≡ true
-serves_begins Makes e = refl
-serves_begins Creates e = refl
-serves_begins Puts e = cc (e)
-serves_begins Gives e = refl
-serves_begins Takes e = cc (e)
-serves_begins Removes e = cc (e)
-serves_begins Drops e = refl
-serves_begins Discards e = cc (e)
-serves_begins Commits e = refl
-serves_begins Clears e = refl
-serves_begins Cuts e = cc (e)
-serves_begins Stores e = cc (e)
 
 -- lines are free to be said
 module _ (w : Pledge) (tells : (own : List Deed) (piece : List ℕ) → w.may_tell own piece) where
@@ -98,138 +85,68 @@ module _ (run : ℕ) (few : run < 2 ^ 128) (path : List ℕ) (job : MarkJob) (a 
   abbrev mail : Place
   mail = Mail path
 
-  abbrev change : List ChangeEntry
-  change = current_change job.folder
+  abbrev any_piece : List Deed → List ℕ → Type 0
+  any_piece own piece = Unit {0}
 
-  abbrev Read : List ℕ → List ℕ → List Deed → Type 0
-  Read text context own = HaveRead p mail text context own
+  abbrev any_step : List Deed → Step → Type 0
+  any_step own s = Unit {0}
 
-  serves_folder : Serves w p
-  serves_folder = record { serves = λ own kind s k m. inl (serves_begins kind k, m); make = λ own. tt; create = λ own temp bytes is. tt; clear = λ own temp is. tt }
-
-  serves_mail : Serves w mail
-  serves_mail = record { serves = λ own kind s k m. inr (k, m); make = λ own. tt; create = λ own temp bytes is. tt; clear = λ own temp is. tt }
-
-  settles : Settles w p
-  settles = record { gives = λ own held number. inl (refl, refl); drops = λ own held. inl (refl, refl); link = λ own held number is_held is_number. tt; unlink = λ own held is. tt }
-
-  apart : mail ≡ p → ⊥
-  apart e = cc (e)
-
-  -- a commit of the context by such changes is pledged, once both were read
-  pledged_by : (text context : List ℕ) (cs : List ChangeEntry) → ((later : List Deed) (old new : List ℕ) → Read text context later → MarksContext path cs mail context_name old new → MarksFolder path job a later mail context_name old new)
-      → IsPledged w mail cs AnyStep (Read text context)
-  pledged_by text context cs may = record {
-    asks = record { make = tt; lock = tt; list = tt; clear = λ temp is. tt; read = tt; create = λ temp bytes. tt; sync_file = λ temp. tt; rename = λ temp. tt; sync = tt; unlock = tt };
-    keeps = once_kept _ AnyStep;
-    may = λ later old f. may later old _ f (refl, refl, refl);
-    lets = λ later temp f lock m. tt;
+  lets : LetsBegin path job.folder (Marking path job.folder) any_step
+  lets = record {
+    kinds = λ own kind s k. k;
+    makes = λ own q. tt;
+    creates = λ own q temp bytes. tt;
+    clears = λ own q temp is. tt;
+    gives = λ own q held number. tt;
+    drops = λ own q held is. tt;
+    commits = λ own q temp name is. tt;
   }
 
-  entries_pledged : (text context : List ℕ) (listing : List Run) (new : Marked) → MayLeave job a listing (told_within listing text context job.folder) new → (seen : List NamedValue)
-      → IsPledged w mail (changes_to (suffix job.folder) (private_entries (suffix job.folder) new.users) seen) AnyStep (Read text context)
-  entries_pledged text context listing new leaves seen =
-      pledged_by text context (changes_to (suffix job.folder) (private_entries (suffix job.folder) new.users) seen)
-      (λ later old made f m. record { read_text = text; context = context; read = f; listing = listing; new = new; leaves = leaves; writes = inr (inl (seen, m)) })
-
-  current_pledged : (text context : List ℕ) (listing : List Run) → IsPledged w mail change AnyStep (Read text context)
-  current_pledged text context listing =
-      pledged_by text context change
-      (λ later old made f m. record { read_text = text; context = context; read = f; listing = listing; new = told_within listing text context job.folder; leaves = inl refl; writes = inr (inr m) })
-
-  -- the folder may be begun
-  begins : Begins w path job.folder
-  begins = record {
-    serves = serves_folder;
-    mail = serves_mail;
-    settles = settles;
-    cut = λ own text context listing old read. record { read_text = text; context = context; read = read; listing = listing; new = told_within listing text context job.folder; leaves = inl refl; writes = inl (refl, refl, refl) };
-    moves = λ own temp lock marked. tt;
-    entries = λ text context listing seen. entries_pledged text context listing (told_within listing text context job.folder) (inl refl) seen;
-  }
-
-  -- it is begun so
-  pub begin_goes : (own : List Deed) (h : Hand) → Goes w own h (lifted (of_plan job.folder) (begun run p mail job.folder)) (okay (λ later j o. HasBegun w own path job.folder later o))
-  begin_goes own h = goes_lifted w own h (of_plan job.folder) (begun run p mail job.folder) (λ later j o. HasBegun w own path job.folder later o) (begun_goes w few path job.folder begins own h)
-
-  -- after it: what was settled of commits stays so, and the context was committed, or what the hand knew said so already
-  pub record IsMarkedSo (own later : List Deed) : Type 0 where
-    pub settled_still : AreSettled own → AreSettled later
-    pub context : ((seen : Hand) × (settled change seen.context ≡ true)) ⊎ HasMarked w mail context_name later
-
-  current_goes : (own : List Deed) (h : Hand) (text context : List ℕ) (listing : List Run) → Read text context own → Goes w own h (made_current run path job.folder) (okay (Of (IsMarkedSo own)))
-  unfolding made_current
-  current_goes own h text context listing read =
-      goes_then w own h (lifted (of_plan job.folder) (commit_context run mail change)) _ (Of (Known w own mail change h)) (Of (IsMarkedSo own))
-      (goes_lifted w own h (of_plan job.folder) (commit_context run mail change) (Of (Known w own mail change h))
-      (commit_goes w few path serves_mail change AnyStep (Read text context) (current_pledged text context listing) own h read))
-      (λ later j u k. goes_return w later j tt (okay (Of (IsMarkedSo own))) (record { settled_still = k.settled_still; context = said later k.done }))
-    where
-      said : (later : List Deed) → ((settled change h.context ≡ true) × (later ≡ own)) ⊎ HasMarked w mail context_name later → ((seen : Hand) × (settled change seen.context ≡ true)) ⊎ HasMarked w mail context_name later
-      said later (inl e) = inl (h, e.0)
-      said later (inr m) = inr m
+  abbrev Seen : Opened → List ℕ → List ℕ → List Deed → Type 0
+  Seen o text context later = HaveSeen run p mail o.listing text context later
 
   module _ (first own : List Deed) (o : Opened) (b : HasBegun w first path job.folder own o) (h : Hand) where
     abbrev made : List ℕ → Marked
     made numbers = marked_for job a o.listing numbers o.sequences
 
-    module _ (numbers : List ℕ) (is : chosen_from job o.listing o.sequences ≡ Ok numbers) where
-      leaves : MayLeave job a o.listing (told_within o.listing b.text b.context job.folder) (made numbers)
-      leaves = inr (numbers, ap (λ m. chosen_from job o.listing m) (sym b.sequences) ∙ is, ap (marked_for job a o.listing numbers) b.sequences)
+    abbrev Marks_ : Outcome Opened
+    Marks_ later j q = Seen o b.text b.context later × (AreSettled own → AreSettled later)
 
-      may : MayReplace w p b.base.0 (text_of (made numbers)) own
-      may = record {
-        committed = rw (kind_of-entry_text Sequences tt) refl;
-        lock = b.held.lock;
-        base = b.base.1;
-        mark = λ temp. record { read_text = b.text; context = b.context; read = on (on b.read); listing = o.listing; new = made numbers; leaves = leaves; writes = inl (refl, refl, refl) };
-        step_ = λ temp marked. tt;
-      }
-
-      abbrev Cut : List Deed → Type 0
-      Cut later = CommittedOrSame w few p serves_folder path apart serves_mail job.folder o.sequences (made numbers) (Read b.text b.context) (once_kept _ AnyStep) (entries_pledged b.text b.context o.listing (made numbers) leaves) own later
-
-      abbrev Committed : Outcome Opened
-      Committed later j q = Read b.text b.context later × (AreSettled own → AreSettled later)
-
-      still : (later : List Deed) → Cut later → AreSettled own → AreSettled later
-      still later (inl same) s = subst AreSettled (sym same.1) s
-      still later (inr c) s = c.settled_still s
-
-      commits : Goes w own h (lifted (of_plan job.folder) (changed_sequences run p mail job.folder o.sequences (made numbers)) >>= (λ done. Return (Ok (with_sequences (made numbers) o)))) (okay Committed)
-      commits =
-          goes_lasting w (Read b.text b.context) (once_kept _ AnyStep) own h (lifted (of_plan job.folder) (changed_sequences run p mail job.folder o.sequences (made numbers))) (λ done. Return (Ok (with_sequences (made numbers) o))) (Of Cut) Committed b.read
-          (goes_lifted w own h (of_plan job.folder) (changed_sequences run p mail job.folder o.sequences (made numbers)) (Of Cut)
-          (changed_goes w few p serves_folder path apart serves_mail job.folder o.sequences (made numbers) (Read b.text b.context) (once_kept _ AnyStep) (entries_pledged b.text b.context o.listing (made numbers) leaves) own h b.base.0 b.read may))
-          (λ later j u read c. goes_return w later j (with_sequences (made numbers) o) (okay Committed) (read, still later c))
-
-    abbrev Marks : Outcome Opened
-    Marks later j q = Read b.text b.context later × (AreSettled own → AreSettled later)
+    -- the marks on what the words choose are committed
+    commits : (numbers : List ℕ) → chosen_from job o.listing o.sequences ≡ Ok numbers
+        → Goes w own h (lifted (of_plan job.folder) (changed_sequences run p mail job.folder o.sequences (made numbers)) >>= (λ done. Return (Ok (with_sequences (made numbers) o)))) (okay Marks_)
+    commits numbers is =
+        goes_then w own h (lifted (of_plan job.folder) (changed_sequences run p mail job.folder o.sequences (made numbers))) (λ done. Return (Ok (with_sequences (made numbers) o))) (λ later j u. Seen o b.text b.context later × (AreSettled own → AreSettled later)) Marks_
+        (subst (λ m. Goes w own h (lifted (of_plan job.folder) (changed_sequences run p mail job.folder m (made numbers))) (okay (λ later j u. Seen o b.text b.context later × (AreSettled own → AreSettled later)))) (sym b.sequences)
+        (committed_goes run few path job.folder (Marks job a) (Marking path job.folder) any_piece any_step lets own h o.listing b.text b.context (made numbers)
+        (inr (numbers, ap (λ m. chosen_from job o.listing m) (sym b.sequences) ∙ is, ap (marked_for job a o.listing numbers) b.sequences)) b.seen b.held.lock b.base.0 b.base.1))
+        (λ later j u f. goes_return w later j (with_sequences (made numbers) o) (okay Marks_) f)
 
     chosen_by : (value : Result (List ℕ) CommandFault) → chosen_from job o.listing o.sequences ≡ value
-        → Goes w own h (after (λ numbers. lifted (of_plan job.folder) (changed_sequences run p mail job.folder o.sequences (made numbers)) >>= (λ done. Return (Ok (with_sequences (made numbers) o)))) value) (okay Marks)
+        → Goes w own h (after (λ numbers. lifted (of_plan job.folder) (changed_sequences run p mail job.folder o.sequences (made numbers)) >>= (λ done. Return (Ok (with_sequences (made numbers) o)))) value) (okay Marks_)
     chosen_by (Ok numbers) is = commits numbers is
-    chosen_by (Err e) is = goes_end w own h e Marks
+    chosen_by (Err e) is = goes_end w own h e Marks_
 
     chosen_at : (q : Place) (n : List ℕ) → q ≡ p → n ≡ job.folder
-        → Goes w own h (Return (chosen_from job o.listing o.sequences) >>= (λ numbers. lifted (of_plan job.folder) (changed_sequences run q mail n o.sequences (made numbers)) >>= (λ done. Return (Ok (with_sequences (made numbers) o))))) (okay Marks)
+        → Goes w own h (Return (chosen_from job o.listing o.sequences) >>= (λ numbers. lifted (of_plan job.folder) (changed_sequences run q mail n o.sequences (made numbers)) >>= (λ done. Return (Ok (with_sequences (made numbers) o))))) (okay Marks_)
     unfolding Goes bind ◌>>=◌
     chosen_at q n place name = rw (place, name) (chosen_by (chosen_from job o.listing o.sequences) refl)
 
-    chosen_goes : Goes w own h (chosen_marked run path job a o) (okay Marks)
+    chosen_goes : Goes w own h (chosen_marked run path job a o) (okay Marks_)
     unfolding chosen_marked
     chosen_goes = chosen_at o.place o.folder b.place b.name
 
     -- the work on a folder that was begun
-    pub opened_goes : Goes w own h (opened_marked run path job a o) (okay (Of (IsMarkedSo own)))
+    pub opened_goes : Goes w own h (opened_marked run path job a o) (okay (Of (λ later. AreSettled own → AreSettled later)))
     unfolding opened_marked
     opened_goes =
-        goes_then w own h (chosen_marked run path job a o) (λ marked. said_if job.list (lines_for job.names marked.sequences) >>= (λ told. made_current run path job.folder)) Marks (Of (IsMarkedSo own)) chosen_goes
+        goes_then w own h (chosen_marked run path job a o) (λ marked. said_if job.list (lines_for job.names marked.sequences) >>= (λ told. made_current run path job.folder)) Marks_ (Of (λ later. AreSettled own → AreSettled later)) chosen_goes
         (λ later j q m.
-        goes_then w later j (said_if job.list (lines_for job.names q.sequences)) (λ told. made_current run path job.folder) (λ last i u. last ≡ later) (Of (IsMarkedSo own)) (said_goes w (λ deeds piece. tt) later j job.list (lines_for job.names q.sequences))
-        (λ last i u e. goes_at w last later i (made_current run path job.folder) (okay (Of (IsMarkedSo own))) e
-        (goes_more w later i (made_current run path job.folder) (okay (Of (IsMarkedSo later))) (okay (Of (IsMarkedSo own))) (okay_more (Of (IsMarkedSo later)) (Of (IsMarkedSo own)) (λ end k v c. record { settled_still = λ s. c.settled_still (m.1 s); context = c.context }))
-        (current_goes later i b.text b.context o.listing m.0))))
+        goes_then w later j (said_if job.list (lines_for job.names q.sequences)) (λ told. made_current run path job.folder) (λ last i u. last ≡ later) (Of (λ last. AreSettled own → AreSettled last)) (said_goes w (λ deeds piece. tt) later j job.list (lines_for job.names q.sequences))
+        (λ last i u e. goes_at w last later i (made_current run path job.folder) (okay (Of (λ end. AreSettled own → AreSettled end))) e
+        (goes_more w later i (made_current run path job.folder) (okay (Of (λ end. AreSettled later → AreSettled end))) (okay (Of (λ end. AreSettled own → AreSettled end)))
+        (okay_more (Of (λ end. AreSettled later → AreSettled end)) (Of (λ end. AreSettled own → AreSettled end)) (λ end k v f s. f (m.1 s)))
+        (current_goes run few path job.folder (Marks job a) (Marking path job.folder) any_piece any_step lets later i o.listing b.text b.context m.0))))
 
 -- one that only lists
 module _ (run : ℕ) (few : run < 2 ^ 128) (path : List ℕ) (job : MarkJob) where
@@ -283,40 +200,10 @@ module _ (run : ℕ) (few : run < 2 ^ 128) (path : List ℕ) (job : MarkJob) whe
 
 module _ (run : ℕ) (few : run < 2 ^ 128) (path : List ℕ) (job : MarkJob) where
   changes_keep : (a : MarkAct) (past : List Done) (h : Hand) → Sound (mark_pledge run path job a) (acts past) h → Keeps (rules_of (mark_pledge run path job a)) past h (mark_changes run path job a) (IfOkay (Still (acts past)))
-  unfolding mark_changes ◌>>=◌
+  unfolding mark_changes
   changes_keep a past h sound =
-      keeps_bind u past h (lifted (of_plan job.folder) (begun run p (Mail path) job.folder)) (after work) (ByActs (Soundly w (okay Begun))) (IfOkay (Still own))
-      (goes_keeps w past own h (lifted (of_plan job.folder) (begun run p (Mail path) job.folder)) (okay Begun) refl sound (begin_goes run few path job a own h))
-      (λ later j r q. goes_on_by later j r q.0 q.1)
-    where
-      own : List Deed
-      own = acts past
-
-      w : Pledge
-      w = mark_pledge run path job a
-
-      u : Rules
-      u = rules_of w
-
-      p : Place
-      p = Folder path job.folder
-
-      work : Opened → Plan (Result Unit CommandFault)
-      work o = bind (opened_marked run path job a o) (ended p)
-
-      Begun : Outcome Opened
-      Begun later j o = HasBegun w own path job.folder later o
-
-      still : (later last : List Done) (i : Hand) (e : Result Unit CommandFault) → (AreSettled own → AreSettled (acts later)) → Sound w (acts last) i → okay (Of (IsMarkedSo run few path job a (acts later))) (acts last) i e → IfOkay (Still own) last i e
-      still later last i (Ok u) f s m = record { settled = λ x. m.settled_still (f x); unfailed = s.unfailed }
-      still later last i (Err e) f s m = tt
-
-      goes_on_by : (later : List Done) (j : Hand) (r : Result Opened CommandFault) → Sound w (acts later) j → okay Begun (acts later) j r → Keeps u later j (after work r) (IfOkay (Still own))
-      goes_on_by later j (Ok o) s b =
-          keeps_bind u later j (opened_marked run path job a o) (ended p) (ByActs (Soundly w (okay (Of (IsMarkedSo run few path job a (acts later)))))) (IfOkay (Still own))
-          (goes_keeps w later (acts later) j (opened_marked run path job a o) (okay (Of (IsMarkedSo run few path job a (acts later)))) refl s (opened_goes run few path job a own (acts later) o b j))
-          (λ last i e q. ended_keeps w own last i p e q.0.numbered (still later last i e b.held.settled q.0 q.1))
-      goes_on_by later j (Err e) s b = none_keeps w own later j e s.numbered
+      begun_keeps run few path job.folder (Marks job a) (Marking path job.folder) (any_piece run few path job a) (any_step run few path job a) (lets run few path job a) (opened_marked run path job a)
+      (λ first own o b i. opened_goes run few path job a first own o b i) past h sound
 
   looked_so : (own : List Deed) (past : List Done) (h : Hand) (r : Result Unit CommandFault) → Sound (looks_pledge run path job) (acts past) h → okay (StillBy run few path job own) (acts past) h r → IfOkay (Still own) past h r
   looked_so own past h (Ok u) s f = record { settled = f; unfailed = s.unfailed }

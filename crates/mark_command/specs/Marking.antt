@@ -1,20 +1,15 @@
 -- What `mark` makes of sequences.
-use Rattle.std.specs.Prelude.{ℕ, ◌==◌, ◌&&◌, Bool, not, List, map, Option}
-use Rattle.std.specs.List.{list_any}
+use Rattle.std.specs.Prelude.{ℕ, ◌&&◌, Bool, not, List, map, Option}
 use Rattle.mh_sequences.specs.declared.mark.Mark.{Mark}
 use Rattle.mh_sequences.specs.declared.mark.Mark.TheVariants.{Add, Delete, Set, Withdraw, Move, Cur}
 use Rattle.mh_sequences.specs.declared.run.Run.{Run}
 use Rattle.mh_sequences.specs.Runs.{has, set_of}
 use Rattle.mh_sequences.specs.Sequences.{Marked}
 use Rattle.sequence_commits.specs.Marking.{marked_by_all}
-use Rattle.sequence_commits.specs.RunsOfAll.{runs_of_all}
+use Rattle.sequence_commits.specs.RunsOfAll.{runs_of_all, set_among}
 use Rattle.mark_command.specs.declared.job.MarkAct.{MarkAct}
 use Rattle.mark_command.specs.declared.job.MarkAct.TheVariants as act
 use Rattle.mark_command.specs.declared.job.MarkJob.{MarkJob}
-
--- these numbers as a set
-abbrev pub set_among : List ℕ → List Run
-set_among numbers = runs_of_all (λ n. list_any (λ m. m == n) numbers)
 
 -- the folder's numbers but for these
 abbrev pub all_but : List Run → List Run → List Run

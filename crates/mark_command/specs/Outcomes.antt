@@ -11,28 +11,14 @@ use Rattle.step_plans.specs.declared.command_fault.CommandFault.{CommandFault}
 use Rattle.step_plans.specs.declared.command_fault.CommandFault.TheVariants as fault
 use Rattle.sequence_commits.specs.Cutting.{cut_to}
 use Rattle.sequence_commits.specs.Reading.{sequences_in}
-use Rattle.command_stages.specs.Current.{current_change}
-use Rattle.command_stages.specs.Texts.{too_large}
 use Rattle.command_stages.specs.Works.{Work, readable, refused_at}
-use Rattle.opened_folders.specs.BegunWork.{Homes, after_commits, begun_work, runs_in}
-use Rattle.opened_folders.specs.Kept.{Commits, Kept, context_kept, kept_of, sequences_kept}
+use Rattle.opened_folders.specs.BegunWork.{Homes, after_commits, begun_work, current_work, runs_in}
+use Rattle.opened_folders.specs.Kept.{Kept, kept_of, sequences_kept}
 use Rattle.mark_command.specs.Lines.{lines_for}
 use Rattle.mark_command.specs.Mark.{checked, chosen_from}
 use Rattle.mark_command.specs.Marking.{marked_for}
 use Rattle.mark_command.specs.declared.job.MarkAct.{MarkAct}
 use Rattle.mark_command.specs.declared.job.MarkJob.{MarkJob}
-
--- the end of a command that wrote this text: Done, or a text was too long
-abbrev pub end_by : Option ℕ → Result Unit CommandFault
-end_by None = Ok tt
-end_by (Some l) = Err (too_large l)
-
-abbrev pub ended_so : List ℕ → Commits → Work CommandFault
-ended_so text c = record { text = text; end = end_by c.long; mailbox = c.kept.mailbox }
-
--- this text was written, and the folder becomes the current one
-abbrev pub current_work : List ℕ → List ℕ → List ℕ → Kept → Work CommandFault
-current_work path folder text k = ended_so text (context_kept path (current_change folder) k)
 
 abbrev pub joined : List (List ℕ) → List ℕ
 joined lines = flat_map (λ line. line) lines

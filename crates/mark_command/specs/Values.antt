@@ -4,18 +4,11 @@ use Rattle.mh_sequences.specs.declared.mark.Mark.{Mark}
 use Rattle.mh_sequences.specs.declared.run.Run.{Run}
 use Rattle.mh_sequences.specs.Sequences.{Marked}
 use Rattle.step_plans.specs.declared.command_fault.CommandFault.{CommandFault}
-use Rattle.step_plans.specs.declared.command_fault.CommandFault.TheVariants as fault
-use Rattle.mark_command.specs.Marking.{marks_for, plain_mark, set_among}
+use Rattle.sequence_commits.specs.RunsOfAll.{set_among}
+use Rattle.command_stages.specs.Values.{IsErrorOf}
+use Rattle.mark_command.specs.Marking.{marks_for, plain_mark}
 use Rattle.mark_command.specs.declared.job.MarkAct.{MarkAct}
 use Rattle.mark_command.specs.declared.job.MarkJob.{MarkJob}
-
--- the error is that of the value, or there was not enough memory
-abbrev pub IsErrorOf : {A : Type 0} → Result A CommandFault → CommandFault → Type 0
-IsErrorOf value (fault.Refused r) = value ≡ Err (fault.Refused r)
-IsErrorOf value (fault.Faulted w) = ⊥
-IsErrorOf value (fault.Locked p) = ⊥
-IsErrorOf value (fault.Meddled p x) = ⊥
-IsErrorOf value fault.Memory = Unit {0}
 
 -- the sequences are this value, or it is this refusal, or there was not enough memory
 abbrev pub AreValue : Result Marked CommandFault → Result Marked CommandFault → Type 0

@@ -1,12 +1,7 @@
 // `mark`: messages come to sequences and leave them.
 ghost use Rattle.std.specs.Prelude.{◌≡◌};
-ghost use Rattle.file_plans.specs.Plan.{lifted};
 ghost use Rattle.file_plans.specs.Follows.{Follows, by_hand, by_out};
-ghost use Rattle.folder_files.specs.declared.place.Place.TheVariants.{Folder};
 ghost use Rattle.step_plans.specs.CommandFaults.{command_cause};
-ghost use Rattle.step_plans.specs.Hands.{mail_place};
-ghost use Rattle.command_stages.specs.Endings.{of_plan};
-ghost use Rattle.opened_folders.specs.Opening.{begun};
 ghost use Rattle.mark_command.specs.Mark.{chosen_from, chosen_marked, mark as mark_plan, mark_changes, opened_marked};
 ghost use Rattle.mark_command.specs.MarkPledge.{PromisesSteps};
 ghost use Rattle.mark_command.specs.MarkedAlone.{MarksIfUnfaulted};
@@ -20,7 +15,7 @@ use command_stages::{choose, fault_in, folder_place, make_current};
 use folder_files::Files;
 use mh_base::{Duplicate, Sink};
 use mh_sequences::MarkList;
-use opened_folders::{Opened, begin, commit_marks, end};
+use opened_folders::{Opened, commit_marks, end, open};
 use std::alloc::Global;
 use step_plans::{CommandFault, Hand};
 
@@ -83,23 +78,6 @@ fn mark_opened<F: Files, O: Sink>(
     make_current(alloc, hand, files, &job.folder)
 }
 
-fn begin_folder<F: Files>(
-    alloc: Global,
-    hand: &mut Hand,
-    files: &mut F,
-    job: &MarkJob,
-) -> Result<Opened, CommandFault>
-    ensures plan { Follows hand.old.run command_cause (lifted (of_plan job.now.folder) (begun hand.old.run (Folder hand.old.mail job.now.folder) (mail_place hand.old) job.now.folder)) (by_hand hand.old.kept (F.state files.old)) (by_hand hand.new.kept (F.state files.new)) result }
-    ensures run { hand.new.run ≡ hand.old.run }
-    ensures mail { hand.new.mail ≡ hand.old.mail }
-{
-    let folder = job.folder.duplicate(alloc)?;
-    match begin(alloc, hand, files, &job.folder) {
-        Ok(opened) => Ok(opened),
-        Err(fault) => Err(fault_in(folder, fault)),
-    }
-}
-
 fn change<F: Files, O: Sink>(
     alloc: Global,
     hand: &mut Hand,
@@ -113,7 +91,7 @@ fn change<F: Files, O: Sink>(
     ensures mail { hand.new.mail ≡ hand.old.mail }
 {
     let place = folder_place(alloc, hand, &job.folder)?;
-    let opened = begin_folder(alloc, hand, files, job)?;
+    let opened = open(alloc, hand, files, &job.folder)?;
     let done = mark_opened(alloc, hand, files, out, job, act, opened);
     end(alloc, hand.run(), files, &place, done)
 }

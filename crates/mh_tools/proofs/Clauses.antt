@@ -194,7 +194,7 @@ module _ (c : Call) (plan : FollowsItsPlan c) where
     seen : LooksOnly c → (d : Contents) → AgreesWith d steps → GaveSeen plan.left (work (mailbox_in d)).text (said_of (deeds_in went.log)) exit (CommandEnds false (work (mailbox_in d)))
     seen looks d agrees =
         seen_gave (command run c.words) fresh plan.left (deeds_in went.log) exit (work (mailbox_in d)).text (CommandEnds false (work (mailbox_in d))) d agrees went.runs
-        (command_gives false run d few (λ e. absurd (cc (e))) c.words (λ is. absurd (looks is)) (first_view d (numbers_put steps []) (is_first_met steps)) refl (command_first run c.words looks d (numbers_put steps []) fresh plan.left (deeds_in went.log) exit went.runs))
+        (command_gives false run d few (λ e. absurd (cc (e))) c.words (λ is. sym looks ∙ is) (first_view d (numbers_put steps []) (is_first_met steps)) refl (command_first run c.words looks d (numbers_put steps []) fresh plan.left (deeds_in went.log) exit went.runs))
 
     -- what an end says of the work
     ends_verdict : (alone : Bool) (w : Work Ended) (z : View) (j : Hand) (left : List ℕ) (r : Result Unit Ended) → IsVerdict (ended_status r) → CommandEnds alone w z j left r → (left ≡ []) × DecidesEnd alone w z r

@@ -1,13 +1,12 @@
 -- A call of `mh`.
-use Rattle.std.specs.Prelude.{◌≡◌, ℕ, List, Some}
+use Rattle.std.specs.Prelude.{◌≡◌, ℕ, false, List}
 use Rattle.mh_base.specs.Streams.{SourceState, SinkState}
 use Rattle.folder_files.specs.Deeds.{Deed}
 use Rattle.folder_files.specs.Story.{FilesState}
 use Rattle.file_plans.specs.Follows.{State, all}
 use Rattle.file_plans.specs.Plan.{Hand}
 use Rattle.file_plans.specs.Sightings.{AreMade}
-use Rattle.command_line.specs.CommandNames.{command_of}
-use Rattle.command_line.specs.declared.name.CommandName.TheVariants.{Mark}
+use Rattle.command_line.specs.CommandNames.{begins_folders, command_of}
 use Rattle.mh_tools.specs.Setting.{SettingParts}
 use Rattle.mh_tools.specs.declared.status.Status.{Status}
 
@@ -43,6 +42,6 @@ ends c h = all h c.after.files c.before.input c.after.out
 abbrev pub MadeBy : Call → List Deed → Type 0
 MadeBy c own = AreMade c.setting.run c.before.files.story c.after.files.story own
 
--- the words name no command that begins a folder: of those that there are that is `mark`
+-- the words name no command that begins a folder
 abbrev pub LooksOnly : Call → Type 0
-LooksOnly c = command_of c.words ≡ Some Mark → ⊥
+LooksOnly c = begins_folders (command_of c.words) ≡ false

@@ -1,6 +1,6 @@
 -- What a folder that is begun alone comes to.
 use Rattle.std.proofs.Common.{◌≡◌, inl, inr, ◌<◌, ◌^◌, ◌||◌, ℕ, Bool, true, false, List, [], bytes_eq, Option, Some, None, Result, Ok, Err, refl, sym, ◌∙◌, ap, subst}
-use Rattle.std.specs.Prelude.{is_some}
+use Rattle.std.specs.Prelude.{is_some, option_map}
 use Rattle.std.proofs.lemmas.Slice.Eq.{bytes_eq-Decides}
 use Rattle.mh_base.specs.Entries.{kind_of}
 use Rattle.mh_profile.specs.declared.named_value.NamedValue.{NamedValue}
@@ -49,6 +49,7 @@ use Rattle.opened_folders.specs.Opening.{Opened, opened_of}
 use Rattle.opened_folders.proofs.ExistingNumbers.{in_range_or}
 use Rattle.opened_folders.proofs.FolderGiven.{CutEnds, IsBegunIn, IsLongBy, IsLongText, begun_contents, new_context, new_text, old_context, old_text}
 use Rattle.opened_folders.proofs.KeptGiven.{Ends, Holds, IsClear, after_ends, never_long, After}
+use Rattle.opened_folders.proofs.KeptMessages.{message_at, message_of, sequences_messages}
 use Rattle.opened_folders.proofs.SettledShown.{context_same, entries_same, held_are, listing_is, shows, text_same, there_shown, top_is}
 use Rattle.std.specs.List.{list_all}
 use Rattle.mail_headers.specs.Lines.{is_name_byte}
@@ -114,6 +115,15 @@ module _ (run : ℕ) (few : run < 2 ^ 128) (path folder ns : List ℕ) (c : Cont
 
     abbrev box : Mailbox
     box = with_folder_changed (mailbox_in c) p (settled_by h)
+
+    -- each number of the folder has a message there
+    box_messages : (n : ℕ) → message_at box p n ≡ (settled_by h old).messages n
+    unfolding mailbox_in
+    box_messages n = rw place_is p (ap (λ o. message_of (option_map (settled_by h) o) n) (there_shown c p (c.there p) there))
+
+    stands_box : (n : ℕ) → has (runs_in (settled_by h old)) n ≡ true → is_some (message_at box p n) ≡ true
+    stands_box n listed =
+        ap is_some (box_messages n) ∙ (sym (listing_is run few path folder ns c s listing holds ends_so homes_so n) ∙ (ap (λ l. has l n) numbers_are ∙ listed))
 
     shows_d : mailbox_in d ≡ box
     shows_d = shows run few path folder ns c s listing holds ends_so homes_so
@@ -253,6 +263,7 @@ module _ (run : ℕ) (few : run < 2 ^ 128) (path folder ns : List ℕ) (c : Cont
     pub work : begun_work path folder entries h (mailbox_in c) next ≡ next o.listing o.sequences kept
     pub valid : AreSequences o.sequences.users
     pub runs : AreRuns o.listing
+    pub stands : (n : ℕ) → has o.listing n ≡ true → is_some (message_at kept.mailbox p n) ≡ true
 
   -- where each goes that was held aside
   abbrev pub homes_in : Settled → Homes
@@ -307,6 +318,7 @@ module _ (run : ℕ) (few : run < 2 ^ 128) (path folder ns : List ℕ) (c : Cont
           ∙ after_all s (b.there refl) (b.listing refl) b.holds b.ends_so (b.homes_so refl) next ends_.0;
       valid = cut_valid listing_ read_;
       runs = all_runs (λ n. is_some ((settled_by (homes_in s) old).messages n));
+      stands = λ n listed. ap is_some (sequences_messages path folder read_ (cut_to listing_ read_) (kept_of (with_folder_changed (mailbox_in c) p (settled_by (homes_in s))) entries) p n) ∙ stands_box s (b.there refl) (b.listing refl) b.holds b.ends_so (b.homes_so refl) n listed;
     })
 
     pub begun_as : (next : List Run → Marked → Kept → Work CommandFault) → AreHomes run old (homes_in s) × IsBegunAs (homes_in s) next o z j

@@ -9,7 +9,7 @@ use Rattle.mh_sequences.specs.Reading.{suffix}
 use Rattle.mh_sequences.specs.Sequences.{Marked}
 use Rattle.mh_sequences.specs.declared.run.Run.{Run}
 use Rattle.folder_files.specs.Careful.{HasLock, Makes, makes}
-use Rattle.folder_files.specs.Deeds.{Deed, did, now, on, last, still}
+use Rattle.folder_files.specs.Deeds.{Deed, Once, did, now, on, last, still}
 use Rattle.folder_files.specs.declared.place.Place.{Place}
 use Rattle.folder_files.specs.declared.place.Place.TheVariants.{Folder, Mail}
 use Rattle.folder_files.specs.declared.step.Step.TheVariants as step
@@ -30,7 +30,7 @@ use Rattle.step_plans.specs.declared.fault.PlanFault.TheVariants as fault
 use Rattle.step_plans.proofs.Committed.{no_entries}
 use Rattle.step_plans.proofs.Facts.{base_kept, once_kept, settled_kept}
 use Rattle.step_plans.proofs.Going.{Outcome, okay, okay_more, Goes, goes_more, goes_then}
-use Rattle.step_plans.proofs.Lasting.{goes_lasting}
+use Rattle.step_plans.proofs.Lasting.{KeptBy, goes_lasting}
 use Rattle.step_plans.proofs.Pledged.{Held, IsPledged, Of, after_written, cleared_goes, synced_goes}
 use Rattle.step_plans.proofs.Stepping.{goes_end, goes_list, goes_lock, goes_make, goes_on, goes_read, goes_return, goes_stop}
 use Rattle.step_plans.proofs.Written.{Adds, Serves, goes_at}
@@ -47,22 +47,23 @@ use Rattle.sequence_commits.specs.Reading.{sequences_in}
 use Rattle.sequence_commits.proofs.SequencesPledged.{CommittedOrSame, MayReplace, changed_goes, sequences_name}
 use Rattle.opened_folders.specs.Existing.{numbers_settled}
 use Rattle.opened_folders.specs.Opening.{Opened, begun, folder_locked, locked_begun, locked_by, mail_made, marks_cut, marks_read, opened_of, sequences_read, settled_read, text_by}
-use Rattle.opened_folders.specs.Reads.{HaveRead, TellsText}
+use Rattle.opened_folders.specs.FolderPledge.{told_within}
+use Rattle.opened_folders.specs.Reads.{HaveRead, HaveSeen, TellsText}
 
--- the sequences of these texts, without the numbers that are not listed
-abbrev pub cut_in : List Run → List ℕ → List ℕ → List ℕ → Marked
-cut_in listing text context folder = cut_to listing (sequences_in text (entries_in context) folder)
+-- what was seen once stays so
+pub seen_kept : (run : ℕ) (p mail : Place) (listing : List Run) (text context : List ℕ) → KeptBy AnyStep (HaveSeen run p mail listing text context)
+seen_kept run p mail listing text context own s a leaves f = record { listed = (f.listed.0, f.listed.1, on f.listed.2); read = on f.read }
 
 -- the pledge lets the folder of this mail directory be begun
 pub record Begins (w : Pledge) (path folder : List ℕ) : Type 0 where
   pub serves : Serves w (Folder path folder)
   pub mail : Serves w (Mail path)
   pub settles : Settles w (Folder path folder)
-  pub cut : (own : List Deed) (text context : List ℕ) (listing : List Run) (old : List ℕ) → HaveRead (Folder path folder) (Mail path) text context own
-      → w.may_mark own (Folder path folder) sequences_name old (text_of (cut_in listing text context folder))
+  pub cut : (own : List Deed) (text context : List ℕ) (listing : List Run) (old : List ℕ) → HaveSeen w.run (Folder path folder) (Mail path) listing text context own
+      → w.may_mark own (Folder path folder) sequences_name old (text_of (told_within listing text context folder))
   pub moves : (own : List Deed) (temp : List ℕ) → HasLock (Folder path folder) own → IsMarked w (Folder path folder) temp sequences_name own → w.may_step own (step.Rename (Folder path folder) temp sequences_name)
   pub entries : (text context : List ℕ) (listing : List Run) (seen : List NamedValue)
-      → IsPledged w (Mail path) (changes_to (suffix folder) (private_entries (suffix folder) (cut_in listing text context folder).users) seen) AnyStep (HaveRead (Folder path folder) (Mail path) text context)
+      → IsPledged w (Mail path) (changes_to (suffix folder) (private_entries (suffix folder) (told_within listing text context folder).users) seen) AnyStep (HaveSeen w.run (Folder path folder) (Mail path) listing text context)
 
 -- after it: what was settled of commits stays so, and the folder's lock is had; its sequences are those that were read, cut, and some text is
 -- the base of the next commit
@@ -72,8 +73,8 @@ pub record HasBegun (w : Pledge) (own : List Deed) (path folder : List ℕ) (lat
   pub name : o.folder ≡ folder
   pub text : List ℕ
   pub context : List ℕ
-  pub read : HaveRead (Folder path folder) (Mail path) text context later
-  pub sequences : o.sequences ≡ cut_in o.listing text context folder
+  pub seen : HaveSeen w.run (Folder path folder) (Mail path) o.listing text context later
+  pub sequences : o.sequences ≡ told_within o.listing text context folder
   pub base : (old : List ℕ) × IsBase w.run (Folder path folder) sequences_name old later
 
 module _ (w : Pledge) (few : w.run < 2 ^ 128) (path folder : List ℕ) (lets : Begins w path folder) where
@@ -110,8 +111,11 @@ module _ (w : Pledge) (few : w.run < 2 ^ 128) (path folder : List ℕ) (lets : B
           (synced_goes w (did (step.MakeFolder (Mail path)) a ∷ own) h (Mail path) lock_name)
 
   -- what is held aside is put back
+  abbrev IsListing : Settled → Deed → List Deed → Type 0
+  IsListing s d older = d ≡ did (step.List p) (answer.Names s.names)
+
   abbrev Keeps : List Deed → Outcome Settled
-  Keeps own later j s = Held own p later
+  Keeps own later j s = Held own p later × Once (IsListing s) later
 
   back_goes : (own : List Deed) (h : Hand) → HasLock p own → Goes w own h (put_back w.run p) (okay (Keeps own))
   unfolding put_back
@@ -123,9 +127,9 @@ module _ (w : Pledge) (few : w.run < 2 ^ 128) (path folder : List ℕ) (lets : B
       settles : (names : List (List ℕ)) → Goes w (did (step.List p) (answer.Names names) ∷ own) h (settle p (held_pairs w.run names) (highest names) >>= (λ ends. Return (Ok (settled_of names ends)))) (okay (Keeps own))
       settles names =
           let listed = did (step.List p) (answer.Names names) ∷ own in
-          goes_then w listed h (settle p (held_pairs w.run names) (highest names)) (λ ends. Return (Ok (settled_of names ends))) (λ later j ends. Held listed p later) (Keeps own)
+          goes_lasting w (Once (IsListing (settled_of names []))) (once_kept _ AnyStep) listed h (settle p (held_pairs w.run names) (highest names)) (λ ends. Return (Ok (settled_of names ends))) (λ later j ends. Held listed p later) (Keeps own) (now refl)
           (settle_goes w p lets.settles refl (held_pairs w.run names) (are_pairs names (held_pairs w.run names) (pairs_listed w.run names)) (highest names) (highest_small names) listed h (still (λ e. cc (e)) lock))
-          (λ later j ends g. goes_return w later j (settled_of names ends) (okay (Keeps own)) (record { settled = λ f. g.settled (settled_kept own (step.List p) (answer.Names names) tt f); lock = g.lock }))
+          (λ later j ends told g. goes_return w later j (settled_of names ends) (okay (Keeps own)) (record { settled = λ f. g.settled (settled_kept own (step.List p) (answer.Names names) tt f); lock = g.lock }, told))
 
   -- the text of the folder's sequences
   abbrev text_read : Answer → Deed
@@ -215,30 +219,33 @@ module _ (w : Pledge) (few : w.run < 2 ^ 128) (path folder : List ℕ) (lets : B
     name = b.name;
     text = b.text;
     context = b.context;
-    read = b.read;
+    seen = b.seen;
     sequences = b.sequences;
     base = b.base;
   }
 
-  cut_goes : (own : List Deed) (h : Hand) (s : Settled) (text context : List ℕ) → HaveRead p (Mail path) text context own → HasLock p own → IsBase w.run p sequences_name text own
+  cut_goes : (own : List Deed) (h : Hand) (s : Settled) (text context : List ℕ) → HaveSeen w.run p (Mail path) (numbers_settled w.run s) text context own → HasLock p own → IsBase w.run p sequences_name text own
       → Goes w own h (marks_cut w.run p (Mail path) folder s (sequences_in text (entries_in context) folder)) (okay (Ends own))
   unfolding marks_cut
-  cut_goes own h s text context read lock base =
-      goes_lasting w (HaveRead p (Mail path) text context) (once_kept _ AnyStep) own h (cut_committed w.run p (Mail path) folder m listing) (λ cut. Return (Ok o)) (Of (Cut own)) (Ends own) read
-      (changed_goes w few p lets.serves path (λ e. cc (e)) lets.mail folder m new (HaveRead p (Mail path) text context) (once_kept _ AnyStep) (lets.entries text context listing) own h text read may)
-      (λ later j u still_read c. goes_return w later j o (okay (Ends own)) (record {
+  cut_goes own h s text context seen lock base =
+      goes_lasting w Seen (seen_kept w.run p (Mail path) listing text context) own h (cut_committed w.run p (Mail path) folder m listing) (λ cut. Return (Ok o)) (Of (Cut own)) (Ends own) seen
+      (changed_goes w few p lets.serves path (λ e. cc (e)) lets.mail folder m new Seen (seen_kept w.run p (Mail path) listing text context) (lets.entries text context listing) own h text seen may)
+      (λ later j u still_seen c. goes_return w later j o (okay (Ends own)) (record {
         held = held_by later c;
         place = refl;
         name = refl;
         text = text;
         context = context;
-        read = still_read;
+        seen = still_seen;
         sequences = refl;
         base = base_by later c;
       }))
     where
       listing : List Run
       listing = numbers_settled w.run s
+
+      Seen : List Deed → Type 0
+      Seen later = HaveSeen w.run p (Mail path) listing text context later
 
       m : Marked
       m = sequences_in text (entries_in context) folder
@@ -250,16 +257,19 @@ module _ (w : Pledge) (few : w.run < 2 ^ 128) (path folder : List ℕ) (lets : B
       o = opened_of p folder listing new s.ends
 
       Cut : List Deed → List Deed → Type 0
-      Cut own later = CommittedOrSame w few p lets.serves path (λ e. cc (e)) lets.mail folder m new (HaveRead p (Mail path) text context) (once_kept _ AnyStep) (lets.entries text context listing) own later
+      Cut own later = CommittedOrSame w few p lets.serves path (λ e. cc (e)) lets.mail folder m new Seen (seen_kept w.run p (Mail path) listing text context) (lets.entries text context listing) own later
 
       may : MayReplace w p text (text_of new) own
       may = record {
         committed = rw (kind_of-entry_text Sequences tt) refl;
         lock = lock;
         base = base;
-        mark = λ temp. lets.cut (after_written p temp (text_of new) own) text context listing text (on (on read));
+        mark = λ temp. lets.cut (after_written p temp (text_of new) own) text context listing text (seen_twice temp);
         step_ = λ temp marked. lets.moves (after_written p temp (text_of new) own) temp (still (λ e. cc (e)) (still (λ e. cc (e)) lock)) marked;
       }
+
+      seen_twice : (temp : List ℕ) → Seen (after_written p temp (text_of new) own)
+      seen_twice temp = seen_kept w.run p (Mail path) listing text context _ (step.SyncFile p temp) answer.Done tt (seen_kept w.run p (Mail path) listing text context own (step.Create p temp (text_of new)) answer.Done tt seen)
 
       held_by : (later : List Deed) → Cut own later → Held own p later
       held_by later (inl same) = subst (λ z. Held own p z) (sym same.1) (record { settled = λ f. f; lock = lock })
@@ -270,15 +280,16 @@ module _ (w : Pledge) (few : w.run < 2 ^ 128) (path folder : List ℕ) (lets : B
       base_by later (inr c) = (text_of new, c.base)
 
   -- what was settled is cleared and read
-  read_goes : (own : List Deed) (h : Hand) (s : Settled) → HasLock p own → Goes w own h (settled_read w.run p (Mail path) folder s) (okay (Ends own))
+  read_goes : (own : List Deed) (h : Hand) (s : Settled) → HasLock p own → Once (IsListing s) own → Goes w own h (settled_read w.run p (Mail path) folder s) (okay (Ends own))
   unfolding settled_read
-  read_goes own h s lock =
-      goes_then w own h (cleared p s.names) (λ clear. marks_read p (Mail path) folder >>= (λ marked. marks_cut w.run p (Mail path) folder s marked)) (Of (Held own p)) (Ends own) (cleared_goes w p lets.serves own h s.names lock)
-      (λ mid j u g.
-      goes_then w mid j (marks_read p (Mail path) folder) (λ marked. marks_cut w.run p (Mail path) folder s marked) (Reads mid) (Ends own) (marks_goes mid j g.lock)
-      (λ later k m r.
+  read_goes own h s lock listed =
+      goes_lasting w (Once (IsListing s)) (once_kept _ AnyStep) own h (cleared p s.names) (λ clear. marks_read p (Mail path) folder >>= (λ marked. marks_cut w.run p (Mail path) folder s marked)) (Of (Held own p)) (Ends own) listed (cleared_goes w p lets.serves own h s.names lock)
+      (λ mid j u told g.
+      goes_lasting w (Once (IsListing s)) (once_kept _ AnyStep) mid j (marks_read p (Mail path) folder) (λ marked. marks_cut w.run p (Mail path) folder s marked) (Reads mid) (Ends own) told (marks_goes mid j g.lock)
+      (λ later k m still_told r.
       goes_more w later k (marks_cut w.run p (Mail path) folder s m) (okay (Ends later)) (okay (Ends own)) (okay_more (Ends later) (Ends own) (further own later (λ f. r.held.settled (g.settled f))))
-      (subst (λ z. Goes w later k (marks_cut w.run p (Mail path) folder s z) (okay (Ends later))) (sym r.is) (cut_goes later k s r.text r.context r.read r.held.lock r.base))))
+      (subst (λ z. Goes w later k (marks_cut w.run p (Mail path) folder s z) (okay (Ends later))) (sym r.is)
+      (cut_goes later k s r.text r.context (record { listed = (s, refl, still_told); read = r.read }) r.held.lock r.base))))
 
   -- a folder is begun as the command pledges: each of its steps is careful and in order, what it commits is what it read, cut, and then the
   -- lock is had and the folder's text is known
@@ -291,4 +302,4 @@ module _ (w : Pledge) (few : w.run < 2 ^ 128) (path folder : List ℕ) (lets : B
       (λ second k v b.
       goes_then w second k (put_back w.run p) (λ s. settled_read w.run p (Mail path) folder s) (Keeps second) (Ends own) (back_goes second k b.lock)
       (λ third i s c.
-      goes_more w third i (settled_read w.run p (Mail path) folder s) (okay (Ends third)) (okay (Ends own)) (okay_more (Ends third) (Ends own) (further own third (λ f. c.settled (b.settled (a.settled f))))) (read_goes third i s c.lock))))
+      goes_more w third i (settled_read w.run p (Mail path) folder s) (okay (Ends third)) (okay (Ends own)) (okay_more (Ends third) (Ends own) (further own third (λ f. c.0.settled (b.settled (a.settled f))))) (read_goes third i s c.0.lock c.1))))

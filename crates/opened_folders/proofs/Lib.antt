@@ -7,6 +7,10 @@ pub mod FolderGiven
 pub mod FolderPledged
 pub mod HomesFound
 pub mod KeptGiven
+pub mod KeptMessages
 pub mod OneStep
+pub mod Sets
 pub mod SettledShown
 pub mod TriedAlone
+pub mod WorkGiven
+pub mod WorkPledged

@@ -14,9 +14,10 @@ use Rattle.held_messages.specs.declared.held.HeldPair.{HeldPair}
 use Rattle.sequence_commits.specs.Cutting.{cut_to}
 use Rattle.sequence_commits.specs.Reading.{sequences_in}
 use Rattle.sequence_commits.specs.RunsOfAll.{runs_of_all}
+use Rattle.command_stages.specs.Current.{current_change}
 use Rattle.command_stages.specs.Texts.{too_large}
 use Rattle.command_stages.specs.Works.{Work, readable, refused_at}
-use Rattle.opened_folders.specs.Kept.{Commits, Kept, kept_of, sequences_kept}
+use Rattle.opened_folders.specs.Kept.{Commits, Kept, context_kept, kept_of, sequences_kept}
 
 -- the messages that other runs hold aside in a folder, and where each goes
 pub record Homes : Type 0 where
@@ -67,3 +68,15 @@ folder_work path folder entries h m (Some f) next =
 -- a folder is begun where the context has these entries, and the command goes on so
 unfoldable pub begun_work : List ℕ → List ℕ → List NamedValue → Homes → Mailbox → (List Run → Marked → Kept → Work CommandFault) → Work CommandFault
 begun_work path folder entries h m next = folder_work path folder entries h m (m.folders (Folder path folder)) next
+
+-- the end of a command that wrote this text: Done, or a text was too long
+abbrev pub end_by : Option ℕ → Result Unit CommandFault
+end_by None = Ok tt
+end_by (Some l) = Err (too_large l)
+
+abbrev pub ended_so : List ℕ → Commits → Work CommandFault
+ended_so text c = record { text = text; end = end_by c.long; mailbox = c.kept.mailbox }
+
+-- this text was written, and the folder becomes the current one
+abbrev pub current_work : List ℕ → List ℕ → List ℕ → Kept → Work CommandFault
+current_work path folder text k = ended_so text (context_kept path (current_change folder) k)

@@ -2,6 +2,7 @@ pub mod BegunAlone
 pub mod BegunWork
 pub mod Ending
 pub mod Existing
+pub mod FolderPledge
 pub mod HomesOf
 pub mod Kept
 pub mod Opening

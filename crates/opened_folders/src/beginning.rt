@@ -1,16 +1,19 @@
 // How a folder is begun.
 ghost use Rattle.std.specs.Prelude.{◌≡◌, ℕ, IfOk};
 ghost use Rattle.folder_files.specs.declared.place.Place.TheVariants.{Folder, Mail};
-ghost use Rattle.file_plans.specs.Plan.{Hand as KeptValue};
+ghost use Rattle.file_plans.specs.Plan.{Hand as KeptValue, lifted};
 ghost use Rattle.file_plans.specs.Follows.{State, Follows, by_hand};
 ghost use Rattle.step_plans.specs.Hands.{mail_place};
+ghost use Rattle.step_plans.specs.CommandFaults.{command_cause};
 ghost use Rattle.step_plans.specs.PlanFaults.{plan_cause};
+ghost use Rattle.command_stages.specs.Endings.{of_plan};
 ghost use Rattle.opened_folders.specs.BegunAlone.{BeginsIfUnfaulted};
 ghost use Rattle.opened_folders.specs.Opening.{begun, folder_locked, locked_begun, locked_by, mail_made, marks_cut, settled_read};
 
 use crate::Opened;
 use crate::existing::settled_numbers;
 use crate::reading::read_marks;
+use command_stages::fault_in;
 use file_plans::{Locking, ask_lock, ask_make_folder};
 use folder_files::{Files, Place};
 use held_messages::{Settled, put_back};
@@ -18,7 +21,7 @@ use mh_base::{Bytes, Duplicate, Entry, FolderName, entry_name};
 use mh_sequences::Sequences;
 use sequence_commits::commit_cut;
 use std::alloc::Global;
-use step_plans::{Hand, PlanFault, clear, sync};
+use step_plans::{CommandFault, Hand, PlanFault, clear, sync};
 
 fn locked_from(alloc: Global, place: &Place, locking: Locking) -> Result<(), PlanFault>
     ensures { (run : ℕ) (x : State) → Follows run plan_cause (locked_by place.now locking) x x result }
@@ -142,4 +145,22 @@ pub fn begin<F: Files>(
 {
     let place = Place::Folder(hand.mail().duplicate(alloc)?, folder.duplicate(alloc)?);
     begin_at(alloc, hand, files, place, folder)
+}
+
+/// Begins the folder of a command, whose fault it is where that can't be done.
+pub fn open<F: Files>(
+    alloc: Global,
+    hand: &mut Hand,
+    files: &mut F,
+    folder: &FolderName,
+) -> Result<Opened, CommandFault>
+    ensures plan { Follows hand.old.run command_cause (lifted (of_plan folder.now) (begun hand.old.run (Folder hand.old.mail folder.now) (mail_place hand.old) folder.now)) (by_hand hand.old.kept (F.state files.old)) (by_hand hand.new.kept (F.state files.new)) result }
+    ensures run { hand.new.run ≡ hand.old.run }
+    ensures mail { hand.new.mail ≡ hand.old.mail }
+{
+    let name = folder.duplicate(alloc)?;
+    match begin(alloc, hand, files, folder) {
+        Ok(opened) => Ok(opened),
+        Err(fault) => Err(fault_in(name, fault)),
+    }
 }

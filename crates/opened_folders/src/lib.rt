@@ -8,6 +8,6 @@ mod existing;
 mod opened;
 mod reading;
 
-pub use beginning::begin;
+pub use beginning::{begin, open};
 pub use ending::end;
 pub use opened::{Opened, commit_marks};

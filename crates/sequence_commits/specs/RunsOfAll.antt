@@ -1,5 +1,6 @@
 -- The message numbers that a test takes, as runs that are as long as they can be.
 use Rattle.std.specs.Prelude.{ℕ, zero, suc, ◌+◌, ◌==◌, Bool, List, [], ◌∷◌, if◌then◌else◌}
+use Rattle.std.specs.List.{list_any}
 use Rattle.mh_sequences.specs.declared.run.Run.{Run}
 
 -- one number
@@ -19,3 +20,7 @@ runs_among test (suc count) n = if test n then put_first n (runs_among test coun
 -- those of all message numbers
 unfoldable pub runs_of_all : (ℕ → Bool) → List Run
 runs_of_all test = runs_among test 999999 1
+
+-- these numbers as a set
+abbrev pub set_among : List ℕ → List Run
+set_among numbers = runs_of_all (λ n. list_any (λ m. m == n) numbers)

@@ -17,6 +17,7 @@ pub mod NoLoss
 pub mod PlanFaults
 pub mod Pledges
 pub mod Promises
+pub mod Removing
 pub mod Replacing
 pub mod Safety
 pub mod Settled

@@ -13,6 +13,7 @@ mod keeping;
 mod laws;
 mod locking;
 mod meddling;
+mod removing;
 mod replacing;
 mod writing;
 
@@ -26,4 +27,5 @@ pub use hand::Hand;
 pub use laws::{cut_drops_are_stored, durable_by_own_steps, lock_order, never_taken, no_loss};
 pub use locking::{let_go, lock};
 pub use meddling::{hold_to, meddled, place_gone};
+pub use removing::remove;
 pub use replacing::sync;

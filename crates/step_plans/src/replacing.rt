@@ -28,7 +28,7 @@ pub fn sync<F: Files>(
     hold_to(alloc, place, name, touched)
 }
 
-fn rename<F: Files>(
+pub(crate) fn rename<F: Files>(
     alloc: Global,
     run: u128,
     files: &mut F,

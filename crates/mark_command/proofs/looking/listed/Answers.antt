@@ -1,5 +1,5 @@
 use Rattle.file_plans.specs.Sightings.{has_number}
-use Rattle.mark_command.proofs.Sets.{made_from}
+use Rattle.opened_folders.proofs.Sets.{made_from}
 use Rattle.mark_command.proofs.looking.listed.Goals as goal
 
 pub returns : goal.returns

@@ -2,7 +2,7 @@ use Rattle.std.proofs.Common.{refl}
 use Rattle.file_plans.proofs.Following.{go, no_room, stop, whole}
 use Rattle.mh_looks.specs.Scan.{entries_seen}
 use Rattle.mark_command.specs.Mark.{mark_looks, sequences_seen}
-use Rattle.mark_command.proofs.Values.{seen_off, seen_on}
+use Rattle.command_stages.proofs.Values.{seen_off, seen_on}
 use Rattle.mark_command.proofs.looking.look.Goals as goal
 
 pub returns-in_err-place-clause-plan : goal.returns-in_err-place-clause-plan

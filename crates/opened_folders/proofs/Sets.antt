@@ -3,10 +3,9 @@ use Rattle.std.proofs.Common.{◌≡◌, ◌≤◌, ℕ, Bool, List, sym, ◌∙
 use Rattle.std.specs.Prelude.{IfOk, Result, Ok, Err}
 use Rattle.mh_sequences.specs.Runs.{AreRuns, Numbers, has, numbers_of}
 use Rattle.msg_ranges.proofs.Rising.{lists, lists_numbers}
-use Rattle.mark_command.specs.Marking.{set_among}
 use Rattle.mh_sequences.specs.declared.run.Run.{Run}
 use Rattle.mh_sequences.proofs.Same.{same_runs}
-use Rattle.sequence_commits.specs.RunsOfAll.{runs_of_all}
+use Rattle.sequence_commits.specs.RunsOfAll.{runs_of_all, set_among}
 use Rattle.sequence_commits.proofs.RunTests.{all_has, all_runs, none_outside}
 use Rattle.opened_folders.proofs.ExistingNumbers.{in_range_or}
 

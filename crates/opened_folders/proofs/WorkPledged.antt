@@ -1,0 +1,247 @@
+-- A command that begins a folder and changes what marks its messages goes as it pledges.
+use Rattle.std.proofs.Common.{◌≡◌, ◌⊎◌, inl, inr, ◌<◌, ◌^◌, ◌∷◌, [], ℕ, true, List, Result, Ok, Err, refl, sym, subst}
+use Rattle.mh_base.specs.Entries.{entry_text, kind_of}
+use Rattle.mh_base.specs.declared.entry.Entry.TheVariants.{Sequences}
+use Rattle.mh_base.proofs.EntryKinds.{kind_of-entry_text}
+use Rattle.mh_profile.specs.declared.named_value.NamedValue.{NamedValue}
+use Rattle.mh_sequences.specs.Printing.{private_entries, text_of}
+use Rattle.mh_sequences.specs.Reading.{suffix}
+use Rattle.mh_sequences.specs.Sequences.{Marked}
+use Rattle.mh_sequences.specs.declared.run.Run.{Run}
+use Rattle.folder_files.specs.Careful.{HasLock, Kind, Makes, Creates, Puts, Gives, Takes, Removes, Drops, Discards, Commits, Clears, Cuts, Stores}
+use Rattle.folder_files.specs.Commands.{KeepsFolder, MakesStep, Manner, begins_folder, serves_commit}
+use Rattle.folder_files.specs.Deeds.{Deed}
+use Rattle.folder_files.specs.Named.{is_committed, is_held, is_number, is_temp}
+use Rattle.folder_files.specs.declared.place.Place.{Place}
+use Rattle.folder_files.specs.declared.place.Place.TheVariants.{Folder, Mail}
+use Rattle.folder_files.specs.declared.step.Answer.TheVariants as answer
+use Rattle.folder_files.specs.declared.step.Step.{Step}
+use Rattle.folder_files.specs.declared.step.Step.TheVariants as step
+use Rattle.file_plans.specs.Plan.{Hand, Plan, after, bind, lifted, ◌>>=◌}
+use Rattle.file_plans.specs.Rules.{IfOkay, Keeps, Rules}
+use Rattle.file_plans.specs.Runs.{Deed as Done}
+use Rattle.file_plans.proofs.Acting.{acts}
+use Rattle.file_plans.proofs.Framing.{AnyStep}
+use Rattle.file_plans.proofs.Keeping.{keeps_bind}
+use Rattle.step_plans.specs.Commits.{IsBase}
+use Rattle.step_plans.specs.ContextCommit.{commit_context, context_name, settled}
+use Rattle.step_plans.specs.ContextPledge.{MarksContext}
+use Rattle.step_plans.specs.Pledges.{Pledge}
+use Rattle.step_plans.specs.Settled.{AreSettled}
+use Rattle.step_plans.specs.declared.change.ChangeEntry.{ChangeEntry}
+use Rattle.step_plans.specs.declared.command_fault.CommandFault.{CommandFault}
+use Rattle.step_plans.proofs.Going.{ByActs, Goes, Outcome, Sound, Soundly, goes_keeps, goes_lifted, goes_more, goes_then, okay, okay_more}
+use Rattle.step_plans.proofs.Lasting.{lasting}
+use Rattle.step_plans.proofs.Pledged.{HasMarked, IsPledged, Known, Of, after_written, commit_goes}
+use Rattle.step_plans.proofs.Ruling.{rules_of}
+use Rattle.step_plans.proofs.Stepping.{goes_return}
+use Rattle.step_plans.proofs.Written.{Serves}
+use Rattle.held_messages.proofs.GivingBack.{Settles}
+use Rattle.sequence_commits.specs.Committing.{changed_sequences}
+use Rattle.sequence_commits.specs.PrivateChanges.{changes_to}
+use Rattle.sequence_commits.proofs.SequencesPledged.{CommittedOrSame, MayReplace, changed_goes, sequences_name}
+use Rattle.command_stages.specs.Current.{current_change, made_current}
+use Rattle.command_stages.specs.Endings.{of_plan}
+use Rattle.opened_folders.specs.Ending.{ended}
+use Rattle.opened_folders.specs.FolderPledge.{WritesMarks, folder_pledge, told_within}
+use Rattle.opened_folders.specs.Opening.{Opened, begun}
+use Rattle.opened_folders.specs.Reads.{HaveSeen}
+use Rattle.opened_folders.proofs.EndedKept.{Still, ended_keeps, none_keeps}
+use Rattle.opened_folders.proofs.FolderPledged.{Begins, HasBegun, begun_goes, seen_kept}
+
+-- what serves a commit begins a folder too
+serves_begins : (k : Kind) → serves_commit k ≡ true → begins_folder k ≡ true
+serves_begins Makes e = refl
+serves_begins Creates e = refl
+serves_begins Puts e = cc (e)
+serves_begins Gives e = refl
+serves_begins Takes e = cc (e)
+serves_begins Removes e = cc (e)
+serves_begins Drops e = refl
+serves_begins Discards e = cc (e)
+serves_begins Commits e = refl
+serves_begins Clears e = refl
+serves_begins Cuts e = cc (e)
+serves_begins Stores e = cc (e)
+
+-- a command of this manner may begin the folder and keep its marks, and what is asked of its steps besides lets it
+pub record LetsBegin (path folder : List ℕ) (manner : Manner) (may_step : List Deed → Step → Type 0) : Type 0 where
+  pub kinds : (own : List Deed) (kind : Kind) (s : Step) → KeepsFolder path folder kind s → MakesStep manner own kind s
+  pub makes : (own : List Deed) (q : Place) → may_step own (step.MakeFolder q)
+  pub creates : (own : List Deed) (q : Place) (temp bytes : List ℕ) → may_step own (step.Create q temp bytes)
+  pub clears : (own : List Deed) (q : Place) (temp : List ℕ) → is_temp (kind_of temp) ≡ true → may_step own (step.Unlink q temp)
+  pub gives : (own : List Deed) (q : Place) (held number : List ℕ) → may_step own (step.Link q held number)
+  pub drops : (own : List Deed) (q : Place) (held : List ℕ) → is_held (kind_of held) ≡ true → may_step own (step.Unlink q held)
+  pub commits : (own : List Deed) (q : Place) (temp name : List ℕ) → is_committed q name ≡ true → may_step own (step.Rename q temp name)
+
+module _ (run : ℕ) (few : run < 2 ^ 128) (path folder : List ℕ) (Makes_ : List Run → Marked → Marked → Type 0) (manner : Manner) (may_tell : List Deed → List ℕ → Type 0) (may_step : List Deed → Step → Type 0)
+    (lets : LetsBegin path folder manner may_step) where
+  abbrev w : Pledge
+  w = folder_pledge run path folder Makes_ manner may_tell may_step
+
+  abbrev p : Place
+  p = Folder path folder
+
+  abbrev mail : Place
+  mail = Mail path
+
+  abbrev change : List ChangeEntry
+  change = current_change folder
+
+  abbrev Seen : List Run → List ℕ → List ℕ → List Deed → Type 0
+  Seen listing text context own = HaveSeen run p mail listing text context own
+
+  -- the sequences stay so, or are what the command makes of them
+  abbrev MayBe : List Run → List ℕ → List ℕ → Marked → Type 0
+  MayBe listing text context new = (new ≡ told_within listing text context folder) ⊎ Makes_ listing (told_within listing text context folder) new
+
+  serves_folder : Serves w p
+  serves_folder = record {
+    serves = λ own kind s k m. lets.kinds own kind s (inl (serves_begins kind k, m));
+    make = λ own. lets.makes own p;
+    create = λ own temp bytes is. lets.creates own p temp bytes;
+    clear = λ own temp is. lets.clears own p temp is;
+  }
+
+  serves_mail : Serves w mail
+  serves_mail = record {
+    serves = λ own kind s k m. lets.kinds own kind s (inr (k, m));
+    make = λ own. lets.makes own mail;
+    create = λ own temp bytes is. lets.creates own mail temp bytes;
+    clear = λ own temp is. lets.clears own mail temp is;
+  }
+
+  settles : Settles w p
+  settles = record {
+    gives = λ own held number. lets.kinds own Gives (step.Link p held number) (inl (refl, refl));
+    drops = λ own held. lets.kinds own Drops (step.Unlink p held) (inl (refl, refl));
+    link = λ own held number is_held_ is_number_. lets.gives own p held number;
+    unlink = λ own held is. lets.drops own p held is;
+  }
+
+  apart : mail ≡ p → ⊥
+  apart e = cc (e)
+
+  folder_commits : is_committed p sequences_name ≡ true
+  folder_commits = rw (kind_of-entry_text Sequences tt) refl
+
+  -- a commit of the context by such changes is pledged, once the folder and both texts were read
+  pledged_by : (listing : List Run) (text context : List ℕ) (cs : List ChangeEntry)
+      → ((later : List Deed) (old new : List ℕ) → Seen listing text context later → MarksContext path cs mail context_name old new → WritesMarks run path folder Makes_ later mail context_name old new)
+      → IsPledged w mail cs AnyStep (Seen listing text context)
+  pledged_by listing text context cs may = record {
+    asks = record { make = tt; lock = tt; list = tt; clear = λ temp is. tt; read = tt; create = λ temp bytes. tt; sync_file = λ temp. tt; rename = λ temp. tt; sync = tt; unlock = tt };
+    keeps = seen_kept run p mail listing text context;
+    may = λ later old f. may later old _ f (refl, refl, refl);
+    lets = λ later temp f lock m. lets.commits later mail temp context_name refl;
+  }
+
+  entries_pledged : (listing : List Run) (text context : List ℕ) (new : Marked) → MayBe listing text context new → (seen : List NamedValue)
+      → IsPledged w mail (changes_to (suffix folder) (private_entries (suffix folder) new.users) seen) AnyStep (Seen listing text context)
+  entries_pledged listing text context new made seen =
+      pledged_by listing text context (changes_to (suffix folder) (private_entries (suffix folder) new.users) seen)
+      (λ later old made_ f m. record { listing = listing; read_text = text; context = context; seen = f; new = new; made = made; writes = inr (inl (seen, m)) })
+
+  current_pledged : (listing : List Run) (text context : List ℕ) → IsPledged w mail change AnyStep (Seen listing text context)
+  current_pledged listing text context =
+      pledged_by listing text context change
+      (λ later old made f m. record { listing = listing; read_text = text; context = context; seen = f; new = told_within listing text context folder; made = inl refl; writes = inr (inr m) })
+
+  -- the folder may be begun
+  begins : Begins w path folder
+  begins = record {
+    serves = serves_folder;
+    mail = serves_mail;
+    settles = settles;
+    cut = λ own text context listing old seen. record { listing = listing; read_text = text; context = context; seen = seen; new = told_within listing text context folder; made = inl refl; writes = inl (refl, refl, refl) };
+    moves = λ own temp lock marked. lets.commits own p temp sequences_name folder_commits;
+    entries = λ text context listing seen. entries_pledged listing text context (told_within listing text context folder) (inl refl) seen;
+  }
+
+  -- after it: what was settled of commits stays so
+  abbrev pub StillBy : List Deed → List Deed → Type 0
+  StillBy own later = AreSettled own → AreSettled later
+
+  -- the folder becomes the current one
+  pub current_goes : (own : List Deed) (h : Hand) (listing : List Run) (text context : List ℕ) → Seen listing text context own → Goes w own h (made_current run path folder) (okay (Of (StillBy own)))
+  unfolding made_current
+  current_goes own h listing text context seen =
+      goes_then w own h (lifted (of_plan folder) (commit_context run mail change)) _ (Of (Known w own mail change h)) (Of (StillBy own))
+      (goes_lifted w own h (of_plan folder) (commit_context run mail change) (Of (Known w own mail change h))
+      (commit_goes w few path serves_mail change AnyStep (Seen listing text context) (current_pledged listing text context) own h seen))
+      (λ later j u k. goes_return w later j tt (okay (Of (StillBy own))) k.settled_still)
+
+  -- the folder's sequences are committed, as the command makes them, under its lock
+  module _ (own : List Deed) (h : Hand) (listing : List Run) (text context : List ℕ) (new : Marked) (made : MayBe listing text context new) (seen : Seen listing text context own) (lock : HasLock p own)
+      (old : List ℕ) (base : IsBase run p sequences_name old own) where
+    abbrev m : Marked
+    m = told_within listing text context folder
+
+    seen_twice : (temp : List ℕ) → Seen listing text context (after_written p temp (text_of new) own)
+    seen_twice temp =
+        seen_kept run p mail listing text context _ (step.SyncFile p temp) answer.Done tt (seen_kept run p mail listing text context own (step.Create p temp (text_of new)) answer.Done tt seen)
+
+    may : MayReplace w p old (text_of new) own
+    may = record {
+      committed = folder_commits;
+      lock = lock;
+      base = base;
+      mark = λ temp. record { listing = listing; read_text = text; context = context; seen = seen_twice temp; new = new; made = made; writes = inl (refl, refl, refl) };
+      step_ = λ temp marked. lets.commits (after_written p temp (text_of new) own) p temp sequences_name folder_commits;
+    }
+
+    abbrev Cut : List Deed → Type 0
+    Cut later = CommittedOrSame w few p serves_folder path apart serves_mail folder m new (Seen listing text context) (seen_kept run p mail listing text context) (entries_pledged listing text context new made) own later
+
+    still : (later : List Deed) → Cut later → StillBy own later
+    still later (inl same) s = subst AreSettled (sym same.1) s
+    still later (inr c) s = c.settled_still s
+
+    abbrev pub Committed_ : Outcome Unit
+    Committed_ later j u = Seen listing text context later × StillBy own later
+
+    pub sequences_goes : Goes w own h (changed_sequences run p mail folder m new) (okay Committed_)
+    sequences_goes =
+        goes_more w own h (changed_sequences run p mail folder m new) (okay (λ later j u. Seen listing text context later × Cut later)) (okay Committed_)
+        (okay_more (λ later j u. Seen listing text context later × Cut later) Committed_ (λ later j u f. (f.0, still later f.1)))
+        (lasting w (Seen listing text context) (seen_kept run p mail listing text context) own h (changed_sequences run p mail folder m new) (Of Cut) seen
+        (changed_goes w few p serves_folder path apart serves_mail folder m new (Seen listing text context) (seen_kept run p mail listing text context) (entries_pledged listing text context new made) own h old seen may))
+
+    pub committed_goes : Goes w own h (lifted (of_plan folder) (changed_sequences run p mail folder m new)) (okay Committed_)
+    committed_goes = goes_lifted w own h (of_plan folder) (changed_sequences run p mail folder m new) Committed_ sequences_goes
+
+  -- the whole: the folder is begun, the work on it is done, and its lock falls
+  module _ (act : Opened → Plan (Result Unit CommandFault))
+      (goes : (first own : List Deed) (o : Opened) → HasBegun w first path folder own o → (h : Hand) → Goes w own h (act o) (okay (Of (StillBy own)))) where
+    begin_goes : (own : List Deed) (h : Hand) → Goes w own h (lifted (of_plan folder) (begun run p mail folder)) (okay (λ later j o. HasBegun w own path folder later o))
+    begin_goes own h = goes_lifted w own h (of_plan folder) (begun run p mail folder) (λ later j o. HasBegun w own path folder later o) (begun_goes w few path folder begins own h)
+
+    pub begun_keeps : (past : List Done) (h : Hand) → Sound w (acts past) h → Keeps (rules_of w) past h (lifted (of_plan folder) (begun run p mail folder) >>= (λ o. bind (act o) (ended p))) (IfOkay (Still (acts past)))
+    unfolding ◌>>=◌
+    begun_keeps past h sound =
+        keeps_bind u past h (lifted (of_plan folder) (begun run p mail folder)) (after work) (ByActs (Soundly w (okay Begun))) (IfOkay (Still own))
+        (goes_keeps w past own h (lifted (of_plan folder) (begun run p mail folder)) (okay Begun) refl sound (begin_goes own h))
+        (λ later j r q. goes_on_by later j r q.0 q.1)
+      where
+        own : List Deed
+        own = acts past
+
+        u : Rules
+        u = rules_of w
+
+        work : Opened → Plan (Result Unit CommandFault)
+        work o = bind (act o) (ended p)
+
+        Begun : Outcome Opened
+        Begun later j o = HasBegun w own path folder later o
+
+        still_so : (later last : List Done) (i : Hand) (e : Result Unit CommandFault) → StillBy own (acts later) → Sound w (acts last) i → okay (Of (StillBy (acts later))) (acts last) i e → IfOkay (Still own) last i e
+        still_so later last i (Ok v) f s m = record { settled = λ x. m (f x); unfailed = s.unfailed }
+        still_so later last i (Err e) f s m = tt
+
+        goes_on_by : (later : List Done) (j : Hand) (r : Result Opened CommandFault) → Sound w (acts later) j → okay Begun (acts later) j r → Keeps u later j (after work r) (IfOkay (Still own))
+        goes_on_by later j (Ok o) s b =
+            keeps_bind u later j (act o) (ended p) (ByActs (Soundly w (okay (Of (StillBy (acts later)))))) (IfOkay (Still own))
+            (goes_keeps w later (acts later) j (act o) (okay (Of (StillBy (acts later)))) refl s (goes own (acts later) o b j))
+            (λ last i e q. ended_keeps w own last i p e q.0.numbered (still_so later last i e b.held.settled q.0 q.1))
+        goes_on_by later j (Err e) s b = none_keeps w own later j e s.numbered

@@ -1,0 +1,5 @@
+pub mod Loops
+pub mod RmmGiven
+pub mod RmmPledged
+pub mod Selected
+pub mod Shown

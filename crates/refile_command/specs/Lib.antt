@@ -1,0 +1,3 @@
+pub mod Rmm
+pub mod RmmOutcome
+pub mod RmmPledge
