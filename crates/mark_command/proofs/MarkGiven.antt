@@ -276,9 +276,9 @@ module _ (run : ℕ) (few : run < 2 ^ 128) (path : List ℕ) (job : MarkJob) (va
     abbrev work : Work CommandFault
     work = changes_work path entries h job a (mailbox_in c)
 
-    pub marks_give : Gives (by_view true) v hand work.text (mark_changes run path job a) (WorkEnds work)
+    pub changed_gives : Gives (by_view true) v hand work.text (mark_changes run path job a) (WorkEnds work)
     unfolding mark_changes changes_work
-    marks_give =
+    changed_gives =
         changes_give run few path job.folder clean c entries entries_are short h are ns v hand untouched (opened_work path job a) (opened_marked run path job a)
         (λ o z j f. opened_gives run few path job valid clean a o f.place f.name f.valid f.later f.kept f.contents z j f.is f.holds)
 
@@ -400,4 +400,4 @@ module _ (run : ℕ) (few : run < 2 ^ 128) (path : List ℕ) (job : MarkJob) (va
     where
       go : (act : Option MarkAct) → Gives (by_view true) v hand (work_by path entries h job (mailbox_in c) act).text (mark_by_act run path job act) (WorkEnds (work_by path entries h job (mailbox_in c) act))
       go None = looks_give ns v hand same nums known
-      go (Some a) = marks_give a h are ns v hand untouched
+      go (Some a) = changed_gives a h are ns v hand untouched

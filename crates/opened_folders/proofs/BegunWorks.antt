@@ -119,7 +119,7 @@ module _ (run : ℕ) (few : run < 2 ^ 128) (path folder ns : List ℕ) (c : Cont
     -- each number of the folder has a message there
     box_messages : (n : ℕ) → message_at box p n ≡ (settled_by h old).messages n
     unfolding mailbox_in
-    box_messages n = rw place_is p (ap (λ o. message_of (option_map (settled_by h) o) n) (there_shown c p (c.there p) there))
+    box_messages n = rw (place_is p) (ap (λ o. message_of (option_map (settled_by h) o) n) (there_shown c p (c.there p) there))
 
     stands_box : (n : ℕ) → has (runs_in (settled_by h old)) n ≡ true → is_some (message_at box p n) ≡ true
     stands_box n listed =

@@ -259,6 +259,9 @@ module _ (w : Pledge) (few : w.run < 2 ^ 128) (path folder : List ℕ) (lets : B
       Cut : List Deed → List Deed → Type 0
       Cut own later = CommittedOrSame w few p lets.serves path (λ e. cc (e)) lets.mail folder m new Seen (seen_kept w.run p (Mail path) listing text context) (lets.entries text context listing) own later
 
+      seen_twice : (temp : List ℕ) → Seen (after_written p temp (text_of new) own)
+      seen_twice temp = seen_kept w.run p (Mail path) listing text context _ (step.SyncFile p temp) answer.Done tt (seen_kept w.run p (Mail path) listing text context own (step.Create p temp (text_of new)) answer.Done tt seen)
+
       may : MayReplace w p text (text_of new) own
       may = record {
         committed = rw (kind_of-entry_text Sequences tt) refl;
@@ -267,9 +270,6 @@ module _ (w : Pledge) (few : w.run < 2 ^ 128) (path folder : List ℕ) (lets : B
         mark = λ temp. lets.cut (after_written p temp (text_of new) own) text context listing text (seen_twice temp);
         step_ = λ temp marked. lets.moves (after_written p temp (text_of new) own) temp (still (λ e. cc (e)) (still (λ e. cc (e)) lock)) marked;
       }
-
-      seen_twice : (temp : List ℕ) → Seen (after_written p temp (text_of new) own)
-      seen_twice temp = seen_kept w.run p (Mail path) listing text context _ (step.SyncFile p temp) answer.Done tt (seen_kept w.run p (Mail path) listing text context own (step.Create p temp (text_of new)) answer.Done tt seen)
 
       held_by : (later : List Deed) → Cut own later → Held own p later
       held_by later (inl same) = subst (λ z. Held own p z) (sym same.1) (record { settled = λ f. f; lock = lock })

@@ -1,7 +1,7 @@
 -- What `rmm` gives alone: what it comes to on the mailbox that it finds.
 use Rattle.std.proofs.Common.{◌≡◌, ◌<◌, ◌^◌, ◌+◌, ◌≤◌, ◌&&◌, ◌||◌, ℕ, Bool, true, false, List, [], ◌∷◌, Option, Some, None, Result, Ok, Err, refl, sym, ◌∙◌, ap, subst, arith}
-use Rattle.std.specs.Prelude.{decimal, is_some, nat_le, not, ◌==◌}
-use Rattle.std.proofs.lemmas.Bool.Decides.{Decides-eqb, Decides-leb, nat_tests}
+use Rattle.std.specs.Prelude.{decimal, is_some, nat_le, not, ◌==◌, if◌then◌else◌}
+use Rattle.std.proofs.lemmas.Bool.Decides.{Decides-eqb, nat_tests}
 use Rattle.std.specs.List.{list_all}
 use Rattle.mail_headers.specs.Lines.{is_name_byte}
 use Rattle.mh_base.specs.Entries.{entry_text, kind_of}
@@ -77,6 +77,10 @@ stands_in c path folder n e = go (c.there (Folder path folder)) (is_message_numb
             within false o e = cc (e)
     go false v e = cc (e)
 
+number_there : (c : Contents) (q : Place) (n : ℕ) → is_some (c.texts q (decimal n)) ≡ true → is_some (c.texts q (entry_text (Number n))) ≡ true
+unfolding entry_text
+number_there c q n e = e
+
 module _ (run : ℕ) (few : run < 2 ^ 128) (path : List ℕ) (job : RmmJob) (valid : is_folder_name job.folder ≡ true) (clean : list_all is_name_byte (suffix job.folder) ≡ true) where
   abbrev p : Place
   p = Folder path job.folder
@@ -105,7 +109,7 @@ module _ (run : ℕ) (few : run < 2 ^ 128) (path : List ℕ) (job : RmmJob) (val
     above low (n ∷ numbers) rise k e = go (nat_le low k) refl
       where
         go : (b : Bool) → nat_le low k ≡ b → low ≤ k
-        go true f = (Decides-leb low k).0 f
+        go true f = grind (arith, nat_tests, f)
         go false f = absurd (not_both (lists (n ∷ numbers) k) e (none_below low (n ∷ numbers) rise k (below_not f)))
           where
             below_not : nat_le low k ≡ false → k < low
@@ -113,11 +117,11 @@ module _ (run : ℕ) (few : run < 2 ^ 128) (path : List ℕ) (job : RmmJob) (val
 
     number_in : (numbers : List ℕ) → AreNumbers numbers → (k : ℕ) → lists numbers k ≡ true → IsMsgNum k
     number_in [] ok k e = cc (e)
-    number_in (n ∷ numbers) ok k e = go (n == k) refl e
+    number_in (n ∷ numbers) ok k e = go (n == k) refl (λ f. number_in numbers ok.1 k f) e
       where
-        go : (b : Bool) → (n == k) ≡ b → b || lists numbers k ≡ true → IsMsgNum k
-        go true f g = subst IsMsgNum ((Decides-eqb n k).0 f) ok.0
-        go false f g = number_in numbers ok.1 k g
+        go : (b : Bool) → (n == k) ≡ b → (lists numbers k ≡ true → IsMsgNum k) → b || lists numbers k ≡ true → IsMsgNum k
+        go true f more g = subst IsMsgNum ((Decides-eqb n k).0 f) ok.0
+        go false f more g = more g
 
     stand_rest : (b : Bool) (c : Contents) (n : ℕ) (numbers : List ℕ) → IsMsgNum n → AreNumbers numbers → Rise (n + 1) numbers → Stand c (n ∷ numbers) → Stand (removed_at b c p n) numbers
     stand_rest b c n numbers ok all rise stand k e =
@@ -129,13 +133,9 @@ module _ (run : ℕ) (few : run < 2 ^ 128) (path : List ℕ) (job : RmmJob) (val
     all_gives b low [] rise all z c j text is stand = record { is = is; hand = refl }
     all_gives b low (n ∷ numbers) rise all z c j text is stand =
         gives_next true ns (removed_at b c p n) j (Fails true h) z j text (message_removed p n b) (λ gone. all_removed p b numbers) (Leaves true ns (all_at b (removed_at b c p n) p numbers) j (Fails true h))
-        (message_gives b n z c j text is (number_there c n (first_of {F = λ m. is_some (c.texts p (decimal m)) ≡ true} n numbers stand)))
+        (message_gives b n z c j text is (number_there c p n (first_of {F = λ m. is_some (c.texts p (decimal m)) ≡ true} n numbers stand)))
         (λ y left u same. all_gives b (n + 1) numbers rise.1 all.1 y (removed_at b c p n) j left same (stand_rest b c n numbers all.0 all.1 rise.1 stand))
         (λ y i left e f. f)
-      where
-        number_there : (c : Contents) (n : ℕ) → is_some (c.texts p (decimal n)) ≡ true → is_some (c.texts p (entry_text (Number n))) ≡ true
-        unfolding entry_text
-        number_there c n e = e
 
     safely_gives : (b : Bool) (numbers : List ℕ) → Rise 1 numbers → AreNumbers numbers → (z : View) (c : Contents) (j : Hand) (text : List ℕ) → Is true ns z c → Stand c numbers → c.there p ≡ true
         → Gives (by_view true) z j text (removed_safely p b numbers) (Leaves true ns (all_at b c p numbers) j (Fails true h))

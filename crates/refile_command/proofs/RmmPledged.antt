@@ -72,17 +72,11 @@ use Rattle.msg_ranges.proofs.Rising.{lists}
 in_up : (n count k : ℕ) → n ≤ k → k < n + count → Contains (numbers_up n count) k
 unfolding numbers_up
 in_up n zero k low high = absurd (omega (arith, low, high))
-in_up n (suc count) k low high = go (n == k) refl
+in_up n (suc count) k low high = go (n == k) refl (λ apart. in_up (n + 1) count k (omega (arith, low, apart)) (omega (arith, high)))
   where
-    go : (b : Bool) → (n == k) ≡ b → Contains (n ∷ numbers_up (n + 1) count) k
-    go true e = (0, omega arith, (Decides-eqb n k).0 e)
-    go false e =
-        let apart : n ≢ k = ne_from n k e in
-        let r = in_up (n + 1) count k (omega (arith, low, apart)) (omega (arith, high)) in
-        (suc r.0, omega (arith, r.1), r.2)
-      where
-        ne_from : (n k : ℕ) → (n == k) ≡ false → n ≢ k
-        ne_from n k e same = absurd (let no : true ≡ false = sym ((Decides-eqb n k).1 same) ∙ e in cc (no))
+    go : (b : Bool) → (n == k) ≡ b → (n ≢ k → Contains (numbers_up (n + 1) count) k) → Contains (n ∷ numbers_up (n + 1) count) k
+    go true e more = (0, omega arith, (Decides-eqb n k).0 e)
+    go false e more = let r = more (λ same. absurd (let no : true ≡ false = sym ((Decides-eqb n k).1 same) ∙ e in cc (no))) in (suc r.0, omega (arith, r.1), r.2)
 
 temp_no_number : (e : Entry) (n : ℕ) → is_temp e ≡ true → e ≡ Number n → ⊥
 temp_no_number e n is same = absurd (let no : is_temp (Number n) ≡ true = subst (λ z. is_temp z ≡ true) same is in cc (no))
@@ -181,7 +175,7 @@ module _ (run : ℕ) (few : run < 2 ^ 128) (path : List ℕ) (job : RmmJob) wher
           goes_rename w own h of_stop (okay (Of Going)) p num backup (held_to p num)
           (λ s. (
             record {
-              is_own = careful s.unfailed OfRemoves (backs_up p num backup (refl, backing)) (inr (refl, (num, (chosen_name, inl (backup, refl))))) (lock_held p own g.lock);
+              is_own = careful s.unfailed OfRemoves (backs_up p num backup (refl, backing)) (inr (refl, num, chosen_name, inl (backup, refl))) (lock_held p own g.lock);
               marks = λ e. absurd (not_both (is_committed p backup) e uncommitted);
               steps = λ no. of_step (step.Rename p num backup) (λ m r. r.1);
             },
@@ -193,7 +187,7 @@ module _ (run : ℕ) (few : run < 2 ^ 128) (path : List ℕ) (job : RmmJob) wher
           goes_unlink w own h of_stop (okay (Of Going)) p num (held_to p num)
           (λ s. (
             record {
-              is_own = careful s.unfailed OfRemoves (removes p num (refl, is_num)) (inr (refl, (num, (chosen_name, inr refl)))) (lock_held p own g.lock);
+              is_own = careful s.unfailed OfRemoves (removes p num (refl, is_num)) (inr (refl, num, chosen_name, inr refl)) (lock_held p own g.lock);
               marks = tt;
               steps = λ no. of_step (step.Unlink p num) (λ m r. r.1);
             },

@@ -1,13 +1,14 @@
 -- What words choose: ascending numbers of messages that are there.
 use Rattle.std.proofs.Common.{◌≡◌, inl, inr, ℕ, Bool, true, false, List, [], ◌∷◌, Result, Ok, Err, refl, sym, ◌∙◌, ap, subst}
 use Rattle.std.specs.Prelude.{◌==◌, ◌||◌, map}
+use Rattle.std.specs.List.{list_any}
 use Rattle.std.specs.Str.{encode_utf8_all}
 use Rattle.std.proofs.lemmas.Bool.Decides.{Decides-eqb}
 use Rattle.mh_base.specs.Numbers.{IsMsgNum}
 use Rattle.mh_sequences.specs.Runs.{AreRuns, has, numbers_of}
 use Rattle.mh_sequences.specs.declared.run.Run.{Run}
 use Rattle.mh_sequences.specs.Sequences.{Marked}
-use Rattle.msg_ranges.specs.Selected.{all_united, designated, every_number, selected}
+use Rattle.msg_ranges.specs.Selected.{all_united, designated, every_number, selected, united}
 use Rattle.msg_ranges.specs.Selecting.{Folder}
 use Rattle.msg_ranges.specs.Selection.{marks_of}
 use Rattle.msg_ranges.specs.declared.fault.SelectFault.{SelectFault}
@@ -26,7 +27,9 @@ selected_rises : (f : Folder) (words : List (List ℕ)) (numbers : List ℕ) →
 selected_rises f words numbers is = go (designated f 0 words) is
   where
     go : (r : Result (List (List ℕ)) SelectFault) → all_united r ≡ Ok numbers → Rise 1 numbers
-    go (Ok sets) e = subst (Rise 1) (cc (e)) (rise_filter _ 1 (numbers_of every_number) (rise_runs 1 every_number every_runs))
+    go (Ok sets) e =
+        let same : united sets ≡ numbers = cc (e) in
+        subst (Rise 1) same (rise_filter (λ n. list_any (λ xs. list_any (λ x. x == n) xs) sets) 1 (numbers_of every_number) (rise_runs 1 every_number every_runs))
     go (Err fault) e = cc (e)
 
 as_selected : (words : List (List ℕ)) (r : Result (List ℕ) SelectFault) (numbers : List ℕ) → refused_by words r ≡ Ok numbers → r ≡ Ok numbers

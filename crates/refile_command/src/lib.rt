@@ -2,8 +2,8 @@
 #![tactic(auto)]
 
 mod job;
+mod leaving;
 mod removing;
-mod rmm;
 
 pub use job::RmmJob;
-pub use rmm::rmm;
+pub use leaving::rmm;
