@@ -1,6 +1,6 @@
 -- What `mark` gives alone: what it comes to on the mailbox that it finds.
-use Rattle.std.proofs.Common.{◌≡◌, ◌≢◌, ◌⊎◌, inl, inr, ◌++◌, ◌∷◌, [], ◌<◌, ◌≤◌, ◌^◌, ℕ, Bool, true, false, List, Option, Some, None, Result, Ok, Err, refl, sym, ◌∙◌, ap, subst, arith}
-use Rattle.std.specs.Prelude.{is_some, map}
+use Rattle.std.proofs.Common.{◌≡◌, ◌≢◌, ◌++◌, ◌∷◌, [], ◌<◌, ◌^◌, ℕ, Bool, true, false, List, Option, Some, None, Result, Ok, Err, refl, sym, ◌∙◌, ap, subst}
+use Rattle.std.specs.Prelude.{map}
 use Rattle.std.specs.List.{list_all}
 use Rattle.mail_headers.specs.Lines.{is_name_byte}
 use Rattle.mh_profile.specs.declared.named_value.NamedValue.{NamedValue}
@@ -14,27 +14,24 @@ use Rattle.folder_files.specs.declared.refusal.Refusal.TheVariants as refusal
 use Rattle.folder_files.specs.declared.step.Step.TheVariants as step
 use Rattle.file_plans.specs.Contents.{Contents, mailbox_in}
 use Rattle.file_plans.specs.Giving.{Gives}
-use Rattle.file_plans.specs.Plan.{Hand, Plan, Return, ask, attempt, bind, converted, lifted, say, ◌>>=◌}
+use Rattle.file_plans.specs.Plan.{Hand, Plan, Return, bind, converted, lifted, say, ◌>>=◌}
 use Rattle.file_plans.specs.Views.{View, by_view, view_after}
-use Rattle.file_plans.proofs.Giving.{gives_bind, gives_on}
+use Rattle.file_plans.proofs.Giving.{gives_on}
 use Rattle.step_plans.specs.declared.command_fault.CommandFault.{CommandFault}
 use Rattle.step_plans.specs.declared.command_fault.CommandFault.TheVariants as fault
 use Rattle.step_plans.specs.declared.fault.PlanFault.{PlanFault}
 use Rattle.step_plans.specs.declared.fault.PlanFault.TheVariants as plan
-use Rattle.step_plans.specs.ContextCommit.{commit_context}
 use Rattle.std.specs.Prelude.{codes, filter}
 use Rattle.mh_base.specs.Folders.{is_folder_name}
 use Rattle.mh_sequences.specs.Printing.{list_text}
 use Rattle.mh_sequences.specs.Sequences.{Sequence}
 use Rattle.mh_sequences.specs.declared.mark.Mark.{Mark}
-use Rattle.file_plans.proofs.Framing.{silent}
 use Rattle.file_plans.proofs.Onward.{Is}
 use Rattle.sequence_commits.specs.Marking.{marked_by, marked_by_all}
 use Rattle.sequence_commits.proofs.MarkedOnce.{marked_valid}
-use Rattle.command_stages.specs.Current.{current_change, made_current}
+use Rattle.command_stages.specs.Current.{made_current}
 use Rattle.command_stages.specs.Endings.{of_plan}
 use Rattle.command_stages.specs.Works.{Work}
-use Rattle.command_stages.proofs.FolderLines.{current_valid}
 use Rattle.command_stages.specs.Chosen.{folder_with}
 use Rattle.command_stages.specs.Texts.{too_large}
 use Rattle.command_stages.specs.Works.{refused_at}
@@ -47,11 +44,10 @@ use Rattle.sequence_commits.specs.Committing.{changed_sequences}
 use Rattle.sequence_commits.specs.PrivateChanges.{private_changes}
 use Rattle.sequence_commits.proofs.ChangesTo.{are_changes}
 use Rattle.step_plans.specs.ContextCommit.{AreChanges}
-use Rattle.opened_folders.specs.BegunWork.{AreHomesAt, Homes, after_commits, current_work, end_by}
+use Rattle.opened_folders.specs.BegunWork.{AreHomesAt, Homes, after_commits, current_work}
 use Rattle.opened_folders.specs.Kept.{Commits, Kept, sequences_kept}
 use Rattle.opened_folders.specs.Opening.{Opened, with_sequences}
 use Rattle.opened_folders.proofs.BegunWorks.{clear_context, clear_text}
-use Rattle.opened_folders.proofs.SettledShown.{there_shown}
 use Rattle.opened_folders.specs.BegunWork.{runs_in}
 use Rattle.opened_folders.specs.Kept.{kept_of}
 use Rattle.file_plans.specs.Contents.{folder_at}

@@ -1,39 +1,28 @@
 -- `mark` goes as it pledges.
-use Rattle.std.proofs.Common.{◌≡◌, ◌⊎◌, inl, inr, ◌<◌, ◌^◌, ◌∷◌, [], ℕ, Bool, true, false, List, Result, Ok, Err, refl, sym, ◌∙◌, ap, subst}
+use Rattle.std.proofs.Common.{◌≡◌, inr, ◌<◌, ◌^◌, ◌∷◌, [], ℕ, Bool, true, false, List, Result, Ok, Err, refl, sym, ◌∙◌, ap, subst}
 use Rattle.mh_base.specs.Entries.{entry_text}
 use Rattle.mh_base.specs.declared.entry.Entry.TheVariants.{Sequences}
-use Rattle.mh_base.proofs.EntryKinds.{kind_of-entry_text}
-use Rattle.mh_profile.specs.declared.named_value.NamedValue.{NamedValue}
-use Rattle.mh_sequences.specs.Printing.{private_entries, text_of}
-use Rattle.mh_sequences.specs.Reading.{suffix}
 use Rattle.mh_sequences.specs.Sequences.{Marked}
-use Rattle.mh_sequences.specs.declared.run.Run.{Run}
-use Rattle.folder_files.specs.Careful.{Kind, Makes, Creates, Puts, Gives, Takes, Removes, Drops, Discards, Commits, Clears, Cuts, Stores}
-use Rattle.folder_files.specs.Deeds.{Deed, on}
+use Rattle.folder_files.specs.Deeds.{Deed}
 use Rattle.folder_files.specs.declared.place.Place.{Place}
 use Rattle.folder_files.specs.declared.place.Place.TheVariants.{Folder, Mail}
-use Rattle.file_plans.specs.Plan.{Hand, Plan, Return, after, lifted, ◌>>=◌, bind}
+use Rattle.file_plans.specs.Plan.{Hand, Return, after, lifted, ◌>>=◌, bind}
 use Rattle.file_plans.proofs.Framing.{AnyStep}
-use Rattle.step_plans.specs.ContextPledge.{MarksContext}
-use Rattle.step_plans.specs.ContextCommit.{commit_context, context_name, settled}
+use Rattle.step_plans.specs.ContextCommit.{commit_context}
 use Rattle.step_plans.specs.Pledges.{Pledge}
 use Rattle.step_plans.specs.Settled.{AreSettled}
 use Rattle.step_plans.specs.declared.change.ChangeEntry.{ChangeEntry}
 use Rattle.step_plans.specs.declared.command_fault.CommandFault.{CommandFault}
 use Rattle.step_plans.proofs.Facts.{once_kept}
 use Rattle.step_plans.proofs.Going.{Goes, Outcome, goes_lifted, goes_more, goes_then, okay, okay_more}
-use Rattle.step_plans.proofs.Lasting.{goes_lasting}
-use Rattle.step_plans.proofs.Pledged.{HasMarked, IsPledged, Known, Of, commit_goes}
+use Rattle.step_plans.proofs.Pledged.{IsPledged, Known, Of, commit_goes}
 use Rattle.step_plans.proofs.Stepping.{goes_end, goes_return, goes_say}
 use Rattle.step_plans.proofs.Written.{Serves, goes_at}
 use Rattle.step_plans.specs.CommandFaults.{of_sink}
-use Rattle.held_messages.proofs.GivingBack.{Settles}
 use Rattle.sequence_commits.specs.Committing.{changed_sequences}
-use Rattle.sequence_commits.specs.PrivateChanges.{changes_to}
-use Rattle.sequence_commits.proofs.SequencesPledged.{CommittedOrSame, MayReplace, changed_goes}
 use Rattle.command_stages.specs.Current.{current_change, made_current}
 use Rattle.command_stages.specs.Endings.{of_plan}
-use Rattle.opened_folders.specs.Opening.{Opened, begun, with_sequences}
+use Rattle.opened_folders.specs.Opening.{Opened, with_sequences}
 use Rattle.opened_folders.specs.Reads.{HaveSeen}
 use Rattle.folder_files.specs.Commands.{Marking}
 use Rattle.folder_files.specs.declared.step.Step.{Step}
@@ -42,10 +31,9 @@ use Rattle.opened_folders.proofs.FolderPledged.{HasBegun}
 use Rattle.opened_folders.proofs.WorkPledged.{LetsBegin, begun_keeps, committed_goes, current_goes}
 use Rattle.std.specs.Prelude.{Option, None, Some}
 use Rattle.file_plans.specs.Follows.{Follows, State}
-use Rattle.file_plans.specs.Rules.{IfOkay, Keeps, Rules}
+use Rattle.file_plans.specs.Rules.{IfOkay, Keeps}
 use Rattle.file_plans.specs.Runs.{Deed as Done}
 use Rattle.file_plans.proofs.Acting.{acts}
-use Rattle.file_plans.proofs.Keeping.{keeps_bind}
 use Rattle.step_plans.specs.CommandFaults.{command_cause}
 use Rattle.step_plans.specs.Promises.{Promises}
 use Rattle.step_plans.proofs.Going.{ByActs, Sound, Soundly, goes_keeps}
@@ -56,7 +44,6 @@ use Rattle.command_stages.specs.Texts.{text_read}
 use Rattle.mh_looks.specs.Scan.{entries_seen}
 use Rattle.mh_looks.specs.ScanPledge.{HasListed}
 use Rattle.mh_looks.proofs.LooksLeave.{Lists, Looks, goes_chosen, listed_goes, text_goes}
-use Rattle.opened_folders.specs.Ending.{ended}
 use Rattle.mark_command.specs.Lines.{lines_for}
 use Rattle.mark_command.specs.Mark.{chosen_from, chosen_marked, lines_said, mark, mark_by_act, mark_changes, mark_looks, opened_marked, said_if, sequences_seen}
 use Rattle.mark_command.specs.MarkPledge.{Marks, looks_pledge, mark_pledge, pledge_by}

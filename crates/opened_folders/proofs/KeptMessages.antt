@@ -14,7 +14,7 @@ use Rattle.step_plans.specs.declared.change.ChangeEntry.{ChangeEntry}
 use Rattle.sequence_commits.specs.PrivateChanges.{private_changes}
 use Rattle.sequence_commits.specs.SequencesChanged.{folder_with_sequences, with_sequences_text}
 use Rattle.sequence_commits.specs.Telling.{same_told}
-use Rattle.opened_folders.specs.Kept.{Commits, Kept, all_made, context_kept, kept_of, sequences_kept, sequences_written, too_long}
+use Rattle.opened_folders.specs.Kept.{Kept, all_made, context_kept, kept_of, sequences_kept, too_long}
 
 -- the message of this number, where the folder is there
 abbrev pub message_of : Option FolderValue → ℕ → Option (List ℕ)

@@ -1,5 +1,5 @@
 -- What a command gives alone that begins a folder: what it comes to on the mailbox that it finds.
-use Rattle.std.proofs.Common.{◌≡◌, ◌⊎◌, inl, inr, ◌<◌, ◌≤◌, ◌^◌, [], ℕ, true, false, List, Option, Some, None, Result, Ok, Err, refl, sym, ◌∙◌, ap, subst, arith}
+use Rattle.std.proofs.Common.{◌≡◌, ◌⊎◌, inl, inr, ◌<◌, ◌≤◌, ◌^◌, [], ℕ, true, List, Option, Some, None, Result, Ok, Err, refl, sym, ◌∙◌, ap, subst, arith}
 use Rattle.std.specs.Prelude.{is_some}
 use Rattle.std.specs.List.{list_all}
 use Rattle.mail_headers.specs.Lines.{is_name_byte}
@@ -24,7 +24,7 @@ use Rattle.file_plans.specs.Views.{View, by_view}
 use Rattle.file_plans.proofs.Framing.{silent}
 use Rattle.file_plans.proofs.Giving.{gives_bind, gives_on}
 use Rattle.file_plans.proofs.Onward.{Is, IsShort}
-use Rattle.step_plans.specs.ContextCommit.{AreChanges, LIMIT_BYTES, commit_context, context_name}
+use Rattle.step_plans.specs.ContextCommit.{LIMIT_BYTES, commit_context, context_name}
 use Rattle.step_plans.specs.declared.command_fault.CommandFault.{CommandFault}
 use Rattle.step_plans.specs.declared.command_fault.CommandFault.TheVariants as fault
 use Rattle.step_plans.specs.declared.fault.PlanFault.{PlanFault}
@@ -34,7 +34,6 @@ use Rattle.held_messages.specs.HeldPairs.{homes}
 use Rattle.held_messages.specs.Highest.{IsTop}
 use Rattle.held_messages.proofs.Unique.{held_once}
 use Rattle.sequence_commits.specs.Committing.{changed_sequences}
-use Rattle.sequence_commits.specs.PrivateChanges.{private_changes}
 use Rattle.sequence_commits.proofs.ChangesTo.{are_changes}
 use Rattle.command_stages.specs.Current.{current_change, made_current}
 use Rattle.command_stages.specs.Endings.{of_plan}

@@ -1,6 +1,6 @@
 -- A command that begins a folder and changes what marks its messages goes as it pledges.
-use Rattle.std.proofs.Common.{◌≡◌, ◌⊎◌, inl, inr, ◌<◌, ◌^◌, ◌∷◌, [], ℕ, true, List, Result, Ok, Err, refl, sym, subst}
-use Rattle.mh_base.specs.Entries.{entry_text, kind_of}
+use Rattle.std.proofs.Common.{◌≡◌, ◌⊎◌, inl, inr, ◌<◌, ◌^◌, ℕ, true, List, Result, Ok, Err, refl, sym, subst}
+use Rattle.mh_base.specs.Entries.{kind_of}
 use Rattle.mh_base.specs.declared.entry.Entry.TheVariants.{Sequences}
 use Rattle.mh_base.proofs.EntryKinds.{kind_of-entry_text}
 use Rattle.mh_profile.specs.declared.named_value.NamedValue.{NamedValue}
@@ -11,7 +11,7 @@ use Rattle.mh_sequences.specs.declared.run.Run.{Run}
 use Rattle.folder_files.specs.Careful.{HasLock, Kind, Makes, Creates, Puts, Gives, Takes, Removes, Drops, Discards, Commits, Clears, Cuts, Stores}
 use Rattle.folder_files.specs.Commands.{KeepsFolder, MakesStep, Manner, begins_folder, serves_commit}
 use Rattle.folder_files.specs.Deeds.{Deed}
-use Rattle.folder_files.specs.Named.{is_committed, is_held, is_number, is_temp}
+use Rattle.folder_files.specs.Named.{is_committed, is_held, is_temp}
 use Rattle.folder_files.specs.declared.place.Place.{Place}
 use Rattle.folder_files.specs.declared.place.Place.TheVariants.{Folder, Mail}
 use Rattle.folder_files.specs.declared.step.Answer.TheVariants as answer
@@ -24,7 +24,7 @@ use Rattle.file_plans.proofs.Acting.{acts}
 use Rattle.file_plans.proofs.Framing.{AnyStep}
 use Rattle.file_plans.proofs.Keeping.{keeps_bind}
 use Rattle.step_plans.specs.Commits.{IsBase}
-use Rattle.step_plans.specs.ContextCommit.{commit_context, context_name, settled}
+use Rattle.step_plans.specs.ContextCommit.{commit_context, context_name}
 use Rattle.step_plans.specs.ContextPledge.{MarksContext}
 use Rattle.step_plans.specs.Pledges.{Pledge}
 use Rattle.step_plans.specs.Settled.{AreSettled}
@@ -32,7 +32,7 @@ use Rattle.step_plans.specs.declared.change.ChangeEntry.{ChangeEntry}
 use Rattle.step_plans.specs.declared.command_fault.CommandFault.{CommandFault}
 use Rattle.step_plans.proofs.Going.{ByActs, Goes, Outcome, Sound, Soundly, goes_keeps, goes_lifted, goes_more, goes_then, okay, okay_more}
 use Rattle.step_plans.proofs.Lasting.{lasting}
-use Rattle.step_plans.proofs.Pledged.{HasMarked, IsPledged, Known, Of, after_written, commit_goes}
+use Rattle.step_plans.proofs.Pledged.{IsPledged, Known, Of, after_written, commit_goes}
 use Rattle.step_plans.proofs.Ruling.{rules_of}
 use Rattle.step_plans.proofs.Stepping.{goes_return}
 use Rattle.step_plans.proofs.Written.{Serves}

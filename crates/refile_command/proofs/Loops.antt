@@ -1,5 +1,5 @@
 -- Messages leave, one after another; and the marks that withdraw them.
-use Rattle.std.proofs.Common.{◌≡◌, ◌∷◌, [], ℕ, suc, ◌+◌, ◌<◌, ◌≤◌, Bool, List, Result, Ok, refl, sym, ◌∙◌, ap, drop, get_or, length, add-one}
+use Rattle.std.proofs.Common.{◌≡◌, ◌∷◌, [], ℕ, suc, ◌+◌, ◌<◌, ◌≤◌, Bool, List, Result, Ok, sym, ap, drop, get_or, length, add-one}
 use Rattle.std.proofs.Math.Seq.{drop-cons}
 use Rattle.std.proofs.lemmas.List.{drop_all}
 use Rattle.mh_sequences.specs.Runs.{AreRuns, Numbers, numbers_of}

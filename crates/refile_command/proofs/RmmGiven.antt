@@ -1,39 +1,34 @@
 -- What `rmm` gives alone: what it comes to on the mailbox that it finds.
-use Rattle.std.proofs.Common.{◌≡◌, ◌<◌, ◌^◌, ◌+◌, ◌≤◌, ◌&&◌, ◌||◌, ℕ, Bool, true, false, List, [], ◌∷◌, Option, Some, None, Result, Ok, Err, refl, sym, ◌∙◌, ap, subst, arith}
+use Rattle.std.proofs.Common.{◌≡◌, ◌<◌, ◌^◌, ◌+◌, ◌≤◌, ◌||◌, ℕ, Bool, true, false, List, [], ◌∷◌, Option, Some, None, Result, Ok, Err, refl, sym, ◌∙◌, ap, subst, arith}
 use Rattle.std.specs.Prelude.{decimal, is_some, nat_le, not, ◌==◌, if◌then◌else◌}
 use Rattle.std.proofs.lemmas.Bool.Decides.{Decides-eqb, nat_tests}
 use Rattle.std.specs.List.{list_all}
 use Rattle.mail_headers.specs.Lines.{is_name_byte}
-use Rattle.mh_base.specs.Entries.{entry_text, kind_of}
+use Rattle.mh_base.specs.Entries.{entry_text}
 use Rattle.mh_base.specs.Folders.{is_folder_name}
 use Rattle.mh_base.specs.Numbers.{IsMsgNum}
 use Rattle.mh_base.specs.declared.entry.Entry.TheVariants.{Number}
 use Rattle.mh_profile.specs.Reading.{entries_in}
 use Rattle.mh_profile.specs.declared.named_value.NamedValue.{NamedValue}
 use Rattle.mh_sequences.specs.Reading.{suffix}
-use Rattle.mh_sequences.specs.Runs.{has, numbers_of}
+use Rattle.mh_sequences.specs.Runs.{numbers_of}
 use Rattle.mh_sequences.specs.Sequences.{AreSequences, Marked}
-use Rattle.mh_sequences.specs.declared.mark.Mark.TheVariants.{Withdraw}
-use Rattle.mh_sequences.specs.declared.run.Run.{Run}
 use Rattle.msg_ranges.specs.Selection.{marks_of}
 use Rattle.msg_ranges.proofs.Rising.{Rise, lists, none_below}
-use Rattle.folder_files.specs.Named.{is_temp}
 use Rattle.folder_files.specs.declared.place.Place.{Place}
 use Rattle.folder_files.specs.declared.place.Place.TheVariants.{Folder, Mail}
 use Rattle.folder_files.proofs.Names.{not_both}
 use Rattle.file_plans.specs.Contents.{Contents, filled, folder_at, mailbox_in}
 use Rattle.file_plans.specs.Giving.{Gives}
-use Rattle.file_plans.specs.Mailboxes.{Mailbox, is_message_number, numbered}
+use Rattle.file_plans.specs.Mailboxes.{is_message_number, numbered}
 use Rattle.file_plans.specs.Plan.{Hand, Plan, Return, bind, lifted, ◌>>=◌}
 use Rattle.file_plans.specs.Views.{View, by_view}
-use Rattle.file_plans.proofs.Giving.{gives_more, gives_on}
 use Rattle.file_plans.proofs.Onward.{Is, IsShort}
 use Rattle.step_plans.specs.ContextCommit.{LIMIT_BYTES, context_name}
 use Rattle.step_plans.specs.Locking.{lock_name}
 use Rattle.step_plans.specs.Removing.{message_removed}
 use Rattle.step_plans.specs.Replacing.{synced}
 use Rattle.step_plans.specs.declared.command_fault.CommandFault.{CommandFault}
-use Rattle.step_plans.specs.declared.command_fault.CommandFault.TheVariants as fault
 use Rattle.step_plans.specs.declared.fault.PlanFault.{PlanFault}
 use Rattle.step_plans.specs.declared.fault.PlanFault.TheVariants as plan
 use Rattle.step_plans.proofs.Cleared.{removed_gives}
@@ -41,14 +36,13 @@ use Rattle.step_plans.proofs.Committed.{entries_at}
 use Rattle.step_plans.proofs.Replaced.{Fails, Leaves, gives_next, renamed_gives, synced_gives}
 use Rattle.held_messages.specs.HeldPairs.{with_folder_changed}
 use Rattle.sequence_commits.specs.Committing.{changed_sequences}
-use Rattle.sequence_commits.specs.Marking.{marked_by}
 use Rattle.sequence_commits.proofs.MarkedOnce.{marked_valid}
 use Rattle.command_stages.specs.Chosen.{folder_with}
 use Rattle.command_stages.specs.Current.{made_current}
 use Rattle.command_stages.specs.Endings.{of_plan}
-use Rattle.command_stages.specs.Works.{Work, refused_at}
+use Rattle.command_stages.specs.Works.{refused_at}
 use Rattle.mh_looks.proofs.Scanning.{refuses}
-use Rattle.opened_folders.specs.BegunWork.{AreHomesAt, Homes, after_commits, current_work}
+use Rattle.opened_folders.specs.BegunWork.{AreHomesAt, Homes, current_work}
 use Rattle.opened_folders.specs.Kept.{Commits, Kept, sequences_kept}
 use Rattle.opened_folders.specs.Opening.{Opened}
 use Rattle.opened_folders.proofs.FolderGiven.{IsUntouched}
@@ -59,7 +53,7 @@ use Rattle.refile_command.specs.Rmm.{all_removed, chosen_from, opened_removed, r
 use Rattle.refile_command.specs.RmmOutcome.{chosen_work, opened_work, removed_from, rmm_work, without}
 use Rattle.refile_command.specs.declared.job.RmmJob.{RmmJob}
 use Rattle.refile_command.proofs.Selected.{chosen_listed, chosen_numbers, chosen_rise, first_of, rest_of}
-use Rattle.refile_command.proofs.Shown.{AreNumbers, all_at, context_all, removed_at, shows_all, still_one, temp_all, there_all, there_one}
+use Rattle.refile_command.proofs.Shown.{AreNumbers, all_at, context_all, removed_at, shows_all, still_one, temp_all, there_all}
 
 -- a message that is there by the mailbox is there
 stands_in : (c : Contents) (path folder : List ℕ) (n : ℕ) → is_some (message_at (mailbox_in c) (Folder path folder) n) ≡ true → is_some (c.texts (Folder path folder) (decimal n)) ≡ true

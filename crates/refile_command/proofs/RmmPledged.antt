@@ -1,5 +1,5 @@
 -- `rmm` goes as it pledges.
-use Rattle.std.proofs.Common.{◌≡◌, ◌≢◌, inl, inr, ◌<◌, ◌≤◌, ◌+◌, ◌^◌, ◌∷◌, [], ℕ, zero, suc, Bool, true, false, List, Result, Ok, Err, refl, sym, ◌∙◌, ap, subst, arith, length}
+use Rattle.std.proofs.Common.{◌≡◌, ◌≢◌, inl, inr, ◌<◌, ◌≤◌, ◌+◌, ◌^◌, ◌∷◌, [], ℕ, zero, suc, Bool, true, false, List, Result, Ok, Err, refl, sym, ◌∙◌, ap, subst, arith}
 use Rattle.std.specs.Prelude.{Contains, not, ◌==◌}
 use Rattle.std.proofs.lemmas.Bool.Decides.{Decides-eqb}
 use Rattle.mh_base.specs.Entries.{entry_text, kind_of}
@@ -10,9 +10,9 @@ use Rattle.mh_base.proofs.EntryKinds.{kind_of-entry_text}
 use Rattle.mh_sequences.specs.Runs.{AreRuns}
 use Rattle.mh_sequences.specs.Sequences.{Marked}
 use Rattle.mh_sequences.specs.declared.run.Run.{Run}
-use Rattle.folder_files.specs.Careful.{HasLock, IsLook, Removes as OfRemoves, backs_up, removes}
+use Rattle.folder_files.specs.Careful.{HasLock, Removes as OfRemoves, backs_up, removes}
 use Rattle.folder_files.specs.Commands.{IsChosen, Removing}
-use Rattle.folder_files.specs.Deeds.{Deed, did, on, still}
+use Rattle.folder_files.specs.Deeds.{Deed, did}
 use Rattle.folder_files.specs.Named.{is_backing_up, is_committed, is_held, is_number, is_sequences, is_temp}
 use Rattle.folder_files.proofs.Names.{not_both}
 use Rattle.folder_files.specs.declared.place.Place.{Place}
@@ -27,10 +27,9 @@ use Rattle.file_plans.specs.Rules.{IfOkay, Keeps}
 use Rattle.file_plans.specs.Runs.{Deed as Done}
 use Rattle.file_plans.specs.StaysCareful.{careful}
 use Rattle.file_plans.proofs.Acting.{acts}
-use Rattle.file_plans.proofs.Showing.{number_kind}
 use Rattle.step_plans.specs.CommandFaults.{command_cause}
 use Rattle.step_plans.specs.Locking.{lock_name, removed}
-use Rattle.step_plans.specs.Pledges.{MayAsk, Pledge}
+use Rattle.step_plans.specs.Pledges.{Pledge}
 use Rattle.step_plans.specs.PlanFaults.{of_stop}
 use Rattle.step_plans.specs.Promises.{Promises}
 use Rattle.step_plans.specs.Removing.{message_removed}
@@ -45,7 +44,7 @@ use Rattle.step_plans.proofs.Pledged.{Of, synced_goes}
 use Rattle.step_plans.proofs.Promising.{keeps_pledge}
 use Rattle.step_plans.proofs.Ruling.{rules_of}
 use Rattle.step_plans.proofs.Stepping.{goes_end, goes_rename, goes_return, goes_unlink}
-use Rattle.step_plans.proofs.Written.{Adds, goes_at, lock_held}
+use Rattle.step_plans.proofs.Written.{Adds, lock_held}
 use Rattle.step_plans.specs.Commits.{IsBase}
 use Rattle.sequence_commits.specs.Committing.{changed_sequences}
 use Rattle.held_messages.specs.Settle.{Settled}
@@ -61,7 +60,7 @@ use Rattle.opened_folders.proofs.EndedKept.{Still}
 use Rattle.opened_folders.proofs.FolderPledged.{HasBegun, seen_kept}
 use Rattle.opened_folders.proofs.WorkPledged.{LetsBegin, begun_keeps, current_goes, sequences_goes}
 use Rattle.refile_command.specs.Rmm.{all_removed, chosen_from, opened_removed, removed_marked, removed_safely, rmm, said_removed, withdrawn}
-use Rattle.refile_command.specs.RmmPledge.{PromisesSteps, Removes, RemovesChosen, WasChosen, Withdraws, every_message, numbers_up, rmm_pledge}
+use Rattle.refile_command.specs.RmmPledge.{Removes, RemovesChosen, WasChosen, Withdraws, every_message, numbers_up, rmm_pledge}
 use Rattle.refile_command.specs.RmmOutcome.{is_among}
 use Rattle.refile_command.specs.declared.job.RmmJob.{RmmJob}
 use Rattle.refile_command.proofs.Selected.{chosen_numbers, first_of, rest_of}

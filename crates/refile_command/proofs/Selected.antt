@@ -15,7 +15,6 @@ use Rattle.msg_ranges.specs.declared.fault.SelectFault.{SelectFault}
 use Rattle.msg_ranges.proofs.Rising.{Rise, lists, lists_numbers, rise_filter, rise_runs}
 use Rattle.msg_ranges.proofs.Selected.{every_runs}
 use Rattle.msg_ranges.proofs.Within.{selected_within}
-use Rattle.step_plans.specs.declared.command_fault.CommandFault.{CommandFault}
 use Rattle.sequence_commits.proofs.RunTests.{none_outside}
 use Rattle.command_stages.specs.Chosen.{folder_with, refused_by}
 use Rattle.opened_folders.proofs.ExistingNumbers.{in_range_or}

@@ -1,13 +1,13 @@
 -- What messages that leave a folder make of contents, and of the mailbox.
-use Rattle.std.proofs.Common.{◌≡◌, ℕ, ◌+◌, ◌<◌, ◌≤◌, ◌==◌, Bool, true, false, List, [], ◌∷◌, Option, Some, None, refl, sym, ◌∙◌, ap, subst, bytes_eq, arith}
-use Rattle.std.specs.Prelude.{◌&&◌, ◌||◌, decimal, is_some, if◌then◌else◌}
+use Rattle.std.proofs.Common.{◌≡◌, ℕ, ◌+◌, ◌<◌, ◌==◌, Bool, true, false, List, [], ◌∷◌, None, refl, sym, ◌∙◌, ap, subst, bytes_eq, arith}
+use Rattle.std.specs.Prelude.{◌&&◌, ◌||◌, decimal, if◌then◌else◌}
 use Rattle.std.proofs.lemmas.Bool.Decides.{Decides-eqb}
 use Rattle.mh_base.specs.Entries.{entry_text, kind_of}
 use Rattle.mh_base.specs.Numbers.{IsMsgNum}
 use Rattle.mh_base.specs.declared.entry.Entry.TheVariants.{Backup, Held, Number, Sequences}
 use Rattle.mh_base.proofs.EntryKinds.{kind_of-entry_text}
-use Rattle.msg_ranges.proofs.Rising.{Rise, lists, none_below}
-use Rattle.folder_files.specs.Named.{is_number, is_temp}
+use Rattle.msg_ranges.proofs.Rising.{Rise, none_below}
+use Rattle.folder_files.specs.Named.{is_temp}
 use Rattle.folder_files.specs.Places.{same_place}
 use Rattle.folder_files.specs.declared.place.Place.{Place}
 use Rattle.folder_files.specs.declared.place.Place.TheVariants.{Folder}
