@@ -4,6 +4,7 @@ use mail_headers::Message;
 use mh_base::{MsgNum, Text};
 
 /// A message of a folder, and who looks at it when.
+#[derive(Drop)]
 pub struct View<'a> {
     pub number: MsgNum,
     /// Whether it is the current message.
