@@ -1,6 +1,6 @@
 -- What fits into columns.
 use Rattle.std.proofs.Common.{◌≡◌, take, length, get_or, ◌≤◌, ◌<◌, ◌+◌, ◌-◌, ℕ, Bool, true, false, List, [], ◌∷◌, ◌++◌, refl, sym, ap, ◌∙◌, arith, append_assoc}
-use Rattle.std.specs.Prelude.{nat_le, not, replicate, suc, zero, Result, Ok, Err, OnOk}
+use Rattle.std.specs.Prelude.{nat_le, not, replicate, Result, Ok, Err, OnOk}
 use Rattle.std.proofs.lemmas.Bool.Decides.{nat_tests}
 use Rattle.std.proofs.lemmas.List.{append-nil, take_more, replicate_more}
 use Rattle.std.proofs.lemmas.List.Sums.{sum_by-cons, sum_by-append}
@@ -217,3 +217,16 @@ wide_by cs w false more = ap (λ (l : Kept). l.width) (opened cs w more)
 -- a line keeps its width
 pub as_wide : (line : Kept) (more : List ℕ) → (with_more line more).width ≡ line.width
 as_wide line more = wide_by line.characters line.width line.closed more
+
+row_free_by : (t : Bool) (w : ℕ) (written : List ℕ) → nat_le (columns_of written) (w - columns_of []) ≡ t
+    → free (with_more (empty_line w) written) ≡ w - columns_of written
+row_free_by true w written e =
+    let fits : columns_of written ≤ w - columns_of [] = grind (arith, nat_tests) in
+    ap free (held [] w written fits)
+row_free_by false w written e =
+    let beyond : w - columns_of [] < columns_of written = grind (arith, nat_tests) in
+    ap free (cut [] w written beyond) ∙ omega arith
+
+-- of a line on which this was written
+pub row_free : (w : ℕ) (written : List ℕ) → free (with_more (empty_line w) written) ≡ w - columns_of written
+row_free w written = row_free_by (nat_le (columns_of written) (w - columns_of [])) w written refl

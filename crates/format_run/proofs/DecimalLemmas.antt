@@ -1,6 +1,6 @@
 -- Printed numbers and texts.
-use Rattle.std.proofs.Common.{◌≡◌, ◌≤◌, ◌<◌, ◌-◌, ℕ, Bool, true, false, List, [], ◌∷◌, ◌++◌, length, take, drop, refl, sym, ap, ◌∙◌, arith, append_assoc}
-use Rattle.std.specs.Prelude.{ℤ, pos, negsuc, suc, min, replicate}
+use Rattle.std.proofs.Common.{◌≡◌, ◌≤◌, ◌-◌, ℕ, true, false, List, ◌∷◌, ◌++◌, length, take, drop, refl, sym, ap, ◌∙◌, arith, append_assoc}
+use Rattle.std.specs.Prelude.{ℤ, pos, negsuc, min, replicate}
 use Rattle.std.specs.Fmt.{signed_decimal}
 use Rattle.format_compiler.specs.declared.width.Width.{Width}
 use Rattle.format_run.specs.Columns.{Kept, columns_of, empty_line, fit, with_more}

@@ -1,6 +1,8 @@
 pub mod ColumnLemmas
 pub mod DecimalLemmas
+pub mod LineLemmas
 pub mod RunLemmas
 pub mod SearchLemmas
+pub mod StepLemmas
 pub mod TextLemmas
 pub mod WidthLemmas

@@ -1,5 +1,5 @@
 -- Instructions and the trees that they are the code of.
-use Rattle.std.proofs.Common.{◌≡◌, ◌≤◌, ◌+◌, ℕ, zero, suc, Bool, true, false, List, [], ◌∷◌, ◌++◌, length, drop, refl, sym, ap, ◌∙◌, arith, append_assoc, add-one}
+use Rattle.std.proofs.Common.{◌≡◌, ℕ, zero, suc, Bool, true, false, List, [], ◌∷◌, ◌++◌, length, drop, refl, sym, ap, ◌∙◌, arith, append_assoc}
 use Rattle.std.specs.Prelude.{if◌then◌else◌}
 use Rattle.std.proofs.lemmas.List.{append-nil}
 use Rattle.format_compiler.specs.Code.{code_of, jump_over}
@@ -10,7 +10,10 @@ use Rattle.format_compiler.specs.declared.one_test.Test.{Test}
 use Rattle.format_compiler.specs.declared.piece.Piece.{Piece}
 use Rattle.format_run.specs.declared.state.State.{State}
 use Rattle.format_run.specs.declared.view.View.{View}
-use Rattle.format_run.specs.Meaning.{holds, meaning, printed, tested}
+use Rattle.format_run.specs.Meaning.{Progress, meaning}
+use Rattle.format_run.specs.Meaning as meant
+use Rattle.format_run.specs.Stepping.{holds, printed, tested}
+use Rattle.format_run.proofs.StepLemmas.{at, printed_at, tested_at}
 use Rattle.format_run.specs.Running.{run}
 
 -- nothing is left to run
@@ -53,32 +56,40 @@ jumped view [] code s = refl
 jumped view (i ∷ part) code s = ran_skip view (length (i ∷ part)) ((i ∷ part) ++ code) s ∙ skipped_part view (i ∷ part) code s
 
 abbrev Ran : View → Format → Type 0
-Ran view f = (rest : List Instruction) (s : State) → run view 0 (code_of f ++ rest) s ≡ run view 0 rest (meaning view f s)
+Ran view f = (rest : List Instruction) (p : Progress) → run view 0 (code_of f ++ rest) (at p) ≡ run view 0 rest (at (meaning view f p))
 
 -- the code of a conditional, where its test holds or doesn't
 choice_by : (view : View) (t : Bool) (taken other f : Format) → Ran view taken → Ran view other → Ran view f
-    → (rest : List Instruction) (s : State)
-    → run view (if t then 0 else length (code_of taken ++ jump_over (code_of other))) ((code_of taken ++ jump_over (code_of other) ++ code_of other ++ code_of f) ++ rest) s
-    ≡ run view 0 rest (meaning view f (if t then meaning view taken s else meaning view other s))
-choice_by view true taken other f ran_taken ran_other ran_f rest s =
+    → (rest : List Instruction) (p : Progress)
+    → run view (if t then 0 else length (code_of taken ++ jump_over (code_of other))) ((code_of taken ++ jump_over (code_of other) ++ code_of other ++ code_of f) ++ rest) (at p)
+    ≡ run view 0 rest (at (meaning view f (if t then meaning view taken p else meaning view other p)))
+choice_by view true taken other f ran_taken ran_other ran_f rest p =
     let T = code_of taken in let J = jump_over (code_of other) in let O = code_of other in let F = code_of f in
     let regroup : (T ++ J ++ O ++ F) ++ rest ≡ T ++ (J ++ (O ++ (F ++ rest))) = simp append_assoc in
-    ap (λ code. run view 0 code s) regroup ∙ ran_taken (J ++ (O ++ (F ++ rest))) s ∙ jumped view O (F ++ rest) (meaning view taken s)
-    ∙ ran_f rest (meaning view taken s)
-choice_by view false taken other f ran_taken ran_other ran_f rest s =
+    ap (λ code. run view 0 code (at p)) regroup ∙ ran_taken (J ++ (O ++ (F ++ rest))) p ∙ jumped view O (F ++ rest) (at (meaning view taken p))
+    ∙ ran_f rest (meaning view taken p)
+choice_by view false taken other f ran_taken ran_other ran_f rest p =
     let T = code_of taken in let J = jump_over (code_of other) in let O = code_of other in let F = code_of f in
     let regroup : (T ++ J ++ O ++ F) ++ rest ≡ (T ++ J) ++ (O ++ (F ++ rest)) = simp append_assoc in
-    ap (λ code. run view (length (T ++ J)) code s) regroup ∙ skipped_part view (T ++ J) (O ++ (F ++ rest)) s
-    ∙ ran_other (F ++ rest) s ∙ ran_f rest (meaning view other s)
+    ap (λ code. run view (length (T ++ J)) code (at p)) regroup ∙ skipped_part view (T ++ J) (O ++ (F ++ rest)) (at p)
+    ∙ ran_other (F ++ rest) p ∙ ran_f rest (meaning view other p)
+
+-- behind the test
+behind_test : (view : View) (count : ℕ) (code : List Instruction) (test : Test) (p : Progress)
+    → run view (if holds (tested view test (at p)) then 0 else count) code (tested view test (at p))
+    ≡ run view (if meant.holds (meant.tested view test p) then 0 else count) code (at (meant.tested view test p))
+behind_test view count code test p = ap (λ s. run view (if holds s then 0 else count) code s) (tested_at view test p)
 
 -- the code of a format does what the format means
 ran : (view : View) (f : Format) → Ran view f
-ran view Done rest s = refl
-ran view (Then piece f) rest s = ran_print view piece (code_of f ++ rest) s ∙ ran view f rest (printed view piece s)
-ran view (Choice test taken other f) rest s =
-    ran_unless view test (length (code_of taken ++ jump_over (code_of other))) ((code_of taken ++ jump_over (code_of other) ++ code_of other ++ code_of f) ++ rest) s
-    ∙ choice_by view (holds (tested view test s)) taken other f (ran view taken) (ran view other) (ran view f) rest (tested view test s)
+ran view Done rest p = refl
+ran view (Then piece f) rest p =
+    ran_print view piece (code_of f ++ rest) (at p) ∙ ap (run view 0 (code_of f ++ rest)) (printed_at view piece p) ∙ ran view f rest (meant.printed view piece p)
+ran view (Choice test taken other f) rest p =
+    ran_unless view test (length (code_of taken ++ jump_over (code_of other))) ((code_of taken ++ jump_over (code_of other) ++ code_of other ++ code_of f) ++ rest) (at p)
+    ∙ behind_test view _ _ test p
+    ∙ choice_by view (meant.holds (meant.tested view test p)) taken other f (ran view taken) (ran view other) (ran view f) rest (meant.tested view test p)
 
 -- and nothing else
-pub run_code : (view : View) (f : Format) (s : State) → run view 0 (code_of f) s ≡ meaning view f s
-run_code view f s = ap (λ code. run view 0 code s) (sym (append-nil (code_of f))) ∙ ran view f [] s ∙ ran_out view 0 (meaning view f s)
+pub run_code : (view : View) (f : Format) (p : Progress) → run view 0 (code_of f) (at p) ≡ at (meaning view f p)
+run_code view f p = ap (λ code. run view 0 code (at p)) (sym (append-nil (code_of f))) ∙ ran view f [] p ∙ ran_out view 0 (at (meaning view f p))

@@ -19,7 +19,8 @@ use Rattle.format_run.specs.declared.answer.Outcome.TheVariants as outcomes
 use Rattle.format_run.specs.declared.state.State.{State}
 use Rattle.format_run.specs.declared.view.View.{View}
 use Rattle.format_run.specs.Answers.{answer_of}
-use Rattle.format_run.specs.Meaning.{Evaluated, adding, applied, evaluated, evaluated_around, given, holds, judged, printed, settled, sourced, takes_source, tested, width_inside, with_result, with_text}
+use Rattle.format_run.specs.Meaning.{takes_source, width_inside}
+use Rattle.format_run.specs.Stepping.{Evaluated, adding, applied, evaluated, evaluated_around, given, holds, judged, printed, seen, settled, sourced, tested, with_result, with_text}
 use Rattle.format_run.specs.Running.{run}
 use Rattle.format_run.specs.Texts.{printed_text}
 use Rattle.format_run.specs.Values.{value_of}
@@ -51,7 +52,7 @@ given_by false view a s = refl
 
 applied_wide : (view : View) (w : Option Width) (f : Function) (a : Argument) (s : State) → wide (applied view w f a s).state ≡ wide s
 unfolding applied
-applied_wide view w f a s = settled_wide (answer_of view (given view f a s) w f a) (given view f a s) ∙ given_by (takes_source (kind_of f)) view a s
+applied_wide view w f a s = settled_wide (answer_of view (seen (given view f a s)) w f a) (given view f a s) ∙ given_by (takes_source (kind_of f)) view a s
 
 around_wide : (view : View) (w : Option Width) (around : List Function) (e : Evaluated) → wide (evaluated_around view w around e).state ≡ wide e.state
 around_wide view w [] e = refl

@@ -1,5 +1,5 @@
 -- The functions of formats (mh-format): what each answers.
-use Rattle.std.specs.Prelude.{ℕ, ◌-◌, ◌==◌, not, Bool, true, false, is_none, List, [], length, Option, Some, None, ℤ, pos, ◌+ℤ◌, ◌-ℤ◌, int_lt, if◌then◌else◌}
+use Rattle.std.specs.Prelude.{ℕ, ◌==◌, not, Bool, is_none, List, [], length, Option, None, ℤ, pos, ◌+ℤ◌, ◌-ℤ◌, int_lt}
 use Rattle.std.specs.Ordering.{int_eq}
 use Rattle.std.specs.Str.{encode_utf8_all}
 use Rattle.format_compiler.specs.declared.argument.Argument.{Argument}
@@ -15,10 +15,8 @@ use Rattle.mail_text.specs.EncodedWords.{decoded}
 use Rattle.mail_text.specs.ShownAddress.{shown_address}
 use Rattle.format_run.specs.declared.answer.Answer.{Answer}
 use Rattle.format_run.specs.declared.answer.Answer.TheVariants as answers
-use Rattle.format_run.specs.declared.state.State.{State}
 use Rattle.format_run.specs.declared.view.View.{View}
 use Rattle.format_run.specs.Addresses.{addr_in, friendly_in}
-use Rattle.format_run.specs.Columns.{free}
 use Rattle.format_run.specs.Dates.{date_number, date_text, long_month_name, long_weekday_name, month_of, weekday_of}
 use Rattle.format_run.specs.Numbers.{held, quotient, remainder, truth}
 use Rattle.format_run.specs.Texts.{begins, leading_number, stands_in, trimmed, unquoted}
@@ -49,18 +47,25 @@ value_in view (Component name) = value_of name view.message
 abbrev pub date_of : View → Argument → Option MailDate
 date_of view a = date_in (encode_utf8_all (value_in view a))
 
+-- what a function sees of a format's state: its number, its text, the line's width, and the columns of it that are free
+pub record Seen : Type 0 where
+  pub number : ℤ
+  pub text : List ℕ
+  pub width : ℕ
+  pub free : ℕ
+
 -- a text's number of characters is 0
 abbrev pub is_empty : List ℕ → Bool
 is_empty text = length text == 0
 
 -- what a function answers, with this width and argument in this state: a number or a text, or what is to be printed
-abbrev pub answer_of : View → State → Option Width → Function → Argument → Answer
+abbrev pub answer_of : View → Seen → Option Width → Function → Argument → Answer
 answer_of view s w functions.Msg a = answers.Number (pos view.number)
 answer_of view s w functions.Size a = answers.Number (pos (length view.message))
 answer_of view s w functions.Cur a = answers.Number (truth view.current)
 answer_of view s w functions.Unseen a = answers.Number (truth view.unseen)
-answer_of view s w functions.Width a = answers.Number (pos s.row.width)
-answer_of view s w functions.Charleft a = answers.Number (pos (free s.row))
+answer_of view s w functions.Width a = answers.Number (pos s.width)
+answer_of view s w functions.Charleft a = answers.Number (pos s.free)
 answer_of view s w functions.Timenow a = answers.Number view.now
 answer_of view s w functions.Me a = answers.Text view.user.now
 answer_of view s w functions.Num a = answers.Number (number_in a)

@@ -1,7 +1,7 @@
 -- The parts of dates.
-use Rattle.std.specs.Prelude.{ℕ, ◌==◌, List, [], Option, Some, None, Bool, true, false, ℤ, pos, unsigned_abs, ◌-ℤ◌, codes, if◌then◌else◌}
+use Rattle.std.specs.Prelude.{ℕ, ◌==◌, List, [], Option, Some, None, ℤ, pos, unsigned_abs, codes, if◌then◌else◌}
 use Rattle.mail_dates.specs.declared.mail_date.MailDate.{MailDate}
-use Rattle.mail_dates.specs.Clocks.{clock_of, day_number, weekday_on}
+use Rattle.mail_dates.specs.Clocks.{day_number, weekday_on}
 
 -- a number of a date, and 0 where there is none
 abbrev pub date_number : (MailDate → ℤ) → Option MailDate → ℤ

@@ -6,5 +6,6 @@ pub mod Decimals
 pub mod Meaning
 pub mod Numbers
 pub mod Running
+pub mod Stepping
 pub mod Texts
 pub mod Values

@@ -1,5 +1,5 @@
 -- The meaning of formats (mh-format): the line that one gives for a message.
-use Rattle.std.specs.Prelude.{ℕ, ◌==◌, not, Bool, true, false, List, [], ◌∷◌, Option, Some, None, ℤ, pos, if◌then◌else◌}
+use Rattle.std.specs.Prelude.{ℕ, ◌-◌, ◌++◌, not, Bool, true, false, List, [], ◌∷◌, Option, None, ℤ, pos, if◌then◌else◌}
 use Rattle.format_compiler.specs.declared.argument.Argument.{Argument}
 use Rattle.format_compiler.specs.declared.argument.Argument.TheVariants.{Nothing, Literal, Number, Component}
 use Rattle.format_compiler.specs.declared.call.Call.{Call}
@@ -17,36 +17,42 @@ use Rattle.format_run.specs.declared.answer.Answer.{Answer}
 use Rattle.format_run.specs.declared.answer.Answer.TheVariants as answers
 use Rattle.format_run.specs.declared.answer.Outcome.{Outcome}
 use Rattle.format_run.specs.declared.answer.Outcome.TheVariants as outcomes
-use Rattle.format_run.specs.declared.state.State.{State}
 use Rattle.format_run.specs.declared.view.View.{View}
-use Rattle.format_run.specs.Answers.{answer_of, is_empty}
-use Rattle.format_run.specs.Columns.{empty_line, with_more}
+use Rattle.format_run.specs.Answers.{Seen, answer_of, is_empty}
+use Rattle.format_run.specs.Columns.{columns_of, fit}
 use Rattle.format_run.specs.Decimals.{printed_number}
 use Rattle.format_run.specs.Numbers.{is_not_zero, truth}
 use Rattle.format_run.specs.Texts.{printed_text}
 use Rattle.format_run.specs.Values.{value_of}
 
--- before anything is printed
-abbrev pub start_of : ℕ → State
-start_of width = record { number = pos 0; text = []; row = empty_line width }
+-- the state: a number, a text, and all that was written so far on a line of this width, of which the line shows what fits
+pub record Progress : Type 0 where
+  pub number : ℤ
+  pub text : List ℕ
+  pub width : ℕ
+  pub written : List ℕ
 
--- these characters are added to the line, as far as they fit
-abbrev pub adding : List ℕ → State → State
-adding more s = record { number = s.number; text = s.text; row = with_more s.row more }
+-- before anything is written
+abbrev pub start_of : ℕ → Progress
+start_of width = record { number = pos 0; text = []; width = width; written = [] }
 
-abbrev pub with_number : ℤ → State → State
-with_number n s = record { number = n; text = s.text; row = s.row }
+-- these characters are written
+abbrev pub adding : List ℕ → Progress → Progress
+adding more s = record { number = s.number; text = s.text; width = s.width; written = s.written ++ more }
 
-abbrev pub with_text : List ℕ → State → State
-with_text text s = record { number = s.number; text = text; row = s.row }
+abbrev pub with_number : ℤ → Progress → Progress
+with_number n s = record { number = n; text = s.text; width = s.width; written = s.written }
+
+abbrev pub with_text : List ℕ → Progress → Progress
+with_text text s = record { number = s.number; text = text; width = s.width; written = s.written }
 
 -- the state behind a call, and of what kind the call's result is
 pub record Evaluated : Type 0 where
-  pub state : State
+  pub state : Progress
   pub outcome : Outcome
 
 -- what is done with a function's answer: a result is kept, and what is to be printed is printed
-abbrev pub settled : Answer → State → Evaluated
+abbrev pub settled : Answer → Progress → Evaluated
 settled (answers.Number n) s = record { state = with_number n s; outcome = outcomes.Number }
 settled (answers.Text text) s = record { state = with_text text s; outcome = outcomes.Text }
 settled (answers.PrintText w) s = record { state = adding (printed_text w s.text) s; outcome = outcomes.Nothing }
@@ -65,19 +71,23 @@ takes_source kinds.Source = true
 takes_source kinds.SourceOrNothing = true
 
 -- the text is the value of an argument that is a component
-abbrev pub sourced : View → Argument → State → State
+abbrev pub sourced : View → Argument → Progress → Progress
 sourced view Nothing s = s
 sourced view (Literal text) s = s
 sourced view (Number n) s = s
 sourced view (Component name) s = with_text (value_of name view.message) s
 
 -- the state in which a function of this argument answers
-abbrev pub given : View → Function → Argument → State → State
+abbrev pub given : View → Function → Argument → Progress → Progress
 given view f a s = if takes_source (kind_of f) then sourced view a s else s
 
+-- what a function sees of a state: free are the columns that what was written doesn't take
+abbrev pub seen : Progress → Seen
+seen s = record { number = s.number; text = s.text; width = s.width; free = s.width - columns_of s.written }
+
 -- a function of this argument
-unfoldable pub applied : View → Option Width → Function → Argument → State → Evaluated
-applied view w f a s = settled (answer_of view (given view f a s) w f a) (given view f a s)
+unfoldable pub applied : View → Option Width → Function → Argument → Progress → Evaluated
+applied view w f a s = settled (answer_of view (seen (given view f a s)) w f a) (given view f a s)
 
 -- the width belongs to the function that has none around it
 abbrev pub width_inside : List Function → Option Width → Option Width
@@ -90,56 +100,56 @@ evaluated_around view w [] e = e
 evaluated_around view w (f ∷ around) e = evaluated_around view w around (applied view (width_inside around w) f Nothing e.state)
 
 -- a call
-abbrev pub evaluated : View → Option Width → Call → State → Evaluated
+abbrev pub evaluated : View → Option Width → Call → Progress → Evaluated
 evaluated view w call s =
     evaluated_around view w call.around (applied view (width_inside call.around w) call.function call.argument s)
 
 -- a call's result, printed; what has no result prints nothing more
-abbrev pub with_result : Option Width → Outcome → State → State
+abbrev pub with_result : Option Width → Outcome → Progress → Progress
 with_result w outcomes.Number s = adding (printed_number w s.number) s
 with_result w outcomes.Text s = adding (printed_text w s.text) s
 with_result w outcomes.Nothing s = s
 
-abbrev pub printed_result : Option Width → Evaluated → State
+abbrev pub printed_result : Option Width → Evaluated → Progress
 printed_result w e = with_result w e.outcome e.state
 
 -- a part of a format that is printed
-unfoldable pub printed : View → Piece → State → State
+unfoldable pub printed : View → Piece → Progress → Progress
 printed view (pieces.Character c) s = adding (c ∷ []) s
 printed view (pieces.Component w name) s =
     adding (printed_text w (value_of name view.message)) (with_text (value_of name view.message) s)
 printed view (pieces.Call w call) s = printed_result w (evaluated view w call s)
 
 -- the number is 1 where the text isn't empty, and else 0
-abbrev pub weighed : State → State
+abbrev pub weighed : Progress → Progress
 weighed s = with_number (truth (not (is_empty s.text))) s
 
 -- a text's truth is whether it isn't empty
-abbrev pub judged : Outcome → State → State
+abbrev pub judged : Outcome → Progress → Progress
 judged outcomes.Number s = s
 judged outcomes.Text s = weighed s
 judged outcomes.Nothing s = s
 
-abbrev pub judged_result : Evaluated → State
+abbrev pub judged_result : Evaluated → Progress
 judged_result e = judged e.outcome e.state
 
 -- a test
-unfoldable pub tested : View → Test → State → State
+unfoldable pub tested : View → Test → Progress → Progress
 tested view (tests.Component name) s = weighed (with_text (value_of name view.message) s)
 tested view (tests.Call call) s = judged_result (evaluated view None call s)
 
 -- behind a test: it holds
-abbrev pub holds : State → Bool
+abbrev pub holds : Progress → Bool
 holds s = is_not_zero s.number
 
 -- a format: its parts in order; of a conditional, what counts where its test holds, or else what counts where it doesn't
-abbrev pub meaning : View → Format → State → State
+abbrev pub meaning : View → Format → Progress → Progress
 meaning view Done s = s
 meaning view (Then piece f) s = meaning view f (printed view piece s)
 meaning view (Choice test taken other f) s =
     let after = tested view test s in
     meaning view f (if holds after then meaning view taken after else meaning view other after)
 
--- the line of a format, in this width
+-- the line of a format, in this width: the longest front that fits of what the format writes
 abbrev pub line_of : View → ℕ → Format → List ℕ
-line_of view width f = (meaning view f (start_of width)).row.characters
+line_of view width f = fit width (meaning view f (start_of width)).written

@@ -1,5 +1,5 @@
 -- Whole numbers of 64 bits.
-use Rattle.std.specs.Prelude.{ℕ, zero, suc, Bool, true, false, ◌==◌, ℤ, pos, negsuc, ◌+ℤ◌, ◌-ℤ◌, int_div, int_rem, if◌then◌else◌}
+use Rattle.std.specs.Prelude.{zero, suc, Bool, true, false, ℤ, pos, negsuc, int_div, int_rem, if◌then◌else◌}
 use Rattle.std.specs.Int.{saturate_signed, w64}
 
 -- 1 for yes, 0 for no

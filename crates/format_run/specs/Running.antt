@@ -4,7 +4,7 @@ use Rattle.format_compiler.specs.declared.instruction.Instruction.{Instruction}
 use Rattle.format_compiler.specs.declared.instruction.Instruction.TheVariants.{Print, Unless, Skip}
 use Rattle.format_run.specs.declared.state.State.{State}
 use Rattle.format_run.specs.declared.view.View.{View}
-use Rattle.format_run.specs.Meaning.{holds, printed, tested}
+use Rattle.format_run.specs.Stepping.{holds, printed, tested}
 
 -- the state behind these instructions, of which so many are skipped first
 unfoldable pub run : View → ℕ → List Instruction → State → State

@@ -1,7 +1,6 @@
 -- What functions make of texts. 34 is a quote mark, 92 a backslash, and 48 to 57 are the digits.
 use Rattle.std.specs.Prelude.{ℕ, ◌+◌, ◌-◌, ◌*◌, ◌==◌, ◌&&◌, ◌||◌, Bool, nat_le, min, List, [], ◌∷◌, ◌++◌, length, take, replicate, bytes_eq, Option, Some, None, ℤ, pos, if◌then◌else◌}
 use Rattle.std.specs.List.{suffix_len}
-use Rattle.std.specs.Str.{encode_utf8_all}
 use Rattle.mail_text.specs.Stripping.{stripped}
 use Rattle.format_compiler.specs.declared.width.Width.{Width}
 use Rattle.format_run.specs.Columns.{columns_of, fit}

@@ -3,6 +3,7 @@ ghost use Rattle.std.specs.Prelude.{◌≡◌, length, pos, IfOk, IfSome};
 ghost use Rattle.std.specs.Str.{encode_utf8_all};
 ghost use Rattle.mail_dates.specs.Clocks.{IsMailDate};
 ghost use Rattle.format_run.specs.Answers.{answer_of, date_of, literal_in, number_in, value_in};
+ghost use Rattle.format_run.specs.Stepping.{seen};
 
 use crate::answer::Answer;
 use crate::characters::{characters, is_empty};
@@ -81,7 +82,7 @@ pub(crate) fn answer(
     function: Function,
     argument: &Argument,
 ) -> Result<Answer, AllocError>
-    ensures { IfOk result (λ a. a ≡ answer_of view.entry.now state.now width function argument.now) }
+    ensures { IfOk result (λ a. a ≡ answer_of view.entry.now (seen state.now) width function argument.now) }
 {
     match function {
         Function::Msg => Ok(Answer::Number(i64::from(view.number.get()))),

@@ -1,6 +1,7 @@
 // Calls, tests and what is printed.
 ghost use Rattle.std.specs.Prelude.{◌≡◌, IfOk, OnOk, None};
-ghost use Rattle.format_run.specs.Meaning.{Evaluated, applied, evaluated, evaluated_around, given, judged, printed, settled, sourced, takes_source as takes_source_of, tested, width_inside as width_inside_of, with_result, with_text};
+ghost use Rattle.format_run.specs.Stepping.{Evaluated, applied, evaluated, evaluated_around, given, judged, printed, settled, sourced, tested, with_result, with_text};
+ghost use Rattle.format_run.specs.Meaning.{takes_source as takes_source_of, width_inside as width_inside_of};
 ghost use Rattle.format_run.specs.Values.{value_of};
 
 use crate::View;
@@ -87,7 +88,7 @@ fn give(
 }
 
 /// A function of this argument.
-#[tactic(auto, unfolding(crate::specs::Meaning::applied))]
+#[tactic(auto, unfolding(crate::specs::Stepping::applied))]
 fn apply(
     alloc: Global,
     view: &View,
@@ -162,7 +163,7 @@ fn print_result(
 }
 
 /// Prints a part of a format.
-#[tactic(auto, unfolding(crate::specs::Meaning::printed))]
+#[tactic(auto, unfolding(crate::specs::Stepping::printed))]
 pub(crate) fn print(
     alloc: Global,
     view: &View,
@@ -193,7 +194,7 @@ fn judge(state: &mut State, outcome: Outcome)
 }
 
 /// Evaluates a test, which then holds where the number isn't 0.
-#[tactic(auto, unfolding(crate::specs::Meaning::tested))]
+#[tactic(auto, unfolding(crate::specs::Stepping::tested))]
 pub(crate) fn test(
     alloc: Global,
     view: &View,

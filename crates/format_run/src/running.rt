@@ -4,7 +4,7 @@ ghost use Rattle.format_compiler.specs.Code.{IsCodeOf};
 ghost use Rattle.format_compiler.specs.Grammar.{Format};
 ghost use Rattle.format_compiler.specs.declared.instruction.Instruction.{Instruction as InstructionOf};
 ghost use Rattle.format_run.specs.Columns.{columns_of};
-ghost use Rattle.format_run.specs.Meaning.{line_of, start_of};
+ghost use Rattle.format_run.specs.Meaning.{line_of};
 ghost use Rattle.format_run.specs.Running.{run as run_of};
 
 use crate::View;

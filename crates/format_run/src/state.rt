@@ -2,7 +2,7 @@
 ghost use Rattle.std.specs.Prelude.{◌≡◌, ◌∷◌, [], OnOk};
 ghost use Rattle.format_run.specs.Columns.{with_more};
 ghost use Rattle.format_run.specs.Decimals.{printed_number};
-ghost use Rattle.format_run.specs.Meaning.{adding, start_of, weighed};
+ghost use Rattle.format_run.specs.Stepping.{adding, start_of, weighed};
 ghost use Rattle.format_run.specs.Texts.{field as field_of, printed_text};
 
 use crate::characters::is_empty;

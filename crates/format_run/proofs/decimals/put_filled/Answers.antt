@@ -1,4 +1,4 @@
-use Rattle.std.proofs.Common.{arith, ap, w64, ◌∙◌}
+use Rattle.std.proofs.Common.{ap, w64, ◌∙◌}
 use Rattle.std.proofs.lemmas.Int.{to_z-of_z}
 use Rattle.format_run.specs.Decimals.{sign_len}
 use Rattle.format_run.proofs.ColumnLemmas.{on_ok, three_more, two_more_as}

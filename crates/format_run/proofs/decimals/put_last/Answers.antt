@@ -1,4 +1,4 @@
-use Rattle.std.proofs.Common.{arith, ap, w64, ◌∙◌}
+use Rattle.std.proofs.Common.{arith}
 use Rattle.format_run.proofs.ColumnLemmas.{on_ok, two_more_as}
 use Rattle.format_run.proofs.DecimalLemmas.{last_cut}
 use Rattle.format_run.proofs.decimals.put_last.Goals as goal

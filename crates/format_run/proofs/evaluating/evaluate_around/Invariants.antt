@@ -1,5 +1,5 @@
 use Rattle.std.proofs.Common.{◌≡◌, length}
-use Rattle.format_run.specs.Meaning.{evaluated_around}
+use Rattle.format_run.specs.Stepping.{evaluated_around}
 use Rattle.format_run.proofs.evaluating.evaluate_around.Given as goal
 
 abbrev pub invariant-loop-function : goal.invariant-loop-function
