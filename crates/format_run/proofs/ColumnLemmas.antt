@@ -12,15 +12,15 @@ le_yes a b h = grind (arith, nat_tests)
 le_no : (a b : ℕ) → b < a → nat_le a b ≡ false
 le_no a b h = grind (arith, nat_tests)
 
-fit_yes : (c : ℕ) (text : List ℕ) (room : ℕ) → columns_in c ≤ room → fit room (c ∷ text) ≡ c ∷ fit (room - columns_in c) text
+pub fit_yes : (c : ℕ) (text : List ℕ) (room : ℕ) → columns_in c ≤ room → fit room (c ∷ text) ≡ c ∷ fit (room - columns_in c) text
 unfolding fit
 fit_yes c text room h = rw (le_yes (columns_in c) room h) refl
 
-fit_no : (c : ℕ) (text : List ℕ) (room : ℕ) → room < columns_in c → fit room (c ∷ text) ≡ []
+pub fit_no : (c : ℕ) (text : List ℕ) (room : ℕ) → room < columns_in c → fit room (c ∷ text) ≡ []
 unfolding fit
 fit_no c text room h = rw (le_no (columns_in c) room h) refl
 
-fit_none : (room : ℕ) → fit room [] ≡ []
+pub fit_none : (room : ℕ) → fit room [] ≡ []
 unfolding fit
 fit_none room = refl
 

@@ -1,6 +1,7 @@
 pub mod ColumnLemmas
 pub mod DecimalLemmas
 pub mod LineLemmas
+pub mod LongestLemmas
 pub mod RunLemmas
 pub mod SearchLemmas
 pub mod StepLemmas

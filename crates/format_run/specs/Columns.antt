@@ -1,5 +1,5 @@
 -- How many columns characters take, and lines that have a limited number of them.
-use Rattle.std.specs.Prelude.{ℕ, ◌-◌, Bool, false, not, nat_le, List, [], ◌∷◌, ◌++◌, sum_by, unwrap_or, if◌then◌else◌}
+use Rattle.std.specs.Prelude.{◌≡◌, ◌≤◌, ℕ, ◌-◌, Bool, false, not, nat_le, List, [], ◌∷◌, ◌++◌, length, take, sum_by, unwrap_or, if◌then◌else◌}
 use Rattle.unicode_width.specs.Width.{char_width}
 
 -- a character's columns (Unicode Standard Annex 11); a control character has one
@@ -33,3 +33,9 @@ with_more line more =
 -- a line of this width, which holds nothing yet
 abbrev pub empty_line : ℕ → Kept
 empty_line width = record { characters = []; width = width; closed = false }
+
+-- this is the longest front of a text that takes at most so many columns: no longer one does
+pub record IsLongestFit (room : ℕ) (text front : List ℕ) : Type 0 where
+  pub begins : front ≡ take (length front) text
+  pub fits : columns_of front ≤ room
+  pub longest : (n : ℕ) → n ≤ length text → columns_of (take n text) ≤ room → n ≤ length front

@@ -150,6 +150,10 @@ meaning view (Choice test taken other f) s =
     let after = tested view test s in
     meaning view f (if holds after then meaning view taken after else meaning view other after)
 
+-- all that a format writes, if nothing is cut
+abbrev pub written_by : View → ℕ → Format → List ℕ
+written_by view width f = (meaning view f (start_of width)).written
+
 -- the line of a format, in this width: the longest front that fits of what the format writes
 abbrev pub line_of : View → ℕ → Format → List ℕ
-line_of view width f = fit width (meaning view f (start_of width)).written
+line_of view width f = fit width (written_by view width f)

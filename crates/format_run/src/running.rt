@@ -3,8 +3,8 @@ ghost use Rattle.std.specs.Prelude.{◌≡◌, ◌≤◌, ◌∷◌, List, drop,
 ghost use Rattle.format_compiler.specs.Code.{IsCodeOf};
 ghost use Rattle.format_compiler.specs.Grammar.{Format};
 ghost use Rattle.format_compiler.specs.declared.instruction.Instruction.{Instruction as InstructionOf};
-ghost use Rattle.format_run.specs.Columns.{columns_of};
-ghost use Rattle.format_run.specs.Meaning.{line_of};
+ghost use Rattle.format_run.specs.Columns.{IsLongestFit, columns_of};
+ghost use Rattle.format_run.specs.Meaning.{line_of, written_by};
 ghost use Rattle.format_run.specs.Running.{run as run_of};
 
 use crate::View;
@@ -72,6 +72,7 @@ fn run(
 /// The line that a format gives for a message, in so many columns at most.
 pub fn line(alloc: Global, program: &Program, view: &View, width: u32) -> Result<Text, AllocError>
     ensures meaning { (f : Format) → IsCodeOf program.now f → IfOk result (λ text. text ≡ line_of view.entry.now width f) }
+    ensures longest { (f : Format) → IsCodeOf program.now f → IfOk result (IsLongestFit width (written_by view.entry.now width f)) }
     ensures within { IfOk result (λ text. columns_of text ≤ width) }
 {
     let mut state = State::new(alloc, width);
