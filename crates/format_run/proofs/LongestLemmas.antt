@@ -1,9 +1,9 @@
 -- What fits is the longest front that does.
-use Rattle.std.proofs.Common.{◌≡◌, ◌≤◌, ◌<◌, ◌+◌, ◌-◌, ℕ, zero, suc, Bool, true, false, List, [], ◌∷◌, length, take, refl, sym, ap, subst, ◌∙◌, arith}
+use Rattle.std.proofs.Common.{◌≡◌, ◌≤◌, ◌<◌, ◌-◌, ℕ, zero, suc, Bool, true, false, List, [], ◌∷◌, length, take, refl, sym, ap, subst, ◌∙◌, arith}
 use Rattle.std.specs.Prelude.{nat_le}
 use Rattle.std.proofs.lemmas.Bool.Decides.{nat_tests}
 use Rattle.format_run.specs.Columns.{IsLongestFit, columns_in, columns_of, fit}
-use Rattle.format_run.proofs.ColumnLemmas.{columns_cons, fit_no, fit_none, fit_within, fit_yes}
+use Rattle.format_run.proofs.ColumnLemmas.{columns_cons, fit_no, fit_none, fit_yes}
 
 nothing_fits : (room : ℕ) → IsLongestFit room [] []
 nothing_fits room = record {
