@@ -138,7 +138,7 @@ unfoldable pub tested : View → Test → Progress → Progress
 tested view (tests.Component name) s = weighed (with_text (value_of name view.message) s)
 tested view (tests.Call call) s = judged_result (evaluated view None call s)
 
--- behind a test: it holds
+-- a test holds where the number that it leaves is not 0
 abbrev pub holds : Progress → Bool
 holds s = is_not_zero s.number
 
