@@ -1,4 +1,4 @@
-// Lines of formats.
+// Lines of formats. A view has a field `now` of its own, so that in clauses `view.entry.now` is the view.
 ghost use Rattle.std.specs.Prelude.{◌≡◌, ◌≤◌, ◌∷◌, List, drop, IfOk, OnOk};
 ghost use Rattle.format_compiler.specs.Code.{IsCodeOf};
 ghost use Rattle.format_compiler.specs.Grammar.{Format};
