@@ -1,9 +1,10 @@
-//! Prints how fast what its word names is done: `drops`, `codes`, `text`, `ranges` or `room`. Without a word it does nothing,
+//! Prints how fast what its word names is done: `drops`, `codes`, `text`, `formats`, `ranges` or `room`. Without a word it does nothing,
 //! since times differ from run to run.
 #![tactic(auto)]
 
 mod codes;
 mod drops;
+mod formats;
 mod long;
 mod ranges;
 mod rates;
@@ -18,9 +19,10 @@ fn measure(rt: &HostRuntime, word: &str) -> Result<(), Fail> {
         "drops" => drops::measure(rt, rt.alloc()),
         "codes" => codes::measure(rt, rt.alloc()),
         "text" => text::measure(rt, rt.alloc()),
+        "formats" => formats::measure(rt, rt.alloc()),
         "ranges" => ranges::measure(rt, rt.alloc()),
         "room" => room::measure(rt, rt.alloc()),
-        _ => Err("one of drops, codes, text, ranges, room".into()),
+        _ => Err("one of drops, codes, text, formats, ranges, room".into()),
     }
 }
 

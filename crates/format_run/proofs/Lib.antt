@@ -1,0 +1,9 @@
+pub mod ColumnLemmas
+pub mod DecimalLemmas
+pub mod LineLemmas
+pub mod LongestLemmas
+pub mod RunLemmas
+pub mod SearchLemmas
+pub mod StepLemmas
+pub mod TextLemmas
+pub mod WidthLemmas

@@ -1,0 +1,18 @@
+use Rattle.std.proofs.Common.{sym, ap, ◌∙◌}
+use Rattle.std.proofs.lemmas.Iterator.{YieldsList-from_chars}
+use Rattle.std.proofs.lemmas.Iterator.Consumers.{YieldsList-end}
+use Rattle.std.proofs.lemmas.List.{map-id}
+use Rattle.format_run.specs.Columns.{with_more}
+use Rattle.format_run.proofs.ColumnLemmas.{character_more, more_none}
+use Rattle.format_run.proofs.row.Row.put_str.Goals as goal
+
+pub loop-c-init : goal.loop-c-init
+loop-c-init c = sym (more_none c.args.self.now)
+
+pub loop-c-preserved : goal.loop-c-preserved
+loop-c-preserved c = character_more c.args.self.now c.loop-c.self c.put.new.self c.loop-c.yielded c.in-Some.c c.loop-c.invariant c.in_ok-put.ensures
+
+pub returns : goal.returns
+returns c =
+    let t = YieldsList-end (YieldsList-from_chars c.args.text.now c.utf8.text (cc)) c.loop-c.yielded _ c.loop-c.yielded_by _ _ c.in-None.is c.next.ensures.steps in
+    c.loop-c.invariant ∙ ap (with_more c.args.self.now) (sym (map-id c.loop-c.yielded) ∙ t.0)

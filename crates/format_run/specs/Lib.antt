@@ -1,0 +1,11 @@
+pub mod Addresses
+pub mod Answers
+pub mod Columns
+pub mod Dates
+pub mod Decimals
+pub mod Meaning
+pub mod Numbers
+pub mod Running
+pub mod Stepping
+pub mod Texts
+pub mod Values

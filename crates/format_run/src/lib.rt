@@ -1,0 +1,22 @@
+//! Lines about messages, by compiled formats.
+#![tactic(auto)]
+
+mod addresses;
+mod answer;
+mod answers;
+mod characters;
+mod columns;
+mod dates;
+mod decimals;
+mod evaluating;
+mod names;
+mod numbers;
+mod row;
+mod running;
+mod state;
+mod texts;
+mod values;
+mod view;
+
+pub use running::line;
+pub use view::View;

@@ -1,0 +1,81 @@
+// Lines of formats. A view has a field `now` of its own, so that in clauses `view.entry.now` is the view.
+ghost use Rattle.std.specs.Prelude.{◌≡◌, ◌≤◌, ◌∷◌, List, drop, IfOk, OnOk};
+ghost use Rattle.format_compiler.specs.Code.{IsCodeOf};
+ghost use Rattle.format_compiler.specs.Grammar.{Format};
+ghost use Rattle.format_compiler.specs.declared.instruction.Instruction.{Instruction as InstructionOf};
+ghost use Rattle.format_run.specs.Columns.{IsLongestFit, columns_of};
+ghost use Rattle.format_run.specs.Meaning.{line_of, written_by};
+ghost use Rattle.format_run.specs.Running.{run as run_of};
+
+use crate::View;
+use crate::evaluating::{print, test};
+use crate::numbers::is_not_zero;
+use crate::state::State;
+use format_compiler::{Instruction, Program};
+use mh_base::Text;
+use std::alloc::{AllocError, Global};
+
+/// One instruction: how many of those that follow are skipped.
+#[tactic(auto, unfolding(crate::specs::Running::run))]
+fn step(
+    alloc: Global,
+    view: &View,
+    state: &mut State,
+    instruction: &Instruction,
+) -> Result<usize, AllocError>
+    ensures { IfOk result (λ skipped. (code : List InstructionOf) → run_of view.entry.now 0 (instruction.now ∷ code) state.old ≡ run_of view.entry.now skipped code state.new) }
+{
+    match instruction {
+        Instruction::Print(piece) => {
+            print(alloc, view, state, piece)?;
+            Ok(0)
+        }
+        Instruction::Unless {
+            test: condition,
+            skipped,
+        } => {
+            test(alloc, view, state, condition)?;
+            Ok(if is_not_zero(state.number) {
+                0
+            } else {
+                *skipped
+            })
+        }
+        Instruction::Skip(skipped) => Ok(*skipped),
+    }
+}
+
+/// What stands behind so many instructions.
+fn behind(code: &[Instruction], skipped: usize) -> &[Instruction]
+    ensures { result.now ≡ drop skipped code.now }
+{
+    let (_, rest) = code.split_at(skipped.min(code.len()));
+    rest
+}
+
+fn run(
+    alloc: Global,
+    view: &View,
+    state: &mut State,
+    code: &[Instruction],
+) -> Result<(), AllocError>
+    ensures { OnOk result (state.new ≡ run_of view.entry.now 0 code.now state.old) }
+{
+    let mut rest = code;
+    while let Some((instruction, following)) = rest.split_first() {
+        let skipped = step(alloc, view, state, instruction)?;
+        rest = behind(following, skipped);
+    }
+    Ok(())
+}
+
+/// The line that a format gives for a message, in so many columns at most.
+pub fn line(alloc: Global, program: &Program, view: &View, width: u32) -> Result<Text, AllocError>
+    ensures meaning { (f : Format) → IsCodeOf program.now f → IfOk result (λ text. text ≡ line_of view.entry.now width f) }
+    ensures longest { (f : Format) → IsCodeOf program.now f → IfOk result (IsLongestFit width (written_by view.entry.now width f)) }
+    ensures within { IfOk result (λ text. columns_of text ≤ width) }
+{
+    let mut state = State::new(alloc, width);
+    run(alloc, view, &mut state, program.instructions())?;
+    Ok(state.row.into_text())
+}

@@ -1,0 +1,68 @@
+// The values of a message's components.
+ghost use Rattle.std.specs.Prelude.{◌≡◌, codes, IfOk, take};
+ghost use Rattle.mail_headers.specs.Fields.{same_name};
+ghost use Rattle.mail_headers.specs.Message.{body_of};
+ghost use Rattle.format_run.specs.Values.{shown_body, shown_field, value_named, value_of};
+ghost use Rattle.mail_headers.specs.Fields.{fields_of, first_value};
+
+use mail_headers::{Message, unfold};
+use mail_text::{show_bytes, strip};
+use mh_base::Text;
+use std::alloc::{AllocError, Global};
+
+const BODY_LIMIT: usize = 1024;
+
+/// The body's first bytes, as many as a line shows of it.
+fn body_front<'a>(message: &Message<'a>) -> &'a [u8]
+    ensures { result.now ≡ take 1024 (body_of message.now) }
+{
+    let body = message.body();
+    let (front, _) = body.split_at(body.len().min(BODY_LIMIT));
+    front
+}
+
+fn body_value(alloc: Global, message: &Message) -> Result<Text, AllocError>
+    ensures { IfOk result (λ text. text ≡ shown_body message.now) }
+{
+    let shown = show_bytes(alloc, body_front(message))?;
+    strip(alloc, &shown)
+}
+
+fn field_value(alloc: Global, message: &Message, name: &[u8]) -> Result<Text, AllocError>
+    ensures { IfOk result (λ text. text ≡ shown_field (first_value name.now (fields_of message.now))) }
+{
+    match message.first(name) {
+        None => Ok(Text::new(alloc)),
+        Some(value) => {
+            let value = unfold(alloc, value)?;
+            show_bytes(alloc, value.as_slice())
+        }
+    }
+}
+
+fn is_body(name: &[u8]) -> bool
+    ensures { result ≡ same_name name.now (codes "body") }
+{
+    name.eq_ignore_ascii_case(b"body")
+}
+
+fn named_value(alloc: Global, message: &Message, name: &[u8]) -> Result<Text, AllocError>
+    ensures { IfOk result (λ text. text ≡ value_named name.now message.now) }
+{
+    if is_body(name) {
+        body_value(alloc, message)
+    } else {
+        field_value(alloc, message, name)
+    }
+}
+
+/// The value of the component of this name.
+pub(crate) fn component_value(
+    alloc: Global,
+    message: &Message,
+    name: &Text,
+) -> Result<Text, AllocError>
+    ensures { IfOk result (λ text. text ≡ value_of name.now message.now) }
+{
+    named_value(alloc, message, name.as_str().as_bytes())
+}

@@ -1,0 +1,18 @@
+// What a line is about.
+
+use mail_headers::Message;
+use mh_base::{MsgNum, Text};
+
+/// A message of a folder, and who looks at it when.
+#[derive(Drop)]
+pub struct View<'a> {
+    pub number: MsgNum,
+    /// Whether it is the current message.
+    pub current: bool,
+    /// Whether it is in an unseen sequence.
+    pub unseen: bool,
+    pub message: Message<'a>,
+    /// Seconds from 1970-01-01 00:00:00 UTC.
+    pub now: i64,
+    pub user: &'a Text,
+}
