@@ -55,13 +55,14 @@ fn compare(rt: &impl Abort, at: u64, left: &Left) {
 }
 
 /// Whether the first call met it.
-fn stopped(
-    rt: &(impl Abort + AllocGlobal),
-    at: u64,
-    prompts: PromptList,
-) -> Result<bool, Fail> {
+fn stopped(rt: &(impl Abort + AllocGlobal), at: u64, prompts: PromptList) -> Result<bool, Fail> {
     let world = world(rt.alloc(), FOUR)?;
-    let left = call(rt.alloc(), world, prompts, &["rmm 2-3", "mark -sequence x 1"])?;
+    let left = call(
+        rt.alloc(),
+        world,
+        prompts,
+        &["rmm 2-3", "mark -sequence x 1"],
+    )?;
     if left.exits[0] == 0 {
         return Ok(false);
     }

@@ -30,10 +30,7 @@ fn messages_are_marked(rt: HostRuntime) -> Result<(), Fail> {
                 "mark -add -sequence cur 1",
                 refused("mh: bad sequence name: cur\n", "1=A 2=B 3=C "),
             ),
-            (
-                "mark -add 1",
-                refused("mh: missing word\n", "1=A 2=B 3=C "),
-            ),
+            ("mark -add 1", refused("mh: missing word\n", "1=A 2=B 3=C ")),
             (
                 "mark -sequence a 9",
                 refused("mh: no such message: 9\n", "1=A 2=B 3=C "),

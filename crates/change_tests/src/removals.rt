@@ -66,10 +66,7 @@ fn words_are_refused(rt: HostRuntime) -> Result<(), Fail> {
             ("rmm -x", refused("mh: unknown switch: -x\n", ALL)),
             ("rmm +a +b", refused("mh: unexpected word: +b\n", ALL)),
             ("rmm +none", refused("mh: no such folder: +none\n", ALL)),
-            (
-                "rmm +a//b 1",
-                refused("mh: bad folder name: +a//b\n", ALL),
-            ),
+            ("rmm +a//b 1", refused("mh: bad folder name: +a//b\n", ALL)),
         ],
     )
 }
@@ -143,6 +140,9 @@ fn the_profile_has_words(rt: HostRuntime) -> Result<(), Fail> {
     )?;
     let left = crate::call::call(alloc, world, none(alloc), &["rmm 2"])?;
     assert_eq!(&rt; left.shown.as_slice(), b"1=A ".as_slice());
-    assert_eq!(&rt; left.context.as_slice(), b"Current-Folder: inbox\n".as_slice());
+    assert_eq!(&rt;
+        left.context.as_slice(),
+        b"Current-Folder: inbox\n".as_slice()
+    );
     Ok(())
 }

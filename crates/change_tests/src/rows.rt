@@ -51,8 +51,16 @@ fn compare(rt: &impl Abort, words: &str, left: &Left, wanted: &Wanted) {
     assert_eq!(rt; left.err.as_slice(), wanted.err.as_bytes(), "at {words}");
     assert_eq!(rt; left.exits.as_slice(), wanted.exits, "at {words}");
     assert_eq!(rt; left.out.as_slice(), wanted.out.as_bytes(), "at {words}");
-    assert_eq!(rt; left.shown.as_slice(), wanted.shown.as_bytes(), "at {words}");
-    assert_eq!(rt; left.context.as_slice(), wanted.context.as_bytes(), "at {words}");
+    assert_eq!(rt;
+        left.shown.as_slice(),
+        wanted.shown.as_bytes(),
+        "at {words}"
+    );
+    assert_eq!(rt;
+        left.context.as_slice(),
+        wanted.context.as_bytes(),
+        "at {words}"
+    );
     assert!(rt; left.free, "at {words}");
 }
 
