@@ -1,0 +1,11 @@
+mod Bodies
+mod Cutting
+mod Emptiness
+mod Gapping
+mod Growing
+mod Lining
+mod Naming
+mod Quoting
+mod Sections
+mod Shortening
+mod Stepping
