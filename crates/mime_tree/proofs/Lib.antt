@@ -4,6 +4,7 @@ mod Emptiness
 mod Gapping
 mod Growing
 mod Lining
+mod Marking
 mod Naming
 mod Quoting
 mod Sections

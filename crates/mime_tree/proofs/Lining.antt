@@ -86,3 +86,12 @@ lines_step (b ∷ d ∷ rest) lt = choose (b == 10) refl (lines_step (d ∷ rest
 pub no_lines : lines [] ≡ []
 unfolding lines
 no_lines = refl
+
+pub line_le : (text : List ℕ) → line_len text ≤ length text
+unfolding line_len
+line_le [] = omega arith
+line_le (b ∷ rest) = choose (b == 10) (line_le rest)
+  where
+    choose : (t : Bool) → line_len rest ≤ length rest → (if t then 1 else 1 + line_len rest) ≤ length (b ∷ rest)
+    choose true le = omega arith
+    choose false le = omega arith

@@ -1,5 +1,6 @@
 pub mod BoundaryLines
 pub mod ContentTypes
+pub mod DashLines
 pub mod Depths
 pub mod Encodings
 pub mod FoundPieces

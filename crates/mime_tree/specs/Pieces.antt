@@ -48,13 +48,6 @@ pub record Found : Type 0 where
 abbrev pub section_pieces : ℕ → Section → Found
 section_pieces place s = record { spans = pieces_at place s; odd = s.odd }
 
-abbrev pub pieces_by : Mark → Section → ℕ → Found → Found
-pieces_by Boundary s behind more = section_pieces behind s
-pieces_by Closing s behind more = record { spans = []; odd = no_odd }
-pieces_by Other s behind more = more
-
--- the pieces that these lines hold, what stands before the first boundary line passed over
-unfoldable pub pieces : List ℕ → ℕ → List (List ℕ) → Found
-pieces boundary place [] = record { spans = []; odd = Unclosed }
-pieces boundary place (line ∷ lines) =
-    pieces_by (mark_of boundary line) (section boundary (place + length line) lines) (place + length line) (pieces boundary (place + length line) lines)
+-- the pieces that these lines hold: what stands before the first boundary line is a section too, whose own text is no piece
+abbrev pub pieces : List ℕ → ℕ → List (List ℕ) → Found
+pieces boundary place lines = let s = section boundary place lines in record { spans = s.more; odd = s.odd }

@@ -2,6 +2,7 @@
 #![tactic(auto)]
 
 mod content_type;
+mod dashes;
 mod encoding;
 mod fallback;
 mod gap;

@@ -3,7 +3,9 @@ ghost use Rattle.std.specs.Prelude.{◌≡◌, [], Some, None, MatchOption, IfOk
 ghost use Rattle.mime_tree.specs.Spans.{whole};
 ghost use Rattle.mime_tree.specs.Trees.{IsPart, content_of, part_at};
 
+use crate::dashes::dash_places;
 use crate::fallback::Fallback;
+use crate::pieces::Piece;
 use crate::reading::read_part;
 use crate::{Part, PartPath, Span};
 use mh_base::Bytes;
@@ -25,14 +27,18 @@ impl<'a> Tree<'a> {
         ensures bytes { IfOk result (λ t. t.bytes.now ≡ bytes.now) }
         ensures tree { IfOk result (λ t. IsPart 64 bytes.now Fallback.TextPlain [] (whole bytes.now) t.root) }
     {
-        let span = Span {
-            from: 0,
-            to: bytes.len() as u64,
+        let marks = dash_places(alloc, bytes)?;
+        let whole = Piece {
+            span: Span {
+                from: 0,
+                to: bytes.len() as u64,
+            },
+            marks: marks.as_slice(),
         };
         let root = read_part(
             alloc,
             bytes,
-            span,
+            whole,
             Fallback::TextPlain,
             PartPath::root(alloc),
             LEVELS,
