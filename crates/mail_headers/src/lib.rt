@@ -10,5 +10,5 @@ mod unfolding;
 pub use field::Field;
 pub use fields::Fields;
 pub use message::Message;
-pub use spans::{folded_line_len, name_len};
+pub use spans::{folded_line_len, name_len, without_line_end};
 pub use unfolding::unfold;

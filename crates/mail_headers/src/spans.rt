@@ -64,7 +64,7 @@ fn without_return(text: &[u8]) -> &[u8]
 
 /// The text without the line end behind it.
 #[tactic(auto, unfolding(crate::specs::Lines::without_end))]
-pub(crate) fn without_line_end(text: &[u8]) -> &[u8]
+pub fn without_line_end(text: &[u8]) -> &[u8]
     ensures { result.now ≡ without_end text.now }
 {
     match text.split_last() {

@@ -1,0 +1,12 @@
+mod Bodies
+mod Cutting
+mod Emptiness
+mod Gapping
+mod Growing
+mod Lining
+mod Marking
+mod Naming
+mod Quoting
+mod Sections
+mod Shortening
+mod Stepping

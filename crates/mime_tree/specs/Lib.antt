@@ -1,0 +1,17 @@
+pub mod BoundaryLines
+pub mod ContentTypes
+pub mod DashLines
+pub mod Depths
+pub mod Encodings
+pub mod FoundPieces
+pub mod Gaps
+pub mod Kids
+pub mod Opening
+pub mod Params
+pub mod Paths
+pub mod Pieces
+pub mod RawParams
+pub mod Spans
+pub mod Tokens
+pub mod Trees
+pub mod Words
