@@ -3,7 +3,7 @@ use Rattle.std.proofs.Common.{◌≡◌, ℕ, List, [], refl, sym, ap, ◌∙◌
 use Rattle.format_compiler.specs.Code.{code_of}
 use Rattle.format_compiler.specs.Grammar.{Format}
 use Rattle.format_compiler.specs.declared.instruction.Instruction.{Instruction}
-use Rattle.format_run.specs.declared.state.State.{State}
+use Rattle.format_run.specs.declared.state.LineState.{LineState}
 use Rattle.format_run.specs.declared.view.View.{View}
 use Rattle.format_run.specs.Columns.{Kept, empty_line, fit, with_more}
 use Rattle.format_run.specs.Meaning.{Progress, line_of, meaning, start_of}
@@ -15,8 +15,8 @@ use Rattle.format_run.proofs.StepLemmas.{at}
 use Rattle.format_run.proofs.WidthLemmas.{run_wide}
 
 -- nothing was written yet
-began : (width : ℕ) → step.start_of width ≡ at (start_of width)
-began width = ap (λ (r : Kept). let s : State = record { number = (start_of width).number; text = []; row = r } in s) (sym (more_none (empty_line width)))
+pub began : (width : ℕ) → step.start_of width ≡ at (start_of width)
+began width = ap (λ (r : Kept). let s : LineState = record { number = (start_of width).number; text = []; row = r } in s) (sym (more_none (empty_line width)))
 
 meant_from : (view : View) (f : Format) (width : ℕ) → run view 0 (code_of f) (step.start_of width) ≡ at (meaning view f (start_of width))
 meant_from view f width = ap (run view 0 (code_of f)) (began width) ∙ run_code view f (start_of width)
@@ -25,16 +25,19 @@ meant_from view f width = ap (run view 0 (code_of f)) (began width) ∙ run_code
 still_wide : (view : View) (f : Format) (width : ℕ) → (meaning view f (start_of width)).width ≡ width
 still_wide view f width =
     let end = meaning view f (start_of width) in
-    sym (as_wide (empty_line end.width) end.written) ∙ ap (λ (s : State). s.row.width) (sym (meant_from view f width))
+    sym (as_wide (empty_line end.width) end.written) ∙ ap (λ (s : LineState). s.row.width) (sym (meant_from view f width))
     ∙ run_wide view 0 (code_of f) (step.start_of width)
 
 shown_of : (end : Progress) (width : ℕ) → end.width ≡ width → (at end).row.characters ≡ fit width end.written
 shown_of end width wide = field_held end.width end.written (with_more (empty_line end.width) end.written) refl ∙ ap (λ w. fit w end.written) wide
 
+-- what the state holds of all that the format writes is the format's line
+pub shown_at : (view : View) (f : Format) (width : ℕ) (text : List ℕ) (last : LineState) → last ≡ at (meaning view f (start_of width)) → text ≡ last.row.characters → text ≡ line_of view width f
+shown_at view f width text last all shown =
+    shown ∙ ap (λ (s : LineState). s.row.characters) all ∙ shown_of (meaning view f (start_of width)) width (still_wide view f width)
+
 -- the code's line is the line of the format
-pub line_shown : (view : View) (f : Format) (width : ℕ) (text : List ℕ) (first last : State) (code : List Instruction)
+pub line_shown : (view : View) (f : Format) (width : ℕ) (text : List ℕ) (first last : LineState) (code : List Instruction)
     → first ≡ step.start_of width → code ≡ code_of f → last ≡ run view 0 code first → text ≡ last.row.characters → text ≡ line_of view width f
 line_shown view f width text first last code start is ran shown =
-    let all : last ≡ at (meaning view f (start_of width)) =
-    ran ∙ ap (λ c. run view 0 c first) is ∙ ap (run view 0 (code_of f)) start ∙ meant_from view f width in
-    shown ∙ ap (λ (s : State). s.row.characters) all ∙ shown_of (meaning view f (start_of width)) width (still_wide view f width)
+    shown_at view f width text last (ran ∙ ap (λ c. run view 0 c first) is ∙ ap (run view 0 (code_of f)) start ∙ meant_from view f width) shown

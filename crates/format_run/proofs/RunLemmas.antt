@@ -8,7 +8,7 @@ use Rattle.format_compiler.specs.declared.instruction.Instruction.{Instruction}
 use Rattle.format_compiler.specs.declared.instruction.Instruction.TheVariants.{Print, Unless, Skip}
 use Rattle.format_compiler.specs.declared.one_test.Test.{Test}
 use Rattle.format_compiler.specs.declared.piece.Piece.{Piece}
-use Rattle.format_run.specs.declared.state.State.{State}
+use Rattle.format_run.specs.declared.state.LineState.{LineState}
 use Rattle.format_run.specs.declared.view.View.{View}
 use Rattle.format_run.specs.Meaning.{Progress, meaning}
 use Rattle.format_run.specs.Meaning as meant
@@ -17,41 +17,41 @@ use Rattle.format_run.proofs.StepLemmas.{at, printed_at, tested_at}
 use Rattle.format_run.specs.Running.{run}
 
 -- nothing is left to run
-pub ran_out : (view : View) (skipped : ℕ) (s : State) → run view skipped [] s ≡ s
+pub ran_out : (view : View) (skipped : ℕ) (s : LineState) → run view skipped [] s ≡ s
 unfolding run
 ran_out view zero s = refl
 ran_out view (suc skipped) s = refl
 
-passed : (view : View) (skipped : ℕ) (i : Instruction) (code : List Instruction) (s : State) → run view (suc skipped) (i ∷ code) s ≡ run view skipped code s
+passed : (view : View) (skipped : ℕ) (i : Instruction) (code : List Instruction) (s : LineState) → run view (suc skipped) (i ∷ code) s ≡ run view skipped code s
 unfolding run
 passed view skipped i code s = refl
 
-pub ran_print : (view : View) (piece : Piece) (code : List Instruction) (s : State) → run view 0 (Print piece ∷ code) s ≡ run view 0 code (printed view piece s)
+pub ran_print : (view : View) (piece : Piece) (code : List Instruction) (s : LineState) → run view 0 (Print piece ∷ code) s ≡ run view 0 code (printed view piece s)
 unfolding run
 ran_print view piece code s = refl
 
-pub ran_unless : (view : View) (test : Test) (count : ℕ) (code : List Instruction) (s : State)
+pub ran_unless : (view : View) (test : Test) (count : ℕ) (code : List Instruction) (s : LineState)
     → run view 0 (Unless test count ∷ code) s ≡ run view (if holds (tested view test s) then 0 else count) code (tested view test s)
 unfolding run
 ran_unless view test count code s = refl
 
-pub ran_skip : (view : View) (count : ℕ) (code : List Instruction) (s : State) → run view 0 (Skip count ∷ code) s ≡ run view count code s
+pub ran_skip : (view : View) (count : ℕ) (code : List Instruction) (s : LineState) → run view 0 (Skip count ∷ code) s ≡ run view count code s
 unfolding run
 ran_skip view count code s = refl
 
 -- what is skipped doesn't count
-pub skipping : (view : View) (skipped : ℕ) (code : List Instruction) (s : State) → run view skipped code s ≡ run view 0 (drop skipped code) s
+pub skipping : (view : View) (skipped : ℕ) (code : List Instruction) (s : LineState) → run view skipped code s ≡ run view 0 (drop skipped code) s
 skipping view zero code s = refl
 skipping view (suc skipped) [] s = ran_out view (suc skipped) s ∙ sym (ran_out view 0 s)
 skipping view (suc skipped) (i ∷ code) s = passed view skipped i code s ∙ skipping view skipped code s
 
 -- a whole part is skipped
-skipped_part : (view : View) (part code : List Instruction) (s : State) → run view (length part) (part ++ code) s ≡ run view 0 code s
+skipped_part : (view : View) (part code : List Instruction) (s : LineState) → run view (length part) (part ++ code) s ≡ run view 0 code s
 skipped_part view [] code s = refl
 skipped_part view (i ∷ part) code s = ap (λ n. run view n (i ∷ (part ++ code)) s) (omega arith) ∙ passed view (length part) i (part ++ code) s ∙ skipped_part view part code s
 
 -- the jump over a part skips it
-jumped : (view : View) (part code : List Instruction) (s : State) → run view 0 (jump_over part ++ (part ++ code)) s ≡ run view 0 code s
+jumped : (view : View) (part code : List Instruction) (s : LineState) → run view 0 (jump_over part ++ (part ++ code)) s ≡ run view 0 code s
 jumped view [] code s = refl
 jumped view (i ∷ part) code s = ran_skip view (length (i ∷ part)) ((i ∷ part) ++ code) s ∙ skipped_part view (i ∷ part) code s
 

@@ -15,7 +15,7 @@ use Rattle.format_run.specs.declared.answer.Answer.{Answer}
 use Rattle.format_run.specs.declared.answer.Answer.TheVariants as answers
 use Rattle.format_run.specs.declared.answer.Outcome.{Outcome}
 use Rattle.format_run.specs.declared.answer.Outcome.TheVariants as outcomes
-use Rattle.format_run.specs.declared.state.State.{State}
+use Rattle.format_run.specs.declared.state.LineState.{LineState}
 use Rattle.format_run.specs.declared.view.View.{View}
 use Rattle.format_run.specs.Answers.{Seen, answer_of}
 use Rattle.format_run.specs.Columns.{Kept, empty_line, free, with_more}
@@ -27,7 +27,7 @@ use Rattle.format_run.specs.Values.{value_of}
 use Rattle.format_run.proofs.ColumnLemmas.{as_wide, more_both, row_free}
 
 -- the code's state where this was written
-abbrev pub at : Progress → State
+abbrev pub at : Progress → LineState
 at p = record { number = p.number; text = p.text; row = with_more (empty_line p.width) p.written }
 
 abbrev ended_at : meant.Evaluated → Evaluated
@@ -42,9 +42,9 @@ seen_at p =
     ∙ ap (seeing p.number p.text p.width) (row_free p.width p.written)
 
 added_at : (more : List ℕ) (p : Progress) → adding more (at p) ≡ at (meant.adding more p)
-added_at more p = ap (λ (r : Kept). let s : State = record { number = p.number; text = p.text; row = r } in s) (more_both (empty_line p.width) p.written more)
+added_at more p = ap (λ (r : Kept). let s : LineState = record { number = p.number; text = p.text; row = r } in s) (more_both (empty_line p.width) p.written more)
 
-nothing_more : State → Evaluated
+nothing_more : LineState → Evaluated
 nothing_more s = record { state = s; outcome = outcomes.Nothing }
 
 settled_at : (a : Answer) (p : Progress) → settled a (at p) ≡ ended_at (meant.settled a p)

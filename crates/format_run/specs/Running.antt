@@ -2,12 +2,12 @@
 use Rattle.std.specs.Prelude.{ℕ, zero, suc, List, [], ◌∷◌, if◌then◌else◌}
 use Rattle.format_compiler.specs.declared.instruction.Instruction.{Instruction}
 use Rattle.format_compiler.specs.declared.instruction.Instruction.TheVariants.{Print, Unless, Skip}
-use Rattle.format_run.specs.declared.state.State.{State}
+use Rattle.format_run.specs.declared.state.LineState.{LineState}
 use Rattle.format_run.specs.declared.view.View.{View}
 use Rattle.format_run.specs.Stepping.{holds, printed, tested}
 
 -- the state behind these instructions, of which so many are skipped first
-unfoldable pub run : View → ℕ → List Instruction → State → State
+unfoldable pub run : View → ℕ → List Instruction → LineState → LineState
 run view skipped [] s = s
 run view (suc skipped) (i ∷ code) s = run view skipped code s
 run view zero (Print piece ∷ code) s = run view 0 code (printed view piece s)

@@ -8,7 +8,7 @@ ghost use Rattle.format_run.specs.Stepping.{seen};
 use crate::answer::Answer;
 use crate::characters::{characters, is_empty};
 use crate::numbers::{quotient, remainder, truth};
-use crate::state::State;
+use crate::state::LineState;
 use crate::texts::{begins, contains, leading_number, trim, unquote};
 use crate::values::component_value;
 use crate::{View, addresses, dates};
@@ -77,7 +77,7 @@ fn count(alloc: Global, text: &Text) -> Result<i64, AllocError>
 pub(crate) fn answer(
     alloc: Global,
     view: &View,
-    state: &State,
+    state: &LineState,
     width: Option<Width>,
     function: Function,
     argument: &Argument,

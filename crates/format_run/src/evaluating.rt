@@ -1,20 +1,21 @@
 // Calls, tests and what is printed.
 ghost use Rattle.std.specs.Prelude.{◌≡◌, IfOk, OnOk, None};
-ghost use Rattle.format_run.specs.Stepping.{Evaluated, applied, evaluated, evaluated_around, given, judged, printed, settled, sourced, tested, with_result, with_text};
+ghost use Rattle.format_run.specs.Stepping.{Evaluated, applied, evaluated, evaluated_around, given, holds, judged, printed, settled, sourced, tested, with_result, with_text};
 ghost use Rattle.format_run.specs.Meaning.{takes_source as takes_source_of, width_inside as width_inside_of};
 ghost use Rattle.format_run.specs.Values.{value_of};
 
 use crate::View;
 use crate::answer::{Answer, Outcome};
 use crate::answers::answer;
-use crate::state::State;
+use crate::numbers::is_not_zero;
+use crate::state::LineState;
 use crate::values::component_value;
 use format_compiler::{Argument, ArgumentKind, Call, Function, Piece, Test, Width};
 use mh_base::Text;
 use std::alloc::{AllocError, Global};
 
 /// Keeps a function's result, or prints what it says.
-fn settle(alloc: Global, state: &mut State, answer: Answer) -> Result<Outcome, AllocError>
+fn settle(alloc: Global, state: &mut LineState, answer: Answer) -> Result<Outcome, AllocError>
     ensures { IfOk result (λ o. record { state = state.new; outcome = o } ≡ settled answer state.old) }
 {
     match answer {
@@ -49,7 +50,12 @@ fn takes_source(kind: ArgumentKind) -> bool
     matches!(kind, ArgumentKind::Source | ArgumentKind::SourceOrNothing)
 }
 
-fn set_text(alloc: Global, view: &View, state: &mut State, name: &Text) -> Result<(), AllocError>
+fn set_text(
+    alloc: Global,
+    view: &View,
+    state: &mut LineState,
+    name: &Text,
+) -> Result<(), AllocError>
     ensures { OnOk result (state.new ≡ with_text (value_of name.now view.entry.now.message) state.old) }
 {
     state.text = component_value(alloc, &view.message, name)?;
@@ -60,7 +66,7 @@ fn set_text(alloc: Global, view: &View, state: &mut State, name: &Text) -> Resul
 fn source(
     alloc: Global,
     view: &View,
-    state: &mut State,
+    state: &mut LineState,
     argument: &Argument,
 ) -> Result<(), AllocError>
     ensures { OnOk result (state.new ≡ sourced view.entry.now argument.now state.old) }
@@ -74,7 +80,7 @@ fn source(
 fn give(
     alloc: Global,
     view: &View,
-    state: &mut State,
+    state: &mut LineState,
     function: Function,
     argument: &Argument,
 ) -> Result<(), AllocError>
@@ -92,7 +98,7 @@ fn give(
 fn apply(
     alloc: Global,
     view: &View,
-    state: &mut State,
+    state: &mut LineState,
     width: Option<Width>,
     function: Function,
     argument: &Argument,
@@ -115,7 +121,7 @@ fn width_inside(around: &[Function], width: Option<Width>) -> Option<Width>
 fn evaluate_around(
     alloc: Global,
     view: &View,
-    state: &mut State,
+    state: &mut LineState,
     width: Option<Width>,
     around: &[Function],
     inner: Outcome,
@@ -135,7 +141,7 @@ fn evaluate_around(
 fn evaluate(
     alloc: Global,
     view: &View,
-    state: &mut State,
+    state: &mut LineState,
     width: Option<Width>,
     call: &Call,
 ) -> Result<Outcome, AllocError>
@@ -149,7 +155,7 @@ fn evaluate(
 
 fn print_result(
     alloc: Global,
-    state: &mut State,
+    state: &mut LineState,
     width: Option<Width>,
     outcome: Outcome,
 ) -> Result<(), AllocError>
@@ -162,30 +168,7 @@ fn print_result(
     }
 }
 
-/// Prints a part of a format.
-#[tactic(auto, unfolding(crate::specs::Stepping::printed))]
-pub(crate) fn print(
-    alloc: Global,
-    view: &View,
-    state: &mut State,
-    piece: &Piece,
-) -> Result<(), AllocError>
-    ensures { OnOk result (state.new ≡ printed view.entry.now piece.now state.old) }
-{
-    match piece {
-        Piece::Character(c) => state.print_character(*c),
-        Piece::Component { width, name } => {
-            set_text(alloc, view, state, name)?;
-            state.print_text(alloc, *width)
-        }
-        Piece::Call { width, call } => {
-            let outcome = evaluate(alloc, view, state, *width, call)?;
-            print_result(alloc, state, *width, outcome)
-        }
-    }
-}
-
-fn judge(state: &mut State, outcome: Outcome)
+fn judge(state: &mut LineState, outcome: Outcome)
     ensures { state.new ≡ judged outcome state.old }
 {
     if let Outcome::Text = outcome {
@@ -193,26 +176,50 @@ fn judge(state: &mut State, outcome: Outcome)
     }
 }
 
-/// Evaluates a test, which then holds where the number isn't 0.
-#[tactic(auto, unfolding(crate::specs::Stepping::tested))]
-pub(crate) fn test(
-    alloc: Global,
-    view: &View,
-    state: &mut State,
-    test: &Test,
-) -> Result<(), AllocError>
-    ensures { OnOk result (state.new ≡ tested view.entry.now test.now state.old) }
-{
-    match test {
-        Test::Component(name) => {
-            set_text(alloc, view, state, name)?;
-            state.weigh();
-            Ok(())
+impl LineState {
+    /// Prints a part of a format.
+    #[tactic(auto, unfolding(crate::specs::Stepping::printed))]
+    pub fn print(&mut self, alloc: Global, view: &View, piece: &Piece) -> Result<(), AllocError>
+        ensures { OnOk result (self.new ≡ printed view.entry.now piece.now self.old) }
+    {
+        match piece {
+            Piece::Character(c) => self.print_character(*c),
+            Piece::Component { width, name } => {
+                set_text(alloc, view, self, name)?;
+                self.print_text(alloc, *width)
+            }
+            Piece::Call { width, call } => {
+                let outcome = evaluate(alloc, view, self, *width, call)?;
+                print_result(alloc, self, *width, outcome)
+            }
         }
-        Test::Call(call) => {
-            let outcome = evaluate(alloc, view, state, None, call)?;
-            judge(state, outcome);
-            Ok(())
+    }
+
+    /// Evaluates a test, which sets the number.
+    #[tactic(auto, unfolding(crate::specs::Stepping::tested))]
+    fn evaluate_test(&mut self, alloc: Global, view: &View, test: &Test) -> Result<(), AllocError>
+        ensures { OnOk result (self.new ≡ tested view.entry.now test.now self.old) }
+    {
+        match test {
+            Test::Component(name) => {
+                set_text(alloc, view, self, name)?;
+                self.weigh();
+                Ok(())
+            }
+            Test::Call(call) => {
+                let outcome = evaluate(alloc, view, self, None, call)?;
+                judge(self, outcome);
+                Ok(())
+            }
         }
+    }
+
+    /// Evaluates a test, and says whether it holds: whether the number isn't 0 then.
+    pub fn test(&mut self, alloc: Global, view: &View, test: &Test) -> Result<bool, AllocError>
+        ensures state { IfOk result (λ _. self.new ≡ tested view.entry.now test.now self.old) }
+        ensures answer { IfOk result (λ is. is ≡ holds (tested view.entry.now test.now self.old)) }
+    {
+        self.evaluate_test(alloc, view, test)?;
+        Ok(is_not_zero(self.number))
     }
 }

@@ -19,4 +19,5 @@ mod values;
 mod view;
 
 pub use running::line;
+pub use state::LineState;
 pub use view::View;

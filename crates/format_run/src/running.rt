@@ -8,9 +8,7 @@ ghost use Rattle.format_run.specs.Meaning.{line_of, written_by};
 ghost use Rattle.format_run.specs.Running.{run as run_of};
 
 use crate::View;
-use crate::evaluating::{print, test};
-use crate::numbers::is_not_zero;
-use crate::state::State;
+use crate::state::LineState;
 use format_compiler::{Instruction, Program};
 use mh_base::Text;
 use std::alloc::{AllocError, Global};
@@ -20,26 +18,19 @@ use std::alloc::{AllocError, Global};
 fn step(
     alloc: Global,
     view: &View,
-    state: &mut State,
+    state: &mut LineState,
     instruction: &Instruction,
 ) -> Result<usize, AllocError>
     ensures { IfOk result (λ skipped. (code : List InstructionOf) → run_of view.entry.now 0 (instruction.now ∷ code) state.old ≡ run_of view.entry.now skipped code state.new) }
 {
     match instruction {
         Instruction::Print(piece) => {
-            print(alloc, view, state, piece)?;
+            state.print(alloc, view, piece)?;
             Ok(0)
         }
-        Instruction::Unless {
-            test: condition,
-            skipped,
-        } => {
-            test(alloc, view, state, condition)?;
-            Ok(if is_not_zero(state.number) {
-                0
-            } else {
-                *skipped
-            })
+        Instruction::Unless { test, skipped } => {
+            let holds = state.test(alloc, view, test)?;
+            Ok(if holds { 0 } else { *skipped })
         }
         Instruction::Skip(skipped) => Ok(*skipped),
     }
@@ -56,7 +47,7 @@ fn behind(code: &[Instruction], skipped: usize) -> &[Instruction]
 fn run(
     alloc: Global,
     view: &View,
-    state: &mut State,
+    state: &mut LineState,
     code: &[Instruction],
 ) -> Result<(), AllocError>
     ensures { OnOk result (state.new ≡ run_of view.entry.now 0 code.now state.old) }
@@ -75,7 +66,7 @@ pub fn line(alloc: Global, program: &Program, view: &View, width: u32) -> Result
     ensures longest { (f : Format) → IsCodeOf program.now f → IfOk result (IsLongestFit width (written_by view.entry.now width f)) }
     ensures within { IfOk result (λ text. columns_of text ≤ width) }
 {
-    let mut state = State::new(alloc, width);
+    let mut state = LineState::new(alloc, width);
     run(alloc, view, &mut state, program.instructions())?;
-    Ok(state.row.into_text())
+    Ok(state.into_text())
 }

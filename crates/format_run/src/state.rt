@@ -1,6 +1,6 @@
 // What a format's parts work on.
-ghost use Rattle.std.specs.Prelude.{◌≡◌, ◌∷◌, [], OnOk};
-ghost use Rattle.format_run.specs.Columns.{with_more};
+ghost use Rattle.std.specs.Prelude.{◌≡◌, ◌≤◌, ◌∷◌, [], OnOk};
+ghost use Rattle.format_run.specs.Columns.{columns_of, with_more};
 ghost use Rattle.format_run.specs.Decimals.{printed_number};
 ghost use Rattle.format_run.specs.Stepping.{adding, start_of, weighed};
 ghost use Rattle.format_run.specs.Texts.{field as field_of, printed_text};
@@ -16,10 +16,10 @@ use std::alloc::{AllocError, Global};
 
 /// A number, a text, and the line so far.
 #[derive(Drop)]
-pub(crate) struct State {
-    pub number: i64,
-    pub text: Text,
-    pub row: Row,
+pub struct LineState {
+    pub(crate) number: i64,
+    pub(crate) text: Text,
+    pub(crate) row: Row,
 }
 
 /// Prints the longest front of a text that fits into so many columns, and spaces behind it.
@@ -48,46 +48,60 @@ pub(crate) fn put_stripped(
     }
 }
 
-impl State {
-    pub fn new(alloc: Global, width: u32) -> State
+impl LineState {
+    /// The beginning of a line of so many columns at most.
+    pub fn new(alloc: Global, width: u32) -> LineState
         ensures { result ≡ start_of width }
     {
-        State {
+        LineState {
             number: 0,
             text: Text::new(alloc),
             row: Row::new(alloc, width),
         }
     }
 
-    pub fn print_character(&mut self, c: char) -> Result<(), AllocError>
+    pub(crate) fn print_character(&mut self, c: char) -> Result<(), AllocError>
         ensures { OnOk result (self.new ≡ adding (c ∷ []) self.old) }
     {
         self.row.put(c)
     }
 
-    pub fn print_text(&mut self, alloc: Global, width: Option<Width>) -> Result<(), AllocError>
+    pub(crate) fn print_text(
+        &mut self,
+        alloc: Global,
+        width: Option<Width>,
+    ) -> Result<(), AllocError>
         ensures { OnOk result (self.new ≡ adding (printed_text width self.old.text) self.old) }
     {
         put_stripped(alloc, &mut self.row, width, &self.text)
     }
 
     /// Prints the text as it is.
-    pub fn print_all(&mut self) -> Result<(), AllocError>
+    pub(crate) fn print_all(&mut self) -> Result<(), AllocError>
         ensures { OnOk result (self.new ≡ adding self.old.text self.old) }
     {
         self.row.put_text(&self.text)
     }
 
-    pub fn print_number(&mut self, width: Option<Width>) -> Result<(), AllocError>
+    pub(crate) fn print_number(&mut self, width: Option<Width>) -> Result<(), AllocError>
         ensures { OnOk result (self.new ≡ adding (printed_number width self.old.number) self.old) }
     {
         put_number(&mut self.row, width, self.number)
     }
 
     /// Sets the number to 1 where the text isn't empty, and else to 0.
-    pub fn weigh(&mut self)
+    pub(crate) fn weigh(&mut self)
         ensures { self.new ≡ weighed self.old }
     {
         self.number = truth(!is_empty(&self.text));
+    }
+
+    /// The line so far.
+    pub fn into_text(self) -> Text
+        ensures value { result ≡ self.row.characters }
+        ensures within { columns_of result ≤ self.row.width }
+    {
+        let LineState { row, .. } = self;
+        row.into_text()
     }
 }

@@ -1,5 +1,5 @@
 use Rattle.std.proofs.Common.{ap, sym, subst, ◌∙◌, arith}
-use Rattle.format_run.specs.declared.state.State.{State}
+use Rattle.format_run.specs.declared.state.LineState.{LineState}
 use Rattle.format_run.specs.Columns.{IsLongestFit}
 use Rattle.format_run.specs.Meaning.{written_by}
 use Rattle.format_run.proofs.LongestLemmas.{longest_fit}
@@ -18,6 +18,6 @@ returns-clause-longest c = λ f is.
 pub returns-clause-within : goal.returns-clause-within
 returns-clause-within c =
     let kept = run_wide c.args.view.now 0 c.instructions.result.now c.new-state.result in
-    let ran = ap (λ (s : State). s.row.width) c.in_ok-run.ensures in
-    let start = ap (λ (s : State). s.row.width) c.new-state.ensures in
+    let ran = ap (λ (s : LineState). s.row.width) c.in_ok-run.ensures in
+    let start = ap (λ (s : LineState). s.row.width) c.new-state.ensures in
     omega (arith, c.into_text.ensures.within)
