@@ -21,7 +21,11 @@ fn all_leave(
         let prompts = PromptList::new(alloc);
         let left = call(alloc, mailbox.again(alloc)?, prompts, earlier, words, &[])?;
         compare(rt, words, &left, wanted);
-        assert_eq!(rt; left.sequences.as_slice(), sequences.as_bytes(), "at {words}");
+        assert_eq!(rt;
+            left.sequences.as_slice(),
+            sequences.as_bytes(),
+            "at {words}"
+        );
     }
     Ok(())
 }
@@ -69,7 +73,12 @@ fn private_sequences(rt: HostRuntime) -> Result<(), Fail> {
         THREE,
         &[
             (&[], mine, done("", both), ""),
-            (&[mine], "mark -list", done("mine (private): 1 3\n", both), ""),
+            (
+                &[mine],
+                "mark -list",
+                done("mine (private): 1 3\n", both),
+                "",
+            ),
             (
                 &[mine],
                 "mark -sequence mine -public 2",
@@ -141,8 +150,14 @@ fn what_was_held_aside(rt: HostRuntime) -> Result<(), Fail> {
                 &[
                     (b"1", b"Subject: one\n\n"),
                     (b"3", b"Subject: three\n\n"),
-                    (b".mh_held_00000000000000000000000000000005_2", b"Subject: X\n\n"),
-                    (b".mh_held_00000000000000000000000000000009_2", b"Subject: Y\n\n"),
+                    (
+                        b".mh_held_00000000000000000000000000000005_2",
+                        b"Subject: X\n\n",
+                    ),
+                    (
+                        b".mh_held_00000000000000000000000000000009_2",
+                        b"Subject: Y\n\n",
+                    ),
                     (b".mh_sequences", b"old: 2 7\n"),
                 ],
             ),
