@@ -22,7 +22,6 @@ pub enum Ending {
     Absent,
     EmptyRange,
     EmptySequence,
-    BadSequenceName,
     TooLarge,
     OtherRefusal,
     FaultOfFiles,
@@ -33,8 +32,8 @@ pub enum Ending {
     NoMemory,
 }
 
-/// What calls left: how the last ended and what it wrote, the context's text then and that of the
-/// sequences of `inbox`, and how many steps the last asked for and how many of them were locks.
+/// What calls left: how the last ended and what it wrote, the context's text then, and how many steps
+/// the last asked for and how many of them were locks.
 #[derive(Drop)]
 pub struct Left {
     pub exit: u8,
@@ -42,7 +41,6 @@ pub struct Left {
     pub out: Bytes,
     pub err: Bytes,
     pub context: Bytes,
-    pub sequences: Bytes,
     pub steps: usize,
     pub locks: usize,
 }
@@ -56,7 +54,6 @@ fn refused(refusal: &Refusal) -> Ending {
         Refusal::Absent(_) => Ending::Absent,
         Refusal::EmptyRange(_) => Ending::EmptyRange,
         Refusal::EmptySequence(_) => Ending::EmptySequence,
-        Refusal::BadSequenceName(_) => Ending::BadSequenceName,
         Refusal::TooLarge { .. } => Ending::TooLarge,
         _ => Ending::OtherRefusal,
     }
@@ -88,7 +85,6 @@ fn left_by(alloc: Global, status: &Status, out: &[u8], err: &[u8]) -> Result<Lef
         out: bytes_of(alloc, out)?,
         err: bytes_of(alloc, err)?,
         context: Bytes::new(alloc),
-        sequences: Bytes::new(alloc),
         steps: 0,
         locks: 0,
     })
@@ -145,27 +141,15 @@ fn call_line<F: Files>(
     call_over(alloc, files, &words, &setting, failing)
 }
 
-/// The run that looks at texts after the calls.
+/// The run that looks at the context after the calls.
 const LOOKER: u128 = 99;
 
-fn text_in<F: Files>(
-    alloc: Global,
-    files: &mut F,
-    place: &Place,
-    text: &[u8],
-) -> Result<Bytes, Fail> {
-    let name = name(alloc, text)?;
-    match ask_read(alloc, LOOKER, files, place, &name, 999)? {
+fn context_in<F: Files>(alloc: Global, files: &mut F, mail: &Place) -> Result<Bytes, Fail> {
+    let name = name(alloc, b"context")?;
+    match ask_read(alloc, LOOKER, files, mail, &name, 999)? {
         Reading::Content(bytes) => Ok(bytes),
         _ => bytes_of(alloc, b"none"),
     }
-}
-
-/// The places whose texts are looked at.
-#[derive(Drop)]
-struct Places {
-    mail: Place,
-    inbox: Place,
 }
 
 /// Each line is a call by a run of its own, numbered from 1; the last call's output fails at these
@@ -173,7 +157,7 @@ struct Places {
 fn call_each<F: Files>(
     alloc: Global,
     files: &mut F,
-    places: &Places,
+    mail: &Place,
     earlier: &[&str],
     last: &str,
     failing: &[u64],
@@ -184,8 +168,7 @@ fn call_each<F: Files>(
         run = run.wrapping_add(1);
     }
     let mut left = call_line(alloc, files, run, last, failing)?;
-    left.context = text_in(alloc, files, &places.mail, b"context")?;
-    left.sequences = text_in(alloc, files, &places.inbox, b".mh_sequences")?;
+    left.context = context_in(alloc, files, mail)?;
     Ok(left)
 }
 
@@ -206,11 +189,8 @@ pub fn call(
     last: &str,
     failing: &[u64],
 ) -> Result<Left, Fail> {
-    let places = Places {
-        mail: mailbox.mail(alloc)?,
-        inbox: mailbox.inbox(alloc)?,
-    };
+    let mail = mailbox.mail(alloc)?;
     let mut room = Room::new(alloc, mailbox.world(alloc), prompts)?;
-    let left = call_each(alloc, &mut room, &places, earlier, last, failing);
+    let left = call_each(alloc, &mut room, &mail, earlier, last, failing);
     counted(left, &room, (earlier.len() as u128).saturating_add(1))
 }

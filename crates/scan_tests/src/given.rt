@@ -134,11 +134,6 @@ impl Mailbox {
         place(alloc, self.path.as_slice(), Spot::Mail)
     }
 
-    /// The place of the folder `inbox`.
-    pub fn inbox(&self, alloc: Global) -> Result<Place, Fail> {
-        place(alloc, self.path.as_slice(), Spot::Folder("inbox"))
-    }
-
     pub fn world(self, alloc: Global) -> World {
         let Mailbox {
             path: _,

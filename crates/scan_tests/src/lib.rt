@@ -1,4 +1,4 @@
-//! Tests of `mh` over a mailbox in memory. There is nothing here but tests.
+//! Tests of `scan` over a mailbox in memory. There is nothing here but tests.
 #![tactic(auto)]
 
 #[cfg(test)]
@@ -13,8 +13,6 @@ mod endings;
 mod given;
 #[cfg(test)]
 mod lines;
-#[cfg(test)]
-mod marks;
 #[cfg(test)]
 mod profiles;
 #[cfg(test)]
