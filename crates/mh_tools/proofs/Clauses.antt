@@ -393,7 +393,7 @@ module _ (c : Call) (plan : FollowsItsPlan c) where
       fitted : (y : View) × (y.contents ≡ z) × FitAll (by_view true) first (deeds_in went.log) y
       fitted = alone_fit (λ p x. false) (deeds_in went.log) d z nothing_seen (fit_acts by_contents d z (deeds_in went.log) fits)
 
-      gave : giving.Gave fitted.0 plan.left (work (mailbox_in d)).text said exit (CommandEnds true (work (mailbox_in d)))
+      gave : giving.Gave fitted.0 plan.left (work (mailbox_in d)).text (said_of (deeds_in went.log)) exit (CommandEnds true (work (mailbox_in d)))
       gave =
           run_gives (by_view true) first fitted.0 fresh plan.left (work (mailbox_in d)).text (command run c.words) (deeds_in went.log) exit (CommandEnds true (work (mailbox_in d)))
           (command_gives true run d few (λ e p. homes_there run d p) c.words (λ is. refl) first refl (record { seen = refl; unmet = λ p x. refl })) fitted.2 went.runs
@@ -401,11 +401,11 @@ module _ (c : Call) (plan : FollowsItsPlan c) where
       -- another run's lock and a name that was changed meanwhile are not answered
       never : (r : Result Unit Ended) (k : CommandFault) (s : Status) → outcome ≡ r → ended_status r ≡ s → (s ≡ Done → ⊥) → ((f : CommandFault) → fault_status f ≡ s → f ≡ k) → command_cause k ≡ OfPlan
           → ((left : List ℕ) (x : Ended) → ByFault true (work (mailbox_in d)) fitted.0 left x k → ⊥) → ⊥
-      never (Ok tt) k s same e undone only cause no = undone (sym e)
-      never (Err x) k s same e undone only cause no =
+      never (Ok u) k s same e undone only cause refutes = undone (sym e)
+      never (Err x) k s same e undone only cause refutes =
           let f : x.fault ≡ k = only x.fault e in
           let at : exit ≡ Returned (Err x) = ap (exit_of ended_cause) same ∙ (exit_fault x k f ∙ ap (exit_by {T = Unit {0}} x) cause) in
-          no gave.left x (subst (λ i. ByFault true (work (mailbox_in d)) fitted.0 gave.left x i) f (gave.returned (Err x) at))
+          refutes gave.left x (subst (λ i. ByFault true (work (mailbox_in d)) fitted.0 gave.left x i) f (gave.returned (Err x) at))
 
       verdict_on : (n : Mailbox) → mailbox_in z ≡ n → IsVerdict c.status → HasOutcome (answered (work (mailbox_in d))) n c
       verdict_on n at v =
@@ -419,7 +419,7 @@ module _ (c : Call) (plan : FollowsItsPlan c) where
           deeds = steps;
           made = made;
           prefix = λ m n a. subst (λ k. AddsPart c.before.out.told c.after.out.told (work k).text) a.shown
-              (let g = gave a.contents a.left a.answers in (said, g.left, g.prefix, said_adds));
+              (let g = gave a.contents a.left a.answers in (said_of (deeds_in went.log), g.left, g.prefix, said_adds));
           verdict = λ m n a v. subst (λ k. HasOutcome (answered (work k)) n c) a.shown (verdict_on a.contents a.left a.answers n a.made v);
           unlocked = λ m n a place q. never a.contents a.left a.answers outcome (fault.Locked place) (Locked place) refl (settle (Locked place) q (λ e. cc (e))) (λ e. cc (e)) (λ f e. fault_locked f place e) refl (λ left x e. e refl);
           unmeddled = λ m n a place name q. never a.contents a.left a.answers outcome (fault.Meddled place name) (Meddled place name) refl (settle (Meddled place name) q (λ e. cc (e))) (λ e. cc (e)) (λ f e. fault_meddled f place name e) refl (λ left x e. e refl);
