@@ -1,6 +1,7 @@
 pub mod AllMarks
 pub mod BegunSeen
 pub mod BegunWorks
+pub mod ChosenListed
 pub mod CommitMinds
 pub mod CommitSeen
 pub mod EndedKept
@@ -22,4 +23,5 @@ pub mod SettledSeen
 pub mod SettledShown
 pub mod TriedAlone
 pub mod WorkGiven
+pub mod WorkMinds
 pub mod WorkPledged

@@ -1,5 +1,6 @@
 -- What each step of a plan meets, whatever is answered, where it may be asked for at all.
 use Rattle.std.proofs.Common.{◌≡◌, ◌≢◌, ◌++◌, ◌∷◌, [], ℕ, List, Result, Ok, Err, ◌∙◌, ap}
+use Rattle.mh_base.specs.declared.streams.SinkFault.{SinkFault}
 use Rattle.folder_files.specs.Deeds.{Deed, did}
 use Rattle.folder_files.specs.Rows.{IsAnswerOf}
 use Rattle.folder_files.specs.declared.place.Place.{Place}
@@ -9,7 +10,7 @@ use Rattle.folder_files.specs.declared.step.Step.{Step}
 use Rattle.folder_files.specs.declared.step.Step.TheVariants as step
 use Rattle.file_plans.specs.Asking.{list, read, make_folder, create, sync_file, sync_folder, link, rename, unlink, lock, listing_of, reading_of, folder_made_of, entered_of, touched_of, locking_of}
 use Rattle.file_plans.specs.Framing.{AsksOnly}
-use Rattle.file_plans.specs.Plan.{Hand, Plan, Return, Ask, Try, Say, Hear, Recall, Note, bind, after, ask, ◌>>=◌, converted, lifted}
+use Rattle.file_plans.specs.Plan.{Hand, Plan, Return, Ask, Try, Say, Hear, Recall, Note, bind, after, ask, say, ◌>>=◌, converted, lifted}
 use Rattle.file_plans.specs.Rules.{Keeps}
 use Rattle.file_plans.specs.Runs.{Deed as Done, Did, Said, Heard}
 use Rattle.file_plans.specs.declared.answers.Entered.{Entered}
@@ -210,6 +211,11 @@ module _ (May A : List Deed → Step → Type 0) where
     unfolding Meets ask lifted bind ◌>>=◌
     meets_unlock p k f = λ m. ((f m).0, on_unlock (λ a. On (step.Unlock p) a (k a)) (f m).1)
 
+  -- a piece of output
+  pub meets_say : {R E : Type 0} (own : List Deed) (h : Hand) (from : SinkFault → E) (Q : Outcome (Result R E)) (piece : List ℕ) (k : Unit {0} → Plan (Result R E)) → Meets May A own h (k tt) Q → Meets May A own h (lifted from (say piece) >>= k) Q
+  unfolding Meets say lifted bind ◌>>=◌
+  meets_say own h from Q piece k f = f
+
   -- where a part is answered at once
   pub meets_on : {S R E : Type 0} (own : List Deed) (h : Hand) (a : S) (k : S → Plan (Result R E)) (Q : Outcome (Result R E)) → Meets May A own h (k a) Q → Meets May A own h (Return (Ok a) >>= k) Q
   unfolding Meets bind ◌>>=◌
@@ -278,3 +284,14 @@ module _ (w : Pledge) (A : List Deed → Step → Type 0) where
   keeps_met past own h (Hear most next) Q P e f g = (f.0, f.1, λ piece short. keeps_met (past ++ Heard piece ∷ []) own h (next piece) Q P (acts_append [] past (Heard piece ∷ []) ∙ e) (f.2 piece short) (g piece))
   keeps_met past own h (Recall next) Q P e f g = keeps_met past own h (next h) Q P e f g
   keeps_met past own h (Note j next) Q P e f g = (f.0, keeps_met past own j next Q P e f.1 g)
+
+-- what is met where more is
+pub meets_weaker : {R : Type 0} (May A B : List Deed → Step → Type 0) → ((own : List Deed) (s : Step) → A own s → B own s) → (own : List Deed) (h : Hand) (p : Plan R) (Q : Outcome R) → Meets May A own h p Q → Meets May B own h p Q
+unfolding Meets
+meets_weaker May A B f own h (Return r) Q g = g
+meets_weaker May A B f own h (Ask s next) Q g = λ m. (f own s (g m).0, λ a row live. meets_weaker May A B f (did s a ∷ own) h (next a) Q ((g m).1 a row live))
+meets_weaker May A B f own h (Try s next) Q g = λ m. (f own s (g m).0, λ a row. meets_weaker May A B f (did s a ∷ own) h (next a) Q ((g m).1 a row))
+meets_weaker May A B f own h (Say piece next) Q g = meets_weaker May A B f own h next Q g
+meets_weaker May A B f own h (Hear most next) Q g = λ piece. meets_weaker May A B f own h (next piece) Q (g piece)
+meets_weaker May A B f own h (Recall next) Q g = meets_weaker May A B f own h (next h) Q g
+meets_weaker May A B f own h (Note j next) Q g = meets_weaker May A B f own j next Q g
