@@ -1,5 +1,6 @@
 pub mod Ending
 pub mod Giving
+pub mod MarksKept
 pub mod MindsMarks
 pub mod Plans
 pub mod Pledging

@@ -43,7 +43,7 @@ use Rattle.command_line.specs.Outcomes.{work_of}
 use Rattle.command_words.specs.declared.ended.Ended.{Ended}
 use Rattle.command_line.proofs.Ending.{EndsAs, run_ends}
 use Rattle.command_line.proofs.Giving.{AreAllHomes, IsLateEnd, DecidesEnd, ByFault, CommandEnds, command_gives}
-use Rattle.command_line.proofs.MindsMarks.{command_keeps_sequences}
+use Rattle.command_line.proofs.MarksKept.{command_keeps_marks}
 use Rattle.command_line.proofs.Pledging.{command_clean, command_keeps}
 use Rattle.command_line.proofs.Unlinked.{command_first}
 use Rattle.mh_tools.proofs.Told.{adds_none, fault_undone}
@@ -301,7 +301,7 @@ module _ (c : Call) (plan : FollowsItsPlan c) where
         moved p = record { careful = p.careful; as_pledged = p.as_pledged; by_bases = p.by_bases; safe = p.safe; in_order = p.in_order }
 
     pub marks : KeepsMarks c
-    marks looks = command_keeps_sequences run few c.words looks (begins c fresh) (ends c plan.left) outcome plan.follows
+    marks = command_keeps_marks run few (begins c fresh) (ends c plan.left) outcome c.words plan.follows
 
     -- where what other runs hold aside goes
     all_homes : (w : WorldMap) → AreAllHomes run (contents_of w)
