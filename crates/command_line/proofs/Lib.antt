@@ -1,4 +1,5 @@
 pub mod Ending
+pub mod FolderChars
 pub mod Giving
 pub mod MarksKept
 pub mod MindsMarks
@@ -6,6 +7,7 @@ pub mod Plans
 pub mod Pledging
 pub mod Refusals
 pub mod SaidFolder
+pub mod SuffixesApart
 pub mod Texts
 pub mod TwoAnswers
 pub mod Unlinked

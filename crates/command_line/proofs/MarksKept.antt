@@ -65,7 +65,7 @@ use Rattle.command_words.specs.declared.mark.MarkWords.{MarkWords}
 use Rattle.command_words.specs.declared.rmm.RmmWords.{RmmWords}
 use Rattle.command_words.proofs.SaidFolder.{IsValid}
 use Rattle.command_line.specs.Command.{command, mark_by, mark_job, rmm_by, rmm_job, word_by}
-use Rattle.command_line.specs.CommandMarks.{HasOwnEntries, KeepsCommandMarks, KeepsUnheld}
+use Rattle.command_line.specs.CommandMarks.{IsTextName, KeepsCommandMarks, KeepsUnheld}
 use Rattle.command_line.specs.CommandNames.{begins_folders, command_of, named}
 use Rattle.command_line.specs.CommandPledge.{entries_by, marks_pledge, on_named, rmm_on_named, rmms_pledge}
 use Rattle.command_line.specs.Profile.{folder_of, path_of, profile_name}
@@ -73,19 +73,21 @@ use Rattle.command_line.specs.declared.name.CommandName.{CommandName}
 use Rattle.command_line.specs.declared.name.CommandName.TheVariants.{Mark, Rmm, Scan}
 use Rattle.command_line.proofs.MindsMarks.{command_keeps_sequences, keeps_may, minds_sequences}
 use Rattle.command_line.proofs.Pledging.{Answered, answers, context_keeps, context_step, known_sound, mark_acts, mark_onward, mark_words_keep, named_onward, on_context, onward_by, plan_by, profile_step, rmm_acts, rmm_onward, rmm_words_keep, two_readings, word_onward}
+use Rattle.command_line.proofs.FolderChars.{AreUtf8, HasChars, acted_chars, chars_texts, mark_chars, rmm_chars}
+use Rattle.command_line.proofs.SuffixesApart.{suffix_same}
 use Rattle.command_line.proofs.SaidFolder.{acted_valid, mark_valid, rmm_words_valid}
 use Rattle.command_line.proofs.TwoAnswers.{follows_so, keeps_after, keeps_ended, rest_by}
 
--- a folder with entries of its own is the one that is acted on, or has other entries
-told_by : (acted other : List ℕ) → is_folder_name acted ≡ true → HasOwnEntries other → IsTold acted other
-told_by acted other valid own_ = go (bytes_eq (suffix other) (suffix acted)) refl
+-- a folder whose name is a text is the one that is acted on, or has other entries
+told_by : (acted other : List ℕ) → IsTextName acted → IsTextName other → IsTold acted other
+told_by acted other real text = go (bytes_eq (suffix other) (suffix acted)) refl
   where
     go : (b : Bool) → bytes_eq (suffix other) (suffix acted) ≡ b → IsTold acted other
-    go true e = inl (sym (own_ acted valid (sym (bytes_true (suffix other) (suffix acted) e))))
+    go true e = inl (suffix_same other acted text real (bytes_true (suffix other) (suffix acted) e))
     go false e = inr e
 
-minds_own : (acted : List ℕ) (w : Pledge) → is_folder_name acted ≡ true → MindsSequencesOf (λ other. IsTold acted other) w → MindsSequencesOf HasOwnEntries w
-minds_own acted w valid m = record { public = m.public; private = λ mail folder sequence is. m.private mail folder sequence (told_by acted folder valid is) }
+minds_own : (acted : List ℕ) (w : Pledge) → IsTextName acted → MindsSequencesOf (λ other. IsTold acted other) w → MindsSequencesOf IsTextName w
+minds_own acted w real m = record { public = m.public; private = λ mail folder sequence is. m.private mail folder sequence (told_by acted folder real is) }
 
 -- what may be asked with more may be asked with less
 module _ (w : Pledge) (A : List Deed → Step → Type 0) where
@@ -108,7 +110,7 @@ module _ (w : Pledge) (A : List Deed → Step → Type 0) where
   may_without : (own : List Deed) (s : Step) → MayAsk (with_step w A) own s → MayAsk w own s
   may_without own s m = record { is_own = m.is_own; marks = marked_without own s m.marks; steps = λ no. (m.steps no).0 }
 
-  minds_with : MindsSequences w → MindsSequencesOf HasOwnEntries (with_step w A)
+  minds_with : MindsSequences w → MindsSequencesOf IsTextName (with_step w A)
   minds_with m = record {
     public = λ mail folder sequence own s may. m.public mail folder sequence own s (may_without own s may);
     private = λ mail folder sequence is own s may. m.private mail folder sequence own s (may_without own s may);
@@ -153,7 +155,7 @@ module _ (run : ℕ) (path : List ℕ) (job : MarkJob) (valid : is_folder_name j
 record Minding {R : Type 0} (run : ℕ) (B : List Deed → Step → Type 0) (h : Hand) (plan : Plan R) : Type 1 where
   pledge : Pledge
   run_is : pledge.run ≡ run
-  minds : MindsSequencesOf HasOwnEntries (with_step pledge B)
+  minds : MindsSequencesOf IsTextName (with_step pledge B)
   Q : List Done → Hand → R → Type 0
   keeps : Keeps (rules_of pledge) [] h plan Q
 
@@ -184,15 +186,15 @@ module _ (run : ℕ) (few : run < 2 ^ 128) (profile : List NamedValue) (h : Hand
   sound_so w A own j s = record { numbered = s.numbered; unfailed = s.unfailed }
 
   -- a `mark` that changes something
-  module _ (words : MarkWords) (es : List NamedValue) (folder : List ℕ) (valid : is_folder_name folder ≡ true) (a : MarkAct) where
+  module _ (words : MarkWords) (es : List NamedValue) (folder : List ℕ) (valid : is_folder_name folder ≡ true) (text : IsTextName folder) (a : MarkAct) where
     abbrev job : MarkJob
     job = mark_job folder words profile
 
     abbrev changes_pledge : Pledge
     changes_pledge = with_step (mark_pledge run path job a) (λ own s. MindsAll (λ other. IsTold folder other) run own s)
 
-    marked_minds : MindsSequencesOf HasOwnEntries (with_step changes_pledge NoMore)
-    marked_minds = minds_own folder (with_step changes_pledge NoMore) valid (pledge_minds (λ other. IsTold folder other) (with_step changes_pledge NoMore) (λ own s may. may.0.1))
+    marked_minds : MindsSequencesOf IsTextName (with_step changes_pledge NoMore)
+    marked_minds = minds_own folder (with_step changes_pledge NoMore) text (pledge_minds (λ other. IsTold folder other) (with_step changes_pledge NoMore) (λ own s may. may.0.1))
 
     act_keeps : (c d : Answer) → Sound changes_pledge (acts (two_readings profile c d)) (knowing es h) → Keeps (rules_of changes_pledge) (two_readings profile c d) (knowing es h) (mark_by_act run path job (Some a)) (IfOkay Any)
     act_keeps c d sound =
@@ -211,7 +213,7 @@ module _ (run : ℕ) (few : run < 2 ^ 128) (profile : List NamedValue) (h : Hand
   abbrev mark_plan : Answer → MarkWords → Plan (Result Unit Ended)
   mark_plan b words = Ask profile_step (λ c. rest_by (context_step profile) (mark_by run profile (Ok words)) (mark_onward run profile (Ok words)) b)
 
-  mark_minding : (b : Answer) (value : Result MarkWords Ended) → ((words : MarkWords) → value ≡ Ok words → IsValid words.folder) → Minding run NoMore h (Ask profile_step (λ c. rest_by (context_step profile) (mark_by run profile value) (mark_onward run profile value) b))
+  mark_minding : (b : Answer) (value : Result MarkWords Ended) → ((words : MarkWords) → value ≡ Ok words → IsValid words.folder × HasChars words.folder) → Minding run NoMore h (Ask profile_step (λ c. rest_by (context_step profile) (mark_by run profile value) (mark_onward run profile value) b))
   unfolding mark_onward
   mark_minding b (Err e) valid = record {
     pledge = marks_pledge run profile (entries_by b) (Err e);
@@ -226,43 +228,43 @@ module _ (run : ℕ) (few : run < 2 ^ 128) (profile : List NamedValue) (h : Hand
       named_by (Err e) is = record {
         pledge = on_named run profile words (folder_of words.folder (entries_by b) profile);
         run_is = ap (λ v. (on_named run profile words v).run) is;
-        minds = subst (λ v. MindsSequencesOf HasOwnEntries (with_step (on_named run profile words v) NoMore)) (sym is) (minds_with (scan_pledge run path) NoMore (minds_sequences run path));
+        minds = subst (λ v. MindsSequencesOf IsTextName (with_step (on_named run profile words v) NoMore)) (sym is) (minds_with (scan_pledge run path) NoMore (minds_sequences run path));
         Q = _;
         keeps = mark_words_keep run few profile h b (Ok words);
       }
-      named_by (Ok folder) is = acted (acted_valid words.folder (entries_by b) profile folder (valid words refl) is) words.act refl
+      named_by (Ok folder) is = acted (acted_valid words.folder (entries_by b) profile folder (valid words refl).0 is) (acted_chars words.folder (entries_by b) profile folder (valid words refl).1 is) words.act refl
         where
-          acted : is_folder_name folder ≡ true → (o : Option MarkAct) → words.act ≡ o → Minding run NoMore h (mark_plan b words)
-          acted real None none = record {
+          acted : is_folder_name folder ≡ true → IsTextName folder → (o : Option MarkAct) → words.act ≡ o → Minding run NoMore h (mark_plan b words)
+          acted real text None none = record {
             pledge = on_named run profile words (folder_of words.folder (entries_by b) profile);
             run_is = ap (λ v. (on_named run profile words v).run) is ∙ ap (λ o. (pledge_by run path (mark_job folder words profile) o).run) none;
-            minds = subst (λ v. MindsSequencesOf HasOwnEntries (with_step (on_named run profile words v) NoMore)) (sym is)
-                (subst (λ o. MindsSequencesOf HasOwnEntries (with_step (pledge_by run path (mark_job folder words profile) o) NoMore)) (sym none)
+            minds = subst (λ v. MindsSequencesOf IsTextName (with_step (on_named run profile words v) NoMore)) (sym is)
+                (subst (λ o. MindsSequencesOf IsTextName (with_step (pledge_by run path (mark_job folder words profile) o) NoMore)) (sym none)
                 (minds_with (looks_pledge run path (mark_job folder words profile)) NoMore (looks_mind run path (mark_job folder words profile) real)));
             Q = _;
             keeps = mark_words_keep run few profile h b (Ok words);
           }
-          acted real (Some a) some = record {
-            pledge = changes_pledge words (entries_by b) folder real a;
+          acted real text (Some a) some = record {
+            pledge = changes_pledge words (entries_by b) folder real text a;
             run_is = refl;
-            minds = marked_minds words (entries_by b) folder real a;
+            minds = marked_minds words (entries_by b) folder real text a;
             Q = IfOkay Any;
-            keeps = keeps_after (changes_pledge words (entries_by b) folder real a) Home (Mail path) profile_name context_name LIMIT_BYTES h (on_context profile words.folder (mark_acts run profile words) (reading_of b)) (IfOkay Any)
-                (λ c d sound. context_keeps (changes_pledge words (entries_by b) folder real a) (two_readings profile c d) h sound profile words.folder (mark_acts run profile words) Any (reading_of b)
-                (λ other known. subst (λ z. Keeps (rules_of (changes_pledge words (entries_by b) folder real a)) (two_readings profile c d) (knowing (entries_by b) h) (mark_acts run profile words z) (IfOkay Any)) (ok_one (folder_of words.folder (entries_by b) profile) folder other is known)
-                (acts_keep words (entries_by b) folder real a some c d (known_sound (changes_pledge words (entries_by b) folder real a) (acts (two_readings profile c d)) h (entries_by b) sound))));
+            keeps = keeps_after (changes_pledge words (entries_by b) folder real text a) Home (Mail path) profile_name context_name LIMIT_BYTES h (on_context profile words.folder (mark_acts run profile words) (reading_of b)) (IfOkay Any)
+                (λ c d sound. context_keeps (changes_pledge words (entries_by b) folder real text a) (two_readings profile c d) h sound profile words.folder (mark_acts run profile words) Any (reading_of b)
+                (λ other known. subst (λ z. Keeps (rules_of (changes_pledge words (entries_by b) folder real text a)) (two_readings profile c d) (knowing (entries_by b) h) (mark_acts run profile words z) (IfOkay Any)) (ok_one (folder_of words.folder (entries_by b) profile) folder other is known)
+                (acts_keep words (entries_by b) folder real text a some c d (known_sound (changes_pledge words (entries_by b) folder real text a) (acts (two_readings profile c d)) h (entries_by b) sound))));
           }
 
   -- `rmm`
-  module _ (words : RmmWords) (es : List NamedValue) (folder : List ℕ) (valid : is_folder_name folder ≡ true) where
+  module _ (words : RmmWords) (es : List NamedValue) (folder : List ℕ) (valid : is_folder_name folder ≡ true) (text : IsTextName folder) where
     abbrev rmm_job_ : RmmJob
     rmm_job_ = rmm_job folder words profile
 
     abbrev removes_pledge : Pledge
     removes_pledge = with_step (rmm_pledge run path rmm_job_) (λ own s. MindsUnheld (λ other. IsTold folder other) run own s)
 
-    removed_minds : MindsSequencesOf HasOwnEntries (with_step removes_pledge Unheld)
-    removed_minds = minds_own folder (with_step removes_pledge Unheld) valid (pledge_minds (λ other. IsTold folder other) (with_step removes_pledge Unheld) (λ own s may. may.0.1 may.1))
+    removed_minds : MindsSequencesOf IsTextName (with_step removes_pledge Unheld)
+    removed_minds = minds_own folder (with_step removes_pledge Unheld) text (pledge_minds (λ other. IsTold folder other) (with_step removes_pledge Unheld) (λ own s may. may.0.1 may.1))
 
     removes_keep : (c d : Answer) → Sound removes_pledge (acts (two_readings profile c d)) (knowing es h) → Keeps (rules_of removes_pledge) (two_readings profile c d) (knowing es h) (rmm_acts run profile words folder) (IfOkay Any)
     removes_keep c d sound =
@@ -274,7 +276,7 @@ module _ (run : ℕ) (few : run < 2 ^ 128) (profile : List NamedValue) (h : Hand
   abbrev rmm_plan : Answer → RmmWords → Plan (Result Unit Ended)
   rmm_plan b words = Ask profile_step (λ c. rest_by (context_step profile) (rmm_by run profile (Ok words)) (rmm_onward run profile (Ok words)) b)
 
-  rmm_minding : (b : Answer) (value : Result RmmWords Ended) → ((words : RmmWords) → value ≡ Ok words → IsValid words.folder) → Minding run Unheld h (Ask profile_step (λ c. rest_by (context_step profile) (rmm_by run profile value) (rmm_onward run profile value) b))
+  rmm_minding : (b : Answer) (value : Result RmmWords Ended) → ((words : RmmWords) → value ≡ Ok words → IsValid words.folder × HasChars words.folder) → Minding run Unheld h (Ask profile_step (λ c. rest_by (context_step profile) (rmm_by run profile value) (rmm_onward run profile value) b))
   unfolding rmm_onward
   rmm_minding b (Err e) valid = record {
     pledge = rmms_pledge run profile (entries_by b) (Err e);
@@ -289,22 +291,22 @@ module _ (run : ℕ) (few : run < 2 ^ 128) (profile : List NamedValue) (h : Hand
       named_by (Err e) is = record {
         pledge = rmm_on_named run profile words (folder_of words.folder (entries_by b) profile);
         run_is = ap (λ v. (rmm_on_named run profile words v).run) is;
-        minds = subst (λ v. MindsSequencesOf HasOwnEntries (with_step (rmm_on_named run profile words v) Unheld)) (sym is) (minds_with (scan_pledge run path) Unheld (minds_sequences run path));
+        minds = subst (λ v. MindsSequencesOf IsTextName (with_step (rmm_on_named run profile words v) Unheld)) (sym is) (minds_with (scan_pledge run path) Unheld (minds_sequences run path));
         Q = _;
         keeps = rmm_words_keep run few profile h b (Ok words);
       }
-      named_by (Ok folder) is = acted (acted_valid words.folder (entries_by b) profile folder (valid words refl) is)
+      named_by (Ok folder) is = acted (acted_valid words.folder (entries_by b) profile folder (valid words refl).0 is) (acted_chars words.folder (entries_by b) profile folder (valid words refl).1 is)
         where
-          acted : is_folder_name folder ≡ true → Minding run Unheld h (rmm_plan b words)
-          acted real = record {
-            pledge = removes_pledge words (entries_by b) folder real;
+          acted : is_folder_name folder ≡ true → IsTextName folder → Minding run Unheld h (rmm_plan b words)
+          acted real text = record {
+            pledge = removes_pledge words (entries_by b) folder real text;
             run_is = refl;
-            minds = removed_minds words (entries_by b) folder real;
+            minds = removed_minds words (entries_by b) folder real text;
             Q = IfOkay Any;
-            keeps = keeps_after (removes_pledge words (entries_by b) folder real) Home (Mail path) profile_name context_name LIMIT_BYTES h (on_context profile words.folder (rmm_acts run profile words) (reading_of b)) (IfOkay Any)
-                (λ c d sound. context_keeps (removes_pledge words (entries_by b) folder real) (two_readings profile c d) h sound profile words.folder (rmm_acts run profile words) Any (reading_of b)
-                (λ other known. subst (λ z. Keeps (rules_of (removes_pledge words (entries_by b) folder real)) (two_readings profile c d) (knowing (entries_by b) h) (rmm_acts run profile words z) (IfOkay Any)) (ok_one (folder_of words.folder (entries_by b) profile) folder other is known)
-                (removes_keep words (entries_by b) folder real c d (known_sound (removes_pledge words (entries_by b) folder real) (acts (two_readings profile c d)) h (entries_by b) sound))));
+            keeps = keeps_after (removes_pledge words (entries_by b) folder real text) Home (Mail path) profile_name context_name LIMIT_BYTES h (on_context profile words.folder (rmm_acts run profile words) (reading_of b)) (IfOkay Any)
+                (λ c d sound. context_keeps (removes_pledge words (entries_by b) folder real text) (two_readings profile c d) h sound profile words.folder (rmm_acts run profile words) Any (reading_of b)
+                (λ other known. subst (λ z. Keeps (rules_of (removes_pledge words (entries_by b) folder real text)) (two_readings profile c d) (knowing (entries_by b) h) (rmm_acts run profile words z) (IfOkay Any)) (ok_one (folder_of words.folder (entries_by b) profile) folder other is known)
+                (removes_keep words (entries_by b) folder real text c d (known_sound (removes_pledge words (entries_by b) folder real text) (acts (two_readings profile c d)) h (entries_by b) sound))));
           }
 
 no_more : (run : ℕ) (past : List Event) → AtSteps (λ r. r ≡ run) (λ r own s. Unit {0}) past
@@ -327,15 +329,15 @@ abbrev RemovesSo : List Deed → Step → Type 0
 RemovesSo own s = RemovesUnheld own s
 
 -- where no message is held aside when it removes
-unheld_kept : (w : Pledge) → MindsSequencesOf HasOwnEntries (with_step w RemovesSo) → (old new : Option Story) → SameStart old new → StoryMay w old new → KeepsUnheld w.run old new
+unheld_kept : (w : Pledge) → MindsSequencesOf IsTextName (with_step w RemovesSo) → (old new : Option Story) → SameStart old new → StoryMay w old new → KeepsUnheld w.run old new
 unheld_kept w minds None None same may = tt
 unheld_kept w minds (Some old) (Some new) same may =
-    λ unheld. sequences_kept_of HasOwnEntries (with_step w RemovesSo) minds (Some old) (Some new) same (λ unused. own_with w RemovesSo (past_of new.history) unheld (may unused))
+    λ unheld. sequences_kept_of IsTextName (with_step w RemovesSo) minds (Some old) (Some new) same (λ unused. own_with w RemovesSo (past_of new.history) unheld (may unused))
 unheld_kept w minds None (Some new) same may = absurd may
 unheld_kept w minds (Some old) None same may = absurd may
 
 -- after a profile that is too long a command does nothing
-module _ (run : ℕ) (few : run < 2 ^ 128) (word : List ℕ) (words : List (List ℕ)) (h : Hand) (b : Answer) where
+module _ (run : ℕ) (few : run < 2 ^ 128) (word : List ℕ) (words : List (List ℕ)) (texts : AreUtf8 words) (h : Hand) (b : Answer) where
   abbrev all : List (List ℕ)
   all = word ∷ words
 
@@ -353,13 +355,13 @@ module _ (run : ℕ) (few : run < 2 ^ 128) (word : List ℕ) (words : List (List
   unfolding word_onward
   mark_named profile name is =
       subst (λ z. Minding run NothingMore h (Ask profile_step (λ c. rest_by (context_step profile) (word_by run profile word words z) (word_onward run profile word words z) b))) (sym is)
-      (mark_minding run few profile h b (mark_said profile (map chars words)) (λ said e. mark_valid profile (map chars words) said e))
+      (mark_minding run few profile h b (mark_said profile (map chars words)) (λ said e. (mark_valid profile (map chars words) said e, mark_chars profile (map chars words) said (chars_texts words texts) e)))
 
   rmm_named : (profile : List NamedValue) (name : Option CommandName) → name ≡ Some Rmm → Minding run RemovesSo h (Ask profile_step (λ c. rest_by (context_step profile) (word_by run profile word words name) (word_onward run profile word words name) b))
   unfolding word_onward
   rmm_named profile name is =
       subst (λ z. Minding run RemovesSo h (Ask profile_step (λ c. rest_by (context_step profile) (word_by run profile word words z) (word_onward run profile word words z) b))) (sym is)
-      (rmm_minding run few profile h b (rmm_said profile (map chars words)) (λ said e. rmm_words_valid profile (map chars words) said e))
+      (rmm_minding run few profile h b (rmm_said profile (map chars words)) (λ said e. (rmm_words_valid profile (map chars words) said e, rmm_chars profile (map chars words) said (chars_texts words texts) e)))
 
   mark_read : (r : Reading) → named word ≡ Some Mark → Minding run NothingMore h (plan_by run few all r b)
   unfolding onward_by named_onward lifted bind ◌>>=◌
@@ -390,29 +392,29 @@ module _ (run : ℕ) (few : run < 2 ^ 128) (x y : State) (result : Result Unit E
       keeps_may m.pledge ended_cause (plan_by run few words (reading_of t.first) t.second) x y result m.Q m.keeps
       (subst (λ n. Follows n ended_cause (plan_by run few words (reading_of t.first) t.second) x y result) (sym m.run_is) (follows_so run ended_cause (command run words) (plan_by run few words (reading_of t.first) t.second) x y result f t.runs))
 
-  mark_kept : (word : List ℕ) (words : List (List ℕ)) → named word ≡ Some Mark → Follows run ended_cause (command run (word ∷ words)) x y result → KeepsSequencesOf HasOwnEntries run x.files.story y.files.story
-  mark_kept word words is f = go (answers run few (word ∷ words) x y result f)
+  mark_kept : (word : List ℕ) (words : List (List ℕ)) → AreUtf8 words → named word ≡ Some Mark → Follows run ended_cause (command run (word ∷ words)) x y result → KeepsSequencesOf IsTextName run x.files.story y.files.story
+  mark_kept word words texts is f = go (answers run few (word ∷ words) x y result f)
     where
-      go : Answered run few (word ∷ words) x.hand y.hand (deeds_in f.went.log) (exit_of ended_cause result) → KeepsSequencesOf HasOwnEntries run x.files.story y.files.story
+      go : Answered run few (word ∷ words) x.hand y.hand (deeds_in f.went.log) (exit_of ended_cause result) → KeepsSequencesOf IsTextName run x.files.story y.files.story
       go t =
-          let m = mark_read run few word words x.hand t.second (reading_of t.first) is in
-          subst (λ n. KeepsSequencesOf HasOwnEntries n x.files.story y.files.story) m.run_is
-          (sequences_kept_of HasOwnEntries (with_step m.pledge NothingMore) m.minds x.files.story y.files.story (start_same (word ∷ words) f) (may_more m.pledge x.files.story y.files.story (minding_may (word ∷ words) f t m)))
+          let m = mark_read run few word words texts x.hand t.second (reading_of t.first) is in
+          subst (λ n. KeepsSequencesOf IsTextName n x.files.story y.files.story) m.run_is
+          (sequences_kept_of IsTextName (with_step m.pledge NothingMore) m.minds x.files.story y.files.story (start_same (word ∷ words) f) (may_more m.pledge x.files.story y.files.story (minding_may (word ∷ words) f t m)))
 
-  rmm_kept : (word : List ℕ) (words : List (List ℕ)) → named word ≡ Some Rmm → Follows run ended_cause (command run (word ∷ words)) x y result → KeepsUnheld run x.files.story y.files.story
-  rmm_kept word words is f = go (answers run few (word ∷ words) x y result f)
+  rmm_kept : (word : List ℕ) (words : List (List ℕ)) → AreUtf8 words → named word ≡ Some Rmm → Follows run ended_cause (command run (word ∷ words)) x y result → KeepsUnheld run x.files.story y.files.story
+  rmm_kept word words texts is f = go (answers run few (word ∷ words) x y result f)
     where
       go : Answered run few (word ∷ words) x.hand y.hand (deeds_in f.went.log) (exit_of ended_cause result) → KeepsUnheld run x.files.story y.files.story
       go t =
-          let m = rmm_read run few word words x.hand t.second (reading_of t.first) is in
+          let m = rmm_read run few word words texts x.hand t.second (reading_of t.first) is in
           subst (λ n. KeepsUnheld n x.files.story y.files.story) m.run_is (unheld_kept m.pledge m.minds x.files.story y.files.story (start_same (word ∷ words) f) (minding_may (word ∷ words) f t m))
 
-  by_name : (word : List ℕ) (words : List (List ℕ)) → Follows run ended_cause (command run (word ∷ words)) x y result → (name : Option CommandName) → named word ≡ name → KeepsCommandMarks name run x.files.story y.files.story
-  by_name word words f None is = command_keeps_sequences run few (word ∷ words) (ap begins_folders is) x y result f
-  by_name word words f (Some Scan) is = command_keeps_sequences run few (word ∷ words) (ap begins_folders is) x y result f
-  by_name word words f (Some Mark) is = mark_kept word words is f
-  by_name word words f (Some Rmm) is = rmm_kept word words is f
+  by_name : (word : List ℕ) (words : List (List ℕ)) → AreUtf8 words → Follows run ended_cause (command run (word ∷ words)) x y result → (name : Option CommandName) → named word ≡ name → KeepsCommandMarks name run x.files.story y.files.story
+  by_name word words texts f None is = command_keeps_sequences run few (word ∷ words) (ap begins_folders is) x y result f
+  by_name word words texts f (Some Scan) is = command_keeps_sequences run few (word ∷ words) (ap begins_folders is) x y result f
+  by_name word words texts f (Some Mark) is = mark_kept word words texts is f
+  by_name word words texts f (Some Rmm) is = rmm_kept word words texts is f
 
-  pub command_keeps_marks : (words : List (List ℕ)) → Follows run ended_cause (command run words) x y result → KeepsCommandMarks (command_of words) run x.files.story y.files.story
-  command_keeps_marks [] f = command_keeps_sequences run few [] refl x y result f
-  command_keeps_marks (word ∷ words) f = by_name word words f (named word) refl
+  pub command_keeps_marks : (words : List (List ℕ)) → AreUtf8 words → Follows run ended_cause (command run words) x y result → KeepsCommandMarks (command_of words) run x.files.story y.files.story
+  command_keeps_marks [] texts f = command_keeps_sequences run few [] refl x y result f
+  command_keeps_marks (word ∷ words) texts f = by_name word words texts.1 f (named word) refl

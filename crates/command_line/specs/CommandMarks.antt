@@ -1,7 +1,6 @@
 -- What each command keeps of the marks of messages, by its name.
 use Rattle.std.specs.Prelude.{◌≡◌, ℕ, true, List, Option, None, Some}
-use Rattle.mh_base.specs.Folders.{is_folder_name}
-use Rattle.mh_sequences.specs.Reading.{suffix}
+use Rattle.std.specs.Str.{all_scalars}
 use Rattle.folder_files.specs.Histories.{past_of}
 use Rattle.folder_files.specs.Story.{Story}
 use Rattle.folder_files.specs.declared.event.Event.{Event}
@@ -12,9 +11,9 @@ use Rattle.refile_command.specs.HeldLeft.{RemovesUnheld}
 use Rattle.command_line.specs.declared.name.CommandName.{CommandName}
 use Rattle.command_line.specs.declared.name.CommandName.TheVariants.{Mark, Rmm, Scan}
 
--- the entries of the folder's sequences end as those of no other folder's name
-abbrev pub HasOwnEntries : List ℕ → Type 0
-HasOwnEntries folder = (other : List ℕ) → is_folder_name other ≡ true → suffix other ≡ suffix folder → other ≡ folder
+-- the name is a text of characters
+abbrev pub IsTextName : List ℕ → Type 0
+IsTextName folder = all_scalars folder ≡ true
 
 -- whenever the run took a message from its number, each held name that it had listed in that folder was let go
 abbrev pub HasRemovedUnheld : ℕ → List Event → Type 0
@@ -23,14 +22,14 @@ HasRemovedUnheld run past = AtSteps (λ r. r ≡ run) (λ r own s. RemovesUnheld
 -- then the marks of sequences stay sound, where a story is told
 abbrev pub KeepsUnheld : ℕ → Option Story → Option Story → Type 0
 KeepsUnheld run None None = Unit {0}
-KeepsUnheld run (Some old) (Some new) = HasRemovedUnheld run (past_of new.history) → SequencesStaySoundOf HasOwnEntries run old new
+KeepsUnheld run (Some old) (Some new) = HasRemovedUnheld run (past_of new.history) → SequencesStaySoundOf IsTextName run old new
 KeepsUnheld run None (Some new) = ⊥
 KeepsUnheld run (Some old) None = ⊥
 
--- a command that looks keeps all; `mark` the public ones, and the private ones of folders with entries of their own; so does `rmm` where no
--- message is held aside when it removes
+-- a command that looks keeps all, whatever a folder is called; `mark` all of folders whose names are texts; so does `rmm` where no message is
+-- held aside when it removes
 abbrev pub KeepsCommandMarks : Option CommandName → ℕ → Option Story → Option Story → Type 0
 KeepsCommandMarks None run old new = KeepsSequences run old new
 KeepsCommandMarks (Some Scan) run old new = KeepsSequences run old new
-KeepsCommandMarks (Some Mark) run old new = KeepsSequencesOf HasOwnEntries run old new
+KeepsCommandMarks (Some Mark) run old new = KeepsSequencesOf IsTextName run old new
 KeepsCommandMarks (Some Rmm) run old new = KeepsUnheld run old new

@@ -1,17 +1,14 @@
 -- Each step of `mark` minds the marks of all sequences.
-use Rattle.std.proofs.Common.{◌≡◌, ◌⊎◌, inl, inr, ◌&&◌, ◌||◌, ◌∷◌, [], ℕ, Bool, true, false, List, Result, Ok, Err, map, refl, sym, ◌∙◌, ap, subst, bytes_eq, not}
+use Rattle.std.proofs.Common.{◌≡◌, inl, inr, ◌&&◌, ◌||◌, ◌∷◌, [], ℕ, Bool, true, false, List, Result, Ok, Err, map, refl, sym, ◌∙◌, subst, bytes_eq, not}
 use Rattle.std.specs.Prelude.{IfSome, Option, if◌then◌else◌}
-use Rattle.mh_base.specs.Entries.{kind_of}
 use Rattle.mh_base.specs.Numbers.{IsMsgNum}
-use Rattle.mh_base.specs.declared.entry.Entry.TheVariants.{Number}
 use Rattle.mh_sequences.specs.Marks.{marked, marked_cur}
-use Rattle.mh_sequences.specs.Runs.{has, set_of}
+use Rattle.mh_sequences.specs.Runs.{has}
 use Rattle.mh_sequences.specs.Sequences.{AreSequences, Marked, member}
 use Rattle.mh_sequences.specs.declared.run.Run.{Run}
 use Rattle.folder_files.specs.Deeds.{Deed}
 use Rattle.folder_files.specs.declared.place.Place.{Place}
 use Rattle.folder_files.specs.declared.place.Place.TheVariants.{Folder, Mail}
-use Rattle.folder_files.specs.declared.step.Step.{Step}
 use Rattle.folder_files.proofs.Names.{both, or_case}
 use Rattle.file_plans.specs.Plan.{Hand, Plan, Return, after, bind, lifted, ◌>>=◌}
 use Rattle.step_plans.specs.CommandFaults.{of_sink}
@@ -36,7 +33,7 @@ use Rattle.opened_folders.proofs.WorkMinds.{Anyhow, current_meets, whole_meets}
 use Rattle.mark_command.specs.Lines.{lines_for}
 use Rattle.mark_command.specs.Mark.{chosen_from, chosen_marked, lines_said, mark_changes, opened_marked, said_if}
 use Rattle.mark_command.specs.MarkPledge.{mark_pledge}
-use Rattle.mark_command.specs.Marking.{all_but, mark_with, marked_for, marks_for, numbers_marked}
+use Rattle.mark_command.specs.Marking.{mark_with, marked_for, numbers_marked}
 use Rattle.mark_command.specs.declared.job.MarkAct.{MarkAct}
 use Rattle.mark_command.specs.declared.job.MarkAct.TheVariants as act
 use Rattle.mark_command.specs.declared.job.MarkJob.{MarkJob}
