@@ -1,10 +1,13 @@
 pub mod Ending
+pub mod FolderChars
 pub mod Giving
+pub mod MarksKept
 pub mod MindsMarks
 pub mod Plans
 pub mod Pledging
 pub mod Refusals
 pub mod SaidFolder
+pub mod SuffixesApart
 pub mod Texts
 pub mod TwoAnswers
 pub mod Unlinked

@@ -122,7 +122,7 @@ pledge_looks run (word ∷ words) profile context other = go (named word) other
     go (Some Rmm) other = cc (other)
 
 -- the own steps of a call's story, where its plan keeps the rules of a pledge
-keeps_may : {T E : Type 0} (w : Pledge) (cause : E → Cause) (plan : Plan (Result T E)) (x y : State) (result : Result T E) (Q : List Done → Hand → Result T E → Type 0) → Keeps (rules_of w) [] x.hand plan Q → (f : Follows w.run cause plan x y result) → StoryMay w x.files.story y.files.story
+pub keeps_may : {T E : Type 0} (w : Pledge) (cause : E → Cause) (plan : Plan (Result T E)) (x y : State) (result : Result T E) (Q : List Done → Hand → Result T E → Type 0) → Keeps (rules_of w) [] x.hand plan Q → (f : Follows w.run cause plan x y result) → StoryMay w x.files.story y.files.story
 keeps_may w cause plan x y result Q k f = told x.files.story y.files.story f.went.grows (run_keeps (rules_of w) [] x.hand plan (deeds_in f.went.log) y.hand (exit_of cause result) Q k f.went.runs).kept
   where
     told : (old new : Option Story) → GrowsBy w.run old new (filed_in f.went.log) → AreKept (rules_of w) [] (deeds_in f.went.log) → StoryMay w old new

@@ -64,49 +64,49 @@ abbrev pub context_step : List NamedValue → Step
 context_step profile = Read (Mail (path_of profile)) context_name LIMIT_BYTES
 
 -- the context was read so: the folder is named, and the work goes on
-abbrev on_context_plainly : List NamedValue → Option (List ℕ) → (List ℕ → Commanded Unit) → Reading → Commanded Unit
+abbrev pub on_context_plainly : List NamedValue → Option (List ℕ) → (List ℕ → Commanded Unit) → Reading → Commanded Unit
 on_context_plainly profile said act r = ((text_by r >>= (λ text. context_seen (entries_in text))) >>= (λ entered. Recall (λ h. Return (folder_of said (entries_seen h.context) profile)))) >>= act
 
 abbrev pub on_context : List NamedValue → Option (List ℕ) → (List ℕ → Commanded Unit) → Reading → Ending Unit
 on_context profile said act r = lifted plain (on_context_plainly profile said act r)
 
-context_asked : (profile : List NamedValue) (said : Option (List ℕ)) (act : List ℕ → Commanded Unit) → lifted plain (folder_found profile said >>= act) ≡ Ask (context_step profile) (λ b. on_context profile said act (reading_of b))
+pub context_asked : (profile : List NamedValue) (said : Option (List ℕ)) (act : List ℕ → Commanded Unit) → lifted plain (folder_found profile said >>= act) ≡ Ask (context_step profile) (λ b. on_context profile said act (reading_of b))
 unfolding folder_found context_entered text_read read ask lifted bind ◌>>=◌
 context_asked profile said act = refl
 
 -- what is done next, by the words: the context is read, or the command ends
 module _ (run : ℕ) (profile : List NamedValue) where
-  abbrev scan_acts : ScanWords → List ℕ → Commanded Unit
+  abbrev pub scan_acts : ScanWords → List ℕ → Commanded Unit
   scan_acts words folder = scan run (path_of profile) (job_of folder words profile)
 
-  abbrev mark_acts : MarkWords → List ℕ → Commanded Unit
+  abbrev pub mark_acts : MarkWords → List ℕ → Commanded Unit
   mark_acts words folder = mark run (path_of profile) (mark_job folder words profile)
 
-  abbrev rmm_acts : RmmWords → List ℕ → Commanded Unit
+  abbrev pub rmm_acts : RmmWords → List ℕ → Commanded Unit
   rmm_acts words folder = rmm run (path_of profile) (rmm_job folder words profile)
 
-  scan_onward : (value : Result ScanWords Ended) → Onward (context_step profile) (scan_by run profile value)
+  unfoldable pub scan_onward : (value : Result ScanWords Ended) → Onward (context_step profile) (scan_by run profile value)
   unfolding scan_begun
   scan_onward (Ok words) = inr (λ b. on_context profile words.folder (scan_acts words) (reading_of b), context_asked profile words.folder (scan_acts words))
   scan_onward (Err e) = inl (Err e, refl)
 
-  mark_onward : (value : Result MarkWords Ended) → Onward (context_step profile) (mark_by run profile value)
+  unfoldable pub mark_onward : (value : Result MarkWords Ended) → Onward (context_step profile) (mark_by run profile value)
   unfolding mark_begun
   mark_onward (Ok words) = inr (λ b. on_context profile words.folder (mark_acts words) (reading_of b), context_asked profile words.folder (mark_acts words))
   mark_onward (Err e) = inl (Err e, refl)
 
-  rmm_onward : (value : Result RmmWords Ended) → Onward (context_step profile) (rmm_by run profile value)
+  unfoldable pub rmm_onward : (value : Result RmmWords Ended) → Onward (context_step profile) (rmm_by run profile value)
   unfolding rmm_begun
   rmm_onward (Ok words) = inr (λ b. on_context profile words.folder (rmm_acts words) (reading_of b), context_asked profile words.folder (rmm_acts words))
   rmm_onward (Err e) = inl (Err e, refl)
 
-  word_onward : (word : List ℕ) (words : List (List ℕ)) (name : Option CommandName) → Onward (context_step profile) (word_by run profile word words name)
+  unfoldable pub word_onward : (word : List ℕ) (words : List (List ℕ)) (name : Option CommandName) → Onward (context_step profile) (word_by run profile word words name)
   word_onward word words None = inl (Err (no_command (Some word)), refl)
   word_onward word words (Some Scan) = scan_onward (scan_said profile (map chars words))
   word_onward word words (Some Mark) = mark_onward (mark_said profile (map chars words))
   word_onward word words (Some Rmm) = rmm_onward (rmm_said profile (map chars words))
 
-  named_onward : (words : List (List ℕ)) → Onward (context_step profile) (command_by run profile words)
+  unfoldable pub named_onward : (words : List (List ℕ)) → Onward (context_step profile) (command_by run profile words)
   named_onward [] = inl (Err (no_command None), refl)
   named_onward (word ∷ words) = word_onward word words (named word)
 
@@ -130,18 +130,18 @@ module _ (w : Pledge) (past : List Done) (h : Hand) (sound : Sound w (acts past)
   plainly_keeps (reading.Long l) f = (sound.numbered, tt)
   plainly_keeps reading.Gone f = (sound.numbered, acts_by (entries_in []) f (folder_of said (entries_in []) profile) refl)
 
-  context_keeps : (r : Reading) → ((folder : List ℕ) → folder_of said (entries_in (text_of r)) profile ≡ Ok folder → Keeps (rules_of w) past (knowing (entries_in (text_of r)) h) (act folder) (IfOkay P))
+  pub context_keeps : (r : Reading) → ((folder : List ℕ) → folder_of said (entries_in (text_of r)) profile ≡ Ok folder → Keeps (rules_of w) past (knowing (entries_in (text_of r)) h) (act folder) (IfOkay P))
       → Keeps (rules_of w) past h (on_context profile said act r) (IfOkay P)
   context_keeps r f = keeps_lifted (rules_of w) past h plain (on_context_plainly profile said act r) P (plainly_keeps r f)
 
 -- the deeds of two readings
-abbrev two_readings : List NamedValue → Answer → Answer → List Done
+abbrev pub two_readings : List NamedValue → Answer → Answer → List Done
 two_readings profile a b = Did profile_step a ∷ (Did (context_step profile) b ∷ [])
 
 two_settled : (profile : List NamedValue) (a b : Answer) → AreSettled (acts (two_readings profile a b))
 two_settled profile a b = settled_kept _ (context_step profile) b tt (settled_kept [] profile_step a tt none_settled)
 
-known_sound : (w : Pledge) (own : List Deed) (h : Hand) (es : List NamedValue) → Sound w own h → Sound w own (knowing es h)
+pub known_sound : (w : Pledge) (own : List Deed) (h : Hand) (es : List NamedValue) → Sound w own h → Sound w own (knowing es h)
 known_sound w own h es s = record { numbered = s.numbered; unfailed = s.unfailed }
 
 module _ (run : ℕ) (few : run < 2 ^ 128) (profile : List NamedValue) (h : Hand) where
@@ -204,7 +204,7 @@ module _ (run : ℕ) (few : run < 2 ^ 128) (profile : List NamedValue) (h : Hand
     marked_at : folder_of words.folder es profile ≡ Ok folder → MarkKeeps (on_named run profile words (folder_of words.folder es profile))
     marked_at is = subst (λ v. MarkKeeps (on_named run profile words v)) (sym is) marked_so
 
-  mark_words_keep : (b : Answer) (value : Result MarkWords Ended)
+  pub mark_words_keep : (b : Answer) (value : Result MarkWords Ended)
       → Keeps (rules_of (marks_pledge run profile (entries_by b) value)) [] h (Ask profile_step (λ c. rest_by (context_step profile) (mark_by run profile value) (mark_onward run profile value) b)) (IfOkay (Finished (Some Mark) path))
   unfolding mark_onward
   mark_words_keep b (Ok words) =
@@ -234,7 +234,7 @@ module _ (run : ℕ) (few : run < 2 ^ 128) (profile : List NamedValue) (h : Hand
     removed_at : folder_of words.folder es profile ≡ Ok folder → RmmKeeps (rmm_on_named run profile words (folder_of words.folder es profile))
     removed_at is = subst (λ v. RmmKeeps (rmm_on_named run profile words v)) (sym is) removed_so
 
-  rmm_words_keep : (b : Answer) (value : Result RmmWords Ended)
+  pub rmm_words_keep : (b : Answer) (value : Result RmmWords Ended)
       → Keeps (rules_of (rmms_pledge run profile (entries_by b) value)) [] h (Ask profile_step (λ c. rest_by (context_step profile) (rmm_by run profile value) (rmm_onward run profile value) b)) (IfOkay (Finished (Some Rmm) path))
   unfolding rmm_onward
   rmm_words_keep b (Ok words) =
@@ -304,7 +304,7 @@ module _ (run : ℕ) (few : run < 2 ^ 128) (words : List (List ℕ)) where
   abbrev step_by : Reading → Step
   step_by r = context_step (entries_in (text_of r))
 
-  pub onward_by : (r : Reading) → Onward (step_by r) (next_by r)
+  unfoldable pub onward_by : (r : Reading) → Onward (step_by r) (next_by r)
   unfolding lifted bind ◌>>=◌
   onward_by (reading.Content bytes) = named_onward run (entries_in bytes) words
   onward_by (reading.Long l) = inl (Err (plain (too_large l)), refl)

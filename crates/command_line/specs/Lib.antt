@@ -1,5 +1,6 @@
 pub mod Causes
 pub mod Command
+pub mod CommandMarks
 pub mod CommandNames
 pub mod CommandPledge
 pub mod Outcomes

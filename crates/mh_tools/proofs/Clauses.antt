@@ -1,5 +1,7 @@
 -- The promises of the top call, from the plan that it followed.
-use Rattle.std.proofs.Common.{◌≡◌, ◌≢◌, ◌⊎◌, inl, inr, ◌++◌, ◌<◌, ◌^◌, ℕ, ◌+◌, Bool, true, false, List, [], ◌∷◌, arith, Option, Some, None, Result, Ok, Err, length, refl, sym, ◌∙◌, ap, subst, append-nil}
+use Rattle.std.specs.String.{string_bytes}
+use Rattle.std.proofs.lemmas.Str.{IsUtf8-string_bytes}
+use Rattle.std.proofs.Common.{◌≡◌, ◌≢◌, ◌⊎◌, inl, inr, ◌++◌, ◌<◌, ◌^◌, ℕ, ◌+◌, Bool, true, false, List, [], ◌∷◌, arith, Option, Some, None, Result, Ok, Err, length, refl, sym, ◌∙◌, ap, subst, append-nil, String, map}
 use Rattle.mh_base.specs.Counts.{Rose}
 use Rattle.mh_base.specs.Streams.{Adds, AddsPart, SinkState}
 use Rattle.folder_files.specs.Deeds as deeds
@@ -42,7 +44,8 @@ use Rattle.command_line.specs.Outcomes.{work_of}
 use Rattle.command_words.specs.declared.ended.Ended.{Ended}
 use Rattle.command_line.proofs.Ending.{EndsAs, run_ends}
 use Rattle.command_line.proofs.Giving.{IsLateEnd, DecidesEnd, ByFault, CommandEnds, command_gives}
-use Rattle.command_line.proofs.MindsMarks.{command_keeps_sequences}
+use Rattle.command_line.proofs.FolderChars.{AreUtf8}
+use Rattle.command_line.proofs.MarksKept.{command_keeps_marks}
 use Rattle.command_line.proofs.Pledging.{command_clean, command_keeps}
 use Rattle.command_line.proofs.Unlinked.{command_first}
 use Rattle.mh_tools.proofs.Told.{adds_none, fault_undone}
@@ -118,6 +121,11 @@ exit_verdict (Err e) v = go e.fault v
     go (fault.Locked p) v = absurd v
     go (fault.Meddled p x) v = absurd v
     go fault.Memory v = absurd v
+
+-- words as strings hold them are UTF-8
+pub string_texts : {Z : Type 0} (words : List (String Z)) → AreUtf8 (map string_bytes words)
+string_texts [] = tt
+string_texts (w ∷ words) = (IsUtf8-string_bytes w, string_texts words)
 
 module _ (c : Call) (plan : FollowsItsPlan c) where
   abbrev run : ℕ
@@ -300,8 +308,8 @@ module _ (c : Call) (plan : FollowsItsPlan c) where
         moved : {w : Pledge} → Promises w (begins c fresh) (ends c plan.left) → Promises w (begins c fresh) (ends c fresh)
         moved p = record { careful = p.careful; as_pledged = p.as_pledged; by_bases = p.by_bases; safe = p.safe; in_order = p.in_order }
 
-    pub marks : KeepsMarks c
-    marks looks = command_keeps_sequences run few c.words looks (begins c fresh) (ends c plan.left) outcome plan.follows
+    pub marks : AreUtf8 c.words → KeepsMarks c
+    marks texts = command_keeps_marks run few (begins c fresh) (ends c plan.left) outcome c.words texts plan.follows
 
     -- alone
     error_told : (r : Result Unit Ended) (s : Status) → s ≡ ended_status r → IsVerdict s → TellsStatus (ended_word r) c.before.err c.after.err s → (Rose c.before.err.faults c.after.err.faults → ⊥) → Adds c.before.err.told c.after.err.told (error_of r)

@@ -4,10 +4,10 @@ use Rattle.folder_files.specs.Deeds.{Deed}
 use Rattle.folder_files.specs.declared.step.Answer.{Answer}
 use Rattle.file_plans.specs.Plan.{fresh}
 use Rattle.step_plans.specs.Promises.{Promises}
-use Rattle.sequence_marks.specs.KeepsSequences.{KeepsSequences}
+use Rattle.command_line.specs.CommandMarks.{KeepsCommandMarks}
 use Rattle.command_line.specs.CommandNames.{command_of}
 use Rattle.command_line.specs.CommandPledge.{HaveBegun, IsDone, command_pledge, entries_by, path_by}
-use Rattle.mh_tools.specs.Calls.{Call, LooksOnly, MadeBy, begins, ends}
+use Rattle.mh_tools.specs.Calls.{Call, MadeBy, begins, ends}
 use Rattle.mh_tools.specs.declared.status.Status.TheVariants.{Done}
 
 -- The call began with the profile, which names the path of a mail directory, and then with the context of that. By the pledge that these and its words make
@@ -23,6 +23,7 @@ pub record KeepsMail (c : Call) : Type 0 where
   pub finished : c.status ≡ Done → IsDone (command_of c.words) (path_by profile) deeds
   pub promises : Promises (command_pledge c.setting.run c.words (entries_by profile) (entries_by context)) (begins c fresh) (ends c fresh)
 
--- no mark of a sequence that users name passes to another message, where the others mind them; so it is with commands that only look at a folder
+-- no mark of a sequence that users name passes to another message, where the others mind them: by a command that looks, by `mark`, and by `rmm`
+-- where no message was left held aside in the folder when it removed one
 abbrev pub KeepsMarks : Call → Type 0
-KeepsMarks c = LooksOnly c → KeepsSequences c.setting.run c.before.files.story c.after.files.story
+KeepsMarks c = KeepsCommandMarks (command_of c.words) c.setting.run c.before.files.story c.after.files.story

@@ -1,5 +1,6 @@
 pub mod Loops
 pub mod RmmGiven
+pub mod RmmMinds
 pub mod RmmPledged
 pub mod Selected
 pub mod Shown

@@ -1,3 +1,4 @@
+pub mod HeldLeft
 pub mod Rmm
 pub mod RmmOutcome
 pub mod RmmPledge

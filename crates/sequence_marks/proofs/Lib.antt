@@ -1,3 +1,4 @@
 pub mod OtherEntries
 pub mod Sequences
 pub mod Silence
+pub mod SequencesOf

@@ -24,8 +24,8 @@ SameStart (Some old) (Some new) = new.start ≡ old.start
 SameStart None (Some new) = ⊥
 SameStart (Some old) None = ⊥
 
-module _ (w : Pledge) (minds : MindsSequences w) where
-  shared : (old new : Story) → IsOrderlySetting w.run old new → new.start ≡ old.start → OwnMay w (past_of new.history) → IsShared w new.start (past_of new.history)
+module _ (w : Pledge) where
+  pub shared : (old new : Story) → IsOrderlySetting w.run old new → new.start ≡ old.start → OwnMay w (past_of new.history) → IsShared w new.start (past_of new.history)
   shared old new s same may = record {
     start_is = rw same s.setting.start;
     none = s.setting.none;
@@ -35,14 +35,15 @@ module _ (w : Pledge) (minds : MindsSequences w) where
     may = may;
   }
 
+module _ (w : Pledge) (minds : MindsSequences w) where
   stay_sound : (old new : Story) → new.start ≡ old.start → (has_acted (past_of old.history) w.run ≡ false → OwnMay w (past_of new.history)) → SequencesStaySound w.run old new
   stay_sound old new same may = record {
     public = λ mail folder sequence s.
         marks_kept w (Folder mail folder) (public_marks mail folder sequence).name (says_public sequence) new.start (past_of new.history) (public_committed mail folder sequence) refl (public_silent sequence) (minds.public mail folder sequence)
-        (shared old new s.orderly same (may s.orderly.setting.unused)) s.mindful s.legal s.ordered s.sound;
+        (shared w old new s.orderly same (may s.orderly.setting.unused)) s.mindful s.legal s.ordered s.sound;
     private = λ mail folder sequence s.
         marks_kept_apart w (private_marks mail folder sequence) new.start (past_of new.history) (private_committed mail folder sequence) refl (private_silent folder sequence) (minds.private mail folder sequence)
-        (shared old new s.orderly same (may s.orderly.setting.unused)) s.mindful s.considerate s.legal s.ordered s.ordered_text s.sound;
+        (shared w old new s.orderly same (may s.orderly.setting.unused)) s.mindful s.considerate s.legal s.ordered s.ordered_text s.sound;
   }
 
   pub sequences_kept : (old new : Option Story) → SameStart old new → StoryMay w old new → KeepsSequences w.run old new

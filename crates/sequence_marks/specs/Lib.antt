@@ -1,2 +1,3 @@
 pub mod KeepsSequences
 pub mod SequenceMarks
+pub mod KeepsSequencesOf

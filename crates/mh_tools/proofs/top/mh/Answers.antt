@@ -1,5 +1,5 @@
 use Rattle.file_plans.proofs.Following.{beside}
-use Rattle.mh_tools.proofs.Clauses.{answers_alone, answers_as_one, caused, keeps, marks, never_source, tells}
+use Rattle.mh_tools.proofs.Clauses.{answers_alone, answers_as_one, caused, keeps, marks, never_source, string_texts, tells}
 use Rattle.mh_tools.proofs.top.mh.Goals as goal
 
 pub returns-clause-plan : goal.returns-clause-plan
@@ -23,4 +23,4 @@ pub returns-clause-keeps : goal.returns-clause-keeps
 returns-clause-keeps g c = keeps _ (returns-clause-plan g c) (rw c.run.ensures at c.run.type_inv)
 
 pub returns-clause-marks : goal.returns-clause-marks
-returns-clause-marks g c = marks _ (returns-clause-plan g c) (rw c.run.ensures at c.run.type_inv)
+returns-clause-marks g c = marks _ (returns-clause-plan g c) (rw c.run.ensures at c.run.type_inv) (string_texts c.args.words.now.items)

@@ -1,0 +1,277 @@
+-- The folder that words, profile and context name is a text of characters.
+use Rattle.std.proofs.Common.{◌≡◌, ◌≤◌, ◌+◌, ℕ, zero, suc, Bool, true, false, ◌&&◌, List, [], ◌∷◌, ◌++◌, Option, None, Some, Result, Ok, Err, length, take, drop, map, refl, ap, subst, arith, length-drop}
+use Rattle.std.specs.Prelude.{◌==◌, codes, unwrap_or, if◌then◌else◌}
+use Rattle.std.specs.Str.{IsUtf8, chars, is_utf8}
+use Rattle.std.specs.Str.Lossy.{utf8_valid_len, valid_len_up_to}
+use Rattle.std.proofs.Math.Utf8.{scalar, scalars}
+use Rattle.std.proofs.lemmas.Bool.{and_from, and_parts}
+use Rattle.std.proofs.lemmas.Bool.Decides.{Decides-eqb}
+use Rattle.std.proofs.lemmas.List.{take_all}
+use Rattle.std.proofs.lemmas.Str.{IsUtf8-from_is_utf8, IsUtf8-nil, chars-nil, is_utf8-from_IsUtf8, scalars-chars}
+use Rattle.mh_base.specs.Folders.{is_folder_name, without_plus}
+use Rattle.mh_base.specs.declared.word.WordWhy.TheVariants.{Missing}
+use Rattle.mh_profile.specs.declared.named_value.NamedValue.{NamedValue}
+use Rattle.mh_profile.specs.Changes.{value_of}
+use Rattle.mh_words.specs.Whole.{Alone, FirstWord, IsBad, Valued, Wrong, before, dashed, first_word, found_from, last_read, named as named_switch, next_read, read_in}
+use Rattle.mh_words.specs.declared.item.Item.{Item}
+use Rattle.mh_words.specs.declared.item.Item.TheVariants.{Component, Folder, Message, Switch}
+use Rattle.mh_words.specs.declared.lookup.Found.{Found}
+use Rattle.mh_words.specs.declared.lookup.Found.TheVariants.{Nothing, One, Several}
+use Rattle.mh_words.specs.declared.table.Kind.TheVariants.{Flag, Value}
+use Rattle.mh_words.specs.declared.table.SwitchTable.{SwitchTable}
+use Rattle.mail_text.specs.ShownBytes.{shown, shown_up_to}
+use Rattle.folder_files.specs.declared.refusal.Refusal.TheVariants as refusal
+use Rattle.step_plans.specs.declared.command_fault.CommandFault.{CommandFault}
+use Rattle.step_plans.specs.declared.command_fault.CommandFault.TheVariants as fault
+use Rattle.command_stages.specs.Current.{current_name}
+use Rattle.command_words.specs.Ended.{wrong_at}
+use Rattle.command_words.specs.FolderWords.{FolderWord, folder_named, folders, named_folder, one_folder, some_named}
+use Rattle.command_words.specs.MarkWords.{folder_said as mark_words_said, items_said as mark_items, lacks_sequence, mark_said, with_folder as mark_folder, with_names, word_said}
+use Rattle.command_words.specs.RmmWords.{folder_said as rmm_words_said, items_said as rmm_items, rmm_said, said_folder as rmm_said_folder, with_folder as rmm_folder}
+use Rattle.command_words.specs.Tables.{mark_table, rmm_table}
+use Rattle.command_words.specs.Words.{profile_words, words_in}
+use Rattle.command_words.specs.declared.ended.Ended.{Ended}
+use Rattle.command_words.specs.declared.mark.MarkWords.{MarkWords}
+use Rattle.command_words.specs.declared.rmm.RmmWords.{RmmWords}
+use Rattle.command_line.specs.Profile.{folder_of, inbox_of, stored_of, value_or}
+
+-- bytes as they are shown are characters
+front_by : (t : Bool) (bytes : List ℕ) (n k : ℕ) → is_utf8 (take (suc n) bytes) ≡ t → is_utf8 (take k bytes) ≡ true → is_utf8 (take (if t then suc n else k) bytes) ≡ true
+front_by true bytes n k e front = e
+front_by false bytes n k e front = front
+
+front_valid : (bytes : List ℕ) (n : ℕ) → is_utf8 (take (valid_len_up_to bytes n) bytes) ≡ true
+front_valid bytes zero = is_utf8-from_IsUtf8 [] IsUtf8-nil
+front_valid bytes (suc n) = front_by (is_utf8 (take (suc n) bytes)) bytes n (valid_len_up_to bytes n) refl (front_valid bytes n)
+
+valid_front : (bytes : List ℕ) → IsUtf8 (take (utf8_valid_len bytes) bytes)
+unfolding utf8_valid_len
+valid_front bytes = IsUtf8-from_is_utf8 (take (valid_len_up_to bytes (length bytes)) bytes) (front_valid bytes (length bytes))
+
+scalars_both : (xs ys : List ℕ) → scalars xs ≡ true → scalars ys ≡ true → scalars (xs ++ ys) ≡ true
+scalars_both [] ys a b = b
+scalars_both (x ∷ xs) ys a b = let parts = and_parts (scalar x) (scalars xs) a in and_from (scalar x) (scalars (xs ++ ys)) parts.0 (scalars_both xs ys parts.1 b)
+
+up_to_scalars : (n : ℕ) (bytes : List ℕ) → length bytes ≤ n → scalars (shown_up_to n bytes) ≡ true
+up_to_scalars zero [] le = ap scalars chars-nil
+up_to_scalars zero (b ∷ bytes) le = absurd (omega arith)
+up_to_scalars (suc n) bytes le = go (utf8_valid_len bytes == length bytes) refl (up_to_scalars n (drop (utf8_valid_len bytes + 1) bytes) (let l = length-drop (utf8_valid_len bytes + 1) bytes in omega (arith, l, le)))
+  where
+    go : (b : Bool) → (utf8_valid_len bytes == length bytes) ≡ b → scalars (shown_up_to n (drop (utf8_valid_len bytes + 1) bytes)) ≡ true
+        → scalars (if b then chars bytes else chars (take (utf8_valid_len bytes) bytes) ++ 63 ∷ shown_up_to n (drop (utf8_valid_len bytes + 1) bytes)) ≡ true
+    go true e rest =
+        let same : utf8_valid_len bytes ≡ length bytes = (Decides-eqb (utf8_valid_len bytes) (length bytes)).0 e in
+        scalars-chars bytes (subst IsUtf8 (take_all (utf8_valid_len bytes) bytes (omega (arith, same))) (valid_front bytes))
+    go false e rest = scalars_both (chars (take (utf8_valid_len bytes) bytes)) (63 ∷ shown_up_to n (drop (utf8_valid_len bytes + 1) bytes)) (scalars-chars (take (utf8_valid_len bytes) bytes) (valid_front bytes)) (and_from (scalar 63) (scalars (shown_up_to n (drop (utf8_valid_len bytes + 1) bytes))) refl rest)
+
+shown_scalars : (bytes : List ℕ) → scalars (shown bytes) ≡ true
+unfolding shown
+shown_scalars bytes = up_to_scalars (length bytes) bytes (omega arith)
+
+-- words that are texts of characters
+abbrev pub AreTexts : List (List ℕ) → Type 0
+AreTexts [] = Unit {0}
+AreTexts (w ∷ ws) = (scalars w ≡ true) × AreTexts ws
+
+texts_both : (xs ys : List (List ℕ)) → AreTexts xs → AreTexts ys → AreTexts (xs ++ ys)
+texts_both [] ys a b = b
+texts_both (x ∷ xs) ys a b = (a.0, texts_both xs ys a.1 b)
+
+shown_texts : (xs : List (List ℕ)) → AreTexts (map shown xs)
+shown_texts [] = tt
+shown_texts (x ∷ xs) = (shown_scalars x, shown_texts xs)
+
+-- and bytes that are UTF-8
+abbrev pub AreUtf8 : List (List ℕ) → Type 0
+AreUtf8 [] = Unit {0}
+AreUtf8 (w ∷ ws) = IsUtf8 w × AreUtf8 ws
+
+pub chars_texts : (ws : List (List ℕ)) → AreUtf8 ws → AreTexts (map chars ws)
+chars_texts [] f = tt
+chars_texts (w ∷ ws) f = (scalars-chars w f.0, chars_texts ws f.1)
+
+-- a folder's item is a word
+abbrev IsTextual : Item → Type 0
+IsTextual (Folder text place) = scalars text ≡ true
+IsTextual (Message text place) = Unit {0}
+IsTextual (Switch index value place) = Unit {0}
+IsTextual (Component name value place) = Unit {0}
+
+abbrev AreTextual : List Item → Type 0
+AreTextual [] = Unit {0}
+AreTextual (i ∷ is) = IsTextual i × AreTextual is
+
+abbrev Textual : Result (List Item) Wrong → Type 0
+Textual (Ok items) = AreTextual items
+Textual (Err e) = Unit {0}
+
+abbrev FirstTextual : FirstWord → Type 0
+FirstTextual (Alone item) = IsTextual item
+FirstTextual (Valued item) = (value : List ℕ) → IsTextual (item value)
+FirstTextual (IsBad why) = Unit {0}
+
+switch_textual : (f : Found) (place : ℕ) → FirstTextual (named_switch f place)
+switch_textual Nothing place = tt
+switch_textual (One index Flag) place = tt
+switch_textual (One index Value) place = λ value. tt
+switch_textual Several place = tt
+
+dashed_textual : (table : SwitchTable) (place : ℕ) (rest : List ℕ) → FirstTextual (dashed table place rest)
+dashed_textual table place [] = tt
+dashed_textual table place (c ∷ name) = go (table.components && (c == 45))
+  where
+    go : (b : Bool) → FirstTextual (if b then Valued (λ value. Component name value place) else named_switch (found_from table.switches (c ∷ name) 0 Nothing) place)
+    go true = λ value. tt
+    go false = switch_textual (found_from table.switches (c ∷ name) 0 Nothing) place
+
+first_textual : (table : SwitchTable) (place : ℕ) (word : List ℕ) → scalars word ≡ true → FirstTextual (first_word table place word)
+first_textual table place [] e = tt
+first_textual table place (c ∷ rest) e = go (c == 43) (c == 45)
+  where
+    go : (a b : Bool) → FirstTextual (if a then Alone (Folder (c ∷ rest) place) else (if b then dashed table place rest else Alone (Message (c ∷ rest) place)))
+    go true b = e
+    go false true = dashed_textual table place rest
+    go false false = tt
+
+before_textual : (item : Item) (r : Result (List Item) Wrong) → IsTextual item → Textual r → Textual (before item r)
+before_textual item (Ok items) one rest = (one, rest)
+before_textual item (Err e) one rest = tt
+
+last_textual : (f : FirstWord) (place : ℕ) → FirstTextual f → Textual (last_read f place)
+last_textual (Alone item) place one = (one, tt)
+last_textual (Valued item) place one = tt
+last_textual (IsBad why) place one = tt
+
+next_textual : (f : FirstWord) (place : ℕ) (value : List ℕ) (r s : Result (List Item) Wrong) → FirstTextual f → Textual r → Textual s → Textual (next_read f place value r s)
+next_textual (Alone item) place value r s one a b = before_textual item r one a
+next_textual (Valued item) place value r s one a b = before_textual (item value) s (one value) b
+next_textual (IsBad why) place value r s one a b = tt
+
+read_textual : (table : SwitchTable) (place : ℕ) (words : List (List ℕ)) → AreTexts words → Textual (read_in table place words)
+unfolding read_in
+read_textual table place [] f = tt
+read_textual table place (word ∷ []) f = last_textual (first_word table place word) place (first_textual table place word f.0)
+read_textual table place (word ∷ (next ∷ left)) f =
+    next_textual (first_word table place word) place next (read_in table (place + 1) (next ∷ left)) (read_in table (place + 2) left) (first_textual table place word f.0) (read_textual table (place + 1) (next ∷ left) f.1) (read_textual table (place + 2) left f.1.1)
+
+abbrev AreFolderTexts : List FolderWord → Type 0
+AreFolderTexts [] = Unit {0}
+AreFolderTexts (f ∷ fs) = (scalars f.text ≡ true) × AreFolderTexts fs
+
+folder_texts : (items : List Item) → AreTextual items → AreFolderTexts (folders items)
+folder_texts [] f = tt
+folder_texts (Folder text place ∷ items) f = (f.0, folder_texts items f.1)
+folder_texts (Message text place ∷ items) f = folder_texts items f.1
+folder_texts (Switch index value place ∷ items) f = folder_texts items f.1
+folder_texts (Component name value place ∷ items) f = folder_texts items f.1
+
+-- what a result of words says of a folder
+abbrev pub HasChars : Option (List ℕ) → Type 0
+HasChars None = Unit {0}
+HasChars (Some text) = scalars text ≡ true
+
+abbrev OneChars : Result (Option (List ℕ)) Wrong → Type 0
+OneChars (Ok word) = HasChars word
+OneChars (Err e) = Unit {0}
+
+one_chars : (fs : List FolderWord) → AreFolderTexts fs → OneChars (one_folder fs)
+one_chars [] f = tt
+one_chars (x ∷ []) f = f.0
+one_chars (x ∷ (y ∷ fs)) f = tt
+
+plus_chars : (word : List ℕ) → scalars word ≡ true → scalars (without_plus word) ≡ true
+plus_chars [] e = e
+plus_chars (c ∷ rest) e = go (c == 43)
+  where
+    go : (b : Bool) → scalars (if b then rest else c ∷ rest) ≡ true
+    go true = (and_parts (scalar c) (scalars rest) e).1
+    go false = e
+
+-- `mark`
+abbrev MarkChars : Result MarkWords Ended → Type 0
+MarkChars (Ok w) = HasChars w.folder
+MarkChars (Err e) = Unit {0}
+
+names_chars : (folder : Option (List ℕ)) (items : List Item) (r : Result (List (List ℕ)) CommandFault) → HasChars folder → MarkChars (with_names folder items r)
+names_chars folder items (Ok names) f = f
+names_chars folder items (Err e) f = tt
+
+mark_folder_chars : (items : List Item) (word : Option (List ℕ)) → HasChars word → MarkChars (mark_folder items (folder_named word))
+mark_folder_chars items None f = names_chars None items _ tt
+mark_folder_chars items (Some word) f = go (is_folder_name (without_plus word))
+  where
+    go : (b : Bool) → MarkChars (mark_folder items (some_named (if b then Ok (without_plus word) else Err (fault.Refused (refusal.BadFolder word)))))
+    go true = names_chars (Some (without_plus word)) items _ (plus_chars word f)
+    go false = tt
+
+mark_word_chars : (words : List (List ℕ)) (items : List Item) (word : Option (List ℕ)) → HasChars word → MarkChars (word_said words items word)
+mark_word_chars words items word f = go (lacks_sequence items)
+  where
+    go : (b : Bool) → MarkChars (if b then Err (wrong_at words (record { place = length words; why = Missing })) else mark_folder items (folder_named word))
+    go true = tt
+    go false = mark_folder_chars items word f
+
+mark_one_chars : (words : List (List ℕ)) (items : List Item) (r : Result (Option (List ℕ)) Wrong) → OneChars r → MarkChars (mark_words_said words items r)
+mark_one_chars words items (Ok word) f = mark_word_chars words items word f
+mark_one_chars words items (Err wrong) f = tt
+
+mark_items_chars : (words : List (List ℕ)) (r : Result (List Item) Wrong) → Textual r → MarkChars (mark_items words r)
+mark_items_chars words (Ok items) f = mark_one_chars words items (one_folder (folders items)) (one_chars (folders items) (folder_texts items f))
+mark_items_chars words (Err wrong) f = tt
+
+pub mark_chars : (profile : List NamedValue) (words : List (List ℕ)) (said : MarkWords) → AreTexts words → mark_said profile words ≡ Ok said → HasChars said.folder
+mark_chars profile words said f e =
+    subst MarkChars e (mark_items_chars (profile_words (codes "mark") profile ++ words) (read_in mark_table 0 (profile_words (codes "mark") profile ++ words))
+    (read_textual mark_table 0 (profile_words (codes "mark") profile ++ words) (texts_both (profile_words (codes "mark") profile) words (shown_texts (words_in (unwrap_or (value_of (codes "mark") profile) []))) f)))
+
+-- `rmm`
+abbrev RmmChars : Result RmmWords Ended → Type 0
+RmmChars (Ok w) = HasChars w.folder
+RmmChars (Err e) = Unit {0}
+
+rmm_folder_chars : (items : List Item) (word : Option (List ℕ)) → HasChars word → RmmChars (rmm_said_folder items word)
+rmm_folder_chars items None f = tt
+rmm_folder_chars items (Some word) f = go (is_folder_name (without_plus word))
+  where
+    go : (b : Bool) → RmmChars (rmm_folder items (if b then Ok (without_plus word) else Err (fault.Refused (refusal.BadFolder word))))
+    go true = plus_chars word f
+    go false = tt
+
+rmm_one_chars : (words : List (List ℕ)) (items : List Item) (r : Result (Option (List ℕ)) Wrong) → OneChars r → RmmChars (rmm_words_said words items r)
+rmm_one_chars words items (Ok word) f = rmm_folder_chars items word f
+rmm_one_chars words items (Err wrong) f = tt
+
+rmm_items_chars : (words : List (List ℕ)) (r : Result (List Item) Wrong) → Textual r → RmmChars (rmm_items words r)
+rmm_items_chars words (Ok items) f = rmm_one_chars words items (one_folder (folders items)) (one_chars (folders items) (folder_texts items f))
+rmm_items_chars words (Err wrong) f = tt
+
+pub rmm_chars : (profile : List NamedValue) (words : List (List ℕ)) (said : RmmWords) → AreTexts words → rmm_said profile words ≡ Ok said → HasChars said.folder
+rmm_chars profile words said f e =
+    subst RmmChars e (rmm_items_chars (profile_words (codes "rmm") profile ++ words) (read_in rmm_table 0 (profile_words (codes "rmm") profile ++ words))
+    (read_textual rmm_table 0 (profile_words (codes "rmm") profile ++ words) (texts_both (profile_words (codes "rmm") profile) words (shown_texts (words_in (unwrap_or (value_of (codes "rmm") profile) []))) f)))
+
+-- the stored folder
+value_chars : (o : Option (List ℕ)) (default : List ℕ) → scalars default ≡ true → scalars (value_or o default) ≡ true
+value_chars None default e = e
+value_chars (Some value) default e = shown_scalars value
+
+stored_chars : (context profile : List NamedValue) → scalars (stored_of context profile) ≡ true
+stored_chars context profile = value_chars (value_of current_name context) (inbox_of profile) (value_chars (value_of (codes "Inbox") profile) (codes "inbox") refl)
+
+ok_name : (x y : List ℕ) → ◌≡◌ {A = Result (List ℕ) CommandFault} (Ok x) (Ok y) → x ≡ y
+ok_name x y e = cc (e)
+
+no_name : (e : CommandFault) (y : List ℕ) → ◌≡◌ {A = Result (List ℕ) CommandFault} (Err e) (Ok y) → ⊥
+no_name e y f = cc (f)
+
+named_chars : (word folder : List ℕ) → scalars word ≡ true → named_folder word ≡ Ok folder → scalars folder ≡ true
+named_chars word folder f e = go (is_folder_name (without_plus word)) e
+  where
+    go : (b : Bool) → ◌≡◌ {A = Result (List ℕ) CommandFault} (if b then Ok (without_plus word) else Err (fault.Refused (refusal.BadFolder word))) (Ok folder) → scalars folder ≡ true
+    go true e = subst (λ z. scalars z ≡ true) (ok_name (without_plus word) folder e) (plus_chars word f)
+    go false e = absurd (no_name (fault.Refused (refusal.BadFolder word)) folder e)
+
+-- the folder that is acted on
+pub acted_chars : (said : Option (List ℕ)) (context profile : List NamedValue) (folder : List ℕ) → HasChars said → folder_of said context profile ≡ Ok folder → scalars folder ≡ true
+acted_chars None context profile folder f e = named_chars (stored_of context profile) folder (stored_chars context profile) e
+acted_chars (Some name) context profile folder f e = subst (λ z. scalars z ≡ true) (ok_name name folder e) f

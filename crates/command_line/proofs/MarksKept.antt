@@ -1,0 +1,420 @@
+-- A command keeps the marks of messages.
+use Rattle.std.proofs.Common.{◌≡◌, inl, inr, ◌<◌, ◌^◌, ◌∷◌, [], ℕ, Bool, true, false, List, Option, Some, None, Result, Ok, Err, map, refl, sym, ◌∙◌, ap, subst, bytes_eq}
+use Rattle.std.specs.Str.{chars}
+use Rattle.mh_base.specs.Folders.{is_folder_name}
+use Rattle.mh_profile.specs.declared.named_value.NamedValue.{NamedValue}
+use Rattle.mh_profile.specs.Reading.{entries_in}
+use Rattle.mh_sequences.specs.Reading.{suffix}
+use Rattle.folder_files.specs.Deeds.{Deed, now, on}
+use Rattle.folder_files.specs.Histories.{past_of}
+use Rattle.folder_files.specs.Story.{GrowsBy, Story}
+use Rattle.folder_files.specs.declared.event.Event.{Event}
+use Rattle.folder_files.specs.declared.event.Event.TheVariants.{Act, Crash, Deliver, End}
+use Rattle.folder_files.specs.declared.place.Place.TheVariants.{Folder, Home, Mail}
+use Rattle.folder_files.specs.declared.step.Answer.{Answer}
+use Rattle.folder_files.specs.declared.step.Step.{Step}
+use Rattle.folder_files.specs.declared.step.Step.TheVariants as step
+use Rattle.folder_files.proofs.Names.{bytes_true}
+use Rattle.file_plans.specs.Asking.{reading_of}
+use Rattle.file_plans.specs.Follows.{Follows, State, deeds_in, filed_in}
+use Rattle.file_plans.specs.Plan.{Ask, Hand, Plan, bind, lifted, ◌>>=◌}
+use Rattle.file_plans.specs.Rules.{IfOkay, Keeps}
+use Rattle.file_plans.specs.Runs.{Deed as Done, exit_of}
+use Rattle.file_plans.specs.declared.answers.Reading.{Reading}
+use Rattle.file_plans.specs.declared.answers.Reading.TheVariants as reading
+use Rattle.file_plans.proofs.Acting.{acts}
+use Rattle.step_plans.specs.ContextCommit.{LIMIT_BYTES, context_name}
+use Rattle.step_plans.specs.Hands.{knowing}
+use Rattle.step_plans.specs.Pledges.{Marks, MayAsk, Pledge}
+use Rattle.step_plans.specs.Safety.{AtSteps}
+use Rattle.step_plans.specs.declared.command_fault.CommandFault.{CommandFault}
+use Rattle.step_plans.proofs.Going.{Sound}
+use Rattle.step_plans.proofs.KeptPledges.{OwnMay}
+use Rattle.step_plans.proofs.Past.{did_step}
+use Rattle.step_plans.proofs.Ruling.{rules_of}
+use Rattle.step_plans.proofs.StoryMay.{StoryMay}
+use Rattle.sequence_marks.specs.KeepsSequencesOf.{KeepsSequencesOf}
+use Rattle.sequence_marks.proofs.Sequences.{MindsSequences, SameStart}
+use Rattle.sequence_marks.proofs.SequencesOf.{MindsSequencesOf, sequences_kept_of}
+use Rattle.command_stages.specs.Texts.{too_large}
+use Rattle.command_stages.proofs.FolderLines.{current_valid}
+use Rattle.mh_looks.specs.ScanPledge.{scan_pledge}
+use Rattle.opened_folders.proofs.AllMarks.{MindsAll, pledge_minds}
+use Rattle.opened_folders.proofs.BegunSeen.{NoneUnlinked}
+use Rattle.opened_folders.proofs.CommitMinds.{IsTold}
+use Rattle.opened_folders.proofs.EndedKept.{Still, keeps_more}
+use Rattle.opened_folders.proofs.Meeting.{keeps_met, may_with, with_step}
+use Rattle.opened_folders.proofs.WorkMinds.{Anyhow}
+use Rattle.mark_command.specs.Mark.{mark, mark_by_act}
+use Rattle.mark_command.specs.MarkPledge.{looks_pledge, mark_pledge, pledge_by}
+use Rattle.mark_command.specs.declared.job.MarkAct.{MarkAct}
+use Rattle.mark_command.specs.declared.job.MarkJob.{MarkJob}
+use Rattle.mark_command.proofs.MarkMinds.{changes_meet}
+use Rattle.mark_command.proofs.MarkPledged.{mark_keeps}
+use Rattle.refile_command.specs.HeldLeft.{RemovesUnheld}
+use Rattle.refile_command.specs.Rmm.{rmm}
+use Rattle.refile_command.specs.RmmPledge.{rmm_pledge}
+use Rattle.refile_command.specs.declared.job.RmmJob.{RmmJob}
+use Rattle.refile_command.proofs.RmmMinds.{MindsUnheld, rmm_meets}
+use Rattle.refile_command.proofs.RmmPledged.{rmm_keeps}
+use Rattle.command_words.specs.Ended.{ended_cause, plain}
+use Rattle.command_words.specs.MarkWords.{mark_said}
+use Rattle.command_words.specs.RmmWords.{rmm_said}
+use Rattle.command_words.specs.declared.ended.Ended.{Ended}
+use Rattle.command_words.specs.declared.mark.MarkWords.{MarkWords}
+use Rattle.command_words.specs.declared.rmm.RmmWords.{RmmWords}
+use Rattle.command_words.proofs.SaidFolder.{IsValid}
+use Rattle.command_line.specs.Command.{command, mark_by, mark_job, rmm_by, rmm_job, word_by}
+use Rattle.command_line.specs.CommandMarks.{IsTextName, KeepsCommandMarks, KeepsUnheld}
+use Rattle.command_line.specs.CommandNames.{begins_folders, command_of, named}
+use Rattle.command_line.specs.CommandPledge.{entries_by, marks_pledge, on_named, rmm_on_named, rmms_pledge}
+use Rattle.command_line.specs.Profile.{folder_of, path_of, profile_name}
+use Rattle.command_line.specs.declared.name.CommandName.{CommandName}
+use Rattle.command_line.specs.declared.name.CommandName.TheVariants.{Mark, Rmm, Scan}
+use Rattle.command_line.proofs.MindsMarks.{command_keeps_sequences, keeps_may, minds_sequences}
+use Rattle.command_line.proofs.Pledging.{Answered, answers, context_keeps, context_step, known_sound, mark_acts, mark_onward, mark_words_keep, named_onward, on_context, onward_by, plan_by, profile_step, rmm_acts, rmm_onward, rmm_words_keep, two_readings, word_onward}
+use Rattle.command_line.proofs.FolderChars.{AreUtf8, HasChars, acted_chars, chars_texts, mark_chars, rmm_chars}
+use Rattle.command_line.proofs.SuffixesApart.{suffix_same}
+use Rattle.command_line.proofs.SaidFolder.{acted_valid, mark_valid, rmm_words_valid}
+use Rattle.command_line.proofs.TwoAnswers.{follows_so, keeps_after, keeps_ended, rest_by}
+
+-- a folder whose name is a text is the one that is acted on, or has other entries
+told_by : (acted other : List ℕ) → IsTextName acted → IsTextName other → IsTold acted other
+told_by acted other real text = go (bytes_eq (suffix other) (suffix acted)) refl
+  where
+    go : (b : Bool) → bytes_eq (suffix other) (suffix acted) ≡ b → IsTold acted other
+    go true e = inl (suffix_same other acted text real (bytes_true (suffix other) (suffix acted) e))
+    go false e = inr e
+
+minds_own : (acted : List ℕ) (w : Pledge) → IsTextName acted → MindsSequencesOf (λ other. IsTold acted other) w → MindsSequencesOf IsTextName w
+minds_own acted w real m = record { public = m.public; private = λ mail folder sequence is. m.private mail folder sequence (told_by acted folder real is) }
+
+-- what may be asked with more may be asked with less
+module _ (w : Pledge) (A : List Deed → Step → Type 0) where
+  marked_without : (own : List Deed) (s : Step) → Marks (with_step w A) own s → Marks w own s
+  marked_without own (step.List p) m = tt
+  marked_without own (step.Read p n limit) m = tt
+  marked_without own (step.MakeFolder p) m = tt
+  marked_without own (step.Create p n b) m = tt
+  marked_without own (step.SyncFile p n) m = tt
+  marked_without own (step.SyncFolder p) m = tt
+  marked_without own (step.Link p a b) m = tt
+  marked_without own (step.Rename p temp name) m = λ is. let k = m is in record { old = k.old; new = k.new; is_base = k.is_base; created = k.created; made = k.made }
+  marked_without own (step.Unlink p a) m = tt
+  marked_without own (step.Lock p) m = tt
+  marked_without own (step.Unlock p) m = tt
+  marked_without own (step.ReadFile f limit) m = tt
+  marked_without own (step.ReadDrop f from most) m = tt
+  marked_without own (step.CutDrop f length_) m = tt
+
+  may_without : (own : List Deed) (s : Step) → MayAsk (with_step w A) own s → MayAsk w own s
+  may_without own s m = record { is_own = m.is_own; marks = marked_without own s m.marks; steps = λ no. (m.steps no).0 }
+
+  minds_with : MindsSequences w → MindsSequencesOf IsTextName (with_step w A)
+  minds_with m = record {
+    public = λ mail folder sequence own s may. m.public mail folder sequence own s (may_without own s may);
+    private = λ mail folder sequence is own s may. m.private mail folder sequence own s (may_without own s may);
+  }
+
+  -- where each own step meets this besides
+  own_with : (past : List Event) → AtSteps (λ r. r ≡ w.run) (λ r own s. A own s) past → OwnMay w past → OwnMay (with_step w A) past
+  own_with [] f g = tt
+  own_with (Act r s a m ∷ past) f g = ((λ is. may_with w A _ s (g.0 is) (f.0 is)), own_with past f.1 g.1)
+  own_with (Deliver path piece ∷ past) f g = own_with past f g
+  own_with (Crash v ∷ past) f g = own_with past f g
+  own_with (End r ∷ past) f g = own_with past f g
+
+-- a `mark` that only lists may ask for what a command may that looks
+module _ (run : ℕ) (path : List ℕ) (job : MarkJob) (valid : is_folder_name job.folder ≡ true) where
+  looks_marked : (own : List Deed) (s : Step) → Marks (looks_pledge run path job) own s → Marks (scan_pledge run path) own s
+  looks_marked own (step.List p) m = tt
+  looks_marked own (step.Read p n limit) m = tt
+  looks_marked own (step.MakeFolder p) m = tt
+  looks_marked own (step.Create p n b) m = tt
+  looks_marked own (step.SyncFile p n) m = tt
+  looks_marked own (step.SyncFolder p) m = tt
+  looks_marked own (step.Link p a b) m = tt
+  looks_marked own (step.Rename p temp name) m = λ is. let k = m is in record { old = k.old; new = k.new; is_base = k.is_base; created = k.created; made = (job.folder, valid, k.made.0, k.made.1) }
+  looks_marked own (step.Unlink p a) m = tt
+  looks_marked own (step.Lock p) m = tt
+  looks_marked own (step.Unlock p) m = tt
+  looks_marked own (step.ReadFile f limit) m = tt
+  looks_marked own (step.ReadDrop f from most) m = tt
+  looks_marked own (step.CutDrop f length_) m = tt
+
+  looks_may : (own : List Deed) (s : Step) → MayAsk (looks_pledge run path job) own s → MayAsk (scan_pledge run path) own s
+  looks_may own s m = record { is_own = m.is_own; marks = looks_marked own s m.marks; steps = λ no. tt }
+
+  looks_mind : MindsSequences (looks_pledge run path job)
+  looks_mind = record {
+    public = λ mail folder sequence own s may. (minds_sequences run path).public mail folder sequence own s (looks_may own s may);
+    private = λ mail folder sequence own s may. (minds_sequences run path).private mail folder sequence own s (looks_may own s may);
+  }
+
+-- a plan that keeps a pledge, which minds the marks where each own step meets this besides
+record Minding {R : Type 0} (run : ℕ) (B : List Deed → Step → Type 0) (h : Hand) (plan : Plan R) : Type 1 where
+  pledge : Pledge
+  run_is : pledge.run ≡ run
+  minds : MindsSequencesOf IsTextName (with_step pledge B)
+  Q : List Done → Hand → R → Type 0
+  keeps : Keeps (rules_of pledge) [] h plan Q
+
+abbrev Any : List Done → Hand → Unit {0} → Type 0
+Any past h u = Unit {0}
+
+any_so : (P : List Done → Hand → Unit {0} → Type 0) {E : Type 0} (past : List Done) (h : Hand) (r : Result Unit E) → IfOkay P past h r → IfOkay Any past h r
+any_so P past h (Ok u) f = tt
+any_so P past h (Err e) f = tt
+
+module _ (run : ℕ) (few : run < 2 ^ 128) (profile : List NamedValue) (h : Hand) where
+  abbrev path : List ℕ
+  path = path_of profile
+
+  none_read : (folder : List ℕ) (c d : Answer) → NoneUnlinked (Folder path folder) (acts (two_readings profile c d))
+  none_read folder c d x (now e) = let same = did_step e in cc (same)
+  none_read folder c d x (on (now e)) = let same = did_step e in cc (same)
+  none_read folder c d x (on (on z)) = elim z [ ]
+
+  -- no more than that is asked of a `mark`
+  abbrev NoMore : List Deed → Step → Type 0
+  NoMore own s = Unit {0}
+
+  abbrev Unheld : List Deed → Step → Type 0
+  Unheld own s = RemovesUnheld own s
+
+  sound_so : (w : Pledge) (A : List Deed → Step → Type 0) (own : List Deed) (j : Hand) → Sound (with_step w A) own j → Sound w own j
+  sound_so w A own j s = record { numbered = s.numbered; unfailed = s.unfailed }
+
+  -- a `mark` that changes something
+  module _ (words : MarkWords) (es : List NamedValue) (folder : List ℕ) (valid : is_folder_name folder ≡ true) (text : IsTextName folder) (a : MarkAct) where
+    abbrev job : MarkJob
+    job = mark_job folder words profile
+
+    abbrev changes_pledge : Pledge
+    changes_pledge = with_step (mark_pledge run path job a) (λ own s. MindsAll (λ other. IsTold folder other) run own s)
+
+    marked_minds : MindsSequencesOf IsTextName (with_step changes_pledge NoMore)
+    marked_minds = minds_own folder (with_step changes_pledge NoMore) text (pledge_minds (λ other. IsTold folder other) (with_step changes_pledge NoMore) (λ own s may. may.0.1))
+
+    act_keeps : (c d : Answer) → Sound changes_pledge (acts (two_readings profile c d)) (knowing es h) → Keeps (rules_of changes_pledge) (two_readings profile c d) (knowing es h) (mark_by_act run path job (Some a)) (IfOkay Any)
+    act_keeps c d sound =
+        keeps_more (rules_of changes_pledge) (two_readings profile c d) (knowing es h) (mark_by_act run path job (Some a)) (IfOkay (Still (acts (two_readings profile c d)))) (IfOkay Any) (λ later i r q. any_so (Still (acts (two_readings profile c d))) later i r q)
+        (keeps_met (mark_pledge run path job a) (λ own s. MindsAll (λ other. IsTold folder other) run own s) (two_readings profile c d) (acts (two_readings profile c d)) (knowing es h) (mark_by_act run path job (Some a)) (IfOkay (Still (acts (two_readings profile c d)))) Anyhow refl
+        (mark_keeps run few path job (Some a) (two_readings profile c d) (knowing es h) (sound_so (mark_pledge run path job a) (λ own s. MindsAll (λ other. IsTold folder other) run own s) (acts (two_readings profile c d)) (knowing es h) sound))
+        (changes_meet run path job a (current_valid folder valid) (acts (two_readings profile c d)) (knowing es h) (none_read folder c d)))
+
+    acts_keep : words.act ≡ Some a → (c d : Answer) → Sound changes_pledge (acts (two_readings profile c d)) (knowing es h) → Keeps (rules_of changes_pledge) (two_readings profile c d) (knowing es h) (mark_acts run profile words folder) (IfOkay Any)
+    unfolding mark
+    acts_keep is c d sound = subst (λ o. Keeps (rules_of changes_pledge) (two_readings profile c d) (knowing es h) (mark_by_act run path job o) (IfOkay Any)) (sym is) (act_keeps c d sound)
+
+  ok_one : (v : Result (List ℕ) CommandFault) (x y : List ℕ) → v ≡ Ok x → v ≡ Ok y → x ≡ y
+  ok_one v x y e f = cc (e, f)
+
+  abbrev mark_plan : Answer → MarkWords → Plan (Result Unit Ended)
+  mark_plan b words = Ask profile_step (λ c. rest_by (context_step profile) (mark_by run profile (Ok words)) (mark_onward run profile (Ok words)) b)
+
+  mark_minding : (b : Answer) (value : Result MarkWords Ended) → ((words : MarkWords) → value ≡ Ok words → IsValid words.folder × HasChars words.folder) → Minding run NoMore h (Ask profile_step (λ c. rest_by (context_step profile) (mark_by run profile value) (mark_onward run profile value) b))
+  unfolding mark_onward
+  mark_minding b (Err e) valid = record {
+    pledge = marks_pledge run profile (entries_by b) (Err e);
+    run_is = refl;
+    minds = minds_with (scan_pledge run path) NoMore (minds_sequences run path);
+    Q = _;
+    keeps = mark_words_keep run few profile h b (Err e);
+  }
+  mark_minding b (Ok words) valid = named_by (folder_of words.folder (entries_by b) profile) refl
+    where
+      named_by : (v : Result (List ℕ) CommandFault) → folder_of words.folder (entries_by b) profile ≡ v → Minding run NoMore h (mark_plan b words)
+      named_by (Err e) is = record {
+        pledge = on_named run profile words (folder_of words.folder (entries_by b) profile);
+        run_is = ap (λ v. (on_named run profile words v).run) is;
+        minds = subst (λ v. MindsSequencesOf IsTextName (with_step (on_named run profile words v) NoMore)) (sym is) (minds_with (scan_pledge run path) NoMore (minds_sequences run path));
+        Q = _;
+        keeps = mark_words_keep run few profile h b (Ok words);
+      }
+      named_by (Ok folder) is = acted (acted_valid words.folder (entries_by b) profile folder (valid words refl).0 is) (acted_chars words.folder (entries_by b) profile folder (valid words refl).1 is) words.act refl
+        where
+          acted : is_folder_name folder ≡ true → IsTextName folder → (o : Option MarkAct) → words.act ≡ o → Minding run NoMore h (mark_plan b words)
+          acted real text None none = record {
+            pledge = on_named run profile words (folder_of words.folder (entries_by b) profile);
+            run_is = ap (λ v. (on_named run profile words v).run) is ∙ ap (λ o. (pledge_by run path (mark_job folder words profile) o).run) none;
+            minds = subst (λ v. MindsSequencesOf IsTextName (with_step (on_named run profile words v) NoMore)) (sym is)
+                (subst (λ o. MindsSequencesOf IsTextName (with_step (pledge_by run path (mark_job folder words profile) o) NoMore)) (sym none)
+                (minds_with (looks_pledge run path (mark_job folder words profile)) NoMore (looks_mind run path (mark_job folder words profile) real)));
+            Q = _;
+            keeps = mark_words_keep run few profile h b (Ok words);
+          }
+          acted real text (Some a) some = record {
+            pledge = changes_pledge words (entries_by b) folder real text a;
+            run_is = refl;
+            minds = marked_minds words (entries_by b) folder real text a;
+            Q = IfOkay Any;
+            keeps = keeps_after (changes_pledge words (entries_by b) folder real text a) Home (Mail path) profile_name context_name LIMIT_BYTES h (on_context profile words.folder (mark_acts run profile words) (reading_of b)) (IfOkay Any)
+                (λ c d sound. context_keeps (changes_pledge words (entries_by b) folder real text a) (two_readings profile c d) h sound profile words.folder (mark_acts run profile words) Any (reading_of b)
+                (λ other known. subst (λ z. Keeps (rules_of (changes_pledge words (entries_by b) folder real text a)) (two_readings profile c d) (knowing (entries_by b) h) (mark_acts run profile words z) (IfOkay Any)) (ok_one (folder_of words.folder (entries_by b) profile) folder other is known)
+                (acts_keep words (entries_by b) folder real text a some c d (known_sound (changes_pledge words (entries_by b) folder real text a) (acts (two_readings profile c d)) h (entries_by b) sound))));
+          }
+
+  -- `rmm`
+  module _ (words : RmmWords) (es : List NamedValue) (folder : List ℕ) (valid : is_folder_name folder ≡ true) (text : IsTextName folder) where
+    abbrev rmm_job_ : RmmJob
+    rmm_job_ = rmm_job folder words profile
+
+    abbrev removes_pledge : Pledge
+    removes_pledge = with_step (rmm_pledge run path rmm_job_) (λ own s. MindsUnheld (λ other. IsTold folder other) run own s)
+
+    removed_minds : MindsSequencesOf IsTextName (with_step removes_pledge Unheld)
+    removed_minds = minds_own folder (with_step removes_pledge Unheld) text (pledge_minds (λ other. IsTold folder other) (with_step removes_pledge Unheld) (λ own s may. may.0.1 may.1))
+
+    removes_keep : (c d : Answer) → Sound removes_pledge (acts (two_readings profile c d)) (knowing es h) → Keeps (rules_of removes_pledge) (two_readings profile c d) (knowing es h) (rmm_acts run profile words folder) (IfOkay Any)
+    removes_keep c d sound =
+        keeps_more (rules_of removes_pledge) (two_readings profile c d) (knowing es h) (rmm run path rmm_job_) (IfOkay (Still (acts (two_readings profile c d)))) (IfOkay Any) (λ later i r q. any_so (Still (acts (two_readings profile c d))) later i r q)
+        (keeps_met (rmm_pledge run path rmm_job_) (λ own s. MindsUnheld (λ other. IsTold folder other) run own s) (two_readings profile c d) (acts (two_readings profile c d)) (knowing es h) (rmm run path rmm_job_) (IfOkay (Still (acts (two_readings profile c d)))) Anyhow refl
+        (rmm_keeps run few path rmm_job_ (two_readings profile c d) (knowing es h) (sound_so (rmm_pledge run path rmm_job_) (λ own s. MindsUnheld (λ other. IsTold folder other) run own s) (acts (two_readings profile c d)) (knowing es h) sound))
+        (rmm_meets run path rmm_job_ (current_valid folder valid) (acts (two_readings profile c d)) (knowing es h) (none_read folder c d)))
+
+  abbrev rmm_plan : Answer → RmmWords → Plan (Result Unit Ended)
+  rmm_plan b words = Ask profile_step (λ c. rest_by (context_step profile) (rmm_by run profile (Ok words)) (rmm_onward run profile (Ok words)) b)
+
+  rmm_minding : (b : Answer) (value : Result RmmWords Ended) → ((words : RmmWords) → value ≡ Ok words → IsValid words.folder × HasChars words.folder) → Minding run Unheld h (Ask profile_step (λ c. rest_by (context_step profile) (rmm_by run profile value) (rmm_onward run profile value) b))
+  unfolding rmm_onward
+  rmm_minding b (Err e) valid = record {
+    pledge = rmms_pledge run profile (entries_by b) (Err e);
+    run_is = refl;
+    minds = minds_with (scan_pledge run path) Unheld (minds_sequences run path);
+    Q = _;
+    keeps = rmm_words_keep run few profile h b (Err e);
+  }
+  rmm_minding b (Ok words) valid = named_by (folder_of words.folder (entries_by b) profile) refl
+    where
+      named_by : (v : Result (List ℕ) CommandFault) → folder_of words.folder (entries_by b) profile ≡ v → Minding run Unheld h (rmm_plan b words)
+      named_by (Err e) is = record {
+        pledge = rmm_on_named run profile words (folder_of words.folder (entries_by b) profile);
+        run_is = ap (λ v. (rmm_on_named run profile words v).run) is;
+        minds = subst (λ v. MindsSequencesOf IsTextName (with_step (rmm_on_named run profile words v) Unheld)) (sym is) (minds_with (scan_pledge run path) Unheld (minds_sequences run path));
+        Q = _;
+        keeps = rmm_words_keep run few profile h b (Ok words);
+      }
+      named_by (Ok folder) is = acted (acted_valid words.folder (entries_by b) profile folder (valid words refl).0 is) (acted_chars words.folder (entries_by b) profile folder (valid words refl).1 is)
+        where
+          acted : is_folder_name folder ≡ true → IsTextName folder → Minding run Unheld h (rmm_plan b words)
+          acted real text = record {
+            pledge = removes_pledge words (entries_by b) folder real text;
+            run_is = refl;
+            minds = removed_minds words (entries_by b) folder real text;
+            Q = IfOkay Any;
+            keeps = keeps_after (removes_pledge words (entries_by b) folder real text) Home (Mail path) profile_name context_name LIMIT_BYTES h (on_context profile words.folder (rmm_acts run profile words) (reading_of b)) (IfOkay Any)
+                (λ c d sound. context_keeps (removes_pledge words (entries_by b) folder real text) (two_readings profile c d) h sound profile words.folder (rmm_acts run profile words) Any (reading_of b)
+                (λ other known. subst (λ z. Keeps (rules_of (removes_pledge words (entries_by b) folder real text)) (two_readings profile c d) (knowing (entries_by b) h) (rmm_acts run profile words z) (IfOkay Any)) (ok_one (folder_of words.folder (entries_by b) profile) folder other is known)
+                (removes_keep words (entries_by b) folder real text c d (known_sound (removes_pledge words (entries_by b) folder real text) (acts (two_readings profile c d)) h (entries_by b) sound))));
+          }
+
+no_more : (run : ℕ) (past : List Event) → AtSteps (λ r. r ≡ run) (λ r own s. Unit {0}) past
+no_more run [] = tt
+no_more run (Act r s a m ∷ past) = ((λ is. tt), no_more run past)
+no_more run (Deliver _ piece ∷ past) = no_more run past
+no_more run (Crash v ∷ past) = no_more run past
+no_more run (End r ∷ past) = no_more run past
+
+abbrev NothingMore : List Deed → Step → Type 0
+NothingMore own s = Unit {0}
+
+may_more : (w : Pledge) (old new : Option Story) → StoryMay w old new → StoryMay (with_step w NothingMore) old new
+may_more w None None may = tt
+may_more w (Some old) (Some new) may = λ unused. own_with w NothingMore (past_of new.history) (no_more w.run (past_of new.history)) (may unused)
+may_more w None (Some new) may = absurd may
+may_more w (Some old) None may = absurd may
+
+abbrev RemovesSo : List Deed → Step → Type 0
+RemovesSo own s = RemovesUnheld own s
+
+-- where no message is held aside when it removes
+unheld_kept : (w : Pledge) → MindsSequencesOf IsTextName (with_step w RemovesSo) → (old new : Option Story) → SameStart old new → StoryMay w old new → KeepsUnheld w.run old new
+unheld_kept w minds None None same may = tt
+unheld_kept w minds (Some old) (Some new) same may =
+    λ unheld. sequences_kept_of IsTextName (with_step w RemovesSo) minds (Some old) (Some new) same (λ unused. own_with w RemovesSo (past_of new.history) unheld (may unused))
+unheld_kept w minds None (Some new) same may = absurd may
+unheld_kept w minds (Some old) None same may = absurd may
+
+-- after a profile that is too long a command does nothing
+module _ (run : ℕ) (few : run < 2 ^ 128) (word : List ℕ) (words : List (List ℕ)) (texts : AreUtf8 words) (h : Hand) (b : Answer) where
+  abbrev all : List (List ℕ)
+  all = word ∷ words
+
+  long_minding : (B : List Deed → Step → Type 0) (l : ℕ) → Minding run B h (plan_by run few all (reading.Long l) b)
+  unfolding onward_by lifted bind ◌>>=◌
+  long_minding B l = record {
+    pledge = scan_pledge run (path_of (entries_in []));
+    run_is = refl;
+    minds = minds_with (scan_pledge run (path_of (entries_in []))) B (minds_sequences run (path_of (entries_in [])));
+    Q = IfOkay Any;
+    keeps = keeps_ended (scan_pledge run (path_of (entries_in []))) Home profile_name LIMIT_BYTES h (Err (plain (too_large l))) (IfOkay Any) (λ c. tt);
+  }
+
+  mark_named : (profile : List NamedValue) (name : Option CommandName) → name ≡ Some Mark → Minding run NothingMore h (Ask profile_step (λ c. rest_by (context_step profile) (word_by run profile word words name) (word_onward run profile word words name) b))
+  unfolding word_onward
+  mark_named profile name is =
+      subst (λ z. Minding run NothingMore h (Ask profile_step (λ c. rest_by (context_step profile) (word_by run profile word words z) (word_onward run profile word words z) b))) (sym is)
+      (mark_minding run few profile h b (mark_said profile (map chars words)) (λ said e. (mark_valid profile (map chars words) said e, mark_chars profile (map chars words) said (chars_texts words texts) e)))
+
+  rmm_named : (profile : List NamedValue) (name : Option CommandName) → name ≡ Some Rmm → Minding run RemovesSo h (Ask profile_step (λ c. rest_by (context_step profile) (word_by run profile word words name) (word_onward run profile word words name) b))
+  unfolding word_onward
+  rmm_named profile name is =
+      subst (λ z. Minding run RemovesSo h (Ask profile_step (λ c. rest_by (context_step profile) (word_by run profile word words z) (word_onward run profile word words z) b))) (sym is)
+      (rmm_minding run few profile h b (rmm_said profile (map chars words)) (λ said e. (rmm_words_valid profile (map chars words) said e, rmm_chars profile (map chars words) said (chars_texts words texts) e)))
+
+  mark_read : (r : Reading) → named word ≡ Some Mark → Minding run NothingMore h (plan_by run few all r b)
+  unfolding onward_by named_onward lifted bind ◌>>=◌
+  mark_read (reading.Content bytes) is = mark_named (entries_in bytes) (named word) is
+  mark_read (reading.Long l) is = long_minding NothingMore l
+  mark_read reading.Gone is = mark_named (entries_in []) (named word) is
+
+  rmm_read : (r : Reading) → named word ≡ Some Rmm → Minding run RemovesSo h (plan_by run few all r b)
+  unfolding onward_by named_onward lifted bind ◌>>=◌
+  rmm_read (reading.Content bytes) is = rmm_named (entries_in bytes) (named word) is
+  rmm_read (reading.Long l) is = long_minding RemovesSo l
+  rmm_read reading.Gone is = rmm_named (entries_in []) (named word) is
+
+-- a call that follows a command keeps the marks of messages
+module _ (run : ℕ) (few : run < 2 ^ 128) (x y : State) (result : Result Unit Ended) where
+  start_same : (words : List (List ℕ)) → Follows run ended_cause (command run words) x y result → SameStart x.files.story y.files.story
+  start_same words f = go x.files.story y.files.story f.went.grows
+    where
+      go : (old new : Option Story) → GrowsBy run old new (filed_in f.went.log) → SameStart old new
+      go None None g = tt
+      go (Some old) (Some new) g = g.start
+      go None (Some new) g = absurd g
+      go (Some old) None g = absurd g
+
+  minding_may : (words : List (List ℕ)) (f : Follows run ended_cause (command run words) x y result) (t : Answered run few words x.hand y.hand (deeds_in f.went.log) (exit_of ended_cause result)) {B : List Deed → Step → Type 0}
+      → (m : Minding run B x.hand (plan_by run few words (reading_of t.first) t.second)) → StoryMay m.pledge x.files.story y.files.story
+  minding_may words f t m =
+      keeps_may m.pledge ended_cause (plan_by run few words (reading_of t.first) t.second) x y result m.Q m.keeps
+      (subst (λ n. Follows n ended_cause (plan_by run few words (reading_of t.first) t.second) x y result) (sym m.run_is) (follows_so run ended_cause (command run words) (plan_by run few words (reading_of t.first) t.second) x y result f t.runs))
+
+  mark_kept : (word : List ℕ) (words : List (List ℕ)) → AreUtf8 words → named word ≡ Some Mark → Follows run ended_cause (command run (word ∷ words)) x y result → KeepsSequencesOf IsTextName run x.files.story y.files.story
+  mark_kept word words texts is f = go (answers run few (word ∷ words) x y result f)
+    where
+      go : Answered run few (word ∷ words) x.hand y.hand (deeds_in f.went.log) (exit_of ended_cause result) → KeepsSequencesOf IsTextName run x.files.story y.files.story
+      go t =
+          let m = mark_read run few word words texts x.hand t.second (reading_of t.first) is in
+          subst (λ n. KeepsSequencesOf IsTextName n x.files.story y.files.story) m.run_is
+          (sequences_kept_of IsTextName (with_step m.pledge NothingMore) m.minds x.files.story y.files.story (start_same (word ∷ words) f) (may_more m.pledge x.files.story y.files.story (minding_may (word ∷ words) f t m)))
+
+  rmm_kept : (word : List ℕ) (words : List (List ℕ)) → AreUtf8 words → named word ≡ Some Rmm → Follows run ended_cause (command run (word ∷ words)) x y result → KeepsUnheld run x.files.story y.files.story
+  rmm_kept word words texts is f = go (answers run few (word ∷ words) x y result f)
+    where
+      go : Answered run few (word ∷ words) x.hand y.hand (deeds_in f.went.log) (exit_of ended_cause result) → KeepsUnheld run x.files.story y.files.story
+      go t =
+          let m = rmm_read run few word words texts x.hand t.second (reading_of t.first) is in
+          subst (λ n. KeepsUnheld n x.files.story y.files.story) m.run_is (unheld_kept m.pledge m.minds x.files.story y.files.story (start_same (word ∷ words) f) (minding_may (word ∷ words) f t m))
+
+  by_name : (word : List ℕ) (words : List (List ℕ)) → AreUtf8 words → Follows run ended_cause (command run (word ∷ words)) x y result → (name : Option CommandName) → named word ≡ name → KeepsCommandMarks name run x.files.story y.files.story
+  by_name word words texts f None is = command_keeps_sequences run few (word ∷ words) (ap begins_folders is) x y result f
+  by_name word words texts f (Some Scan) is = command_keeps_sequences run few (word ∷ words) (ap begins_folders is) x y result f
+  by_name word words texts f (Some Mark) is = mark_kept word words texts is f
+  by_name word words texts f (Some Rmm) is = rmm_kept word words texts is f
+
+  pub command_keeps_marks : (words : List (List ℕ)) → AreUtf8 words → Follows run ended_cause (command run words) x y result → KeepsCommandMarks (command_of words) run x.files.story y.files.story
+  command_keeps_marks [] texts f = command_keeps_sequences run few [] refl x y result f
+  command_keeps_marks (word ∷ words) texts f = by_name word words texts.1 f (named word) refl

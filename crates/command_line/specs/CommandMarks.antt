@@ -1,0 +1,35 @@
+-- What each command keeps of the marks of messages, by its name.
+use Rattle.std.specs.Prelude.{◌≡◌, ℕ, true, List, Option, None, Some}
+use Rattle.std.specs.Str.{all_scalars}
+use Rattle.folder_files.specs.Histories.{past_of}
+use Rattle.folder_files.specs.Story.{Story}
+use Rattle.folder_files.specs.declared.event.Event.{Event}
+use Rattle.step_plans.specs.Safety.{AtSteps}
+use Rattle.sequence_marks.specs.KeepsSequences.{KeepsSequences}
+use Rattle.sequence_marks.specs.KeepsSequencesOf.{KeepsSequencesOf, SequencesStaySoundOf}
+use Rattle.refile_command.specs.HeldLeft.{RemovesUnheld}
+use Rattle.command_line.specs.declared.name.CommandName.{CommandName}
+use Rattle.command_line.specs.declared.name.CommandName.TheVariants.{Mark, Rmm, Scan}
+
+-- the name is a text of characters
+abbrev pub IsTextName : List ℕ → Type 0
+IsTextName folder = all_scalars folder ≡ true
+
+-- whenever the run took a message from its number, each held name that it had listed in that folder was let go
+abbrev pub HasRemovedUnheld : ℕ → List Event → Type 0
+HasRemovedUnheld run past = AtSteps (λ r. r ≡ run) (λ r own s. RemovesUnheld own s) past
+
+-- then the marks of sequences stay sound, where a story is told
+abbrev pub KeepsUnheld : ℕ → Option Story → Option Story → Type 0
+KeepsUnheld run None None = Unit {0}
+KeepsUnheld run (Some old) (Some new) = HasRemovedUnheld run (past_of new.history) → SequencesStaySoundOf IsTextName run old new
+KeepsUnheld run None (Some new) = ⊥
+KeepsUnheld run (Some old) None = ⊥
+
+-- a command that looks keeps all, whatever a folder is called; `mark` all of folders whose names are texts; so does `rmm` where no message is
+-- held aside when it removes
+abbrev pub KeepsCommandMarks : Option CommandName → ℕ → Option Story → Option Story → Type 0
+KeepsCommandMarks None run old new = KeepsSequences run old new
+KeepsCommandMarks (Some Scan) run old new = KeepsSequences run old new
+KeepsCommandMarks (Some Mark) run old new = KeepsSequencesOf IsTextName run old new
+KeepsCommandMarks (Some Rmm) run old new = KeepsUnheld run old new
