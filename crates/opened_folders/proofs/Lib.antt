@@ -1,4 +1,7 @@
+pub mod BeginState
+pub mod BegunEnds
 pub mod BegunWorks
+pub mod CleanRuns
 pub mod EndedKept
 pub mod EndingParts
 pub mod ExistingNumbers
@@ -8,9 +11,13 @@ pub mod FolderPledged
 pub mod HomesFound
 pub mod KeptGiven
 pub mod KeptMessages
+pub mod NamesKept
 pub mod OneStep
+pub mod SequencesEnd
 pub mod Sets
+pub mod SettledEnds
 pub mod SettledShown
 pub mod TriedAlone
+pub mod WorkEnds
 pub mod WorkGiven
 pub mod WorkPledged

@@ -148,7 +148,7 @@ module _ (run : ℕ) (few : run < 2 ^ 128) (path folder : List ℕ) (Makes_ : Li
       (λ later old made f m. record { listing = listing; read_text = text; context = context; seen = f; new = told_within listing text context folder; made = inl refl; writes = inr (inr m) })
 
   -- the folder may be begun
-  begins : Begins w path folder
+  pub begins : Begins w path folder
   begins = record {
     serves = serves_folder;
     mail = serves_mail;
