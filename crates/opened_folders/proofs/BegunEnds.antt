@@ -1,10 +1,11 @@
 -- How the plan ends by which a folder is begun, and what shows it.
 use Rattle.std.proofs.Common.{◌≡◌, ◌≢◌, ◌||◌, ◌<◌, ◌^◌, ◌∷◌, [], ℕ, Bool, true, false, List, Option, Some, None, Result, Ok, Err, inl, inr, refl, sym, ◌∙◌, ap, subst, bytes_eq}
-use Rattle.std.specs.Prelude.{if◌then◌else◌}
+use Rattle.std.specs.Prelude.{decimal, if◌then◌else◌}
 use Rattle.mh_base.specs.Entries.{entry_text, kind_of}
 use Rattle.mh_base.specs.declared.entry.Entry.TheVariants.{Sequences}
 use Rattle.mh_profile.specs.Reading.{entries_in}
 use Rattle.mh_profile.specs.declared.named_value.NamedValue.{NamedValue}
+use Rattle.mh_sequences.specs.Runs.{has}
 use Rattle.mh_sequences.specs.Sequences.{Marked}
 use Rattle.mh_sequences.specs.declared.run.Run.{Run}
 use Rattle.folder_files.specs.Deeds.{Deed, Once, WasDone, did, last, now, on, still}
@@ -36,14 +37,17 @@ use Rattle.held_messages.specs.Settle.{Settled, put_back}
 use Rattle.sequence_commits.specs.Committing.{cut_committed}
 use Rattle.sequence_commits.specs.Cutting.{cut_to}
 use Rattle.sequence_commits.specs.Reading.{sequences_in}
-use Rattle.opened_folders.specs.Endings.{IsMeddledIn, PutsBackups, PutsNone, ShowsInFolder, made_gone, plainly}
-use Rattle.opened_folders.specs.Existing.{numbers_settled}
+use Rattle.sequence_commits.specs.RunsOfAll.{runs_of_all}
+use Rattle.sequence_commits.proofs.RunTests.{all_has, all_runs, none_outside}
+use Rattle.opened_folders.specs.Endings.{IsMeddledIn, IsMetIn, PutsBackups, PutsNone, ShowsInFolder, made_gone, plainly}
+use Rattle.opened_folders.specs.Existing.{exists_in, numbers_settled}
 use Rattle.opened_folders.specs.Opening.{Opened, begun, folder_locked, locked_begun, locked_by, mail_made, marks_cut, marks_read, opened_of, sequences_read, settled_read, text_by}
 use Rattle.opened_folders.specs.Reads.{HaveRead, HaveSeen, TellsText}
 use Rattle.opened_folders.proofs.CleanRuns.{Clean, clean_more}
+use Rattle.opened_folders.proofs.ExistingNumbers.{in_range_or}
 use Rattle.opened_folders.proofs.NamesKept.{backups_kept, met_kept, other_unlinked, putting}
 use Rattle.opened_folders.proofs.SequencesEnd.{Left, changed_comes}
-use Rattle.opened_folders.proofs.SettledEnds.{IsSettled, PutsBack, Shown, put_back_comes}
+use Rattle.opened_folders.proofs.SettledEnds.{HasMetAll, IsSettled, PutsBack, Shown, put_back_comes}
 
 has_later : (a b : Bool) → b ≡ true → a || b ≡ true
 has_later true b e = refl
@@ -234,16 +238,23 @@ module _ (run : ℕ) (few : run < 2 ^ 128) (path folder : List ℕ) (Makes : Lis
               both : Left run few path folder Makes (context_deed b ∷ (sequences_deed a ∷ own)) h
               both = read_left mail context_name b (sequences_deed a ∷ own) h fine (read_left p (entry_text Sequences) a own h live left)
 
-  -- what is left where a folder was begun
+  -- what is left where a folder was begun; and at some time the run has met the name of each number that it takes to be there
+  pub record IsBegunSo (o : Opened) (own : List Deed) (h : Hand) : Type 0 where
+    pub left : Left run few path folder Makes own h
+    pub met : (n : ℕ) → has o.listing n ≡ true → Once (λ d older. IsMetIn p (decimal n) d) own
+
   abbrev pub Begins : Outcome Opened
-  Begins later j o = Left run few path folder Makes later j
+  Begins later j o = IsBegunSo o later j
+
+  abbrev Cuts : List Run → Outcome Opened
+  Cuts listing later j o = (o.listing ≡ listing) × Left run few path folder Makes later j
 
   cut_comes : (own : List Deed) (h : Hand) (s : Settled) (text context : List ℕ) → HaveSeen run p mail (numbers_settled run s) text context own → WasDone (step.Lock p) own → Left run few path folder Makes own h
-      → Comes own h (marks_cut run p mail folder s (sequences_in text (entries_in context) folder)) (So Begins)
+      → Comes own h (marks_cut run p mail folder s (sequences_in text (entries_in context) folder)) (So (Cuts (numbers_settled run s)))
   unfolding marks_cut
   cut_comes own h s text context seen lock left =
-      comes_then own h (cut_committed run p mail folder m listing) (λ cut. Return (Ok (opened_of p folder listing (cut_to listing m) s.ends))) (So (λ later j u. Left run few path folder Makes later j)) (So Begins)
-      (changed_comes run few path folder Makes listing text context (cut_to listing m) (inl refl) m own h seen lock left) (λ later j u f. comes_to later j (Ok (opened_of p folder listing (cut_to listing m) s.ends)) (So Begins) f) (λ later j e f. f)
+      comes_then own h (cut_committed run p mail folder m listing) (λ cut. Return (Ok (opened_of p folder listing (cut_to listing m) s.ends))) (So (λ later j u. Left run few path folder Makes later j)) (So (Cuts listing))
+      (changed_comes run few path folder Makes listing text context (cut_to listing m) (inl refl) m own h seen lock left) (λ later j u f. comes_to later j (Ok (opened_of p folder listing (cut_to listing m) s.ends)) (So (Cuts listing)) (refl, f)) (λ later j e f. f)
     where
       listing : List Run
       listing = numbers_settled run s
@@ -251,16 +262,35 @@ module _ (run : ℕ) (few : run < 2 ^ 128) (path folder : List ℕ) (Makes : Lis
       m : Marked
       m = sequences_in text (entries_in context) folder
 
-  read_comes : (own : List Deed) (h : Hand) (s : Settled) → Uncleared s.names s.names own h → Comes own h (settled_read run p mail folder s) (So Begins)
+  read_comes : (own : List Deed) (h : Hand) (s : Settled) → Uncleared s.names s.names own h → Comes own h (settled_read run p mail folder s) (So (Cuts (numbers_settled run s)))
   unfolding settled_read
   read_comes own h s f =
-      comes_then own h (cleared p s.names) (λ clear. marks_read p mail folder >>= (λ marked. marks_cut run p mail folder s marked)) (So (Clears s.names)) (So Begins) (cleared_comes s.names s.names own h f)
+      comes_then own h (cleared p s.names) (λ clear. marks_read p mail folder >>= (λ marked. marks_cut run p mail folder s marked)) (So (Clears s.names)) (So (Cuts (numbers_settled run s))) (cleared_comes s.names s.names own h f)
       (λ mid j u g.
-      comes_then mid j (marks_read p mail folder) (λ marked. marks_cut run p mail folder s marked) (So (Reads s.names)) (So Begins) (marks_comes s.names mid j g.0 g.1)
-      (λ later k m r. subst (λ z. Comes later k (marks_cut run p mail folder s z) (So Begins)) (sym r.is)
+      comes_then mid j (marks_read p mail folder) (λ marked. marks_cut run p mail folder s marked) (So (Reads s.names)) (So (Cuts (numbers_settled run s))) (marks_comes s.names mid j g.0 g.1)
+      (λ later k m r. subst (λ z. Comes later k (marks_cut run p mail folder s z) (So (Cuts (numbers_settled run s)))) (sym r.is)
       (cut_comes later k s r.text r.context (record { listed = (s, refl, r.held.listed); read = r.read }) r.held.lock r.left))
       (λ later k e r. r))
       (λ mid j e g. g)
+
+  -- a number of the folder is one of those that were listed, put there or met there
+  number_there : (s : Settled) (n : ℕ) → has (numbers_settled run s) n ≡ true → exists_in run s n ≡ true
+  unfolding numbers_settled
+  number_there s n e = elim (in_range_or n) [
+    | inl l ↦ sym (all_has (exists_in run s) n l.0 l.1) ∙ e
+    | inr out ↦ true_false (has (runs_of_all (exists_in run s)) n) e (none_outside (runs_of_all (exists_in run s)) n (all_runs (exists_in run s)) out)
+  ]
+
+  -- with the numbers
+  numbered_comes : (own : List Deed) (h : Hand) (s : Settled) → Uncleared s.names s.names own h → HasMetAll run path folder Makes s.names s.ends own → Comes own h (settled_read run p mail folder s) (So Begins)
+  numbered_comes own h s f met =
+      comes_more own h (settled_read run p mail folder s) (λ later j r. HasMetAll run path folder Makes s.names s.ends later × So (Cuts (numbers_settled run s)) later j r) (So Begins) go
+      (comes_framed AnyStep (HasMetAll run path folder Makes s.names s.ends) (λ now_ t a any q n e. on (q n e)) own h (settled_read run p mail folder s) (So (Cuts (numbers_settled run s))) (asks_any (settled_read run p mail folder s)) met
+      (read_comes own h s f))
+    where
+      go : (later : List Deed) (j : Hand) (r : Result Opened PlanFault) → HasMetAll run path folder Makes s.names s.ends later × So (Cuts (numbers_settled run s)) later j r → So Begins later j r
+      go later j (Ok o) q = record { left = q.1.1; met = λ n e. q.0 n (number_there s n (subst (λ z. has z n ≡ true) q.1.0 e)) }
+      go later j (Err e) q = q.1
 
   uncleared : (s : Settled) (own : List Deed) (h : Hand) → IsSettled run path folder Makes s.names own h → Uncleared s.names s.names own h
   uncleared s own h f = record {
@@ -296,7 +326,7 @@ module _ (run : ℕ) (few : run < 2 ^ 128) (path folder : List ℕ) (Makes : Lis
       settling : (a : Answer) → a ≢ answer.Failed → Comes (made_deeds a (locked_deeds own)) h (put_back run p >>= (λ s. settled_read run p mail folder s)) (So Begins)
       settling a live =
           comes_then (made_deeds a (locked_deeds own)) h (put_back run p) (λ s. settled_read run p mail folder s) (So (PutsBack run path folder Makes)) (So Begins)
-          (put_back_comes run path folder Makes (made_deeds a (locked_deeds own)) h (clean_there a live) (on (on (now refl))) (safe_there a)) (λ later j s f. read_comes later j s (uncleared s later j f)) (λ later j e f. f)
+          (put_back_comes run path folder Makes (made_deeds a (locked_deeds own)) h (clean_there a live) (on (on (now refl))) (safe_there a)) (λ later j s f. numbered_comes later j s (uncleared s later j f.0) f.1) (λ later j e f. f)
 
   -- a folder is begun, by a run that has put no name into the mail directory: its end, and what shows it
   pub begun_comes : (own : List Deed) (h : Hand) → Clean run own h → PutsNone mail own → Comes own h (begun run p mail folder) (So Begins)

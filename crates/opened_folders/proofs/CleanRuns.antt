@@ -21,7 +21,7 @@ use Rattle.folder_files.specs.declared.step.Answer.{Answer}
 use Rattle.folder_files.specs.declared.step.Answer.TheVariants as answer
 use Rattle.folder_files.specs.declared.step.Step.{Step}
 use Rattle.folder_files.specs.declared.step.Step.TheVariants as step
-use Rattle.file_plans.specs.Asking.{create, entered_of, folder_made_of, list, listing_of, lock, locking_of, make_folder, read, reading_of, rename, sync_file, sync_folder, touched_of, unlink}
+use Rattle.file_plans.specs.Asking.{create, entered_of, folder_made_of, link, list, listing_of, lock, locking_of, make_folder, read, reading_of, rename, sync_file, sync_folder, touched_of, unlink}
 use Rattle.file_plans.specs.Plan.{Ask, Hand, Hear, Note, Plan, Recall, Return, Say, Try, after, ask, bind, lifted, ◌>>=◌}
 use Rattle.file_plans.specs.declared.answers.Entered.{Entered}
 use Rattle.file_plans.specs.declared.answers.Entered.TheVariants as entered
@@ -39,7 +39,7 @@ use Rattle.step_plans.specs.ContextCommit.{LIMIT_BYTES, TRIES, changed, commit_b
 use Rattle.step_plans.specs.ContextPledge.{context_pledge}
 use Rattle.step_plans.specs.Hands.{knowing, known, named, named_by, temp_name, used}
 use Rattle.step_plans.specs.Locking.{clear_listed, cleared, cleared_one, let_go, lock_name, locked, locked_by, removed, temps_cleared}
-use Rattle.step_plans.specs.Pledges.{Pledge}
+use Rattle.step_plans.specs.Pledges.{MayAsk, Pledge}
 use Rattle.step_plans.specs.PlanFaults.{Planned, of_stop}
 use Rattle.step_plans.specs.Replacing.{created, entered_once, held_to, made_safe, renamed, replaced, synced, written}
 use Rattle.step_plans.specs.declared.change.ChangeEntry.{ChangeEntry}
@@ -51,6 +51,7 @@ use Rattle.step_plans.proofs.Going.{Goes, Outcome, Sound, all_numbered, goes_sou
 use Rattle.step_plans.proofs.Noted.{context_goes}
 use Rattle.step_plans.proofs.Pledged.{Known, Of}
 use Rattle.step_plans.proofs.Ruling.{AreNumbered, IsNumbered}
+use Rattle.step_plans.proofs.Stepping.{on_new}
 
 -- a plan that comes in two ways comes in both
 pub comes_both : {R : Type 0} (own : List Deed) (h : Hand) (p : Plan R) (P Q : Outcome R) → Comes own h p P → Comes own h p Q → Comes own h p (λ later j r. P later j r × Q later j r)
@@ -62,6 +63,13 @@ comes_both own h (Say piece next) P Q f g = comes_both own h next P Q f g
 comes_both own h (Hear most next) P Q f g = absurd f
 comes_both own h (Recall next) P Q f g = comes_both own h (next h) P Q f g
 comes_both own h (Note j next) P Q f g = comes_both own j next P Q f g
+
+-- one more name for a file, and then the rest
+pub comes_link : {B F : Type 0} (own : List Deed) (h : Hand) (from : Stop → F) (Q : Outcome (Result B F)) (p : Place) (a b : List ℕ) (k : Entered → Plan (Result B F))
+    → Comes (did (step.Link p a b) answer.Done ∷ own) h (k entered.Done) Q → Comes (did (step.Link p a b) answer.Exists ∷ own) h (k entered.Exists) Q → Comes (did (step.Link p a b) answer.Gone ∷ own) h (k entered.Gone) Q
+    → Comes own h (lifted from (link p a b) >>= k) Q
+unfolding Comes link ask lifted bind ◌>>=◌
+comes_link own h from Q p x y k d e g = on_new (λ a. Comes (did (step.Link p x y) a ∷ own) h (k (entered_of a)) Q) d e g
 
 -- no step has failed, and the hand has the number of no name that was made
 pub record Clean (run : ℕ) (own : List Deed) (h : Hand) : Type 0 where
@@ -90,6 +98,18 @@ comes_goes w own h (Say piece next) O Q s g f = comes_goes w own h next O Q s g.
 comes_goes w own h (Hear most next) O Q s g f = absurd f
 comes_goes w own h (Recall next) O Q s g f = comes_goes w own h (next h) O Q s (g s) f
 comes_goes w own h (Note j next) O Q s g f = comes_goes w own j next O Q (record { numbered = all_numbered w.run h.next j.next own g.0 s.numbered; unfailed = s.unfailed }) g.1 f
+
+-- one with a fact that each step keeps that the pledge lets be
+pub comes_asked : {R : Type 0} (w : Pledge) (F : List Deed → Type 0) → ((own : List Deed) (s : Step) (a : Answer) → MayAsk w own s → F own → F (did s a ∷ own)) → (own : List Deed) (h : Hand) (p : Plan R) (O Q : Outcome R) → Sound w own h → Goes w own h p O → F own → Comes own h p Q
+    → Comes own h p (λ later j r. F later × Q later j r)
+unfolding Comes Goes
+comes_asked w F keeps own h (Return r) O Q s g i f = (i, f)
+comes_asked w F keeps own h (Ask t next) O Q s g i f = λ a row live. comes_asked w F keeps (did t a ∷ own) h (next a) O Q (sound_more w own h t a live (g.0 s).1 s) (g.1 a row live) (keeps own t a (g.0 s).0 i) (f a row live)
+comes_asked w F keeps own h (Try t next) O Q s g i f = absurd f
+comes_asked w F keeps own h (Say piece next) O Q s g i f = comes_asked w F keeps own h next O Q s g.1 i f
+comes_asked w F keeps own h (Hear most next) O Q s g i f = absurd f
+comes_asked w F keeps own h (Recall next) O Q s g i f = comes_asked w F keeps own h (next h) O Q s (g s) i f
+comes_asked w F keeps own h (Note j next) O Q s g i f = comes_asked w F keeps own j next O Q (record { numbered = all_numbered w.run h.next j.next own g.0 s.numbered; unfailed = s.unfailed }) g.1 i f
 
 -- names of the run with other numbers are other names
 other_number : (run n k : ℕ) → n ≤ 2 ^ 64 → k < n → k < 2 ^ 64 → temp_name run n ≡ temp_name run k → ⊥

@@ -12,6 +12,8 @@ pub mod HomesFound
 pub mod KeptGiven
 pub mod KeptMessages
 pub mod NamesKept
+pub mod NumbersMet
+pub mod NumbersStay
 pub mod OneStep
 pub mod SequencesEnd
 pub mod Sets

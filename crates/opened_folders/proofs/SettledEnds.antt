@@ -1,5 +1,5 @@
 -- How the plan ends that puts back what is held aside, and what shows it.
-use Rattle.std.proofs.Common.{◌≡◌, ◌≢◌, ◌+◌, ◌-◌, ◌++◌, ◌^◌, ◌∷◌, [], ℕ, zero, suc, max, Bool, true, false, List, Option, Some, None, Result, Ok, Err, inl, inr, refl, sym, ◌∙◌, ap, subst, bytes_eq}
+use Rattle.std.proofs.Common.{◌≡◌, ◌≢◌, ◌⊎◌, ◌||◌, ◌+◌, ◌-◌, ◌++◌, ◌^◌, ◌∷◌, [], ℕ, zero, suc, max, Bool, true, false, List, Option, Some, None, Result, Ok, Err, inl, inr, refl, sym, ◌∙◌, ap, subst, bytes_eq}
 use Rattle.std.specs.Prelude.{decimal}
 use Rattle.mh_base.specs.Entries.{kind_of}
 use Rattle.mh_base.specs.declared.entry.Entry.{Entry}
@@ -15,37 +15,31 @@ use Rattle.folder_files.specs.declared.step.Answer.{Answer}
 use Rattle.folder_files.specs.declared.step.Answer.TheVariants as answer
 use Rattle.folder_files.specs.declared.step.Step.{Step}
 use Rattle.folder_files.specs.declared.step.Step.TheVariants as step
-use Rattle.folder_files.proofs.Names.{bytes_self, not_both}
-use Rattle.file_plans.specs.Asking.{entered_of, link}
+use Rattle.folder_files.proofs.Names.{both, bytes_self, not_both}
+use Rattle.file_plans.specs.Mailboxes.{is_message_number}
 use Rattle.file_plans.specs.Plan.{Hand, Plan, Return, ask, bind, lifted, ◌>>=◌}
-use Rattle.file_plans.specs.declared.answers.Entered.{Entered}
-use Rattle.file_plans.specs.declared.answers.Entered.TheVariants as entered
-use Rattle.file_plans.specs.declared.asking.Stop.{Stop}
+use Rattle.file_plans.specs.Sightings.{has_number}
+use Rattle.file_plans.proofs.Framing.{AnyStep, asks_any}
+use Rattle.file_plans.proofs.NumberTexts.{has_number_text}
 use Rattle.step_plans.specs.Endings.{HasMet, name_gone}
 use Rattle.step_plans.specs.Locking.{removed}
 use Rattle.step_plans.specs.PlanFaults.{of_stop}
 use Rattle.step_plans.specs.Replacing.{held_to, synced}
 use Rattle.step_plans.specs.declared.fault.PlanFault.{PlanFault}
 use Rattle.step_plans.specs.declared.fault.PlanFault.TheVariants as fault
-use Rattle.step_plans.proofs.Coming.{Comes, On, comes_list, comes_more, comes_on, comes_stop, comes_sync_folder, comes_then, comes_to, comes_unlink}
+use Rattle.step_plans.proofs.Coming.{Comes, comes_framed, comes_list, comes_more, comes_on, comes_stop, comes_sync_folder, comes_then, comes_to, comes_unlink}
 use Rattle.step_plans.proofs.Going.{Outcome}
 use Rattle.step_plans.proofs.Ruling.{IsNumbered}
-use Rattle.step_plans.proofs.Stepping.{on_new}
 use Rattle.held_messages.specs.HeldPairs.{held_name, held_pairs, top_after}
 use Rattle.held_messages.specs.Highest.{highest}
 use Rattle.held_messages.specs.Settle.{Settled, all_homed, dropped, dropped_for_good, dropped_one, dropped_safely, given_at, given_from, given_up, homed, last_put, linked, names_by, or_before, put_back, settle, settled_by, settled_of, synced_at}
 use Rattle.held_messages.specs.declared.held.HeldPair.{HeldPair}
 use Rattle.held_messages.proofs.PairLemmas.{All, AreApart, ArePairs, IsApart, IsListedPair, IsPair, are_apart, are_pairs, held_kind, pairs_listed, pairs_ordered}
-use Rattle.opened_folders.specs.Endings.{HasMetIn, IsLastName, IsMeddledIn, IsNotThere, PutsBackups, PutsName, ShowsInFolder, last_gone, met_gone, plainly}
-use Rattle.opened_folders.proofs.CleanRuns.{Clean, clean_more}
+use Rattle.opened_folders.specs.Endings.{HasMetIn, IsLastName, IsMetIn, IsMeddledIn, IsNotThere, PutsBackups, PutsName, ShowsInFolder, last_gone, met_gone, plainly}
+use Rattle.opened_folders.specs.Existing.{are_tried, exists_in}
+use Rattle.opened_folders.proofs.CleanRuns.{Clean, clean_more, comes_both, comes_link}
+use Rattle.opened_folders.proofs.NumbersMet.{AllTried, Fine, Meets, all_homed_meets}
 use Rattle.opened_folders.proofs.NamesKept.{IsPutting, IsTaking, backups_kept, last_kept, met_in, met_kept, other_unlinked, putting, undone_puts}
-
--- one more name for a file, and then the rest
-pub comes_link : {B F : Type 0} (own : List Deed) (h : Hand) (from : Stop → F) (Q : Outcome (Result B F)) (p : Place) (a b : List ℕ) (k : Entered → Plan (Result B F))
-    → Comes (did (step.Link p a b) answer.Done ∷ own) h (k entered.Done) Q → Comes (did (step.Link p a b) answer.Exists ∷ own) h (k entered.Exists) Q → Comes (did (step.Link p a b) answer.Gone ∷ own) h (k entered.Gone) Q
-    → Comes own h (lifted from (link p a b) >>= k) Q
-unfolding Comes link ask lifted bind ◌>>=◌
-comes_link own h from Q p x y k d e g = on_new (λ a. Comes (did (step.Link p x y) a ∷ own) h (k (entered_of a)) Q) d e g
 
 -- the last of more ends
 last_of_more : (before : List (Option ℕ)) (end o : Option ℕ) → last_put (before ++ end ∷ []) o ≡ or_before end (last_put before o)
@@ -218,8 +212,8 @@ module _ (run : ℕ) (path folder : List ℕ) (Makes : List Run → Marked → M
       pub facts : Listed own h
       pub safe : PutsBackups p own
 
-    abbrev Settles : Outcome (List (Option ℕ))
-    Settles later j ends = IsSettled later j
+    abbrev Settles : List (Option ℕ) → Outcome (List (Option ℕ))
+    Settles ends later j r = (r ≡ ends) × IsSettled later j
 
     for_good_comes : (m : ℕ) (ks : List HeldPair) → ArePairs ks → AreApart ks → (ends : List (Option ℕ)) (own : List Deed) (h : Hand) → Dropping m ks own h → Comes own h (dropped_for_good p ks ends m) (Shown (λ later j u. IsSettled later j))
     unfolding dropped_for_good
@@ -239,22 +233,38 @@ module _ (run : ℕ) (path folder : List ℕ) (Makes : List Run → Marked → M
       safe = last (inr refl);
     }
 
-    settled_by_comes : (ks : List HeldPair) → All (IsListedPair names) ks → ArePairs ks → AreApart ks → (ends : List (Option ℕ)) (o : Option ℕ) (own : List Deed) (h : Hand) → Homing o own h → Comes own h (settled_by p ks ends o) (Shown Settles)
+    settled_by_comes : (ks : List HeldPair) → All (IsListedPair names) ks → ArePairs ks → AreApart ks → (ends : List (Option ℕ)) (o : Option ℕ) (own : List Deed) (h : Hand) → Homing o own h → Comes own h (settled_by p ks ends o) (Shown (Settles ends))
     unfolding dropped_safely
-    settled_by_comes ks all pairs apart ends None own h f = comes_to own h (Ok ends) (Shown Settles) (record { facts = f.facts; safe = f.last_ })
+    settled_by_comes ks all pairs apart ends None own h f = comes_to own h (Ok ends) (Shown (Settles ends)) (refl, record { facts = f.facts; safe = f.last_ })
     settled_by_comes ks all pairs apart ends (Some m) own h f =
-        comes_then own h (synced_at p m) (λ safe. dropped_for_good p ks ends m >>= (λ gone. Return (Ok ends))) (Shown (λ later j u. Dropping m ks later j)) (Shown Settles)
+        comes_then own h (synced_at p m) (λ safe. dropped_for_good p ks ends m >>= (λ gone. Return (Ok ends))) (Shown (λ later j u. Dropping m ks later j)) (Shown (Settles ends))
         (synced_comes own h (decimal m) (last_gone f.last_) (λ later j u. Dropping m ks later j) (after_sync m ks own h all f))
         (λ later j u g.
-        comes_then later j (dropped_for_good p ks ends m) (λ gone. Return (Ok ends)) (Shown (λ end i v. IsSettled end i)) (Shown Settles) (for_good_comes m ks pairs apart ends later j g)
-        (λ end i v s. comes_to end i (Ok ends) (Shown Settles) s) (λ end i e s. s))
+        comes_then later j (dropped_for_good p ks ends m) (λ gone. Return (Ok ends)) (Shown (λ end i v. IsSettled end i)) (Shown (Settles ends)) (for_good_comes m ks pairs apart ends later j g)
+        (λ end i v s. comes_to end i (Ok ends) (Shown (Settles ends)) (refl, s)) (λ end i e s. s))
         (λ later j e g. g)
 
-    settle_comes : (own : List Deed) (h : Hand) → Homing None own h → Comes own h (settle p (held_pairs run names) (highest names)) (Shown Settles)
+    -- the run has met the name of each number that it takes to be there
+    abbrev pub HasMetAll : List (Option ℕ) → List Deed → Type 0
+    HasMetAll ends own = (n : ℕ) → exists_in run (settled_of names ends) n ≡ true → Once (λ d older. IsMetIn p (decimal n) d) own
+
+    abbrev Put : Outcome (List (Option ℕ))
+    Put later j ends = IsSettled later j × HasMetAll ends later
+
+    or_is : (a b : Bool) → a || b ≡ true → (a ≡ true) ⊎ (b ≡ true)
+    or_is true b e = inl refl
+    or_is false b e = inr e
+
+    settle_comes : (own : List Deed) (h : Hand) → Homing None own h → Meets p (λ n. has_number n names ≡ true) own → Comes own h (settle p (held_pairs run names) (highest names)) (Shown Put)
     unfolding settle last_put
-    settle_comes own h f =
-        comes_then own h (all_homed p ks (highest names) []) (λ ends. settled_by p ks ends (last_put ends None)) (Shown AllHomes) (Shown Settles) (all_homed_comes ks all (highest names) [] own h f)
-        (λ later j ends g. settled_by_comes ks all pairs (are_apart ks pairs (pairs_ordered run names)) ends (last_put ends None) later j g) (λ later j e g. g)
+    settle_comes own h f met =
+        comes_then own h (all_homed p ks (highest names) []) (λ ends. settled_by p ks ends (last_put ends None)) (λ later j r. Shown AllHomes later j r × Tried later j r) (Shown Put)
+        (comes_both own h (all_homed p ks (highest names) []) (Shown AllHomes) Tried (all_homed_comes ks all (highest names) [] own h f) (all_homed_meets p ks (highest names) [] (λ n. has_number n names ≡ true) own h met))
+        (λ later j ends g.
+        comes_more later j (settled_by p ks ends (last_put ends None)) (λ last_ i r. HasMetAll ends last_ × Shown (Settles ends) last_ i r) (Shown Put) (told ends)
+        (comes_framed AnyStep (HasMetAll ends) (λ now_ t a any q n e. on (q n e)) later j (settled_by p ks ends (last_put ends None)) (Shown (Settles ends)) (asks_any (settled_by p ks ends (last_put ends None)))
+        (all_met later ends g.1) (settled_by_comes ks all pairs (are_apart ks pairs (pairs_ordered run names)) ends (last_put ends None) later j g.0)))
+        (λ later j e g. g.0)
       where
         ks : List HeldPair
         ks = held_pairs run names
@@ -265,9 +275,22 @@ module _ (run : ℕ) (path folder : List ℕ) (Makes : List Run → Marked → M
         pairs : ArePairs ks
         pairs = are_pairs names ks all
 
+        Tried : Outcome (Result (List (Option ℕ)) PlanFault)
+        Tried later j r = Fine p (λ later j all. AllTried p (λ n. has_number n names ≡ true) ks (highest names) [] all later) later j r
+
+        all_met : (later : List Deed) (ends : List (Option ℕ)) → AllTried p (λ n. has_number n names ≡ true) ks (highest names) [] ends later → HasMetAll ends later
+        all_met later ends t n e = elim (or_is (are_tried ks ends (highest names) n) (has_number n names) e) [
+          | inl z ↦ t.met n (inr (subst (λ x. are_tried ks x (highest names) n ≡ true) t.all_so z))
+          | inr z ↦ t.met n (inl z)
+        ]
+
+        told : (ends : List (Option ℕ)) (last_ : List Deed) (i : Hand) (r : Result (List (Option ℕ)) PlanFault) → HasMetAll ends last_ × Shown (Settles ends) last_ i r → Shown Put last_ i r
+        told ends last_ i (Ok r) q = (q.1.1, subst (λ x. HasMetAll x last_) (sym q.1.0) q.0)
+        told ends last_ i (Err e) q = q.1
+
   -- the names of the folder, and what is left of it
   abbrev pub PutsBack : Outcome Settled
-  PutsBack later j s = IsSettled s.names later j
+  PutsBack later j s = IsSettled s.names later j × HasMetAll s.names s.ends later
 
   -- a folder whose lock was taken is put back
   pub put_back_comes : (own : List Deed) (h : Hand) → Clean run own h → WasDone (step.Lock p) own → PutsBackups p own → Comes own h (put_back run p) (Shown PutsBack)
@@ -289,8 +312,11 @@ module _ (run : ℕ) (path folder : List ℕ) (Makes : List Run → Marked → M
         last_ = backups_kept p (step.List p) (answer.Names names) own (λ y w. putting p y (step.List p) (answer.Names names) w) safe;
       }
 
+      listed : (names : List (List ℕ)) → Meets p (λ n. has_number n names ≡ true) (did (step.List p) (answer.Names names) ∷ own)
+      listed names n e = now (inl (inr (names, refl, (both (is_message_number n) (has_text (decimal n) names) (sym (has_number_text n names) ∙ e)).1)))
+
       settles : (names : List (List ℕ)) → Comes (did (step.List p) (answer.Names names) ∷ own) h (settle p (held_pairs run names) (highest names) >>= (λ ends. Return (Ok (settled_of names ends)))) (Shown PutsBack)
       settles names =
-          comes_then (did (step.List p) (answer.Names names) ∷ own) h (settle p (held_pairs run names) (highest names)) (λ ends. Return (Ok (settled_of names ends))) (Shown (Settles names)) (Shown PutsBack)
-          (settle_comes names (did (step.List p) (answer.Names names) ∷ own) h (begins names))
+          comes_then (did (step.List p) (answer.Names names) ∷ own) h (settle p (held_pairs run names) (highest names)) (λ ends. Return (Ok (settled_of names ends))) (Shown (Put names)) (Shown PutsBack)
+          (settle_comes names (did (step.List p) (answer.Names names) ∷ own) h (begins names) (listed names))
           (λ later j ends s. comes_to later j (Ok (settled_of names ends)) (Shown PutsBack) s) (λ later j e s. s)

@@ -50,7 +50,7 @@ use Rattle.opened_folders.proofs.EndedKept.{Still, ended_keeps, none_keeps}
 use Rattle.opened_folders.proofs.FolderPledged.{Begins, HasBegun, begun_goes, seen_kept}
 
 -- what serves a commit begins a folder too
-serves_begins : (k : Kind) → serves_commit k ≡ true → begins_folder k ≡ true
+pub serves_begins : (k : Kind) → serves_commit k ≡ true → begins_folder k ≡ true
 serves_begins Makes e = refl
 serves_begins Creates e = refl
 serves_begins Puts e = cc (e)
