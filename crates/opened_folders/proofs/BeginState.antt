@@ -24,7 +24,7 @@ use Rattle.step_plans.specs.declared.command_fault.CommandFault.{CommandFault}
 use Rattle.step_plans.proofs.Coming.{Comes, comes_more}
 use Rattle.step_plans.proofs.Going.{Outcome, Sound, goes_lifted, okay}
 use Rattle.command_stages.specs.Endings.{of_plan}
-use Rattle.opened_folders.specs.Endings.{HasMetIn, IsBegun, IsMetIn, PutsNone}
+use Rattle.opened_folders.specs.Endings.{HasMetIn, HasFolder, IsMetIn, PutsNone}
 use Rattle.opened_folders.specs.FolderPledge.{folder_pledge}
 use Rattle.opened_folders.specs.Opening.{Opened, begun}
 use Rattle.opened_folders.proofs.BegunEnds.{IsBegunSo, begun_comes}
@@ -60,8 +60,8 @@ module _ (run : ℕ) (few : run < 2 ^ 128) (path folder : List ℕ) (Makes : Lis
     pub numbers : (n : ℕ) → IsMsgNum n → has o.listing n ≡ true → HasMetIn p (entry_text (Number n)) own
 
   -- the folder was listed and read under its lock
-  pub is_begun : (own : List Deed) (h : Hand) (o : Opened) → HasState own h o → IsBegun run path folder own
-  is_begun own h o s = record { listing = o.listing; text = s.begun_there.text; context = s.begun_there.context; seen = s.begun_there.seen; lock = s.begun_there.held.lock }
+  pub has_folder : (own : List Deed) (h : Hand) (o : Opened) → HasState own h o → HasFolder run path folder own
+  has_folder own h o s = record { listing = o.listing; text = s.begun_there.text; context = s.begun_there.context; seen = s.begun_there.seen; lock = s.begun_there.held.lock }
 
   pub locked_there : (own : List Deed) (h : Hand) (o : Opened) → HasState own h o → WasDone (step.Lock p) own
   locked_there own h o s = was_locked p own s.begun_there.held.lock

@@ -77,7 +77,7 @@ abbrev pub IsNotThere : Place → List Deed → Type 0
 IsNotThere p own = (older : List Deed) × ((own ≡ did (step.Lock p) Gone ∷ older) ⊎ (own ≡ did (step.List p) Gone ∷ older))
 
 -- the run has the folder's lock, and under it listed the folder and read its sequences and then the context
-pub record IsBegun (run : ℕ) (path folder : List ℕ) (own : List Deed) : Type 0 where
+pub record HasFolder (run : ℕ) (path folder : List ℕ) (own : List Deed) : Type 0 where
   pub listing : List Run
   pub text : List ℕ
   pub context : List ℕ
@@ -130,10 +130,10 @@ abbrev pub ShowsRefused : ℕ → List ℕ → List ℕ → (List Run → Marked
 ShowsRefused run path folder Makes (refusal.BadSwitch place why) own = ⊥
 ShowsRefused run path folder Makes (refusal.BadFolder s) own = ⊥
 ShowsRefused run path folder Makes (refusal.NoFolder s) own = (s ≡ folder) × IsNotThere (Folder path folder) own
-ShowsRefused run path folder Makes (refusal.BadSpec s) own = IsBegun run path folder own
-ShowsRefused run path folder Makes (refusal.Absent s) own = IsBegun run path folder own
-ShowsRefused run path folder Makes (refusal.EmptyRange s) own = IsBegun run path folder own
-ShowsRefused run path folder Makes (refusal.EmptySequence s) own = IsBegun run path folder own
+ShowsRefused run path folder Makes (refusal.BadSpec s) own = HasFolder run path folder own
+ShowsRefused run path folder Makes (refusal.Absent s) own = HasFolder run path folder own
+ShowsRefused run path folder Makes (refusal.EmptyRange s) own = HasFolder run path folder own
+ShowsRefused run path folder Makes (refusal.EmptySequence s) own = HasFolder run path folder own
 ShowsRefused run path folder Makes (refusal.BadSequenceName s) own = ⊥
 ShowsRefused run path folder Makes (refusal.BadFormat n) own = ⊥
 ShowsRefused run path folder Makes (refusal.BadDate s) own = ⊥
