@@ -1,5 +1,5 @@
 -- How the plan ends by which a folder is begun, and what shows it.
-use Rattle.std.proofs.Common.{◌≡◌, ◌≢◌, ◌||◌, ◌<◌, ◌^◌, ◌∷◌, [], ℕ, Bool, true, false, List, Option, Some, None, Result, Ok, Err, inl, inr, refl, sym, ◌∙◌, ap, subst, bytes_eq}
+use Rattle.std.proofs.Common.{◌≡◌, ◌≢◌, ◌||◌, ◌<◌, ◌^◌, ◌∷◌, [], ℕ, Bool, true, false, List, Result, Ok, Err, inl, inr, refl, sym, ◌∙◌, ap, subst, bytes_eq}
 use Rattle.std.specs.Prelude.{decimal, if◌then◌else◌}
 use Rattle.mh_base.specs.Entries.{entry_text, kind_of}
 use Rattle.mh_base.specs.declared.entry.Entry.TheVariants.{Sequences}
@@ -15,14 +15,13 @@ use Rattle.folder_files.specs.declared.place.Place.{Place}
 use Rattle.folder_files.specs.declared.place.Place.TheVariants.{Folder, Mail}
 use Rattle.folder_files.specs.declared.step.Answer.{Answer}
 use Rattle.folder_files.specs.declared.step.Answer.TheVariants as answer
-use Rattle.folder_files.specs.declared.step.Step.{Step}
 use Rattle.folder_files.specs.declared.step.Step.TheVariants as step
-use Rattle.folder_files.proofs.Names.{bytes_self, bytes_true}
-use Rattle.file_plans.specs.Plan.{Hand, Note, Plan, Recall, Return, bind, ◌>>=◌}
+use Rattle.folder_files.proofs.Names.{bytes_self}
+use Rattle.file_plans.specs.Plan.{Hand, Return, ◌>>=◌}
 use Rattle.file_plans.proofs.Clearing.{listed_once, rest_ascending}
 use Rattle.file_plans.proofs.Framing.{AnyStep, asks_any}
 use Rattle.step_plans.specs.ContextCommit.{LIMIT_BYTES, context_name, context_read, entries_by}
-use Rattle.step_plans.specs.Endings.{HasMet, IsTakenAway, WasListed, temp_gone}
+use Rattle.step_plans.specs.Endings.{HasMet, WasListed, temp_gone}
 use Rattle.step_plans.specs.Hands.{knowing, known}
 use Rattle.step_plans.specs.Locking.{cleared, cleared_one, lock_name, removed}
 use Rattle.step_plans.specs.PlanFaults.{Planned, of_stop}
@@ -31,7 +30,6 @@ use Rattle.step_plans.specs.declared.fault.PlanFault.{PlanFault}
 use Rattle.step_plans.specs.declared.fault.PlanFault.TheVariants as fault
 use Rattle.step_plans.proofs.Coming.{Comes, comes_framed, comes_lock, comes_make, comes_more, comes_on, comes_read, comes_sync_folder, comes_then, comes_to, comes_unlink}
 use Rattle.step_plans.proofs.Committed.{no_entries}
-use Rattle.step_plans.proofs.Facts.{once_kept}
 use Rattle.step_plans.proofs.Going.{Outcome}
 use Rattle.held_messages.specs.Settle.{Settled, put_back}
 use Rattle.sequence_commits.specs.Committing.{cut_committed}
@@ -39,13 +37,13 @@ use Rattle.sequence_commits.specs.Cutting.{cut_to}
 use Rattle.sequence_commits.specs.Reading.{sequences_in}
 use Rattle.sequence_commits.specs.RunsOfAll.{runs_of_all}
 use Rattle.sequence_commits.proofs.RunTests.{all_has, all_runs, none_outside}
-use Rattle.opened_folders.specs.Endings.{IsMeddledIn, IsMetIn, PutsBackups, PutsNone, ShowsInFolder, made_gone, plainly}
+use Rattle.opened_folders.specs.Endings.{IsMetIn, PutsBackups, PutsNone, made_gone, plainly}
 use Rattle.opened_folders.specs.Existing.{exists_in, numbers_settled}
 use Rattle.opened_folders.specs.Opening.{Opened, begun, folder_locked, locked_begun, locked_by, mail_made, marks_cut, marks_read, opened_of, sequences_read, settled_read, text_by}
 use Rattle.opened_folders.specs.Reads.{HaveRead, HaveSeen, TellsText}
 use Rattle.opened_folders.proofs.CleanRuns.{Clean, clean_more}
 use Rattle.opened_folders.proofs.ExistingNumbers.{in_range_or}
-use Rattle.opened_folders.proofs.NamesKept.{backups_kept, met_kept, other_unlinked, putting}
+use Rattle.opened_folders.proofs.NamesKept.{backups_kept, other_unlinked, putting}
 use Rattle.opened_folders.proofs.SequencesEnd.{Left, changed_comes}
 use Rattle.opened_folders.proofs.SettledEnds.{HasMetAll, IsSettled, PutsBack, Shown, put_back_comes}
 

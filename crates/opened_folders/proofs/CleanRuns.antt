@@ -1,5 +1,5 @@
 -- What holds of a run beside what its plan answers: no step has failed, and its next name is one that it never made.
-use Rattle.std.proofs.Common.{◌≡◌, ◌≢◌, ◌≤◌, ◌<◌, ◌+◌, ◌++◌, ◌^◌, ◌∷◌, [], ℕ, zero, suc, Bool, true, false, List, Result, Ok, Err, nat_lt, inl, inr, refl, sym, ◌∙◌, ap, subst, arith}
+use Rattle.std.proofs.Common.{◌≡◌, ◌≢◌, ◌≤◌, ◌<◌, ◌+◌, ◌++◌, ◌^◌, ◌∷◌, [], ℕ, zero, suc, Bool, true, false, List, Result, Ok, Err, nat_lt, refl, sym, ◌∙◌, ap, subst, arith}
 use Rattle.std.specs.Prelude.{codes, decimal, if◌then◌else◌, length}
 use Rattle.std.specs.Str.Parse.{digits_value}
 use Rattle.std.proofs.lemmas.Bool.Decides.{nat_tests}
@@ -14,7 +14,6 @@ use Rattle.mh_profile.specs.Printing.{printed}
 use Rattle.folder_files.specs.Careful.{WasMade}
 use Rattle.folder_files.specs.Deeds.{Deed, HasFailed, did, now, on}
 use Rattle.folder_files.specs.Named.{is_temp}
-use Rattle.folder_files.specs.Rows.{IsAnswerOf}
 use Rattle.folder_files.specs.declared.place.Place.{Place}
 use Rattle.folder_files.specs.declared.place.Place.TheVariants.{Mail}
 use Rattle.folder_files.specs.declared.step.Answer.{Answer}
@@ -37,17 +36,16 @@ use Rattle.file_plans.specs.declared.answers.Touched.TheVariants as touched
 use Rattle.file_plans.specs.declared.asking.Stop.{Stop}
 use Rattle.step_plans.specs.ContextCommit.{LIMIT_BYTES, TRIES, changed, commit_by, commit_context, committed, context_name, context_read, context_replaced, entries_by, settled}
 use Rattle.step_plans.specs.ContextPledge.{context_pledge}
-use Rattle.step_plans.specs.Hands.{knowing, known, named, named_by, temp_name, used}
+use Rattle.step_plans.specs.Hands.{known, named, named_by, temp_name}
 use Rattle.step_plans.specs.Locking.{clear_listed, cleared, cleared_one, let_go, lock_name, locked, locked_by, removed, temps_cleared}
 use Rattle.step_plans.specs.Pledges.{MayAsk, Pledge}
 use Rattle.step_plans.specs.PlanFaults.{Planned, of_stop}
 use Rattle.step_plans.specs.Replacing.{created, entered_once, held_to, made_safe, renamed, replaced, synced, written}
 use Rattle.step_plans.specs.declared.change.ChangeEntry.{ChangeEntry}
-use Rattle.step_plans.specs.declared.fault.PlanFault.{PlanFault}
 use Rattle.step_plans.specs.declared.fault.PlanFault.TheVariants as fault
 use Rattle.step_plans.proofs.Coming.{Comes, comes_more}
 use Rattle.step_plans.proofs.Ending.{CommitEnds, commit_comes}
-use Rattle.step_plans.proofs.Going.{Goes, Outcome, Sound, all_numbered, goes_soundly, okay}
+use Rattle.step_plans.proofs.Going.{Goes, Outcome, Sound, all_numbered, okay}
 use Rattle.step_plans.proofs.Noted.{context_goes}
 use Rattle.step_plans.proofs.Pledged.{Known, Of}
 use Rattle.step_plans.proofs.Ruling.{AreNumbered, IsNumbered}

@@ -1,8 +1,6 @@
 -- What a step leaves of the names that the run has met and put.
-use Rattle.std.proofs.Common.{◌≡◌, ◌≢◌, ◌∷◌, ℕ, true, false, List, inl, inr, refl, sym, subst, ap, bytes_eq}
-use Rattle.mh_base.specs.Entries.{entry_text, kind_of}
-use Rattle.mh_base.specs.declared.entry.Entry.TheVariants.{Backup}
-use Rattle.folder_files.specs.Deeds.{Deed, Since, did, last, still}
+use Rattle.std.proofs.Common.{◌≡◌, ◌≢◌, ◌∷◌, ℕ, List, inl, inr, refl, sym, subst}
+use Rattle.folder_files.specs.Deeds.{Deed, did, last, still}
 use Rattle.folder_files.specs.declared.place.Place.{Place}
 use Rattle.folder_files.specs.declared.place.Place.TheVariants.{Folder, Mail}
 use Rattle.folder_files.specs.declared.step.Answer.{Answer}

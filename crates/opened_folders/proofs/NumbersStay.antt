@@ -1,5 +1,5 @@
 -- A command that keeps the marks of a folder takes no number away.
-use Rattle.std.proofs.Common.{◌≡◌, ◌∷◌, ℕ, Bool, true, false, List, inl, inr, subst}
+use Rattle.std.proofs.Common.{◌≡◌, ℕ, true, List, inl, inr, subst}
 use Rattle.mh_base.specs.Entries.{kind_of}
 use Rattle.folder_files.specs.Careful.{Keeps, Kind, IsLook, backs_up, clears, commits, discards, drops, removes, replaces, sets_aside, takes}
 use Rattle.folder_files.specs.Commands.{KeepsFolder, Marking, begins_folder}

@@ -1,8 +1,8 @@
 -- How a commit of a folder's sequences ends, and what shows it.
-use Rattle.std.proofs.Common.{◌≡◌, ◌⊎◌, ◌+◌, ◌<◌, ◌≤◌, ◌^◌, ◌∷◌, [], ℕ, Bool, true, false, List, Option, Some, None, Result, Ok, Err, length, nat_lt, inl, inr, refl, sym, ◌∙◌, ap, subst, arith}
+use Rattle.std.proofs.Common.{◌≡◌, ◌⊎◌, ◌<◌, ◌^◌, ◌∷◌, ℕ, Bool, true, false, List, Result, Ok, Err, length, nat_lt, inl, inr, refl, sym, ◌∙◌, ap, subst, arith}
 use Rattle.std.specs.Prelude.{if◌then◌else◌}
-use Rattle.std.proofs.lemmas.Bool.Decides.{Decides-ltb, nat_tests}
-use Rattle.mh_base.specs.Entries.{entry_text, kind_of}
+use Rattle.std.proofs.lemmas.Bool.Decides.{Decides-ltb}
+use Rattle.mh_base.specs.Entries.{entry_text}
 use Rattle.mh_base.specs.declared.entry.Entry.TheVariants.{Sequences, Temp}
 use Rattle.mh_base.proofs.EntryKinds.{kind_of-entry_text}
 use Rattle.mh_profile.specs.declared.named_value.NamedValue.{NamedValue}
@@ -11,15 +11,15 @@ use Rattle.mh_sequences.specs.Reading.{suffix}
 use Rattle.mh_sequences.specs.Sequences.{Marked}
 use Rattle.mh_sequences.specs.declared.run.Run.{Run}
 use Rattle.folder_files.specs.Careful.{WasMade}
-use Rattle.folder_files.specs.Deeds.{Deed, WasDone, did, last, on, still}
+use Rattle.folder_files.specs.Deeds.{Deed, WasDone, did, last}
 use Rattle.folder_files.specs.declared.place.Place.{Place}
 use Rattle.folder_files.specs.declared.place.Place.TheVariants.{Folder, Mail}
 use Rattle.folder_files.specs.declared.step.Answer.{Answer}
 use Rattle.folder_files.specs.declared.step.Answer.TheVariants as answer
 use Rattle.folder_files.specs.declared.step.Step.{Step}
 use Rattle.folder_files.specs.declared.step.Step.TheVariants as step
-use Rattle.file_plans.specs.Plan.{Hand, Note, Recall, Return, bind, ◌>>=◌}
-use Rattle.file_plans.proofs.Framing.{AnyStep, asks_any}
+use Rattle.file_plans.specs.Plan.{Hand, Return, ◌>>=◌}
+use Rattle.file_plans.proofs.Framing.{AnyStep}
 use Rattle.step_plans.specs.ContextCommit.{LIMIT_BYTES, commit_context}
 use Rattle.step_plans.specs.Endings.{IsLongText, IsMeddled, ShowsPlanFault, name_gone, name_taken, sync_gone}
 use Rattle.step_plans.specs.Hands.{named, named_by, temp_name, used}
@@ -36,7 +36,7 @@ use Rattle.step_plans.proofs.Pledged.{after_written}
 use Rattle.sequence_commits.specs.Committing.{changed_sequences, committed_unless, entries_committed, sequences_replaced, told_committed}
 use Rattle.sequence_commits.specs.PrivateChanges.{changes_to, entries_seen}
 use Rattle.sequence_commits.specs.Telling.{same_told}
-use Rattle.opened_folders.specs.Endings.{IsLongMarks, IsMeddledIn, PutsBackups, ShowsInFolder, plainly}
+use Rattle.opened_folders.specs.Endings.{IsMeddledIn, PutsBackups, ShowsInFolder, plainly}
 use Rattle.opened_folders.specs.FolderPledge.{told_within}
 use Rattle.opened_folders.specs.Reads.{HaveSeen}
 use Rattle.opened_folders.proofs.CleanRuns.{Clean, clean_more, commit_clean, never_made}

@@ -1,5 +1,5 @@
 -- How the plan ends that puts back what is held aside, and what shows it.
-use Rattle.std.proofs.Common.{◌≡◌, ◌≢◌, ◌⊎◌, ◌||◌, ◌+◌, ◌-◌, ◌++◌, ◌^◌, ◌∷◌, [], ℕ, zero, suc, max, Bool, true, false, List, Option, Some, None, Result, Ok, Err, inl, inr, refl, sym, ◌∙◌, ap, subst, bytes_eq}
+use Rattle.std.proofs.Common.{◌≡◌, ◌≢◌, ◌⊎◌, ◌||◌, ◌+◌, ◌-◌, ◌++◌, ◌∷◌, [], ℕ, zero, suc, max, Bool, true, false, List, Option, Some, None, Result, Ok, Err, inl, inr, refl, sym, ◌∙◌, subst, bytes_eq}
 use Rattle.std.specs.Prelude.{decimal}
 use Rattle.mh_base.specs.Entries.{kind_of}
 use Rattle.mh_base.specs.declared.entry.Entry.{Entry}
@@ -17,7 +17,7 @@ use Rattle.folder_files.specs.declared.step.Step.{Step}
 use Rattle.folder_files.specs.declared.step.Step.TheVariants as step
 use Rattle.folder_files.proofs.Names.{both, bytes_self, not_both}
 use Rattle.file_plans.specs.Mailboxes.{is_message_number}
-use Rattle.file_plans.specs.Plan.{Hand, Plan, Return, ask, bind, lifted, ◌>>=◌}
+use Rattle.file_plans.specs.Plan.{Hand, Return, ◌>>=◌}
 use Rattle.file_plans.specs.Sightings.{has_number}
 use Rattle.file_plans.proofs.Framing.{AnyStep, asks_any}
 use Rattle.file_plans.proofs.NumberTexts.{has_number_text}
@@ -32,14 +32,14 @@ use Rattle.step_plans.proofs.Going.{Outcome}
 use Rattle.step_plans.proofs.Ruling.{IsNumbered}
 use Rattle.held_messages.specs.HeldPairs.{held_name, held_pairs, top_after}
 use Rattle.held_messages.specs.Highest.{highest}
-use Rattle.held_messages.specs.Settle.{Settled, all_homed, dropped, dropped_for_good, dropped_one, dropped_safely, given_at, given_from, given_up, homed, last_put, linked, names_by, or_before, put_back, settle, settled_by, settled_of, synced_at}
+use Rattle.held_messages.specs.Settle.{Settled, all_homed, dropped, dropped_for_good, dropped_safely, given_at, given_from, given_up, homed, last_put, names_by, or_before, put_back, settle, settled_by, settled_of, synced_at}
 use Rattle.held_messages.specs.declared.held.HeldPair.{HeldPair}
 use Rattle.held_messages.proofs.PairLemmas.{All, AreApart, ArePairs, IsApart, IsListedPair, IsPair, are_apart, are_pairs, held_kind, pairs_listed, pairs_ordered}
-use Rattle.opened_folders.specs.Endings.{HasMetIn, IsLastName, IsMetIn, IsMeddledIn, IsNotThere, PutsBackups, PutsName, ShowsInFolder, last_gone, met_gone, plainly}
+use Rattle.opened_folders.specs.Endings.{IsLastName, IsMetIn, IsMeddledIn, PutsBackups, PutsName, ShowsInFolder, last_gone, met_gone, plainly}
 use Rattle.opened_folders.specs.Existing.{are_tried, exists_in}
 use Rattle.opened_folders.proofs.CleanRuns.{Clean, clean_more, comes_both, comes_link}
 use Rattle.opened_folders.proofs.NumbersMet.{AllTried, Fine, Meets, all_homed_meets}
-use Rattle.opened_folders.proofs.NamesKept.{IsPutting, IsTaking, backups_kept, last_kept, met_in, met_kept, other_unlinked, putting, undone_puts}
+use Rattle.opened_folders.proofs.NamesKept.{IsTaking, backups_kept, last_kept, met_in, met_kept, other_unlinked, putting, undone_puts}
 
 -- the last of more ends
 last_of_more : (before : List (Option ℕ)) (end o : Option ℕ) → last_put (before ++ end ∷ []) o ≡ or_before end (last_put before o)

@@ -1,12 +1,11 @@
 -- How a command ends that begins a folder, and what shows it.
-use Rattle.std.proofs.Common.{◌≡◌, ◌<◌, ◌++◌, ◌^◌, ◌∷◌, [], ℕ, List, Result, Ok, Err, inl, inr, refl, subst}
+use Rattle.std.proofs.Common.{◌<◌, ◌^◌, ◌∷◌, [], ℕ, List, Result, Ok, Err, inr, refl}
 use Rattle.mh_sequences.specs.Sequences.{Marked}
 use Rattle.mh_sequences.specs.declared.run.Run.{Run}
 use Rattle.folder_files.specs.Deeds as deeds
 use Rattle.folder_files.specs.Deeds.{WasDone, did}
 use Rattle.folder_files.specs.declared.place.Place.{Place}
 use Rattle.folder_files.specs.declared.place.Place.TheVariants.{Folder, Mail}
-use Rattle.folder_files.specs.declared.refusal.Refusal.TheVariants as refusal
 use Rattle.folder_files.specs.declared.step.Answer.{Answer}
 use Rattle.folder_files.specs.declared.step.Step.TheVariants as step
 use Rattle.file_plans.specs.Asking.{attempt_unlock, unlock}
@@ -17,7 +16,6 @@ use Rattle.file_plans.proofs.Acting.{acts, acts_append}
 use Rattle.file_plans.proofs.Framing.{AnyStep, asks_any}
 use Rattle.file_plans.proofs.Keeping.{keeps_bind}
 use Rattle.step_plans.specs.ContextCommit.{commit_context}
-use Rattle.step_plans.specs.Endings.{IsLongText}
 use Rattle.step_plans.specs.PlanFaults.{Planned}
 use Rattle.step_plans.specs.declared.command_fault.CommandFault.{CommandFault}
 use Rattle.step_plans.specs.declared.command_fault.CommandFault.TheVariants as command

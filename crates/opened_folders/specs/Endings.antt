@@ -1,5 +1,5 @@
 -- What shows how a command ended that begins a folder: its run's own deeds, the newest first.
-use Rattle.std.specs.Prelude.{◌≡◌, ◌⊎◌, ℕ, true, nat_lt, List, [], ◌∷◌, length}
+use Rattle.std.specs.Prelude.{◌≡◌, ◌⊎◌, ℕ, true, nat_lt, List, ◌∷◌, length}
 use Rattle.mh_base.specs.Entries.{entry_text}
 use Rattle.mh_base.specs.declared.entry.Entry.TheVariants.{Backup, Sequences}
 use Rattle.mh_profile.specs.declared.named_value.NamedValue.{NamedValue}
