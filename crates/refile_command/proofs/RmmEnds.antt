@@ -1,11 +1,11 @@
 -- How `rmm` ends, and what shows it.
-use Rattle.std.proofs.Common.{◌≡◌, ◌<◌, ◌+◌, ◌^◌, ◌∷◌, [], ℕ, Bool, true, false, List, Result, Ok, Err, inl, inr, refl, sym, ◌∙◌, ap, subst, arith}
+use Rattle.std.proofs.Common.{◌≡◌, ◌<◌, ◌+◌, ◌^◌, ◌∷◌, [], ℕ, Bool, true, false, List, Result, Ok, Err, inl, inr, refl, sym, ◌∙◌, ap, arith}
 use Rattle.std.specs.Prelude.{not}
 use Rattle.mh_base.specs.Entries.{entry_text, kind_of}
 use Rattle.mh_base.specs.Numbers.{IsMsgNum}
 use Rattle.mh_base.specs.declared.entry.Entry.TheVariants.{Backup, Number}
 use Rattle.mh_base.proofs.EntryKinds.{kind_of-entry_text}
-use Rattle.mh_sequences.specs.Runs.{AreRuns, has, numbers_of}
+use Rattle.mh_sequences.specs.Runs.{has, numbers_of}
 use Rattle.mh_sequences.specs.Sequences.{Marked}
 use Rattle.mh_sequences.specs.declared.run.Run.{Run}
 use Rattle.msg_ranges.specs.Selection.{marks_of}
@@ -17,14 +17,12 @@ use Rattle.folder_files.specs.declared.place.Place.{Place}
 use Rattle.folder_files.specs.declared.place.Place.TheVariants.{Folder, Mail}
 use Rattle.folder_files.specs.declared.step.Answer.{Answer}
 use Rattle.folder_files.specs.declared.step.Answer.TheVariants as answer
-use Rattle.folder_files.specs.declared.step.Step.{Step}
 use Rattle.folder_files.specs.declared.step.Step.TheVariants as step
 use Rattle.file_plans.specs.Plan.{Hand, Plan, Return, after, bind, lifted, ◌>>=◌}
 use Rattle.file_plans.specs.Rules.{Keeps}
 use Rattle.file_plans.specs.Runs as runs
 use Rattle.file_plans.proofs.Acting.{acts}
 use Rattle.file_plans.proofs.Framing.{AnyStep, asks_any}
-use Rattle.step_plans.specs.Endings.{IsTakenAway}
 use Rattle.step_plans.specs.Locking.{lock_name, removed}
 use Rattle.step_plans.specs.PlanFaults.{of_stop}
 use Rattle.step_plans.specs.Removing.{message_removed}
@@ -41,13 +39,13 @@ use Rattle.command_stages.specs.Chosen.{folder_with}
 use Rattle.command_stages.specs.Current.{made_current}
 use Rattle.command_stages.specs.Endings.{of_plan}
 use Rattle.mh_looks.proofs.Ending.{by_choice}
-use Rattle.opened_folders.specs.Endings.{HasMetIn, HasFolder, PutsBackups, PutsName, PutsNone, ShowsEnd, met_gone, removed_gone}
+use Rattle.opened_folders.specs.Endings.{HasMetIn, HasFolder, PutsName, PutsNone, ShowsEnd, met_gone, removed_gone}
 use Rattle.opened_folders.specs.Opening.{Opened}
 use Rattle.opened_folders.specs.Reads.{HaveSeen}
 use Rattle.opened_folders.proofs.BeginState.{HasState, TakesNone, begin_state, has_folder, locked_there}
 use Rattle.opened_folders.proofs.CleanRuns.{Clean, clean_more}
 use Rattle.opened_folders.proofs.FolderPledged.{seen_kept}
-use Rattle.opened_folders.proofs.NamesKept.{backups_kept, met_in_kept, other_renamed, other_unlinked, putting}
+use Rattle.opened_folders.proofs.NamesKept.{backups_kept, other_renamed, other_unlinked, putting}
 use Rattle.opened_folders.proofs.SequencesEnd.{Left, changed_comes}
 use Rattle.opened_folders.proofs.SettledEnds.{Shown}
 use Rattle.opened_folders.proofs.WorkEnds.{Ends, EndsSo, begun_ends, comes_shown, current_comes}
