@@ -1,5 +1,5 @@
 -- How a `mark` ends that only lists, and what shows it.
-use Rattle.std.proofs.Common.{◌≡◌, ◌^◌, ◌∷◌, [], ℕ, true, false, List, Result, Ok, Err, nat_lt, refl, sym, ap}
+use Rattle.std.proofs.Common.{◌≡◌, ◌^◌, ◌∷◌, [], ℕ, true, false, List, Result, Ok, Err, nat_lt, refl, ap}
 use Rattle.mh_base.specs.Entries.{entry_text}
 use Rattle.mh_base.specs.declared.entry.Entry.TheVariants.{Sequences}
 use Rattle.mh_sequences.specs.Runs.{numbers_of}

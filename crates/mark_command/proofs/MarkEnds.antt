@@ -1,47 +1,37 @@
 -- How `mark` ends, and what shows it.
-use Rattle.std.proofs.Common.{◌≡◌, ◌<◌, ◌^◌, ◌∷◌, [], ℕ, Bool, true, false, List, Option, None, Some, Result, Ok, Err, inl, inr, refl, sym, ◌∙◌, ap, nat_lt, subst}
-use Rattle.mh_base.specs.Entries.{entry_text}
-use Rattle.mh_base.specs.declared.entry.Entry.TheVariants.{Sequences}
+use Rattle.std.proofs.Common.{◌≡◌, ◌<◌, ◌^◌, ◌∷◌, [], ℕ, Bool, true, false, List, Result, Ok, Err, inr, refl, sym, ◌∙◌, ap}
 use Rattle.mh_sequences.specs.Runs.{numbers_of}
 use Rattle.mh_sequences.specs.Sequences.{Marked}
 use Rattle.mh_sequences.specs.declared.run.Run.{Run}
 use Rattle.msg_ranges.specs.Selection.{marks_of}
 use Rattle.folder_files.specs.Commands.{Marking}
-use Rattle.folder_files.specs.Deeds.{Deed, did}
+use Rattle.folder_files.specs.Deeds.{Deed}
 use Rattle.folder_files.specs.declared.place.Place.{Place}
 use Rattle.folder_files.specs.declared.place.Place.TheVariants.{Folder, Mail}
-use Rattle.folder_files.specs.declared.step.Answer.{Answer}
-use Rattle.folder_files.specs.declared.step.Answer.TheVariants as answer
 use Rattle.folder_files.specs.declared.step.Step.{Step}
-use Rattle.folder_files.specs.declared.step.Step.TheVariants as step
-use Rattle.file_plans.specs.Plan.{Hand, Plan, Recall, Return, after, bind, lifted, ◌>>=◌}
+use Rattle.file_plans.specs.Plan.{Hand, Return, after, bind, lifted, ◌>>=◌}
 use Rattle.file_plans.specs.Rules.{Keeps}
 use Rattle.file_plans.specs.Runs as runs
 use Rattle.file_plans.proofs.Acting.{acts}
 use Rattle.file_plans.proofs.Framing.{AnyStep}
 use Rattle.step_plans.specs.CommandFaults.{of_sink}
-use Rattle.step_plans.specs.ContextCommit.{LIMIT_BYTES}
 use Rattle.step_plans.specs.declared.command_fault.CommandFault.{CommandFault}
-use Rattle.step_plans.proofs.Coming.{Comes, NoneFailed, anything, comes_more, comes_on, comes_say, comes_stop, comes_then, comes_to}
+use Rattle.step_plans.proofs.Coming.{Comes, NoneFailed, anything, comes_more, comes_say, comes_then, comes_to}
 use Rattle.step_plans.proofs.Going.{Outcome}
 use Rattle.step_plans.proofs.Lasting.{KeptBy}
 use Rattle.sequence_commits.specs.Committing.{changed_sequences}
 use Rattle.command_stages.specs.Chosen.{folder_with}
 use Rattle.command_stages.specs.Current.{made_current}
 use Rattle.command_stages.specs.Endings.{of_plan}
-use Rattle.command_stages.specs.Listed.{folder_listed}
-use Rattle.command_stages.specs.Texts.{text_read}
-use Rattle.mh_looks.specs.Scan.{entries_seen}
-use Rattle.mh_looks.specs.declared.job.ScanJob.{ScanJob}
-use Rattle.mh_looks.proofs.Ending.{AfterSequences, IsUnmade, ScanEnds, ScanShows, TextEnds, absent, bad_spec, by_choice, comes_at, comes_recall, current_comes as context_comes, empty_range, empty_sequence, list_comes, long_file, text_comes, unread}
+use Rattle.mh_looks.proofs.Ending.{by_choice}
 use Rattle.opened_folders.specs.Endings.{HasFolder, PutsNone, ShowsEnd}
-use Rattle.opened_folders.specs.Opening.{Opened, begun, with_sequences}
+use Rattle.opened_folders.specs.Opening.{Opened, with_sequences}
 use Rattle.opened_folders.proofs.BeginState.{HasState, TakesNone, begin_state, has_folder, locked_there}
 use Rattle.opened_folders.proofs.CleanRuns.{Clean}
 use Rattle.opened_folders.proofs.SequencesEnd.{Left, changed_comes}
 use Rattle.opened_folders.proofs.WorkEnds.{Ends, EndsSo, begun_ends, comes_shown, current_comes}
 use Rattle.mark_command.specs.Lines.{lines_for}
-use Rattle.mark_command.specs.Mark.{checked_by, chosen_from, chosen_marked, lines_said, listed_runs, mark_changes, mark_looks, opened_marked, said_if, sequences_listed, sequences_seen, unless_refused}
+use Rattle.mark_command.specs.Mark.{chosen_from, chosen_marked, lines_said, mark_changes, opened_marked, said_if}
 use Rattle.mark_command.specs.MarkPledge.{Marks}
 use Rattle.mark_command.specs.Marking.{marked_for}
 use Rattle.mark_command.specs.declared.job.MarkAct.{MarkAct}
