@@ -1,3 +1,4 @@
+pub mod BegunEnding
 pub mod Ending
 pub mod Giving
 pub mod MindsMarks
