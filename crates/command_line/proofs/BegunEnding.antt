@@ -23,7 +23,7 @@ use Rattle.file_plans.specs.Rules.{Keeps}
 use Rattle.file_plans.specs.Runs as runs
 use Rattle.file_plans.specs.Runs.{Returned, Runs}
 use Rattle.file_plans.proofs.Acting.{acts}
-use Rattle.file_plans.proofs.Framing.{AnyStep}
+use Rattle.file_plans.proofs.Framing.{AnyStep, asks_any}
 use Rattle.file_plans.proofs.Keeping.{keeps_bind, run_keeps}
 use Rattle.step_plans.specs.CommandFaults.{of_stop}
 use Rattle.step_plans.specs.ContextCommit.{LIMIT_BYTES, context_name}
@@ -31,7 +31,7 @@ use Rattle.step_plans.specs.Endings.{IsTakenAway}
 use Rattle.step_plans.specs.Hands.{knowing, temp_name}
 use Rattle.step_plans.specs.declared.command_fault.CommandFault.{CommandFault}
 use Rattle.step_plans.specs.declared.command_fault.CommandFault.TheVariants as fault
-use Rattle.step_plans.proofs.Coming.{Comes, NoneFailed, OfActs, anything, comes_clean, comes_keeps, comes_lifted, comes_read, comes_then, comes_to}
+use Rattle.step_plans.proofs.Coming.{Comes, NoneFailed, OfActs, anything, comes_clean, comes_framed, comes_keeps, comes_lifted, comes_read, comes_then, comes_to}
 use Rattle.step_plans.proofs.Going.{Outcome}
 use Rattle.step_plans.proofs.Lasting.{KeptBy}
 use Rattle.step_plans.proofs.Past.{did_step}
@@ -52,7 +52,7 @@ use Rattle.mark_command.proofs.MarkEnds.{changes_end}
 use Rattle.refile_command.specs.Rmm.{rmm}
 use Rattle.refile_command.specs.RmmPledge.{Withdraws}
 use Rattle.refile_command.proofs.RmmEnds.{rmm_ends}
-use Rattle.command_words.specs.Ended.{plain, wrong_at, wrong_word}
+use Rattle.command_words.specs.Ended.{plain, wrong_at, wrong_word as wrong_ended}
 use Rattle.command_words.specs.FolderWords.{folder_named, folders, named_folder, one_folder, some_named}
 use Rattle.command_words.specs.MarkWords as mark_words
 use Rattle.command_words.specs.MarkWords.{lacks_sequence, mark_line, mark_said, missing_after}
@@ -64,7 +64,7 @@ use Rattle.command_words.specs.Words.{profile_words}
 use Rattle.command_words.specs.declared.ended.Ended.{Ended}
 use Rattle.command_words.specs.declared.mark.MarkWords.{MarkWords}
 use Rattle.command_words.specs.declared.rmm.RmmWords.{RmmWords}
-use Rattle.command_line.specs.BegunCauses.{ShowsFault, ShowsMark, ShowsRmm, ShowsWord, marks_by}
+use Rattle.command_line.specs.BegunCauses.{ShowsEarly, ShowsFault, ShowsMark, ShowsMarking, ShowsNamed, ShowsRmm, long_context, long_profile, wrong_folder, wrong_name, wrong_stored, wrong_word}
 use Rattle.command_line.specs.Causes.{ShowsCommandFault}
 use Rattle.command_line.specs.Command.{command, command_by, context_entered, context_seen, folder_found, mark_begun, mark_by, mark_job, rmm_begun, rmm_by, rmm_job, word_by}
 use Rattle.command_line.specs.CommandNames.{begins_folders, command_of, named}
@@ -141,13 +141,22 @@ module _ (run : ℕ) (few : run < 2 ^ 128) (words_ : List (List ℕ)) where
   Plainly past h (Ok u) = Unit {0}
   Plainly past h (Err e) = IsEndedBy Shows e (acts past)
 
-  -- what shows the end of a command that looks
-  looked : (e : CommandFault) (own : List Deed) → ShowsCommandFault run e own → NoneFailed own → IsEndedBy Shows e own
-  looked (fault.Refused r) own s clean = at_once (inl s) clean
-  looked (fault.Faulted which) own s clean = absurd s
-  looked (fault.Locked q) own s clean = at_once (inl s) clean
-  looked (fault.Meddled q x) own s clean = (inl s, clean)
-  looked fault.Memory own s clean = absurd s
+  -- an end before the command came to a folder
+  early : (e : CommandFault) (own : List Deed) → ShowsEarly e own → NoneFailed own → IsEndedBy Shows e own
+  early _ own (wrong_word f) clean = at_once (inl (wrong_word f)) clean
+  early _ own (wrong_folder f) clean = at_once (inl (wrong_folder f)) clean
+  early _ own (wrong_name f) clean = at_once (inl (wrong_name f)) clean
+  early _ own (wrong_stored f) clean = at_once (inl (wrong_stored f)) clean
+  early _ _ long_profile clean = at_once (inl long_profile) clean
+  early _ _ long_context clean = at_once (inl long_context) clean
+
+  -- that of a command that looks
+  looked : (e : CommandFault) (own : List Deed) → ShowsCommandFault run e own → (ShowsCommandFault run e own → Shows e own) → NoneFailed own → IsEndedBy Shows e own
+  looked (fault.Refused r) own s so clean = at_once (so s) clean
+  looked (fault.Faulted which) own s so clean = absurd s
+  looked (fault.Locked q) own s so clean = at_once (so s) clean
+  looked (fault.Meddled q x) own s so clean = (so s, clean)
+  looked fault.Memory own s so clean = absurd s
 
   stops : (past : List runs.Deed) (h : Hand) (x : Ended) → IsEndedBy Shows x.fault (acts past) → Keeps anything past h (Return (Err x)) EndsBy
   unfolding Keeps
@@ -166,8 +175,11 @@ module _ (run : ℕ) (few : run < 2 ^ 128) (words_ : List (List ℕ)) where
       go later j (Ok u) s = (tt, tt)
       go later j (Err e) s = (tt, s)
 
-  too_long : (p : Place) (x : List ℕ) (own later : List Deed) (l : ℕ) (e : CommandFault) → e ≡ too_large l → later ≡ did (step.Read p x LIMIT_BYTES) (answer.Long l) ∷ own → ShowsCommandFault run e later
-  too_long p x own later l e is at = rw (is, at) (refl, inl (p, x, (own, refl)))
+  long_there : (path : List ℕ) (a : Answer) (later : List Deed) (l : ℕ) (e : CommandFault) → e ≡ too_large l → later ≡ did (step.Read (Mail path) context_name LIMIT_BYTES) (answer.Long l) ∷ after_profile a → ShowsEarly e later
+  long_there path a later l e is at = rw (is, at) long_context
+
+  long_first : (later : List Deed) (l : ℕ) (e : CommandFault) → e ≡ too_large l → later ≡ did (step.Read Home profile_name LIMIT_BYTES) (answer.Long l) ∷ [] → ShowsEarly e later
+  long_first later l e is at = rw (is, at) long_profile
 
   -- the profile was read
   module _ (a : Answer) where
@@ -180,11 +192,11 @@ module _ (run : ℕ) (few : run < 2 ^ 128) (words_ : List (List ℕ)) where
     -- the folder that is acted on
     abbrev Found : Option (List ℕ) → Outcome (Result (List ℕ) CommandFault)
     Found said later j (Ok folder) = (b : Answer) × (later ≡ after_context path a b) × (j.next ≡ 0) × (folder_of said (entries_by b) profile ≡ Ok folder)
-    Found said later j (Err e) = ShowsCommandFault run e later
+    Found said later j (Err e) = ShowsEarly e later
 
     abbrev Enters : Outcome (Result Unit CommandFault)
     Enters later j (Ok u) = (b : Answer) × (later ≡ after_context path a b) × (j ≡ knowing (entries_by b) fresh)
-    Enters later j (Err e) = ShowsCommandFault run e later
+    Enters later j (Err e) = ShowsEarly e later
 
     seen_comes : (b : Answer) (es : List NamedValue) → es ≡ entries_by b → Comes (after_context path a b) fresh (context_seen es) Enters
     unfolding Comes context_seen
@@ -198,7 +210,7 @@ module _ (run : ℕ) (few : run < 2 ^ 128) (words_ : List (List ℕ)) where
     entered_comes =
         comes_then (after_profile a) fresh (text_read (Mail path) context_name) (λ text. context_seen (entries_in text)) (Tells (Mail path) context_name (after_profile a) fresh) Enters (told_comes (Mail path) context_name (after_profile a) fresh)
         (λ later j text q. at later (after_context path a q.0) j fresh (context_seen (entries_in text)) Enters q.1 q.2 (seen_comes q.0 (entries_in text) (ap entries_in q.3)))
-        (λ later j e q. too_long (Mail path) context_name (after_profile a) later q.0 e q.1 q.2)
+        (λ later j e q. long_there path a later q.0 e q.1 q.2)
 
     refused_comes : (said : Option (List ℕ)) (b : Answer) (j : Hand) → j ≡ knowing (entries_by b) fresh → Comes (after_context path a b) j (Recall (λ h. Return (folder_of said (entries_seen h.context) profile))) (Found said)
     unfolding Comes
@@ -210,7 +222,7 @@ module _ (run : ℕ) (few : run < 2 ^ 128) (words_ : List (List ℕ)) where
         by_name : (c : Bool) → (if c then Ok (without_plus stored) else Err (fault.Refused (refusal.BadFolder stored))) ≡ named_folder stored
             → Found None (after_context path a b) (knowing (entries_by b) fresh) (if c then Ok (without_plus stored) else Err (fault.Refused (refusal.BadFolder stored)))
         by_name true same = (b, refl, refl, sym same)
-        by_name false same = inr (path, a, b, refl)
+        by_name false same = wrong_stored (path, a, b, refl)
 
         go : (said : Option (List ℕ)) → Found said (after_context path a b) (knowing (entries_by b) fresh) (folder_of said (entries_by b) profile)
         go (Some name) = (b, refl, refl, refl)
@@ -240,17 +252,17 @@ module _ (run : ℕ) (few : run < 2 ^ 128) (words_ : List (List ℕ)) where
     numbered_there j first = rw first refl
 
     on_folder : (word : List ℕ) (rest : List (List ℕ)) → words_ ≡ word ∷ rest → (b : Answer) (folder : List ℕ) (e : CommandFault) (own : List Deed) → Behind b own
-        → ShowsWord run profile (entries_by b) folder e own rest (named word) → Shows e own
-    on_folder word rest is b folder e own f s = inr (inr (record { profile = a; context = b; folder = folder; newer = f.0; begun = f.1; shows = rw is s }))
+        → ShowsNamed run profile (entries_by b) folder e own rest (named word) → Shows e own
+    on_folder word rest is b folder e own f s = inr (record { profile = a; context = b; folder = folder; newer = f.0; begun = f.1; shows = rw is s })
 
     module _ (word : List ℕ) (rest : List (List ℕ)) (is_words : words_ ≡ word ∷ rest) where
       -- `mark`
       module _ (name : named word ≡ Some Mark) (words : MarkWords) (said : mark_said profile (map chars rest) ≡ Ok words) where
         mark_on : (b : Answer) (folder : List ℕ) → folder_of words.folder (entries_by b) profile ≡ Ok folder → (e : CommandFault) (own : List Deed)
-            → Behind b own × ShowsEnd run path folder (marks_by (mark_job folder words profile) words.act) e own → Shows e own
+            → Behind b own × ShowsMarking run path (mark_job folder words profile) e own words.act → Shows e own
         mark_on b folder there e own s =
             on_folder word rest is_words b folder e own s.0
-            (subst (λ n. ShowsWord run profile (entries_by b) folder e own rest n) (sym name)
+            (subst (λ n. ShowsNamed run profile (entries_by b) folder e own rest n) (sym name)
             (subst (λ m. ShowsMark run profile (entries_by b) folder e own m) (sym said) (there, s.1)))
 
         module _ (past : List runs.Deed) (j : Hand) (folder : List ℕ) (b : Answer) (is : acts past ≡ after_context path a b) (first : j.next ≡ 0) (there : folder_of words.folder (entries_by b) profile ≡ Ok folder) (clean : NoneFailed (acts past)) where
@@ -267,28 +279,34 @@ module _ (run : ℕ) (few : run < 2 ^ 128) (words_ : List (List ℕ)) where
               more later i (Ok u) s = tt
               more later i (Err e) s =
                   ended_more (ShowsSo run few path folder (Marks job act) (Behind b)) Shows
-                  (λ x own q. mark_on b folder there x own (q.0, subst (λ z. ShowsEnd run path folder (marks_by job z) x own) (sym is_act) q.1)) e (acts later) s
+                  (λ x own q. mark_on b folder there x own (q.0, subst (λ z. ShowsMarking run path job x own z) (sym is_act) q.1)) e (acts later) s
 
-          looking : Keeps anything past j (mark_by_act run path job None) Plainly
-          looking =
+          looking : words.act ≡ None → Keeps anything past j (mark_by_act run path job None) Plainly
+          looking is_act =
               keeps_more anything past j _ (OfActs Looks) Plainly more
               (comes_keeps past (acts past) j (mark_by_act run path job None) Looks refl
-              (comes_clean (acts past) j (mark_by_act run path job None) (ScanEnds run path (looks_job job) j (numbered_there j first)) clean
-              (looks_comes run path job j (numbered_there j first) (acts past) (λ w. none_made (Mail path) (temp_name run j.next) path a b (subst (λ o. WasMade (Mail path) (temp_name run j.next) o) is w)))))
+              (comes_clean (acts past) j (mark_by_act run path job None) Looked clean
+              (comes_framed AnyStep (Behind b) (behind_kept b) (acts past) j (mark_by_act run path job None) (ScanEnds run path (looks_job job) j (numbered_there j first)) (asks_any (mark_by_act run path job None)) ([], is)
+              (looks_comes run path job j (numbered_there j first) (acts past) (λ w. none_made (Mail path) (temp_name run j.next) path a b (subst (λ o. WasMade (Mail path) (temp_name run j.next) o) is w))))))
             where
+              Looked : Outcome (Result Unit CommandFault)
+              Looked later i r = Behind b later × ScanEnds run path (looks_job job) j (numbered_there j first) later i r
+
               Looks : Outcome (Result Unit CommandFault)
-              Looks later i r = NoneFailed later × ScanEnds run path (looks_job job) j (numbered_there j first) later i r
+              Looks later i r = NoneFailed later × Looked later i r
 
               more : (later : List runs.Deed) (i : Hand) (r : Result Unit CommandFault) → OfActs Looks later i r → Plainly later i r
               more later i (Ok u) s = tt
-              more later i (Err e) s = looked e (acts later) (scan_shows run path folder e (acts later) s.1) s.0
+              more later i (Err e) s =
+                  looked e (acts later) (scan_shows run path folder e (acts later) s.1.1)
+                  (λ f. mark_on b folder there e (acts later) (s.1.0, subst (λ z. ShowsMarking run path job e (acts later) z) (sym is_act) f)) s.0
 
           mark_keeps : Keeps anything past j (mark run path job) Plainly
           unfolding mark
           mark_keeps = go words.act refl
             where
               go : (act : Option MarkAct) → words.act ≡ act → Keeps anything past j (mark_by_act run path job act) Plainly
-              go None is_act = looking
+              go None is_act = looking is_act
               go (Some act) is_act = changing act is_act
 
         mark_begun_keeps : (past : List runs.Deed) → acts past ≡ after_profile a → NoneFailed (acts past) → Keeps anything past fresh (mark_begun run profile words) Plainly
@@ -304,7 +322,7 @@ module _ (run : ℕ) (few : run < 2 ^ 128) (words_ : List (List ℕ)) where
 
             go : (later : List runs.Deed) (j : Hand) (r : Result (List ℕ) CommandFault) → OfActs Finds later j r → Keeps anything later j (after (λ folder. mark run path (mark_job folder words profile)) r) Plainly
             go later j (Ok folder) q = mark_keeps later j folder q.1.0 q.1.1 q.1.2 q.1.3 q.0
-            go later j (Err e) q = stops_plainly later j e (looked e (acts later) q.1 q.0)
+            go later j (Err e) q = stops_plainly later j e (early e (acts later) q.1 q.0)
 
       -- `rmm`
       module _ (name : named word ≡ Some Rmm) (words : RmmWords) (said : rmm_said profile (map chars rest) ≡ Ok words) where
@@ -312,7 +330,7 @@ module _ (run : ℕ) (few : run < 2 ^ 128) (words_ : List (List ℕ)) where
             → Behind b own × ShowsEnd run path folder (Withdraws (rmm_job folder words profile)) e own → Shows e own
         rmm_on b folder there e own s =
             on_folder word rest is_words b folder e own s.0
-            (subst (λ n. ShowsWord run profile (entries_by b) folder e own rest n) (sym name)
+            (subst (λ n. ShowsNamed run profile (entries_by b) folder e own rest n) (sym name)
             (subst (λ m. ShowsRmm run profile (entries_by b) folder e own m) (sym said) (there, s.1)))
 
         rmm_keeps : (past : List runs.Deed) (j : Hand) (folder : List ℕ) (b : Answer) → acts past ≡ after_context path a b → j.next ≡ 0 → folder_of words.folder (entries_by b) profile ≡ Ok folder → NoneFailed (acts past)
@@ -339,12 +357,12 @@ module _ (run : ℕ) (few : run < 2 ^ 128) (words_ : List (List ℕ)) where
 
             go : (later : List runs.Deed) (j : Hand) (r : Result (List ℕ) CommandFault) → OfActs Finds later j r → Keeps anything later j (after (λ folder. rmm run path (rmm_job folder words profile)) r) Plainly
             go later j (Ok folder) q = rmm_keeps later j folder q.1.0 q.1.1 q.1.2 q.1.3 q.0
-            go later j (Err e) q = stops_plainly later j e (looked e (acts later) q.1 q.0)
+            go later j (Err e) q = stops_plainly later j e (early e (acts later) q.1 q.0)
 
     -- the words
     module _ (past : List runs.Deed) (is : acts past ≡ after_profile a) (clean : NoneFailed (acts past)) where
-      wrong : (w : Wrong) (word : Option (List ℕ)) → IsEndedBy Shows (wrong_word w word).fault (acts past)
-      wrong w word = at_once (inl (a, is)) clean
+      wrong : (w : Wrong) (word : Option (List ℕ)) → IsEndedBy Shows (wrong_ended w word).fault (acts past)
+      wrong w word = at_once (inl (wrong_word (a, is))) clean
 
       -- what the words of `mark` refuse
       abbrev MarkShown : Result MarkWords Ended → Type 0
@@ -353,7 +371,7 @@ module _ (run : ℕ) (few : run < 2 ^ 128) (words_ : List (List ℕ)) where
 
       names_shown : (folder : Option (List ℕ)) (items : List Item) (words wrongs : List (List ℕ)) → MarkShown (mark_words.with_names folder items (unless_wrong words wrongs))
       names_shown folder items words [] = tt
-      names_shown folder items words (word ∷ wrongs) = at_once (inr (inl (word, refl, (a, is)))) clean
+      names_shown folder items words (word ∷ wrongs) = at_once (inl (wrong_name (a, is))) clean
 
       folder_shown : (items : List Item) (word : Option (List ℕ)) → MarkShown (mark_words.with_folder items (folder_named word))
       folder_shown items None = names_shown None items _ _
@@ -361,7 +379,7 @@ module _ (run : ℕ) (few : run < 2 ^ 128) (words_ : List (List ℕ)) where
         where
           go : (c : Bool) → MarkShown (mark_words.with_folder items (some_named (if c then Ok (without_plus word) else Err (fault.Refused (refusal.BadFolder word)))))
           go true = names_shown (Some (without_plus word)) items _ _
-          go false = at_once (inl (inl (a, is))) clean
+          go false = at_once (inl (wrong_folder (a, is))) clean
 
       word_shown : (words : List (List ℕ)) (items : List Item) (word : Option (List ℕ)) → MarkShown (mark_words.word_said words items word)
       word_shown words items word = go (lacks_sequence items)
@@ -391,7 +409,7 @@ module _ (run : ℕ) (few : run < 2 ^ 128) (words_ : List (List ℕ)) where
         where
           go : (c : Bool) → RmmShown (rmm_words.with_folder items (if c then Ok (without_plus word) else Err (fault.Refused (refusal.BadFolder word))))
           go true = tt
-          go false = at_once (inl (inl (a, is))) clean
+          go false = at_once (inl (wrong_folder (a, is))) clean
 
       rmm_one_shown : (words : List (List ℕ)) (items : List Item) (r : Result (Option (List ℕ)) Wrong) → RmmShown (rmm_words.folder_said words items r)
       rmm_one_shown words items (Ok None) = tt
@@ -426,11 +444,11 @@ module _ (run : ℕ) (few : run < 2 ^ 128) (words_ : List (List ℕ)) where
   -- the profile
   abbrev Profile : Outcome (Result (List ℕ) Ended)
   Profile later j (Ok text) = (a : Answer) × (later ≡ after_profile a) × (j ≡ fresh) × (text ≡ text_of (reading_of a))
-  Profile later j (Err x) = ShowsCommandFault run x.fault later
+  Profile later j (Err x) = ShowsEarly x.fault later
 
   profile_comes : Comes [] fresh (lifted plain (text_read Home profile_name)) Profile
   profile_comes =
-      comes_lifted [] fresh plain (text_read Home profile_name) (Tells Home profile_name [] fresh) Profile (told_comes Home profile_name [] fresh) (λ later j text q. q) (λ later j e q. too_long Home profile_name [] later q.0 e q.1 q.2)
+      comes_lifted [] fresh plain (text_read Home profile_name) (Tells Home profile_name [] fresh) Profile (told_comes Home profile_name [] fresh) (λ later j text q. q) (λ later j e q. long_first later q.0 e q.1 q.2)
 
   -- a command whose words name one that begins folders: how it ends, and what shows it
   pub begun_ends_by : begins_folders (command_of words_) ≡ true → Keeps anything [] fresh (command run words_) EndsBy
@@ -446,7 +464,7 @@ module _ (run : ℕ) (few : run < 2 ^ 128) (words_ : List (List ℕ)) where
       go later j (Ok text) q =
           subst (λ i. Keeps anything later i (command_by run (entries_in text) words_) EndsBy) (sym q.1.2)
           (subst (λ t. Keeps anything later fresh (command_by run (entries_in t) words_) EndsBy) (sym q.1.3) (by_words q.1.0 later q.1.1 q.0 words_ refl begins))
-      go later j (Err x) q = stops later j x (looked x.fault (acts later) q.1 q.0)
+      go later j (Err x) q = stops later j x (early x.fault (acts later) q.1 q.0)
 
   -- so does each run of it
   pub run_ends_by : begins_folders (command_of words_) ≡ true → (ds : List runs.Deed) (j : Hand) (r : Result Unit Ended) → Runs (command run words_) fresh ds j (Returned r) → EndsBy ds j r

@@ -33,16 +33,21 @@ pub record IsShown (c : Call) (deeds : List Deed) : Type 0 where
 abbrev pub MayBegin : Call → Type 0
 MayBegin c = begins_folders (command_of c.words) ≡ true
 
--- Of a command that may begin a folder: a refusal, Locked and Meddled come only where what shows them was answered. After a refusal and after Locked it
--- may have let the folder go that it had locked, as its last step. But for that step no step failed.
+-- Of a command that may begin a folder: a refusal, Locked and Meddled come only where what shows them was answered.
+-- After a refusal and after Locked it may have let the folder go that it had locked, as its last step. But for that
+-- step no step failed.
 pub record IsShownBegun (c : Call) (deeds : List Deed) : Type 0 where
-  pub refused : (r : Refusal) → c.status ≡ Refused r → IsShownBy (ShowsFault c.setting.run c.words (fault.Refused r)) deeds
-  pub locked : (place : Place) → c.status ≡ Locked place → IsShownBy (ShowsFault c.setting.run c.words (fault.Locked place)) deeds
-  pub meddled : (place : Place) (name : List ℕ) → c.status ≡ Meddled place name → ShowsFault c.setting.run c.words (fault.Meddled place name) deeds × (Made IsFailed deeds → ⊥)
+  pub refused : (r : Refusal) → c.status ≡ Refused r
+      → IsShownBy (ShowsFault c.setting.run c.words (fault.Refused r)) deeds
+  pub locked : (place : Place) → c.status ≡ Locked place
+      → IsShownBy (ShowsFault c.setting.run c.words (fault.Locked place)) deeds
+  pub meddled : (place : Place) (name : List ℕ) → c.status ≡ Meddled place name
+      → ShowsFault c.setting.run c.words (fault.Meddled place name) deeds × (Made IsFailed deeds → ⊥)
 
--- Where each answer comes from, by the answers to the call's own steps. Done comes only where no step failed. A fault comes only where the count of that
--- which failed rose: of the files where a step failed; the input never fails, since no command that there is reads it. Each refusal, Locked and Meddled come
--- only where own steps show them. That a fault of the output comes only where there is a text to write is said of the commands that only look at a folder.
+-- Where each answer comes from, by the answers to the call's own steps. Done comes only where no step failed. A fault
+-- comes only where the count of that which failed rose: of the files where a step failed; the input never fails,
+-- since no command that there is reads it. Each refusal, Locked and Meddled come only where own steps show them. That
+-- a fault of the output comes only where there is a text to write is said of the commands that only look at a folder.
 -- Want of memory alone is free.
 pub record IsCaused (c : Call) : Type 0 where
   pub deeds : List Deed
