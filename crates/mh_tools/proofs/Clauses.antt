@@ -37,11 +37,14 @@ use Rattle.step_plans.specs.declared.command_fault.CommandFault.{CommandFault}
 use Rattle.step_plans.specs.declared.command_fault.CommandFault.TheVariants as fault
 use Rattle.command_stages.specs.Works.{Work}
 use Rattle.opened_folders.proofs.HomesFound.{homes_there}
+use Rattle.opened_folders.specs.Endings.{IsEndedBy}
+use Rattle.command_line.specs.BegunCauses.{ShowsFault}
 use Rattle.command_line.specs.Causes.{ShowsCommandFault}
 use Rattle.command_line.specs.Command.{command}
 use Rattle.command_words.specs.Ended.{ended_cause}
 use Rattle.command_line.specs.Outcomes.{work_of}
 use Rattle.command_words.specs.declared.ended.Ended.{Ended}
+use Rattle.command_line.proofs.BegunEnding.{run_ends_by}
 use Rattle.command_line.proofs.Ending.{EndsAs, run_ends}
 use Rattle.command_line.proofs.Giving.{IsLateEnd, DecidesEnd, ByFault, CommandEnds, command_gives}
 use Rattle.command_line.proofs.FolderChars.{AreUtf8}
@@ -53,7 +56,7 @@ use Rattle.mh_tools.specs.AnswersAlone.{HasOutcome, IsUnfaulted, HasOutcomeAlone
 use Rattle.mh_tools.specs.AnswersAsOne.{AnswersAsOne}
 use Rattle.mh_tools.specs.Calls.{Call, LooksOnly, begins, ends, MadeBy}
 use Rattle.mh_tools.specs.FollowsItsPlan.{TellsStatus, FollowsItsPlan}
-use Rattle.mh_tools.specs.IsCaused.{IsCaused, IsShown}
+use Rattle.mh_tools.specs.IsCaused.{IsCaused, IsShown, IsShownBegun, MayBegin}
 use Rattle.mh_tools.specs.KeepsMail.{KeepsMail, KeepsMarks}
 use Rattle.mh_tools.specs.Lines.{error_line_of}
 use Rattle.mh_tools.specs.Outcome.{error_of, answered, outcome_of}
@@ -181,6 +184,23 @@ module _ (c : Call) (plan : FollowsItsPlan c) where
         let shows = shown_at (Err x) is at in
         (subst (λ j. ShowsCommandFault run j steps) f shows.0, shows.1)
 
+  -- and of one that may begin a folder
+  module _ (few : run < 2 ^ 128) (may : MayBegin c) where
+    begun_shown : (r : Result Unit Ended) (s : Status) (k : CommandFault) → outcome ≡ r → ended_status r ≡ s → (s ≡ Done → ⊥) → ((f : CommandFault) → fault_status f ≡ s → f ≡ k) → command_cause k ≡ OfPlan → IsEndedBy (ShowsFault run c.words) k steps
+    begun_shown (Ok tt) s k is e never only cause = absurd (never (sym e))
+    begun_shown (Err x) s k is e never only cause =
+        let f : x.fault ≡ k = only x.fault e in
+        let at : exit ≡ Returned (Err x) = ap (exit_of ended_cause) is ∙ (exit_fault x k f ∙ ap (exit_by {T = Unit {0}} x) cause) in
+        subst (λ j. IsEndedBy (ShowsFault run c.words) j steps) f
+        (run_ends_by run few c.words may (deeds_in went.log) plan.left (Err x) (subst (λ z. Runs (command run c.words) fresh (deeds_in went.log) plan.left z) at went.runs))
+
+    shown_begun : IsShownBegun c steps
+    shown_begun = record {
+      refused = λ r q. begun_shown outcome (Refused r) (fault.Refused r) refl (settle (Refused r) q (λ e. cc (e))) (λ e. cc (e)) (λ f e. fault_refused f r e) refl;
+      locked = λ place q. begun_shown outcome (Locked place) (fault.Locked place) refl (settle (Locked place) q (λ e. cc (e))) (λ e. cc (e)) (λ f e. fault_locked f place e) refl;
+      meddled = λ place name q. begun_shown outcome (Meddled place name) (fault.Meddled place name) refl (settle (Meddled place name) q (λ e. cc (e))) (λ e. cc (e)) (λ f e. fault_meddled f place name e) refl;
+    }
+
   -- a fault of the surroundings
   faulted : (r : Result Unit Ended) (w : Which) → outcome ≡ r → ended_status r ≡ Faulted w → (e : Ended) × (exit ≡ exit_by {T = Unit {0}} e (command_cause (fault.Faulted w)))
   faulted (Ok tt) w is e = absurd (cc (e))
@@ -273,6 +293,7 @@ module _ (c : Call) (plan : FollowsItsPlan c) where
           source = λ q. plan.source (settle (Faulted Source) q (λ e. cc (e)));
           out = λ q. went.out_cause (out_fault (settle (Faulted Out) q (λ e. cc (e))));
           shown = shown;
+          begun = λ may. shown_begun few may;
         }
 
     some_agrees : (old new : Option Story) → GrowsBy run old new (filed_in went.log) → AreMade run old new steps → SomeAgrees old steps
