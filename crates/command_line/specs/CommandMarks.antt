@@ -22,12 +22,13 @@ HasRemovedUnheld run past = AtSteps (λ r. r ≡ run) (λ r own s. RemovesUnheld
 -- then the marks of sequences stay sound, where a story is told
 abbrev pub KeepsUnheld : ℕ → Option Story → Option Story → Type 0
 KeepsUnheld run None None = Unit {0}
-KeepsUnheld run (Some old) (Some new) = HasRemovedUnheld run (past_of new.history) → SequencesStaySoundOf IsTextName run old new
+KeepsUnheld run (Some old) (Some new) =
+    HasRemovedUnheld run (past_of new.history) → SequencesStaySoundOf IsTextName run old new
 KeepsUnheld run None (Some new) = ⊥
 KeepsUnheld run (Some old) None = ⊥
 
--- a command that looks keeps all, whatever a folder is called; `mark` all of folders whose names are texts; so does `rmm` where no message is
--- held aside when it removes
+-- a command that looks keeps all, whatever a folder is called; `mark` those of folders whose names are texts; and so does
+-- `rmm` where no message is held aside when it removes
 abbrev pub KeepsCommandMarks : Option CommandName → ℕ → Option Story → Option Story → Type 0
 KeepsCommandMarks None run old new = KeepsSequences run old new
 KeepsCommandMarks (Some Scan) run old new = KeepsSequences run old new

@@ -13,7 +13,8 @@ use Rattle.refile_command.specs.RmmPledge.{Removes}
 -- each held name that the run listed in the folder it has unlinked
 abbrev pub HasLetGo : Place → List Deed → Type 0
 HasLetGo p own =
-    (names : List (List ℕ)) → Once (λ d older. d ≡ did (Lists p) (Names names)) own → (held : List ℕ) → is_held (kind_of held) ≡ true → has_text held names ≡ true → WasDone (Unlink p held) own
+    (names : List (List ℕ)) → Once (λ d older. d ≡ did (Lists p) (Names names)) own
+    → (held : List ℕ) → is_held (kind_of held) ≡ true → has_text held names ≡ true → WasDone (Unlink p held) own
 
 -- where the step takes a message from its number, it is so in that folder
 abbrev pub RemovesUnheld : List Deed → Step → Type 0

@@ -7,11 +7,13 @@ use Rattle.marks_law.specs.Sound.{AreSound}
 use Rattle.sequence_marks.specs.KeepsSequences.{IsMindfulSetting, IsMindfulSettingApart}
 use Rattle.sequence_marks.specs.SequenceMarks.{private_marks, public_marks}
 
--- in such a setting the marks of each sequence of each folder are sound: the public ones, and of these folders the private ones
+-- in such a setting the marks of each sequence of each folder are sound: the public ones, and of these folders the
+-- private ones
 pub record SequencesStaySoundOf (Of : List ℕ → Type 0) (run : ℕ) (old new : Story) : Type 0 where
   pub public : (mail folder sequence : List ℕ) → IsMindfulSetting run (public_marks mail folder sequence) old new
       → AreSound new.start (public_marks mail folder sequence) (past_of new.history)
-  pub private : (mail folder sequence : List ℕ) → Of folder → IsMindfulSettingApart run (private_marks mail folder sequence) old new
+  pub private : (mail folder sequence : List ℕ) → Of folder
+      → IsMindfulSettingApart run (private_marks mail folder sequence) old new
       → AreSoundApart new.start (private_marks mail folder sequence) (past_of new.history)
 
 -- so of a call, where a story is told
