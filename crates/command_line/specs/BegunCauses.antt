@@ -15,7 +15,7 @@ use Rattle.step_plans.specs.declared.command_fault.CommandFault.{CommandFault}
 use Rattle.step_plans.specs.declared.command_fault.CommandFault.TheVariants as fault
 use Rattle.command_stages.specs.Texts.{too_large}
 use Rattle.opened_folders.specs.Endings.{ShowsEnd}
-use Rattle.mark_command.specs.MarkAnswers.{HasChosen, mark_answers}
+use Rattle.mark_command.specs.MarkAnswers.{HasChosen, ShowsListing, mark_answers}
 use Rattle.mark_command.specs.declared.job.MarkAct.{MarkAct}
 use Rattle.mark_command.specs.declared.job.MarkJob.{MarkJob}
 use Rattle.refile_command.specs.RmmAnswers.{HasRemovedChosen, rmm_answers}
@@ -52,19 +52,21 @@ pub data ShowsEarly : CommandFault → List Deed → Type 0 where
       → ShowsEarly (too_large l)
       (did (Read (Mail path) context_name LIMIT_BYTES) (Long l) ∷ (did (Read Home profile_name LIMIT_BYTES) a ∷ []))
 
--- a `mark` that only lists is a command that looks
-abbrev pub ShowsLooking : ℕ → Result Unit CommandFault → List Deed → Type 0
-ShowsLooking run (Ok u) own = Unit {0}
-ShowsLooking run (Err e) own = ShowsCommandFault run e own
+-- a `mark` that only lists is a command that looks; it refuses its words by what it read, and by these entries of the
+-- context
+abbrev pub ShowsLooking : ℕ → List ℕ → MarkJob → List NamedValue → Result Unit CommandFault → List Deed → Type 0
+ShowsLooking run path job context (Ok u) own = Unit {0}
+ShowsLooking run path job context (Err e) own = ShowsCommandFault run e own × ShowsListing path job context e own
 
 -- one that changes something on this folder: at its end the job's words had chosen messages, or this shows its fault
 abbrev pub ShowsChanging : ℕ → List ℕ → MarkJob → MarkAct → Result Unit CommandFault → List Deed → Type 0
 ShowsChanging run path job a (Ok u) own = HasChosen run path job own
 ShowsChanging run path job a (Err e) own = ShowsEnd run path job.folder (mark_answers job a) e own
 
-abbrev pub ShowsMarking : ℕ → List ℕ → MarkJob → Result Unit CommandFault → List Deed → Option MarkAct → Type 0
-ShowsMarking run path job r own None = ShowsLooking run r own
-ShowsMarking run path job r own (Some a) = ShowsChanging run path job a r own
+abbrev pub ShowsMarking : ℕ → List ℕ → MarkJob → List NamedValue → Result Unit CommandFault → List Deed
+    → Option MarkAct → Type 0
+ShowsMarking run path job context r own None = ShowsLooking run path job context r own
+ShowsMarking run path job context r own (Some a) = ShowsChanging run path job a r own
 
 -- `rmm` on this folder: at its end it had removed the messages that the job's words choose, or this shows its fault
 abbrev pub ShowsRemoving : ℕ → List ℕ → RmmJob → Result Unit CommandFault → List Deed → Type 0
@@ -76,7 +78,7 @@ abbrev pub ShowsMark : ℕ → List NamedValue → List NamedValue → List ℕ 
     → Result MarkWords Ended → Type 0
 ShowsMark run profile context folder r own (Ok words) =
     (folder_of words.folder context profile ≡ Ok folder)
-    × ShowsMarking run (path_of profile) (mark_job folder words profile) r own words.act
+    × ShowsMarking run (path_of profile) (mark_job folder words profile) context r own words.act
 ShowsMark run profile context folder r own (Err x) = ⊥
 
 -- the same of `rmm`
