@@ -38,19 +38,20 @@ use Rattle.step_plans.proofs.Past.{did_step}
 use Rattle.command_stages.specs.Texts.{Commanded, text_by, text_read, too_large}
 use Rattle.mh_looks.specs.Scan.{entries_seen}
 use Rattle.mh_looks.proofs.Ending.{ScanEnds}
-use Rattle.opened_folders.specs.Endings.{IsEndedBy, IsShownBy, PutsNone, ShowsEnd, at_once, let_go}
+use Rattle.opened_folders.specs.Endings.{IsEndedBy, IsShownBy, PutsNone, at_once, let_go}
 use Rattle.opened_folders.proofs.CleanRuns.{Clean}
 use Rattle.opened_folders.proofs.EndedKept.{keeps_more}
 use Rattle.opened_folders.proofs.NamesKept.{putting, taking}
 use Rattle.opened_folders.proofs.WorkEnds.{EndsSo, ShowsSo}
 use Rattle.mark_command.specs.Mark.{mark, mark_by_act}
-use Rattle.mark_command.specs.MarkPledge.{Marks}
+use Rattle.mark_command.specs.MarkAnswers.{HasChosen, ShowsListing, mark_answers}
 use Rattle.mark_command.specs.declared.job.MarkAct.{MarkAct}
 use Rattle.mark_command.specs.declared.job.MarkJob.{MarkJob}
 use Rattle.mark_command.proofs.LooksEnd.{looks_comes, looks_job}
+use Rattle.mark_command.proofs.LooksRefused.{Refuses, comes_both, looks_refuses}
 use Rattle.mark_command.proofs.MarkEnds.{changes_end}
 use Rattle.refile_command.specs.Rmm.{rmm}
-use Rattle.refile_command.specs.RmmPledge.{Withdraws}
+use Rattle.refile_command.specs.RmmAnswers.{HasRemovedChosen, rmm_answers}
 use Rattle.refile_command.proofs.RmmEnds.{rmm_ends}
 use Rattle.command_words.specs.Ended.{plain, wrong_at, wrong_word as wrong_ended}
 use Rattle.command_words.specs.FolderWords.{folder_named, folders, named_folder, one_folder, some_named}
@@ -64,7 +65,7 @@ use Rattle.command_words.specs.Words.{profile_words}
 use Rattle.command_words.specs.declared.ended.Ended.{Ended}
 use Rattle.command_words.specs.declared.mark.MarkWords.{MarkWords}
 use Rattle.command_words.specs.declared.rmm.RmmWords.{RmmWords}
-use Rattle.command_line.specs.BegunCauses.{ShowsEarly, ShowsFault, ShowsMark, ShowsMarking, ShowsNamed, ShowsRmm, long_context, long_profile, wrong_folder, wrong_name, wrong_stored, wrong_word}
+use Rattle.command_line.specs.BegunCauses.{ShowsEarly, ShowsFault, ShowsMark, ShowsMarking, ShowsNamed, ShowsOnFolder, ShowsRemoving, ShowsRmm, long_context, long_profile, wrong_folder, wrong_name, wrong_stored, wrong_word}
 use Rattle.command_line.specs.Causes.{ShowsCommandFault}
 use Rattle.command_line.specs.Command.{command, command_by, context_entered, context_seen, folder_found, mark_begun, mark_by, mark_job, rmm_begun, rmm_by, rmm_job, word_by}
 use Rattle.command_line.specs.CommandNames.{begins_folders, command_of, named}
@@ -134,11 +135,11 @@ module _ (run : ℕ) (few : run < 2 ^ 128) (words_ : List (List ℕ)) where
 
   -- how the command ends
   abbrev pub EndsBy : List runs.Deed → Hand → Result Unit Ended → Type 0
-  EndsBy past h (Ok u) = Unit {0}
+  EndsBy past h (Ok u) = ShowsOnFolder run words_ (Ok u) (acts past)
   EndsBy past h (Err x) = IsEndedBy Shows x.fault (acts past)
 
   abbrev Plainly : List runs.Deed → Hand → Result Unit CommandFault → Type 0
-  Plainly past h (Ok u) = Unit {0}
+  Plainly past h (Ok u) = ShowsOnFolder run words_ (Ok u) (acts past)
   Plainly past h (Err e) = IsEndedBy Shows e (acts past)
 
   -- an end before the command came to a folder
@@ -172,7 +173,7 @@ module _ (run : ℕ) (few : run < 2 ^ 128) (words_ : List (List ℕ)) where
   plain_keeps past h q k = keeps_bind anything past h q (λ r. Return (converted plain r)) Plainly EndsBy k go
     where
       go : (later : List runs.Deed) (j : Hand) (r : Result Unit CommandFault) → Plainly later j r → Keeps anything later j (Return (converted plain r)) EndsBy
-      go later j (Ok u) s = (tt, tt)
+      go later j (Ok u) s = (tt, s)
       go later j (Err e) s = (tt, s)
 
   long_there : (path : List ℕ) (a : Answer) (later : List Deed) (l : ℕ) (e : CommandFault) → e ≡ too_large l → later ≡ did (step.Read (Mail path) context_name LIMIT_BYTES) (answer.Long l) ∷ after_profile a → ShowsEarly e later
@@ -191,7 +192,7 @@ module _ (run : ℕ) (few : run < 2 ^ 128) (words_ : List (List ℕ)) where
 
     -- the folder that is acted on
     abbrev Found : Option (List ℕ) → Outcome (Result (List ℕ) CommandFault)
-    Found said later j (Ok folder) = (b : Answer) × (later ≡ after_context path a b) × (j.next ≡ 0) × (folder_of said (entries_by b) profile ≡ Ok folder)
+    Found said later j (Ok folder) = (b : Answer) × (later ≡ after_context path a b) × (j ≡ knowing (entries_by b) fresh) × (folder_of said (entries_by b) profile ≡ Ok folder)
     Found said later j (Err e) = ShowsEarly e later
 
     abbrev Enters : Outcome (Result Unit CommandFault)
@@ -241,65 +242,75 @@ module _ (run : ℕ) (few : run < 2 ^ 128) (words_ : List (List ℕ)) where
     behind_kept : (b : Answer) → KeptBy AnyStep (Behind b)
     behind_kept b own s x any f = (did s x ∷ f.0, ap (λ t. did s x ∷ t) f.1)
 
-    clean_there : (b : Answer) (own : List Deed) (j : Hand) → own ≡ after_context path a b → j.next ≡ 0 → NoneFailed own → Clean run own j
+    clean_there : (b : Answer) (own : List Deed) (j : Hand) → own ≡ after_context path a b → j ≡ knowing (entries_by b) fresh → NoneFailed own → Clean run own j
     clean_there b own j is first clean = record {
       numbered = rw is (tt, (tt, tt));
       unfailed = unfailed_by own clean;
       few = rw first (omega arith);
     }
 
-    numbered_there : (j : Hand) → j.next ≡ 0 → nat_lt j.next (2 ^ 64) ≡ true
-    numbered_there j first = rw first refl
+    numbered_there : (b : Answer) (j : Hand) → j ≡ knowing (entries_by b) fresh → nat_lt j.next (2 ^ 64) ≡ true
+    numbered_there b j first = rw first refl
 
-    on_folder : (word : List ℕ) (rest : List (List ℕ)) → words_ ≡ word ∷ rest → (b : Answer) (folder : List ℕ) (e : CommandFault) (own : List Deed) → Behind b own
-        → ShowsNamed run profile (entries_by b) folder e own rest (named word) → Shows e own
-    on_folder word rest is b folder e own f s = inr (record { profile = a; context = b; folder = folder; newer = f.0; begun = f.1; shows = rw is s })
+    on_folder : (word : List ℕ) (rest : List (List ℕ)) → words_ ≡ word ∷ rest → (b : Answer) (folder : List ℕ) (r : Result Unit CommandFault) (own : List Deed) → Behind b own
+        → ShowsNamed run profile (entries_by b) folder r own rest (named word) → ShowsOnFolder run words_ r own
+    on_folder word rest is b folder r own f s = record { profile = a; context = b; folder = folder; newer = f.0; begun = f.1; shows = rw is s }
 
     module _ (word : List ℕ) (rest : List (List ℕ)) (is_words : words_ ≡ word ∷ rest) where
       -- `mark`
       module _ (name : named word ≡ Some Mark) (words : MarkWords) (said : mark_said profile (map chars rest) ≡ Ok words) where
-        mark_on : (b : Answer) (folder : List ℕ) → folder_of words.folder (entries_by b) profile ≡ Ok folder → (e : CommandFault) (own : List Deed)
-            → Behind b own × ShowsMarking run path (mark_job folder words profile) e own words.act → Shows e own
-        mark_on b folder there e own s =
-            on_folder word rest is_words b folder e own s.0
-            (subst (λ n. ShowsNamed run profile (entries_by b) folder e own rest n) (sym name)
-            (subst (λ m. ShowsMark run profile (entries_by b) folder e own m) (sym said) (there, s.1)))
+        mark_on : (b : Answer) (folder : List ℕ) → folder_of words.folder (entries_by b) profile ≡ Ok folder → (r : Result Unit CommandFault) (own : List Deed)
+            → Behind b own × ShowsMarking run path (mark_job folder words profile) (entries_by b) r own words.act → ShowsOnFolder run words_ r own
+        mark_on b folder there r own s =
+            on_folder word rest is_words b folder r own s.0
+            (subst (λ n. ShowsNamed run profile (entries_by b) folder r own rest n) (sym name)
+            (subst (λ m. ShowsMark run profile (entries_by b) folder r own m) (sym said) (there, s.1)))
 
-        module _ (past : List runs.Deed) (j : Hand) (folder : List ℕ) (b : Answer) (is : acts past ≡ after_context path a b) (first : j.next ≡ 0) (there : folder_of words.folder (entries_by b) profile ≡ Ok folder) (clean : NoneFailed (acts past)) where
+        module _ (past : List runs.Deed) (j : Hand) (folder : List ℕ) (b : Answer) (is : acts past ≡ after_context path a b) (first : j ≡ knowing (entries_by b) fresh) (there : folder_of words.folder (entries_by b) profile ≡ Ok folder) (clean : NoneFailed (acts past)) where
           abbrev job : MarkJob
           job = mark_job folder words profile
 
           changing : (act : MarkAct) → words.act ≡ Some act → Keeps anything past j (mark_by_act run path job (Some act)) Plainly
           changing act is_act =
-              keeps_more anything past j _ (EndsSo run few path folder (Marks job act) (Behind b)) Plainly more
+              keeps_more anything past j _ (EndsSo run few path folder (mark_answers job act) (Behind b) (λ own. HasChosen run path job own)) Plainly more
               (changes_end run few path job act (Behind b) (behind_kept b) past j clean (clean_there b (acts past) j is first clean) (subst (PutsNone (Mail path)) (sym is) (none_put (Mail path) path a b))
               (λ x n t. none_taken (Folder path folder) path a b x n (subst (λ o. Once (λ d older. IsTakenAway (Folder path folder) x d) o) is t)) ([], is))
             where
-              more : (later : List runs.Deed) (i : Hand) (r : Result Unit CommandFault) → EndsSo run few path folder (Marks job act) (Behind b) later i r → Plainly later i r
-              more later i (Ok u) s = tt
+              more : (later : List runs.Deed) (i : Hand) (r : Result Unit CommandFault) → EndsSo run few path folder (mark_answers job act) (Behind b) (λ own. HasChosen run path job own) later i r → Plainly later i r
+              more later i (Ok u) s = mark_on b folder there (Ok u) (acts later) (s.0, subst (λ z. ShowsMarking run path job (entries_by b) (Ok u) (acts later) z) (sym is_act) s.1)
               more later i (Err e) s =
-                  ended_more (ShowsSo run few path folder (Marks job act) (Behind b)) Shows
-                  (λ x own q. mark_on b folder there x own (q.0, subst (λ z. ShowsMarking run path job x own z) (sym is_act) q.1)) e (acts later) s
+                  ended_more (ShowsSo run few path folder (mark_answers job act) (Behind b)) Shows
+                  (λ x own q. inr (mark_on b folder there (Err x) own (q.0, subst (λ z. ShowsMarking run path job (entries_by b) (Err x) own z) (sym is_act) q.1))) e (acts later) s
 
           looking : words.act ≡ None → Keeps anything past j (mark_by_act run path job None) Plainly
           looking is_act =
               keeps_more anything past j _ (OfActs Looks) Plainly more
               (comes_keeps past (acts past) j (mark_by_act run path job None) Looks refl
               (comes_clean (acts past) j (mark_by_act run path job None) Looked clean
-              (comes_framed AnyStep (Behind b) (behind_kept b) (acts past) j (mark_by_act run path job None) (ScanEnds run path (looks_job job) j (numbered_there j first)) (asks_any (mark_by_act run path job None)) ([], is)
-              (looks_comes run path job j (numbered_there j first) (acts past) (λ w. none_made (Mail path) (temp_name run j.next) path a b (subst (λ o. WasMade (Mail path) (temp_name run j.next) o) is w))))))
+              (comes_framed AnyStep (Behind b) (behind_kept b) (acts past) j (mark_by_act run path job None) LookedSo (asks_any (mark_by_act run path job None)) ([], is)
+              (comes_both (acts past) j (mark_by_act run path job None) (ScanEnds run path (looks_job job) j (numbered_there b j first)) (Refuses run path job j)
+              (looks_comes run path job j (numbered_there b j first) (acts past) unmade) (looks_refuses run path job j (acts past) unmade)))))
             where
+              unmade : WasMade (Mail path) (temp_name run j.next) (acts past) → ⊥
+              unmade w = none_made (Mail path) (temp_name run j.next) path a b (subst (λ o. WasMade (Mail path) (temp_name run j.next) o) is w)
+
+              LookedSo : Outcome (Result Unit CommandFault)
+              LookedSo later i r = ScanEnds run path (looks_job job) j (numbered_there b j first) later i r × Refuses run path job j later i r
+
               Looked : Outcome (Result Unit CommandFault)
-              Looked later i r = Behind b later × ScanEnds run path (looks_job job) j (numbered_there j first) later i r
+              Looked later i r = Behind b later × LookedSo later i r
 
               Looks : Outcome (Result Unit CommandFault)
               Looks later i r = NoneFailed later × Looked later i r
 
+              refuses : (e : CommandFault) (own : List Deed) → ShowsListing path job (entries_seen j.context) e own → ShowsListing path job (entries_by b) e own
+              refuses e own f = subst (λ i. ShowsListing path job (entries_seen i.context) e own) first f
+
               more : (later : List runs.Deed) (i : Hand) (r : Result Unit CommandFault) → OfActs Looks later i r → Plainly later i r
-              more later i (Ok u) s = tt
+              more later i (Ok u) s = mark_on b folder there (Ok u) (acts later) (s.1.0, subst (λ z. ShowsMarking run path job (entries_by b) (Ok u) (acts later) z) (sym is_act) tt)
               more later i (Err e) s =
-                  looked e (acts later) (scan_shows run path folder e (acts later) s.1.1)
-                  (λ f. mark_on b folder there e (acts later) (s.1.0, subst (λ z. ShowsMarking run path job e (acts later) z) (sym is_act) f)) s.0
+                  looked e (acts later) (scan_shows run path folder e (acts later) s.1.1.0)
+                  (λ f. inr (mark_on b folder there (Err e) (acts later) (s.1.0, subst (λ z. ShowsMarking run path job (entries_by b) (Err e) (acts later) z) (sym is_act) (f, refuses e (acts later) s.1.1.1)))) s.0
 
           mark_keeps : Keeps anything past j (mark run path job) Plainly
           unfolding mark
@@ -326,23 +337,23 @@ module _ (run : ℕ) (few : run < 2 ^ 128) (words_ : List (List ℕ)) where
 
       -- `rmm`
       module _ (name : named word ≡ Some Rmm) (words : RmmWords) (said : rmm_said profile (map chars rest) ≡ Ok words) where
-        rmm_on : (b : Answer) (folder : List ℕ) → folder_of words.folder (entries_by b) profile ≡ Ok folder → (e : CommandFault) (own : List Deed)
-            → Behind b own × ShowsEnd run path folder (Withdraws (rmm_job folder words profile)) e own → Shows e own
-        rmm_on b folder there e own s =
-            on_folder word rest is_words b folder e own s.0
-            (subst (λ n. ShowsNamed run profile (entries_by b) folder e own rest n) (sym name)
-            (subst (λ m. ShowsRmm run profile (entries_by b) folder e own m) (sym said) (there, s.1)))
+        rmm_on : (b : Answer) (folder : List ℕ) → folder_of words.folder (entries_by b) profile ≡ Ok folder → (r : Result Unit CommandFault) (own : List Deed)
+            → Behind b own × ShowsRemoving run path (rmm_job folder words profile) r own → ShowsOnFolder run words_ r own
+        rmm_on b folder there r own s =
+            on_folder word rest is_words b folder r own s.0
+            (subst (λ n. ShowsNamed run profile (entries_by b) folder r own rest n) (sym name)
+            (subst (λ m. ShowsRmm run profile (entries_by b) folder r own m) (sym said) (there, s.1)))
 
-        rmm_keeps : (past : List runs.Deed) (j : Hand) (folder : List ℕ) (b : Answer) → acts past ≡ after_context path a b → j.next ≡ 0 → folder_of words.folder (entries_by b) profile ≡ Ok folder → NoneFailed (acts past)
+        rmm_keeps : (past : List runs.Deed) (j : Hand) (folder : List ℕ) (b : Answer) → acts past ≡ after_context path a b → j ≡ knowing (entries_by b) fresh → folder_of words.folder (entries_by b) profile ≡ Ok folder → NoneFailed (acts past)
             → Keeps anything past j (rmm run path (rmm_job folder words profile)) Plainly
         rmm_keeps past j folder b is first there clean =
-            keeps_more anything past j (rmm run path (rmm_job folder words profile)) (EndsSo run few path folder (Withdraws (rmm_job folder words profile)) (Behind b)) Plainly more
+            keeps_more anything past j (rmm run path (rmm_job folder words profile)) (EndsSo run few path folder (rmm_answers (rmm_job folder words profile)) (Behind b) (λ own. HasRemovedChosen run path (rmm_job folder words profile) own)) Plainly more
             (rmm_ends run few path (rmm_job folder words profile) (Behind b) (behind_kept b) past j clean (clean_there b (acts past) j is first clean) (subst (PutsNone (Mail path)) (sym is) (none_put (Mail path) path a b))
             (λ x n t. none_taken (Folder path folder) path a b x n (subst (λ o. Once (λ d older. IsTakenAway (Folder path folder) x d) o) is t)) ([], is))
           where
-            more : (later : List runs.Deed) (i : Hand) (r : Result Unit CommandFault) → EndsSo run few path folder (Withdraws (rmm_job folder words profile)) (Behind b) later i r → Plainly later i r
-            more later i (Ok u) s = tt
-            more later i (Err e) s = ended_more (ShowsSo run few path folder (Withdraws (rmm_job folder words profile)) (Behind b)) Shows (λ x own q. rmm_on b folder there x own q) e (acts later) s
+            more : (later : List runs.Deed) (i : Hand) (r : Result Unit CommandFault) → EndsSo run few path folder (rmm_answers (rmm_job folder words profile)) (Behind b) (λ own. HasRemovedChosen run path (rmm_job folder words profile) own) later i r → Plainly later i r
+            more later i (Ok u) s = rmm_on b folder there (Ok u) (acts later) s
+            more later i (Err e) s = ended_more (ShowsSo run few path folder (rmm_answers (rmm_job folder words profile)) (Behind b)) Shows (λ x own q. inr (rmm_on b folder there (Err x) own q)) e (acts later) s
 
         rmm_begun_keeps : (past : List runs.Deed) → acts past ≡ after_profile a → NoneFailed (acts past) → Keeps anything past fresh (rmm_begun run profile words) Plainly
         unfolding rmm_begun ◌>>=◌

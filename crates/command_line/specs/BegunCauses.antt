@@ -15,10 +15,11 @@ use Rattle.step_plans.specs.declared.command_fault.CommandFault.{CommandFault}
 use Rattle.step_plans.specs.declared.command_fault.CommandFault.TheVariants as fault
 use Rattle.command_stages.specs.Texts.{too_large}
 use Rattle.opened_folders.specs.Endings.{ShowsEnd}
-use Rattle.mark_command.specs.MarkPledge.{Marks}
+use Rattle.mark_command.specs.MarkAnswers.{HasChosen, ShowsListing, mark_answers}
 use Rattle.mark_command.specs.declared.job.MarkAct.{MarkAct}
 use Rattle.mark_command.specs.declared.job.MarkJob.{MarkJob}
-use Rattle.refile_command.specs.RmmPledge.{Withdraws}
+use Rattle.refile_command.specs.RmmAnswers.{HasRemovedChosen, rmm_answers}
+use Rattle.refile_command.specs.declared.job.RmmJob.{RmmJob}
 use Rattle.command_words.specs.MarkWords.{mark_said}
 use Rattle.command_words.specs.RmmWords.{rmm_said}
 use Rattle.command_words.specs.declared.ended.Ended.{Ended}
@@ -51,47 +52,63 @@ pub data ShowsEarly : CommandFault → List Deed → Type 0 where
       → ShowsEarly (too_large l)
       (did (Read (Mail path) context_name LIMIT_BYTES) (Long l) ∷ (did (Read Home profile_name LIMIT_BYTES) a ∷ []))
 
--- a `mark` on this folder that only lists is a command that looks; what shows how one ended that changes something
-abbrev pub ShowsMarking : ℕ → List ℕ → MarkJob → CommandFault → List Deed → Option MarkAct → Type 0
-ShowsMarking run path job e own None = ShowsCommandFault run e own
-ShowsMarking run path job e own (Some a) = ShowsEnd run path job.folder (Marks job a) e own
+-- a `mark` that only lists is a command that looks; it refuses its words by what it read, and by these entries of the
+-- context
+abbrev pub ShowsLooking : ℕ → List ℕ → MarkJob → List NamedValue → Result Unit CommandFault → List Deed → Type 0
+ShowsLooking run path job context (Ok u) own = Unit {0}
+ShowsLooking run path job context (Err e) own = ShowsCommandFault run e own × ShowsListing path job context e own
+
+-- one that changes something on this folder: at its end the job's words had chosen messages, or this shows its fault
+abbrev pub ShowsChanging : ℕ → List ℕ → MarkJob → MarkAct → Result Unit CommandFault → List Deed → Type 0
+ShowsChanging run path job a (Ok u) own = HasChosen run path job own
+ShowsChanging run path job a (Err e) own = ShowsEnd run path job.folder (mark_answers job a) e own
+
+abbrev pub ShowsMarking : ℕ → List ℕ → MarkJob → List NamedValue → Result Unit CommandFault → List Deed
+    → Option MarkAct → Type 0
+ShowsMarking run path job context r own None = ShowsLooking run path job context r own
+ShowsMarking run path job context r own (Some a) = ShowsChanging run path job a r own
+
+-- `rmm` on this folder: at its end it had removed the messages that the job's words choose, or this shows its fault
+abbrev pub ShowsRemoving : ℕ → List ℕ → RmmJob → Result Unit CommandFault → List Deed → Type 0
+ShowsRemoving run path job (Ok u) own = HasRemovedChosen run path job own
+ShowsRemoving run path job (Err e) own = ShowsEnd run path job.folder (rmm_answers job) e own
 
 -- the words of `mark`, the context or the profile name this folder, and this shows how it ended there
-abbrev pub ShowsMark : ℕ → List NamedValue → List NamedValue → List ℕ → CommandFault → List Deed
+abbrev pub ShowsMark : ℕ → List NamedValue → List NamedValue → List ℕ → Result Unit CommandFault → List Deed
     → Result MarkWords Ended → Type 0
-ShowsMark run profile context folder e own (Ok words) =
+ShowsMark run profile context folder r own (Ok words) =
     (folder_of words.folder context profile ≡ Ok folder)
-    × ShowsMarking run (path_of profile) (mark_job folder words profile) e own words.act
-ShowsMark run profile context folder e own (Err x) = ⊥
+    × ShowsMarking run (path_of profile) (mark_job folder words profile) context r own words.act
+ShowsMark run profile context folder r own (Err x) = ⊥
 
 -- the same of `rmm`
-abbrev pub ShowsRmm : ℕ → List NamedValue → List NamedValue → List ℕ → CommandFault → List Deed
+abbrev pub ShowsRmm : ℕ → List NamedValue → List NamedValue → List ℕ → Result Unit CommandFault → List Deed
     → Result RmmWords Ended → Type 0
-ShowsRmm run profile context folder e own (Ok words) =
+ShowsRmm run profile context folder r own (Ok words) =
     (folder_of words.folder context profile ≡ Ok folder)
-    × ShowsEnd run (path_of profile) folder (Withdraws (rmm_job folder words profile)) e own
-ShowsRmm run profile context folder e own (Err x) = ⊥
+    × ShowsRemoving run (path_of profile) (rmm_job folder words profile) r own
+ShowsRmm run profile context folder r own (Err x) = ⊥
 
 -- by the command's name
-abbrev pub ShowsNamed : ℕ → List NamedValue → List NamedValue → List ℕ → CommandFault → List Deed
+abbrev pub ShowsNamed : ℕ → List NamedValue → List NamedValue → List ℕ → Result Unit CommandFault → List Deed
     → List (List ℕ) → Option CommandName → Type 0
-ShowsNamed run profile context folder e own words None = ⊥
-ShowsNamed run profile context folder e own words (Some Scan) = ⊥
-ShowsNamed run profile context folder e own words (Some Mark) =
-    ShowsMark run profile context folder e own (mark_said profile (map chars words))
-ShowsNamed run profile context folder e own words (Some Rmm) =
-    ShowsRmm run profile context folder e own (rmm_said profile (map chars words))
+ShowsNamed run profile context folder r own words None = ⊥
+ShowsNamed run profile context folder r own words (Some Scan) = ⊥
+ShowsNamed run profile context folder r own words (Some Mark) =
+    ShowsMark run profile context folder r own (mark_said profile (map chars words))
+ShowsNamed run profile context folder r own words (Some Rmm) =
+    ShowsRmm run profile context folder r own (rmm_said profile (map chars words))
 
 -- by the command that the first word names
-abbrev pub ShowsWords : ℕ → List NamedValue → List NamedValue → List ℕ → CommandFault → List Deed → List (List ℕ)
-    → Type 0
-ShowsWords run profile context folder e own [] = ⊥
-ShowsWords run profile context folder e own (word ∷ words) =
-    ShowsNamed run profile context folder e own words (named word)
+abbrev pub ShowsWords : ℕ → List NamedValue → List NamedValue → List ℕ → Result Unit CommandFault → List Deed
+    → List (List ℕ) → Type 0
+ShowsWords run profile context folder r own [] = ⊥
+ShowsWords run profile context folder r own (word ∷ words) =
+    ShowsNamed run profile context folder r own words (named word)
 
 -- the call read the profile and then the context of the mail directory that it names; by these and by the words the
 -- command was on this folder, and the later deeds show how it ended there
-pub record ShowsOnFolder (run : ℕ) (words : List (List ℕ)) (e : CommandFault) (own : List Deed) : Type 0 where
+pub record ShowsOnFolder (run : ℕ) (words : List (List ℕ)) (r : Result Unit CommandFault) (own : List Deed) : Type 0 where
   pub profile : Answer
   pub context : Answer
   pub folder : List ℕ
@@ -101,8 +118,8 @@ pub record ShowsOnFolder (run : ℕ) (words : List (List ℕ)) (e : CommandFault
       ≡ newer
       ++ did (Read (Mail (path_by profile)) context_name LIMIT_BYTES) context
       ∷ did (Read Home profile_name LIMIT_BYTES) profile ∷ []
-  pub shows : ShowsWords run (entries_by profile) (entries_by context) folder e own words
+  pub shows : ShowsWords run (entries_by profile) (entries_by context) folder r own words
 
 -- what shows each fault of a command that may begin a folder
 abbrev pub ShowsFault : ℕ → List (List ℕ) → CommandFault → List Deed → Type 0
-ShowsFault run words e own = ShowsEarly e own ⊎ ShowsOnFolder run words e own
+ShowsFault run words e own = ShowsEarly e own ⊎ ShowsOnFolder run words (Err e) own

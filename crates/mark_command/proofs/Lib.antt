@@ -1,5 +1,6 @@
 pub mod Ends
 pub mod LooksEnd
+pub mod LooksRefused
 pub mod Loops
 pub mod MarkAlone
 pub mod MarkEnds

@@ -38,7 +38,7 @@ unless_so : (m : Marked) (r : Result (List ℕ) CommandFault) (e : CommandFault)
 unless_so m (Ok numbers) e is = cc (is)
 unless_so m (Err x) e is = let same : x ≡ e = cc in ap (λ z. Err z) same
 
-checked_so : (job : MarkJob) (listing : List Run) (m : Marked) (specs : List (List ℕ)) (e : CommandFault) → checked_by specs job listing m ≡ Err e → chosen_from job listing m ≡ Err e
+pub checked_so : (job : MarkJob) (listing : List Run) (m : Marked) (specs : List (List ℕ)) (e : CommandFault) → checked_by specs job listing m ≡ Err e → chosen_from job listing m ≡ Err e
 checked_so job listing m [] e is = cc (is)
 checked_so job listing m (word ∷ words) e is = unless_so m (chosen_from job listing m) e is
 

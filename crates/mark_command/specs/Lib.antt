@@ -1,5 +1,6 @@
 pub mod Lines
 pub mod Mark
+pub mod MarkAnswers
 pub mod MarkPledge
 pub mod MarkedAlone
 pub mod Marking

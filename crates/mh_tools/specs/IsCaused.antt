@@ -1,5 +1,5 @@
 -- Where each answer of `mh` comes from.
-use Rattle.std.specs.Prelude.{◌≡◌, ◌≢◌, ℕ, true, List, []}
+use Rattle.std.specs.Prelude.{◌≡◌, ◌≢◌, ℕ, true, List, [], Ok}
 use Rattle.mh_base.specs.Counts.{Rose}
 use Rattle.folder_files.specs.Deeds.{Deed}
 use Rattle.folder_files.specs.declared.place.Place.{Place}
@@ -13,7 +13,7 @@ use Rattle.step_plans.specs.ContextCommit.{TRIES}
 use Rattle.step_plans.specs.Endings.{IsHeld, IsMeddled}
 use Rattle.step_plans.specs.declared.command_fault.CommandFault.TheVariants as fault
 use Rattle.opened_folders.specs.Endings.{IsShownBy}
-use Rattle.command_line.specs.BegunCauses.{ShowsFault}
+use Rattle.command_line.specs.BegunCauses.{ShowsFault, ShowsOnFolder}
 use Rattle.command_line.specs.Causes.{ShowsRefusal}
 use Rattle.command_line.specs.CommandNames.{begins_folders, command_of}
 use Rattle.mh_tools.specs.Calls.{Call, LooksOnly, MadeBy}
@@ -33,10 +33,11 @@ pub record IsShown (c : Call) (deeds : List Deed) : Type 0 where
 abbrev pub MayBegin : Call → Type 0
 MayBegin c = begins_folders (command_of c.words) ≡ true
 
--- Of a command that may begin a folder: a refusal, Locked and Meddled come only where what shows them was answered.
--- After a refusal and after Locked it may have let the folder go that it had locked, as its last step. But for that
--- step no step failed.
+-- Of a command that may begin a folder: Done, a refusal, Locked and Meddled come only where what shows them was
+-- answered. After a refusal and after Locked it may have let the folder go that it had locked, as its last step. But for
+-- that step no step failed.
 pub record IsShownBegun (c : Call) (deeds : List Deed) : Type 0 where
+  pub done : c.status ≡ Done → ShowsOnFolder c.setting.run c.words (Ok tt) deeds
   pub refused : (r : Refusal) → c.status ≡ Refused r
       → IsShownBy (ShowsFault c.setting.run c.words (fault.Refused r)) deeds
   pub locked : (place : Place) → c.status ≡ Locked place
@@ -46,9 +47,9 @@ pub record IsShownBegun (c : Call) (deeds : List Deed) : Type 0 where
 
 -- Where each answer comes from, by the answers to the call's own steps. Done comes only where no step failed. A fault
 -- comes only where the count of that which failed rose: of the files where a step failed; the input never fails,
--- since no command that there is reads it. Each refusal, Locked and Meddled come only where own steps show them. That
--- a fault of the output comes only where there is a text to write is said of the commands that only look at a folder.
--- Want of memory alone is free.
+-- since no command that there is reads it. Each refusal, Locked and Meddled come only where own steps show them; and so
+-- does Done of a command that may begin a folder. That a fault of the output comes only where there is a text to write
+-- is said of the commands that only look at a folder. Want of memory alone is free.
 pub record IsCaused (c : Call) : Type 0 where
   pub deeds : List Deed
   pub made : MadeBy c deeds

@@ -37,7 +37,7 @@ use Rattle.sequence_commits.specs.Cutting.{cut_to}
 use Rattle.sequence_commits.specs.Reading.{sequences_in}
 use Rattle.sequence_commits.specs.RunsOfAll.{runs_of_all}
 use Rattle.sequence_commits.proofs.RunTests.{all_has, all_runs, none_outside}
-use Rattle.opened_folders.specs.Endings.{IsMetIn, PutsBackups, PutsNone, made_gone, plainly}
+use Rattle.opened_folders.specs.Endings.{Answering, IsMetIn, PutsBackups, PutsNone, made_gone, plainly}
 use Rattle.opened_folders.specs.Existing.{exists_in, numbers_settled}
 use Rattle.opened_folders.specs.Opening.{Opened, begun, folder_locked, locked_begun, locked_by, mail_made, marks_cut, marks_read, opened_of, sequences_read, settled_read, text_by}
 use Rattle.opened_folders.specs.Reads.{HaveRead, HaveSeen, TellsText}
@@ -58,7 +58,7 @@ true_false : {X : Type 0} (b : Bool) → b ≡ true → b ≡ false → X
 true_false true t f = cc
 true_false false t f = cc
 
-module _ (run : ℕ) (few : run < 2 ^ 128) (path folder : List ℕ) (Makes : List Run → Marked → Marked → Type 0) where
+module _ (run : ℕ) (few : run < 2 ^ 128) (path folder : List ℕ) (Answers : Answering) where
   abbrev p : Place
   p = Folder path folder
 
@@ -66,7 +66,7 @@ module _ (run : ℕ) (few : run < 2 ^ 128) (path folder : List ℕ) (Makes : Lis
   mail = Mail path
 
   abbrev So : {A : Type 0} → Outcome A → Outcome (Result A PlanFault)
-  So P later j r = Shown run path folder Makes P later j r
+  So P later j r = Shown run path folder Answers P later j r
 
   at : {A : Type 0} (own now_ : List Deed) (j i : Hand) (q : Planned A) (Q : Outcome (Result A PlanFault)) → own ≡ now_ → j ≡ i → Comes now_ i q Q → Comes own j q Q
   at own now_ j i q Q e f g = rw (e, f) g
@@ -110,7 +110,7 @@ module _ (run : ℕ) (few : run < 2 ^ 128) (path folder : List ℕ) (Makes : Lis
   -- the names that are left were listed; and of them no own step has taken a temporary one away since
   record Uncleared (names ns : List (List ℕ)) (own : List Deed) (h : Hand) : Type 0 where
     held : Held names own
-    left : Left run few path folder Makes own h
+    left : Left run few path folder Answers own h
     among : (x : List ℕ) → has_text x ns ≡ true → has_text x names ≡ true
     sorted : IsAscending names → IsAscending ns
     since : IsAscending names → (x : List ℕ) → has_text x ns ≡ true → is_temp (kind_of x) ≡ true → HasMet p x own
@@ -137,7 +137,7 @@ module _ (run : ℕ) (few : run < 2 ^ 128) (path folder : List ℕ) (Makes : Lis
   listed_first names n ns own h is f = record { names = names; listing = f.held.listed; among = f.among n (has_first n (has_text n ns)); since = λ s. f.since s n (has_first n (has_text n ns)) is }
 
   abbrev Clears : List (List ℕ) → Outcome Unit
-  Clears names later j u = Held names later × Left run few path folder Makes later j
+  Clears names later j u = Held names later × Left run few path folder Answers later j
 
   removed_comes : (names : List (List ℕ)) (n : List ℕ) (ns : List (List ℕ)) (own : List Deed) (h : Hand) → is_temp (kind_of n) ≡ true → Uncleared names (n ∷ ns) own h → Comes own h (removed p n) (So (λ later j u. Uncleared names ns later j))
   unfolding removed
@@ -157,7 +157,7 @@ module _ (run : ℕ) (few : run < 2 ^ 128) (path folder : List ℕ) (Makes : Lis
       go false is rest same = comes_on own h tt (λ u. cleared p ns) (So (Clears names)) same
 
   -- a text is read
-  read_left : (q : Place) (x : List ℕ) (a : Answer) (own : List Deed) (h : Hand) → a ≢ answer.Failed → Left run few path folder Makes own h → Left run few path folder Makes (did (step.Read q x LIMIT_BYTES) a ∷ own) h
+  read_left : (q : Place) (x : List ℕ) (a : Answer) (own : List Deed) (h : Hand) → a ≢ answer.Failed → Left run few path folder Answers own h → Left run few path folder Answers (did (step.Read q x LIMIT_BYTES) a ∷ own) h
   read_left q x a own h live f = record { clean = clean_more run own h (step.Read q x LIMIT_BYTES) a live tt f.clean; safe = backups_kept p (step.Read q x LIMIT_BYTES) a own (λ y w. putting p y (step.Read q x LIMIT_BYTES) a w) f.safe }
 
   abbrev sequences_deed : Answer → Deed
@@ -196,7 +196,7 @@ module _ (run : ℕ) (few : run < 2 ^ 128) (path folder : List ℕ) (Makes : Lis
   -- the folder's sequences, as the texts tell them
   record ReadsMarks (names : List (List ℕ)) (later : List Deed) (j : Hand) (m : Marked) : Type 0 where
     held : Held names later
-    left : Left run few path folder Makes later j
+    left : Left run few path folder Answers later j
     text : List ℕ
     context : List ℕ
     read : HaveRead p mail text context later
@@ -205,7 +205,7 @@ module _ (run : ℕ) (few : run < 2 ^ 128) (path folder : List ℕ) (Makes : Lis
   abbrev Reads : List (List ℕ) → Outcome Marked
   Reads names later j m = ReadsMarks names later j m
 
-  marks_comes : (names : List (List ℕ)) (own : List Deed) (h : Hand) → Held names own → Left run few path folder Makes own h → Comes own h (marks_read p mail folder) (So (Reads names))
+  marks_comes : (names : List (List ℕ)) (own : List Deed) (h : Hand) → Held names own → Left run few path folder Answers own h → Comes own h (marks_read p mail folder) (So (Reads names))
   unfolding marks_read
   marks_comes names own h held left =
       comes_then own h (sequences_read p) (λ text. context_read mail >>= (λ entries. known entries >>= (λ seen. Return (Ok (sequences_in text entries folder))))) (So (ReadsText own h)) (So (Reads names)) (text_comes own h)
@@ -233,26 +233,26 @@ module _ (run : ℕ) (few : run < 2 ^ 128) (path folder : List ℕ) (Makes : Lis
               })))
               (λ later j e q. q)
             where
-              both : Left run few path folder Makes (context_deed b ∷ (sequences_deed a ∷ own)) h
+              both : Left run few path folder Answers (context_deed b ∷ (sequences_deed a ∷ own)) h
               both = read_left mail context_name b (sequences_deed a ∷ own) h fine (read_left p (entry_text Sequences) a own h live left)
 
   -- what is left where a folder was begun; and at some time the run has met the name of each number that it takes to be there
   pub record IsBegunSo (o : Opened) (own : List Deed) (h : Hand) : Type 0 where
-    pub left : Left run few path folder Makes own h
+    pub left : Left run few path folder Answers own h
     pub met : (n : ℕ) → has o.listing n ≡ true → Once (λ d older. IsMetIn p (decimal n) d) own
 
   abbrev pub Begins : Outcome Opened
   Begins later j o = IsBegunSo o later j
 
   abbrev Cuts : List Run → Outcome Opened
-  Cuts listing later j o = (o.listing ≡ listing) × Left run few path folder Makes later j
+  Cuts listing later j o = (o.listing ≡ listing) × Left run few path folder Answers later j
 
-  cut_comes : (own : List Deed) (h : Hand) (s : Settled) (text context : List ℕ) → HaveSeen run p mail (numbers_settled run s) text context own → WasDone (step.Lock p) own → Left run few path folder Makes own h
+  cut_comes : (own : List Deed) (h : Hand) (s : Settled) (text context : List ℕ) → HaveSeen run p mail (numbers_settled run s) text context own → WasDone (step.Lock p) own → Left run few path folder Answers own h
       → Comes own h (marks_cut run p mail folder s (sequences_in text (entries_in context) folder)) (So (Cuts (numbers_settled run s)))
   unfolding marks_cut
   cut_comes own h s text context seen lock left =
-      comes_then own h (cut_committed run p mail folder m listing) (λ cut. Return (Ok (opened_of p folder listing (cut_to listing m) s.ends))) (So (λ later j u. Left run few path folder Makes later j)) (So (Cuts listing))
-      (changed_comes run few path folder Makes listing text context (cut_to listing m) (inl refl) m own h seen lock left) (λ later j u f. comes_to later j (Ok (opened_of p folder listing (cut_to listing m) s.ends)) (So (Cuts listing)) (refl, f)) (λ later j e f. f)
+      comes_then own h (cut_committed run p mail folder m listing) (λ cut. Return (Ok (opened_of p folder listing (cut_to listing m) s.ends))) (So (λ later j u. Left run few path folder Answers later j)) (So (Cuts listing))
+      (changed_comes run few path folder Answers listing text context (cut_to listing m) (inl refl) m own h seen lock left) (λ later j u f. comes_to later j (Ok (opened_of p folder listing (cut_to listing m) s.ends)) (So (Cuts listing)) (refl, f)) (λ later j e f. f)
     where
       listing : List Run
       listing = numbers_settled run s
@@ -280,17 +280,17 @@ module _ (run : ℕ) (few : run < 2 ^ 128) (path folder : List ℕ) (Makes : Lis
   ]
 
   -- with the numbers
-  numbered_comes : (own : List Deed) (h : Hand) (s : Settled) → Uncleared s.names s.names own h → HasMetAll run path folder Makes s.names s.ends own → Comes own h (settled_read run p mail folder s) (So Begins)
+  numbered_comes : (own : List Deed) (h : Hand) (s : Settled) → Uncleared s.names s.names own h → HasMetAll run path folder Answers s.names s.ends own → Comes own h (settled_read run p mail folder s) (So Begins)
   numbered_comes own h s f met =
-      comes_more own h (settled_read run p mail folder s) (λ later j r. HasMetAll run path folder Makes s.names s.ends later × So (Cuts (numbers_settled run s)) later j r) (So Begins) go
-      (comes_framed AnyStep (HasMetAll run path folder Makes s.names s.ends) (λ now_ t a any q n e. on (q n e)) own h (settled_read run p mail folder s) (So (Cuts (numbers_settled run s))) (asks_any (settled_read run p mail folder s)) met
+      comes_more own h (settled_read run p mail folder s) (λ later j r. HasMetAll run path folder Answers s.names s.ends later × So (Cuts (numbers_settled run s)) later j r) (So Begins) go
+      (comes_framed AnyStep (HasMetAll run path folder Answers s.names s.ends) (λ now_ t a any q n e. on (q n e)) own h (settled_read run p mail folder s) (So (Cuts (numbers_settled run s))) (asks_any (settled_read run p mail folder s)) met
       (read_comes own h s f))
     where
-      go : (later : List Deed) (j : Hand) (r : Result Opened PlanFault) → HasMetAll run path folder Makes s.names s.ends later × So (Cuts (numbers_settled run s)) later j r → So Begins later j r
+      go : (later : List Deed) (j : Hand) (r : Result Opened PlanFault) → HasMetAll run path folder Answers s.names s.ends later × So (Cuts (numbers_settled run s)) later j r → So Begins later j r
       go later j (Ok o) q = record { left = q.1.1; met = λ n e. q.0 n (number_there s n (subst (λ z. has z n ≡ true) q.1.0 e)) }
       go later j (Err e) q = q.1
 
-  uncleared : (s : Settled) (own : List Deed) (h : Hand) → IsSettled run path folder Makes s.names own h → Uncleared s.names s.names own h
+  uncleared : (s : Settled) (own : List Deed) (h : Hand) → IsSettled run path folder Answers s.names own h → Uncleared s.names s.names own h
   uncleared s own h f = record {
     held = record { lock = f.facts.lock; listed = f.facts.listed };
     left = record { clean = f.facts.clean; safe = f.safe };
@@ -323,8 +323,8 @@ module _ (run : ℕ) (few : run < 2 ^ 128) (path folder : List ℕ) (Makes : Lis
 
       settling : (a : Answer) → a ≢ answer.Failed → Comes (made_deeds a (locked_deeds own)) h (put_back run p >>= (λ s. settled_read run p mail folder s)) (So Begins)
       settling a live =
-          comes_then (made_deeds a (locked_deeds own)) h (put_back run p) (λ s. settled_read run p mail folder s) (So (PutsBack run path folder Makes)) (So Begins)
-          (put_back_comes run path folder Makes (made_deeds a (locked_deeds own)) h (clean_there a live) (on (on (now refl))) (safe_there a)) (λ later j s f. numbered_comes later j s (uncleared s later j f.0) f.1) (λ later j e f. f)
+          comes_then (made_deeds a (locked_deeds own)) h (put_back run p) (λ s. settled_read run p mail folder s) (So (PutsBack run path folder Answers)) (So Begins)
+          (put_back_comes run path folder Answers (made_deeds a (locked_deeds own)) h (clean_there a live) (on (on (now refl))) (safe_there a)) (λ later j s f. numbered_comes later j s (uncleared s later j f.0) f.1) (λ later j e f. f)
 
   -- a folder is begun, by a run that has put no name into the mail directory: its end, and what shows it
   pub begun_comes : (own : List Deed) (h : Hand) → Clean run own h → PutsNone mail own → Comes own h (begun run p mail folder) (So Begins)

@@ -36,7 +36,7 @@ use Rattle.step_plans.proofs.Pledged.{after_written}
 use Rattle.sequence_commits.specs.Committing.{changed_sequences, committed_unless, entries_committed, sequences_replaced, told_committed}
 use Rattle.sequence_commits.specs.PrivateChanges.{changes_to, entries_seen}
 use Rattle.sequence_commits.specs.Telling.{same_told}
-use Rattle.opened_folders.specs.Endings.{IsMeddledIn, PutsBackups, ShowsInFolder, plainly}
+use Rattle.opened_folders.specs.Endings.{Answering, IsMeddledIn, PutsBackups, ShowsInFolder, plainly}
 use Rattle.opened_folders.specs.FolderPledge.{told_within}
 use Rattle.opened_folders.specs.Reads.{HaveSeen}
 use Rattle.opened_folders.proofs.CleanRuns.{Clean, clean_more, commit_clean, never_made}
@@ -48,7 +48,7 @@ use Rattle.opened_folders.proofs.SettledEnds.{Shown}
 abbrev pub after_replaced : Place → List ℕ → List ℕ → List ℕ → List Deed → List Deed
 after_replaced p temp name bytes own = did (step.SyncFolder p) answer.Done ∷ (did (step.Rename p temp name) answer.Done ∷ after_written p temp bytes own)
 
-module _ (run : ℕ) (few : run < 2 ^ 128) (path folder : List ℕ) (Makes : List Run → Marked → Marked → Type 0) where
+module _ (run : ℕ) (few : run < 2 ^ 128) (path folder : List ℕ) (Answers : Answering) where
   abbrev p : Place
   p = Folder path folder
 
@@ -56,10 +56,10 @@ module _ (run : ℕ) (few : run < 2 ^ 128) (path folder : List ℕ) (Makes : Lis
   mail = Mail path
 
   abbrev Shows : PlanFault → List Deed → Type 0
-  Shows e own = ShowsInFolder run path folder Makes e own
+  Shows e own = ShowsInFolder run path folder Answers e own
 
   abbrev So : {A : Type 0} → Outcome A → Outcome (Result A PlanFault)
-  So P later j r = Shown run path folder Makes P later j r
+  So P later j r = Shown run path folder Answers P later j r
 
   at : {A : Type 0} (own now_ : List Deed) (j i : Hand) (q : Planned A) (Q : Outcome (Result A PlanFault)) → own ≡ now_ → j ≡ i → Comes now_ i q Q → Comes own j q Q
   at own now_ j i q Q e f g = rw (e, f) g
@@ -199,7 +199,7 @@ module _ (run : ℕ) (few : run < 2 ^ 128) (path folder : List ℕ) (Makes : Lis
       go later j (Err e) q = fault_shows cs h later (λ l is. long l later q.0.0 is) e q.1.1
 
   -- new sequences, which are those that were read, or what the command makes of them
-  module _ (listing : List Run) (text context : List ℕ) (new : Marked) (made : (new ≡ told_within listing text context folder) ⊎ Makes listing (told_within listing text context folder) new) where
+  module _ (listing : List Run) (text context : List ℕ) (new : Marked) (made : (new ≡ told_within listing text context folder) ⊎ Answers.makes listing (told_within listing text context folder) new) where
     abbrev Seen : List Deed → Type 0
     Seen own = HaveSeen run p mail listing text context own
 

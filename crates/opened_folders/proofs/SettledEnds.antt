@@ -4,8 +4,6 @@ use Rattle.std.specs.Prelude.{decimal}
 use Rattle.mh_base.specs.Entries.{kind_of}
 use Rattle.mh_base.specs.declared.entry.Entry.{Entry}
 use Rattle.mh_base.specs.declared.entry.Entry.TheVariants.{Held}
-use Rattle.mh_sequences.specs.Sequences.{Marked}
-use Rattle.mh_sequences.specs.declared.run.Run.{Run}
 use Rattle.folder_files.specs.Deeds.{Deed, Once, WasDone, did, last, now, on, still}
 use Rattle.folder_files.specs.Named.{is_temp}
 use Rattle.folder_files.specs.Steps.{has_text}
@@ -35,7 +33,7 @@ use Rattle.held_messages.specs.Highest.{highest}
 use Rattle.held_messages.specs.Settle.{Settled, all_homed, dropped, dropped_for_good, dropped_safely, given_at, given_from, given_up, homed, last_put, names_by, or_before, put_back, settle, settled_by, settled_of, synced_at}
 use Rattle.held_messages.specs.declared.held.HeldPair.{HeldPair}
 use Rattle.held_messages.proofs.PairLemmas.{All, AreApart, ArePairs, IsApart, IsListedPair, IsPair, are_apart, are_pairs, held_kind, pairs_listed, pairs_ordered}
-use Rattle.opened_folders.specs.Endings.{IsLastName, IsMetIn, IsMeddledIn, PutsBackups, PutsName, ShowsInFolder, last_gone, met_gone, plainly}
+use Rattle.opened_folders.specs.Endings.{Answering, IsLastName, IsMetIn, IsMeddledIn, PutsBackups, PutsName, ShowsInFolder, last_gone, met_gone, plainly}
 use Rattle.opened_folders.specs.Existing.{are_tried, exists_in}
 use Rattle.opened_folders.proofs.CleanRuns.{Clean, clean_more, comes_both, comes_link}
 use Rattle.opened_folders.proofs.NumbersMet.{AllTried, Fine, Meets, all_homed_meets}
@@ -50,12 +48,12 @@ last_of_more (b ∷ before) end o = last_of_more before end (or_before b o)
 temp_not_held : (e : Entry) (r n : ℕ) → is_temp e ≡ true → e ≡ Held r n → ⊥
 temp_not_held e r n is same = absurd (let no : is_temp (Held r n) ≡ true = subst (λ z. is_temp z ≡ true) same is in cc (no))
 
-module _ (run : ℕ) (path folder : List ℕ) (Makes : List Run → Marked → Marked → Type 0) where
+module _ (run : ℕ) (path folder : List ℕ) (Answers : Answering) where
   abbrev p : Place
   p = Folder path folder
 
   abbrev Shows : PlanFault → List Deed → Type 0
-  Shows e own = ShowsInFolder run path folder Makes e own
+  Shows e own = ShowsInFolder run path folder Answers e own
 
   -- how a plan ends: with this, or by what shows its fault
   abbrev pub Shown : {A : Type 0} → Outcome A → Outcome (Result A PlanFault)

@@ -1,7 +1,5 @@
 -- How a command ends that begins a folder, and what shows it.
-use Rattle.std.proofs.Common.{◌<◌, ◌^◌, ◌∷◌, [], ℕ, List, Result, Ok, Err, inr, refl}
-use Rattle.mh_sequences.specs.Sequences.{Marked}
-use Rattle.mh_sequences.specs.declared.run.Run.{Run}
+use Rattle.std.proofs.Common.{◌<◌, ◌^◌, ◌++◌, ◌∷◌, [], ℕ, List, Result, Ok, Err, inr, refl}
 use Rattle.folder_files.specs.Deeds as deeds
 use Rattle.folder_files.specs.Deeds.{WasDone, did}
 use Rattle.folder_files.specs.declared.place.Place.{Place}
@@ -21,13 +19,13 @@ use Rattle.step_plans.specs.declared.command_fault.CommandFault.{CommandFault}
 use Rattle.step_plans.specs.declared.command_fault.CommandFault.TheVariants as command
 use Rattle.step_plans.specs.declared.fault.PlanFault.{PlanFault}
 use Rattle.step_plans.specs.declared.fault.PlanFault.TheVariants as fault
-use Rattle.step_plans.proofs.Coming.{Comes, NoneFailed, OfActs, anything, comes_clean, comes_framed, comes_keeps, comes_lifted, comes_then, comes_to}
+use Rattle.step_plans.proofs.Coming.{Comes, NoneFailed, OfActs, anything, comes_clean, comes_framed, comes_keeps, comes_lifted, comes_more, comes_then, comes_to}
 use Rattle.step_plans.proofs.Going.{Outcome}
 use Rattle.step_plans.proofs.Lasting.{KeptBy}
 use Rattle.command_stages.specs.Current.{current_change, made_current}
 use Rattle.command_stages.specs.Endings.{of_plan}
 use Rattle.opened_folders.specs.Ending.{ended, finished, given_up}
-use Rattle.opened_folders.specs.Endings.{IsEndedBy, ShowsEnd, ShowsInFolder, at_once, let_go}
+use Rattle.opened_folders.specs.Endings.{Answering, IsEndedBy, ShowsEnd, ShowsInFolder, at_once, let_go}
 use Rattle.opened_folders.specs.Opening.{Opened, begun}
 use Rattle.opened_folders.proofs.SequencesEnd.{Leaves, Left, commit_shows}
 use Rattle.opened_folders.proofs.SettledEnds.{Shown}
@@ -36,7 +34,7 @@ use Rattle.opened_folders.proofs.SettledEnds.{Shown}
 abbrev any_fact : List deeds.Deed → Type 0
 any_fact own = Unit {0}
 
-module _ (run : ℕ) (few : run < 2 ^ 128) (path folder : List ℕ) (Makes : List Run → Marked → Marked → Type 0) where
+module _ (run : ℕ) (few : run < 2 ^ 128) (path folder : List ℕ) (Answers : Answering) where
   abbrev p : Place
   p = Folder path folder
 
@@ -44,7 +42,7 @@ module _ (run : ℕ) (few : run < 2 ^ 128) (path folder : List ℕ) (Makes : Lis
   mail = Mail path
 
   -- a command's fault, by that of a plan on the folder
-  pub folder_shows : (e : PlanFault) (own : List deeds.Deed) → ShowsInFolder run path folder Makes e own → ShowsEnd run path folder Makes (of_plan folder e) own
+  pub folder_shows : (e : PlanFault) (own : List deeds.Deed) → ShowsInFolder run path folder Answers e own → ShowsEnd run path folder Answers (of_plan folder e) own
   folder_shows fault.Faulted own f = f
   folder_shows (fault.Locked q) own f = f
   folder_shows (fault.Meddled q x) own f = f
@@ -56,48 +54,72 @@ module _ (run : ℕ) (few : run < 2 ^ 128) (path folder : List ℕ) (Makes : Lis
   -- how a command's plan ends: with this, or by what shows its fault
   abbrev pub Ends : {A : Type 0} → Outcome A → Outcome (Result A CommandFault)
   Ends P later j (Ok a) = P later j a
-  Ends P later j (Err e) = ShowsEnd run path folder Makes e later
+  Ends P later j (Err e) = ShowsEnd run path folder Answers e later
 
-  pub comes_shown : {A : Type 0} (own : List deeds.Deed) (h : Hand) (q : Planned A) (P : Outcome A) → Comes own h q (Shown run path folder Makes P) → Comes own h (lifted (of_plan folder) q) (Ends P)
-  comes_shown own h q P f = comes_lifted own h (of_plan folder) q (Shown run path folder Makes P) (Ends P) f (λ later j a g. g) (λ later j e g. folder_shows e later g)
+  pub comes_shown : {A : Type 0} (own : List deeds.Deed) (h : Hand) (q : Planned A) (P : Outcome A) → Comes own h q (Shown run path folder Answers P) → Comes own h (lifted (of_plan folder) q) (Ends P)
+  comes_shown own h q P f = comes_lifted own h (of_plan folder) q (Shown run path folder Answers P) (Ends P) f (λ later j a g. g) (λ later j e g. folder_shows e later g)
 
   -- the folder becomes the current one
-  pub current_comes : (own : List deeds.Deed) (h : Hand) → Left run few path folder Makes own h → Comes own h (made_current run path folder) (Ends (Leaves run few path folder Makes))
+  pub current_comes : (own : List deeds.Deed) (h : Hand) → Left run few path folder Answers own h → Comes own h (made_current run path folder) (Ends (Leaves run few path folder Answers))
   unfolding made_current
   current_comes own h left =
-      comes_then own h (lifted (of_plan folder) (commit_context run mail (current_change folder))) (λ done. Return (Ok tt)) (Ends (Leaves run few path folder Makes)) (Ends (Leaves run few path folder Makes))
-      (comes_shown own h (commit_context run mail (current_change folder)) (Leaves run few path folder Makes)
-      (commit_shows run few path folder Makes any_fact (λ now_ s a any f. tt) (current_change folder) (λ l later f is. inr (inr (inr is))) own h tt left))
-      (λ later j u f. comes_to later j (Ok tt) (Ends (Leaves run few path folder Makes)) f) (λ later j e f. f)
+      comes_then own h (lifted (of_plan folder) (commit_context run mail (current_change folder))) (λ done. Return (Ok tt)) (Ends (Leaves run few path folder Answers)) (Ends (Leaves run few path folder Answers))
+      (comes_shown own h (commit_context run mail (current_change folder)) (Leaves run few path folder Answers)
+      (commit_shows run few path folder Answers any_fact (λ now_ s a any f. tt) (current_change folder) (λ l later f is. inr (inr (inr is))) own h tt left))
+      (λ later j u f. comes_to later j (Ok tt) (Ends (Leaves run few path folder Answers)) f) (λ later j e f. f)
+
+  -- beside a fact that lasts
+  module _ (D : List deeds.Deed → Type 0) (lasts : KeptBy AnyStep D) where
+    pub shown_beside : {A : Type 0} (own : List deeds.Deed) (h : Hand) (q : Planned A) (P : Outcome A) → D own → Comes own h q (Shown run path folder Answers P)
+        → Comes own h q (Shown run path folder Answers (λ later j a. P later j a × D later))
+    shown_beside {A = A} own h q P d f =
+        comes_more own h q (λ later j r. D later × Shown run path folder Answers P later j r) (Shown run path folder Answers (λ later j a. P later j a × D later)) go
+        (comes_framed AnyStep D lasts own h q (Shown run path folder Answers P) (asks_any q) d f)
+      where
+        go : (later : List deeds.Deed) (j : Hand) (r : Result A PlanFault) → D later × Shown run path folder Answers P later j r → Shown run path folder Answers (λ end i a. P end i a × D end) later j r
+        go later j (Ok a) s = (s.1, s.0)
+        go later j (Err e) s = s.1
+
+    pub current_beside : (own : List deeds.Deed) (h : Hand) → Left run few path folder Answers own h → D own → Comes own h (made_current run path folder) (Ends (λ later j u. D later))
+    current_beside own h left d =
+        comes_more own h (made_current run path folder) (λ later j r. D later × Ends (Leaves run few path folder Answers) later j r) (Ends (λ later j u. D later)) go
+        (comes_framed AnyStep D lasts own h (made_current run path folder) (Ends (Leaves run few path folder Answers)) (asks_any (made_current run path folder)) d (current_comes own h left))
+      where
+        go : (later : List deeds.Deed) (j : Hand) (r : Result Unit CommandFault) → D later × Ends (Leaves run few path folder Answers) later j r → Ends (λ end i u. D end) later j r
+        go later j (Ok u) s = s.0
+        go later j (Err e) s = s.1
 
   -- what shows a fault, beside a fact
   abbrev pub ShowsSo : (List deeds.Deed → Type 0) → CommandFault → List deeds.Deed → Type 0
-  ShowsSo F e own = F own × ShowsEnd run path folder Makes e own
+  ShowsSo F e own = F own × ShowsEnd run path folder Answers e own
 
-  -- so a command ends that begins a folder
-  abbrev pub EndsSo : (List deeds.Deed → Type 0) → List Deed → Hand → Result Unit CommandFault → Type 0
-  EndsSo F past h (Ok u) = Unit {0}
-  EndsSo F past h (Err e) = IsEndedBy (ShowsSo F) e (acts past)
+  -- so a command ends that begins a folder: the one fact holds however it ends, the other where it is done
+  abbrev pub EndsSo : (List deeds.Deed → Type 0) → (List deeds.Deed → Type 0) → List Deed → Hand → Result Unit CommandFault → Type 0
+  EndsSo F D past h (Ok u) = F (acts past) × D (acts past)
+  EndsSo F D past h (Err e) = IsEndedBy (ShowsSo F) e (acts past)
 
-  -- the whole: the folder is begun, the work on it is done, and its lock falls; beside a fact that lasts
-  module _ (F : List deeds.Deed → Type 0) (keeps : KeptBy AnyStep F) (State : Outcome Opened) (act : Opened → Plan (Result Unit CommandFault))
+  -- the whole: the folder is begun, the work on it is done, and its lock falls; beside facts that last
+  module _ (F D : List deeds.Deed → Type 0) (keeps : KeptBy AnyStep F) (lasts : KeptBy AnyStep D) (State : Outcome Opened) (act : Opened → Plan (Result Unit CommandFault))
       (locked : (own : List deeds.Deed) (h : Hand) (o : Opened) → State own h o → WasDone (step.Lock p) own)
-      (works : (own : List deeds.Deed) (h : Hand) (o : Opened) → State own h o → Comes own h (act o) (Ends (λ later j u. Unit {0}))) where
+      (works : (own : List deeds.Deed) (h : Hand) (o : Opened) → State own h o → Comes own h (act o) (Ends (λ later j u. D later))) where
     -- at the end of the work the lock was taken and no step has failed
     abbrev AtEnd : Outcome (Result Unit CommandFault)
-    AtEnd later j r = NoneFailed later × ((F later × WasDone (step.Lock p) later) × Ends (λ end i u. Unit {0}) later j r)
+    AtEnd later j r = NoneFailed later × ((F later × WasDone (step.Lock p) later) × Ends (λ end i u. D end) later j r)
 
-    done_keeps : (past : List Deed) (h : Hand) → Keeps anything past h (finished p) (EndsSo F)
+    unlocked : (past : List Deed) (a : Answer) → F (acts past) → D (acts past) → F (acts (past ++ Did (step.Unlock p) a ∷ [])) × D (acts (past ++ Did (step.Unlock p) a ∷ []))
+    unlocked past a f d = rw (acts_append [] past (Did (step.Unlock p) a ∷ [])) (keeps (acts past) (step.Unlock p) a tt f, lasts (acts past) (step.Unlock p) a tt d)
+
+    done_keeps : (past : List Deed) (h : Hand) → F (acts past) → D (acts past) → Keeps anything past h (finished p) (EndsSo F D)
     unfolding Keeps finished unlock ask lifted bind ◌>>=◌
-    done_keeps past h = (tt, tt, tt, λ a row live. (tt, tt))
+    done_keeps past h f d = (tt, tt, tt, λ a row live. (tt, unlocked past a f d))
 
-    given_up_keeps : (past : List Deed) (h : Hand) (e : CommandFault) → ((a : Answer) → IsEndedBy (ShowsSo F) e (did (step.Unlock p) a ∷ acts past)) → Keeps anything past h (given_up p e) (EndsSo F)
+    given_up_keeps : (past : List Deed) (h : Hand) (e : CommandFault) → ((a : Answer) → IsEndedBy (ShowsSo F) e (did (step.Unlock p) a ∷ acts past)) → Keeps anything past h (given_up p e) (EndsSo F D)
     unfolding Keeps given_up attempt_unlock attempt lifted bind ◌>>=◌
     given_up_keeps past h e f = (tt, tt, λ a row. (tt, rw (acts_append [] past (Did (step.Unlock p) a ∷ [])) (f a)))
 
-    at_end : (past : List Deed) (h : Hand) (r : Result Unit CommandFault) → AtEnd (acts past) h r → Keeps anything past h (ended p r) (EndsSo F)
+    at_end : (past : List Deed) (h : Hand) (r : Result Unit CommandFault) → AtEnd (acts past) h r → Keeps anything past h (ended p r) (EndsSo F D)
     unfolding Keeps
-    at_end past h (Ok u) q = done_keeps past h
+    at_end past h (Ok u) q = done_keeps past h q.1.0.0 q.1.1
     at_end past h (Err (command.Refused r)) q = given_up_keeps past h (command.Refused r) (λ a. let_go (q.1.0.0, q.1.1) q.0 q.1.0.1)
     at_end past h (Err (command.Faulted which)) q = absurd q.1.1
     at_end past h (Err (command.Locked place)) q = given_up_keeps past h (command.Locked place) (λ a. let_go (q.1.0.0, q.1.1) q.0 q.1.0.1)
@@ -108,27 +130,27 @@ module _ (run : ℕ) (few : run < 2 ^ 128) (path folder : List ℕ) (Makes : Lis
     abbrev AtBegin : Outcome (Result Opened CommandFault)
     AtBegin later j r = NoneFailed later × (F later × Ends State later j r)
 
-    stopped : (e : CommandFault) (own : List deeds.Deed) → NoneFailed own → F own → ShowsEnd run path folder Makes e own → IsEndedBy (ShowsSo F) e own
+    stopped : (e : CommandFault) (own : List deeds.Deed) → NoneFailed own → F own → ShowsEnd run path folder Answers e own → IsEndedBy (ShowsSo F) e own
     stopped (command.Refused r) own clean f s = at_once (f, s) clean
     stopped (command.Faulted which) own clean f s = s
     stopped (command.Locked place) own clean f s = at_once (f, s) clean
     stopped (command.Meddled place x) own clean f s = ((f, s), clean)
     stopped command.Memory own clean f s = tt
 
-    stopped_keeps : (past : List Deed) (h : Hand) (e : CommandFault) → IsEndedBy (ShowsSo F) e (acts past) → Keeps anything past h (Return (Err e)) (EndsSo F)
+    stopped_keeps : (past : List Deed) (h : Hand) (e : CommandFault) → IsEndedBy (ShowsSo F) e (acts past) → Keeps anything past h (Return (Err e)) (EndsSo F D)
     unfolding Keeps
     stopped_keeps past h e f = (tt, f)
 
     work_clean : (own : List deeds.Deed) (h : Hand) (o : Opened) → State own h o → NoneFailed own → F own → Comes own h (act o) AtEnd
     work_clean own h o s clean f =
-        comes_clean own h (act o) (λ later j r. (F later × WasDone (step.Lock p) later) × Ends (λ end i u. Unit {0}) later j r) clean
-        (comes_framed AnyStep (λ later. F later × WasDone (step.Lock p) later) (λ later t a any g. (keeps later t a any g.0, deeds.on g.1)) own h (act o) (Ends (λ end i u. Unit {0})) (asks_any (act o)) (f, locked own h o s) (works own h o s))
+        comes_clean own h (act o) (λ later j r. (F later × WasDone (step.Lock p) later) × Ends (λ end i u. D end) later j r) clean
+        (comes_framed AnyStep (λ later. F later × WasDone (step.Lock p) later) (λ later t a any g. (keeps later t a any g.0, deeds.on g.1)) own h (act o) (Ends (λ end i u. D end)) (asks_any (act o)) (f, locked own h o s) (works own h o s))
 
     pub begun_ends : (past : List Deed) (h : Hand) → NoneFailed (acts past) → F (acts past) → Comes (acts past) h (lifted (of_plan folder) (begun run p mail folder)) (Ends State)
-        → Keeps anything past h (lifted (of_plan folder) (begun run p mail folder) >>= (λ o. bind (act o) (ended p))) (EndsSo F)
+        → Keeps anything past h (lifted (of_plan folder) (begun run p mail folder) >>= (λ o. bind (act o) (ended p))) (EndsSo F D)
     unfolding ◌>>=◌
     begun_ends past h clean f begins =
-        keeps_bind anything past h plan (after (λ o. bind (act o) (ended p))) (OfActs AtBegin) (EndsSo F)
+        keeps_bind anything past h plan (after (λ o. bind (act o) (ended p))) (OfActs AtBegin) (EndsSo F D)
         (comes_keeps past (acts past) h plan AtBegin refl
         (comes_clean (acts past) h plan (λ later j r. F later × Ends State later j r) clean (comes_framed AnyStep F keeps (acts past) h plan (Ends State) (asks_any plan) f begins)))
         go
@@ -136,8 +158,8 @@ module _ (run : ℕ) (few : run < 2 ^ 128) (path folder : List ℕ) (Makes : Lis
         plan : Plan (Result Opened CommandFault)
         plan = lifted (of_plan folder) (begun run p mail folder)
 
-        go : (later : List Deed) (j : Hand) (r : Result Opened CommandFault) → OfActs AtBegin later j r → Keeps anything later j (after (λ o. bind (act o) (ended p)) r) (EndsSo F)
+        go : (later : List Deed) (j : Hand) (r : Result Opened CommandFault) → OfActs AtBegin later j r → Keeps anything later j (after (λ o. bind (act o) (ended p)) r) (EndsSo F D)
         go later j (Ok o) q =
-            keeps_bind anything later j (act o) (ended p) (OfActs AtEnd) (EndsSo F) (comes_keeps later (acts later) j (act o) AtEnd refl (work_clean (acts later) j o q.1.1 q.0 q.1.0))
+            keeps_bind anything later j (act o) (ended p) (OfActs AtEnd) (EndsSo F D) (comes_keeps later (acts later) j (act o) AtEnd refl (work_clean (acts later) j o q.1.1 q.0 q.1.0))
             (λ last i r s. at_end last i r s)
         go later j (Err e) q = stopped_keeps later j e (stopped e (acts later) q.0 q.1.0 q.1.1)

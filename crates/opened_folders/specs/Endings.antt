@@ -82,40 +82,44 @@ abbrev pub IsNotThere : Place → List Deed → Type 0
 IsNotThere p own =
     (older : List Deed) × ((own ≡ did (step.Lock p) Gone ∷ older) ⊎ (own ≡ did (step.List p) Gone ∷ older))
 
--- the run has the folder's lock, and under it listed the folder and read its sequences and then the context
-pub record HasFolder (run : ℕ) (path folder : List ℕ) (own : List Deed) : Type 0 where
+-- what a command answers by the numbers of a folder's messages and the sequences as they are told: what it makes of
+-- these sequences, and how it refuses its words
+pub record Answering : Type 1 where
+  pub makes : List Run → Marked → Marked → Type 0
+  pub refuses : List Run → Marked → Refusal → Type 0
+
+-- the run has the folder's lock, and under it listed the folder and read its sequences and then the context; by these
+-- the command refuses its words so
+pub record IsRefusedBy (run : ℕ) (path folder : List ℕ) (Answers : Answering) (r : Refusal) (own : List Deed) : Type 0 where
   pub listing : List Run
   pub text : List ℕ
   pub context : List ℕ
   pub seen : HaveSeen run (Folder path folder) (Mail path) listing text context own
   pub lock : HasLock (Folder path folder) own
-
--- what a command makes of a folder's sequences, by the numbers of its messages and the sequences as they are told
-abbrev pub Making : Type 1
-Making = List Run → Marked → Marked → Type 0
+  pub refuses : Answers.refuses listing (told_within listing text context folder) r
 
 -- The run listed the folder, and read its text and then the context. Of the sequences that these tell of, without
 -- numbers that have no message, or of those that the command makes of them, the text is too long, with this length; or
 -- the text of the context is, with the entries of the private ones.
-pub record IsLongMarks (run : ℕ) (path folder : List ℕ) (Makes : Making) (l : ℕ) (own : List Deed) : Type 0 where
+pub record IsLongMarks (run : ℕ) (path folder : List ℕ) (Answers : Answering) (l : ℕ) (own : List Deed) : Type 0 where
   pub listing : List Run
   pub text : List ℕ
   pub context : List ℕ
   pub seen : HaveSeen run (Folder path folder) (Mail path) listing text context own
   pub new : Marked
   pub made : (new ≡ told_within listing text context folder)
-      ⊎ Makes listing (told_within listing text context folder) new
+      ⊎ Answers.makes listing (told_within listing text context folder) new
   pub long :
       ((l ≡ length (text_of new)) × (nat_lt LIMIT_BYTES l ≡ true))
       ⊎ ((entries : List NamedValue)
       × IsLongText (Mail path) (changes_to (suffix folder) (private_entries (suffix folder) new.users) entries) l own)
 
 -- the folder's text or the context was just read and is too long; or the text is that was to be written
-abbrev pub IsTooLong : ℕ → List ℕ → List ℕ → Making → ℕ → List Deed → Type 0
-IsTooLong run path folder Makes l own =
+abbrev pub IsTooLong : ℕ → List ℕ → List ℕ → Answering → ℕ → List Deed → Type 0
+IsTooLong run path folder Answers l own =
     IsLongRead (Folder path folder) (entry_text Sequences) l own
     ⊎ (IsLongRead (Mail path) context_name l own
-    ⊎ (IsLongMarks run path folder Makes l own
+    ⊎ (IsLongMarks run path folder Answers l own
     ⊎ IsLongText (Mail path) (current_change folder) l own))
 
 -- another run held the folder's lock, which was tried once, or that of the mail directory
@@ -124,14 +128,14 @@ IsHeldIn path folder q own =
     ((q ≡ Folder path folder) × IsHeld (Folder path folder) 1 own) ⊎ ((q ≡ Mail path) × IsHeld (Mail path) TRIES own)
 
 -- what shows each fault of a plan that begins a folder or works on one. Want of memory is free.
-abbrev pub ShowsInFolder : ℕ → List ℕ → List ℕ → Making → PlanFault → List Deed → Type 0
-ShowsInFolder run path folder Makes fault.Faulted own = ⊥
-ShowsInFolder run path folder Makes (fault.Locked q) own = IsHeldIn path folder q own
-ShowsInFolder run path folder Makes (fault.Meddled q x) own = IsMeddledIn run q x own
-ShowsInFolder run path folder Makes fault.Full own = ⊥
-ShowsInFolder run path folder Makes (fault.Absent q) own = IsNotThere (Folder path folder) own
-ShowsInFolder run path folder Makes (fault.TooLarge l) own = IsTooLong run path folder Makes l own
-ShowsInFolder run path folder Makes fault.Memory own = Unit {0}
+abbrev pub ShowsInFolder : ℕ → List ℕ → List ℕ → Answering → PlanFault → List Deed → Type 0
+ShowsInFolder run path folder Answers fault.Faulted own = ⊥
+ShowsInFolder run path folder Answers (fault.Locked q) own = IsHeldIn path folder q own
+ShowsInFolder run path folder Answers (fault.Meddled q x) own = IsMeddledIn run q x own
+ShowsInFolder run path folder Answers fault.Full own = ⊥
+ShowsInFolder run path folder Answers (fault.Absent q) own = IsNotThere (Folder path folder) own
+ShowsInFolder run path folder Answers (fault.TooLarge l) own = IsTooLong run path folder Answers l own
+ShowsInFolder run path folder Answers fault.Memory own = Unit {0}
 
 -- These deeds show it, and no step of them failed. Where the run then let a folder go that it had locked, that was its
 -- last step, whatever it was answered.
@@ -142,40 +146,44 @@ pub data IsShownBy (S : List Deed → Type 0) : List Deed → Type 0 where
       → IsShownBy S (did (step.Unlock (Folder path folder)) a ∷ own)
 
 -- what shows each refusal of a command on the folder; the others never come of it
-abbrev pub ShowsRefused : ℕ → List ℕ → List ℕ → Making → Refusal → List Deed → Type 0
-ShowsRefused run path folder Makes (refusal.BadSwitch place why) own = ⊥
-ShowsRefused run path folder Makes (refusal.BadFolder s) own = ⊥
-ShowsRefused run path folder Makes (refusal.NoFolder s) own = (s ≡ folder) × IsNotThere (Folder path folder) own
-ShowsRefused run path folder Makes (refusal.BadSpec s) own = HasFolder run path folder own
-ShowsRefused run path folder Makes (refusal.Absent s) own = HasFolder run path folder own
-ShowsRefused run path folder Makes (refusal.EmptyRange s) own = HasFolder run path folder own
-ShowsRefused run path folder Makes (refusal.EmptySequence s) own = HasFolder run path folder own
-ShowsRefused run path folder Makes (refusal.BadSequenceName s) own = ⊥
-ShowsRefused run path folder Makes (refusal.BadFormat n) own = ⊥
-ShowsRefused run path folder Makes (refusal.BadDate s) own = ⊥
-ShowsRefused run path folder Makes (refusal.BadExpr n) own = ⊥
-ShowsRefused run path folder Makes refusal.NoMatch own = ⊥
-ShowsRefused run path folder Makes refusal.NoMail own = ⊥
-ShowsRefused run path folder Makes refusal.NotADrop own = ⊥
-ShowsRefused run path folder Makes (refusal.SameFolder s) own = ⊥
-ShowsRefused run path folder Makes (refusal.Full s) own = ⊥
-ShowsRefused run path folder Makes (refusal.BadDraft n) own = ⊥
-ShowsRefused run path folder Makes (refusal.NoPart s) own = ⊥
-ShowsRefused run path folder Makes (refusal.WouldReplace s) own = ⊥
-ShowsRefused run path folder Makes (refusal.TooLarge l limit) own =
-    (limit ≡ LIMIT_BYTES) × IsTooLong run path folder Makes l own
-ShowsRefused run path folder Makes refusal.DropGrown own = ⊥
-ShowsRefused run path folder Makes (refusal.NoFile name) own = ⊥
-ShowsRefused run path folder Makes refusal.DropChanged own = ⊥
+abbrev pub ShowsRefused : ℕ → List ℕ → List ℕ → Answering → Refusal → List Deed → Type 0
+ShowsRefused run path folder Answers (refusal.BadSwitch place why) own = ⊥
+ShowsRefused run path folder Answers (refusal.BadFolder s) own = ⊥
+ShowsRefused run path folder Answers (refusal.NoFolder s) own = (s ≡ folder) × IsNotThere (Folder path folder) own
+ShowsRefused run path folder Answers (refusal.BadSpec s) own =
+    IsRefusedBy run path folder Answers (refusal.BadSpec s) own
+ShowsRefused run path folder Answers (refusal.Absent s) own =
+    IsRefusedBy run path folder Answers (refusal.Absent s) own
+ShowsRefused run path folder Answers (refusal.EmptyRange s) own =
+    IsRefusedBy run path folder Answers (refusal.EmptyRange s) own
+ShowsRefused run path folder Answers (refusal.EmptySequence s) own =
+    IsRefusedBy run path folder Answers (refusal.EmptySequence s) own
+ShowsRefused run path folder Answers (refusal.BadSequenceName s) own = ⊥
+ShowsRefused run path folder Answers (refusal.BadFormat n) own = ⊥
+ShowsRefused run path folder Answers (refusal.BadDate s) own = ⊥
+ShowsRefused run path folder Answers (refusal.BadExpr n) own = ⊥
+ShowsRefused run path folder Answers refusal.NoMatch own = ⊥
+ShowsRefused run path folder Answers refusal.NoMail own = ⊥
+ShowsRefused run path folder Answers refusal.NotADrop own = ⊥
+ShowsRefused run path folder Answers (refusal.SameFolder s) own = ⊥
+ShowsRefused run path folder Answers (refusal.Full s) own = ⊥
+ShowsRefused run path folder Answers (refusal.BadDraft n) own = ⊥
+ShowsRefused run path folder Answers (refusal.NoPart s) own = ⊥
+ShowsRefused run path folder Answers (refusal.WouldReplace s) own = ⊥
+ShowsRefused run path folder Answers (refusal.TooLarge l limit) own =
+    (limit ≡ LIMIT_BYTES) × IsTooLong run path folder Answers l own
+ShowsRefused run path folder Answers refusal.DropGrown own = ⊥
+ShowsRefused run path folder Answers (refusal.NoFile name) own = ⊥
+ShowsRefused run path folder Answers refusal.DropChanged own = ⊥
 
 -- what shows each fault of a command on the folder, which never returns a fault of its surroundings. Want of memory is
 -- free.
-abbrev pub ShowsEnd : ℕ → List ℕ → List ℕ → Making → CommandFault → List Deed → Type 0
-ShowsEnd run path folder Makes (command.Refused r) own = ShowsRefused run path folder Makes r own
-ShowsEnd run path folder Makes (command.Faulted which) own = ⊥
-ShowsEnd run path folder Makes (command.Locked q) own = IsHeldIn path folder q own
-ShowsEnd run path folder Makes (command.Meddled q x) own = IsMeddledIn run q x own
-ShowsEnd run path folder Makes command.Memory own = Unit {0}
+abbrev pub ShowsEnd : ℕ → List ℕ → List ℕ → Answering → CommandFault → List Deed → Type 0
+ShowsEnd run path folder Answers (command.Refused r) own = ShowsRefused run path folder Answers r own
+ShowsEnd run path folder Answers (command.Faulted which) own = ⊥
+ShowsEnd run path folder Answers (command.Locked q) own = IsHeldIn path folder q own
+ShowsEnd run path folder Answers (command.Meddled q x) own = IsMeddledIn run q x own
+ShowsEnd run path folder Answers command.Memory own = Unit {0}
 
 -- how a command ends by a fault that is shown so: at a refusal, and where another run has a lock, it may let its folder
 -- go then

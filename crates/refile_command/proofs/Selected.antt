@@ -1,8 +1,9 @@
 -- What words choose: ascending numbers of messages that are there.
-use Rattle.std.proofs.Common.{◌≡◌, inl, inr, ℕ, Bool, true, false, List, [], ◌∷◌, Result, Ok, Err, refl, sym, ◌∙◌, ap, subst}
+use Rattle.std.proofs.Common.{◌≡◌, ◌⊎◌, inl, inr, ℕ, Bool, true, false, List, [], ◌∷◌, Result, Ok, Err, refl, sym, ◌∙◌, ap, subst}
 use Rattle.std.specs.Prelude.{◌==◌, ◌||◌, map}
 use Rattle.std.specs.List.{list_any}
 use Rattle.std.specs.Str.{encode_utf8_all}
+use Rattle.std.proofs.lemmas.Bool.{eqb-true}
 use Rattle.std.proofs.lemmas.Bool.Decides.{Decides-eqb}
 use Rattle.mh_base.specs.Numbers.{IsMsgNum}
 use Rattle.mh_sequences.specs.Runs.{AreRuns, has, numbers_of}
@@ -78,3 +79,10 @@ rest_of n ns f k e = f k (other_listed n k ns e)
 
 pub first_of : {F : ℕ → Type 0} (n : ℕ) (ns : List ℕ) → ((k : ℕ) → lists (n ∷ ns) k ≡ true → F k) → F n
 first_of n ns f = f n (first_listed n ns)
+
+pub first_or : (n k : ℕ) (ns : List ℕ) → lists (n ∷ ns) k ≡ true → (n ≡ k) ⊎ (lists ns k ≡ true)
+first_or n k ns e = go (n == k) refl
+  where
+    go : (b : Bool) → (n == k) ≡ b → (n ≡ k) ⊎ (lists ns k ≡ true)
+    go true same = inl (eqb-true n k same)
+    go false other = inr (ap (λ b. b || lists ns k) (sym other) ∙ e)

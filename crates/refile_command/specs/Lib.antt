@@ -1,4 +1,5 @@
 pub mod HeldLeft
 pub mod Rmm
+pub mod RmmAnswers
 pub mod RmmOutcome
 pub mod RmmPledge
