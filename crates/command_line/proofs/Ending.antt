@@ -48,7 +48,7 @@ use Rattle.command_words.specs.declared.ended.Ended.{Ended}
 use Rattle.command_words.specs.declared.scan.ScanWords.{ScanWords}
 
 -- what shows the end of `scan` shows that of a command
-scan_shows : (run : ℕ) (mail folder : List ℕ) (e : CommandFault) (own : List Deed) → ScanShows run mail folder e own → ShowsCommandFault run e own
+pub scan_shows : (run : ℕ) (mail folder : List ℕ) (e : CommandFault) (own : List Deed) → ScanShows run mail folder e own → ShowsCommandFault run e own
 scan_shows run mail folder _ _ (no_folder {older = older}) = (mail, older, refl)
 scan_shows run mail folder _ _ (bad_spec {names = names} {a = a} {older = older}) = (mail, folder, names, a, older, refl)
 scan_shows run mail folder _ _ (absent {names = names} {a = a} {older = older}) = (mail, folder, names, a, older, refl)

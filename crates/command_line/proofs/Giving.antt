@@ -46,7 +46,7 @@ use Rattle.command_words.specs.declared.scan.ScanWords.{ScanWords}
 use Rattle.command_words.proofs.SaidFolder.{IsValid}
 use Rattle.command_line.specs.Command.{context_seen, context_entered, folder_found, job_of, mark_job, scan_begun, scan_by, mark_begun, mark_by, rmm_begun, rmm_by, rmm_job, word_by, command_by, command}
 use Rattle.command_line.specs.CommandNames.{begins_folders, command_of, named}
-use Rattle.command_line.specs.Outcomes.{FolderWork, plainly, of_stage, in_folder, with_context, scans, scan_words_work, marks, mark_words_work, rmms, rmm_words_work, word_work, named_work, with_profile, work_of}
+use Rattle.command_line.specs.Outcomes.{FolderWork, plainly, of_stage, in_folder, with_context, scans, scan_words_work, marks, mark_words_work, rmms, rmm_words_work, word_work, named_work, with_profile, work_by, work_of, alone_meeting}
 use Rattle.command_line.specs.Profile.{folder_of, path_of, profile_name}
 use Rattle.command_line.specs.declared.name.CommandName.{CommandName}
 use Rattle.command_line.specs.declared.name.CommandName.TheVariants.{Mark, Rmm, Scan}
@@ -266,10 +266,10 @@ AreAllHomes run c = (p : Place) → AreHomesAt run ((mailbox_in c).folders p) (h
 
 -- `mark` alone, from the context on
 mark_stage : (run : ℕ) (c : Contents) → run < 2 ^ 128 → AreAllHomes run c → (profile : List NamedValue) (words : MarkWords) → IsValid words.folder → (v : View) (h : Hand) (same : v.contents ≡ c) → (unmet : (p : Place) (x : List ℕ) → v.met p x ≡ false) → (begun : IsBegun v)
-    → Gives (by_view true) v h (stage true c profile words.folder v h same (λ e. begun) (marks run (mailbox_in c) profile words)).text (mark_begun run profile words) (WorkEnds (stage true c profile words.folder v h same (λ e. begun) (marks run (mailbox_in c) profile words)))
+    → Gives (by_view true) v h (stage true c profile words.folder v h same (λ e. begun) (marks (alone_meeting run) (mailbox_in c) profile words)).text (mark_begun run profile words) (WorkEnds (stage true c profile words.folder v h same (λ e. begun) (marks (alone_meeting run) (mailbox_in c) profile words)))
 unfolding mark_begun
 mark_stage run c few homes profile words valid v h same unmet begun =
-    stage_gives true c profile words.folder v h same (λ e. begun) (marks run (mailbox_in c) profile words) WorkEnds (mark_refused c) (λ folder. mark run (path_of profile) (mark_job folder words profile))
+    stage_gives true c profile words.folder v h same (λ e. begun) (marks (alone_meeting run) (mailbox_in c) profile words) WorkEnds (mark_refused c) (λ folder. mark run (path_of profile) (mark_job folder words profile))
     (λ text folder reads is.
     let short = read_short (c.texts (Mail (path_of profile)) context_name) text reads in
     mark_gives run few (path_of profile) (mark_job folder words profile) (acted_valid words.folder (entries_in text) profile folder valid is) (suffix_clean folder) c (entries_in text) (ap entries_in short.1) short.0
@@ -278,10 +278,10 @@ mark_stage run c few homes profile words valid v h same unmet begun =
 
 -- `rmm` alone, from the context on
 rmm_stage : (run : ℕ) (c : Contents) → run < 2 ^ 128 → AreAllHomes run c → (profile : List NamedValue) (words : RmmWords) → IsValid words.folder → (v : View) (h : Hand) (same : v.contents ≡ c) → (unmet : (p : Place) (x : List ℕ) → v.met p x ≡ false) → (begun : IsBegun v)
-    → Gives (by_view true) v h (stage true c profile words.folder v h same (λ e. begun) (rmms run (mailbox_in c) profile words)).text (rmm_begun run profile words) (WorkEnds (stage true c profile words.folder v h same (λ e. begun) (rmms run (mailbox_in c) profile words)))
+    → Gives (by_view true) v h (stage true c profile words.folder v h same (λ e. begun) (rmms (alone_meeting run) (mailbox_in c) profile words)).text (rmm_begun run profile words) (WorkEnds (stage true c profile words.folder v h same (λ e. begun) (rmms (alone_meeting run) (mailbox_in c) profile words)))
 unfolding rmm_begun
 rmm_stage run c few homes profile words valid v h same unmet begun =
-    stage_gives true c profile words.folder v h same (λ e. begun) (rmms run (mailbox_in c) profile words) WorkEnds (mark_refused c) (λ folder. rmm run (path_of profile) (rmm_job folder words profile))
+    stage_gives true c profile words.folder v h same (λ e. begun) (rmms (alone_meeting run) (mailbox_in c) profile words) WorkEnds (mark_refused c) (λ folder. rmm run (path_of profile) (rmm_job folder words profile))
     (λ text folder reads is.
     let short = read_short (c.texts (Mail (path_of profile)) context_name) text reads in
     rmm_gives run few (path_of profile) (rmm_job folder words profile) (acted_valid words.folder (entries_in text) profile folder valid is) (suffix_clean folder) c (entries_in text) (ap entries_in short.1) short.0
@@ -304,43 +304,43 @@ module _ (alone : Bool) (run : ℕ) (c : Contents) (few : run < 2 ^ 128) (homes 
     scan_words_give (Err e) r = let is = r e refl in plain_refused alone c e is.0 z fresh [] is.1 refl same
 
     mark_words_true : AreAllHomes run c → (value : Result MarkWords Ended) → ((words : MarkWords) → value ≡ Ok words → IsValid words.folder) → ((e : Ended) → value ≡ Err e → IsRefusal e.fault)
-        → Gives (by_view true) z fresh (mark_words_work run box profile value).text (mark_by run profile value) (CommandEnds true (mark_words_work run box profile value))
+        → Gives (by_view true) z fresh (mark_words_work (alone_meeting run) box profile value).text (mark_by run profile value) (CommandEnds true (mark_words_work (alone_meeting run) box profile value))
     unfolding Gives lifted mailbox_in
     mark_words_true there (Ok words) valid r =
-        gives_bind (by_view true) z fresh (mark_words_work run box profile (Ok words)).text (mark_begun run profile words) (λ q. Return (converted plain q)) (WorkEnds (stage true c profile words.folder z fresh same (λ e. begun) (marks run box profile words)))
-        (CommandEnds true (mark_words_work run box profile (Ok words)))
+        gives_bind (by_view true) z fresh (mark_words_work (alone_meeting run) box profile (Ok words)).text (mark_begun run profile words) (λ q. Return (converted plain q)) (WorkEnds (stage true c profile words.folder z fresh same (λ e. begun) (marks (alone_meeting run) box profile words)))
+        (CommandEnds true (mark_words_work (alone_meeting run) box profile (Ok words)))
         (mark_stage run c few there profile words (valid words refl) z fresh same unmet begun)
-        (λ y j left q e. mark_ends (stage true c profile words.folder z fresh same (λ e. begun) (marks run box profile words)) y j left q e)
+        (λ y j left q e. mark_ends (stage true c profile words.folder z fresh same (λ e. begun) (marks (alone_meeting run) box profile words)) y j left q e)
     mark_words_true there (Err e) valid r = let is = r e refl in plain_refused true c e is.0 z fresh [] is.1 refl same
 
-    mark_words_give : alone ≡ true → (words : List (List ℕ)) → Gives (by_view alone) z fresh (mark_words_work run box profile (mark_said profile words)).text (mark_by run profile (mark_said profile words)) (CommandEnds alone (mark_words_work run box profile (mark_said profile words)))
+    mark_words_give : alone ≡ true → (words : List (List ℕ)) → Gives (by_view alone) z fresh (mark_words_work (alone_meeting run) box profile (mark_said profile words)).text (mark_by run profile (mark_said profile words)) (CommandEnds alone (mark_words_work (alone_meeting run) box profile (mark_said profile words)))
     mark_words_give only words =
-        subst (λ b. Gives (by_view b) z fresh (mark_words_work run box profile (mark_said profile words)).text (mark_by run profile (mark_said profile words)) (CommandEnds b (mark_words_work run box profile (mark_said profile words)))) (sym only)
+        subst (λ b. Gives (by_view b) z fresh (mark_words_work (alone_meeting run) box profile (mark_said profile words)).text (mark_by run profile (mark_said profile words)) (CommandEnds b (mark_words_work (alone_meeting run) box profile (mark_said profile words)))) (sym only)
         (mark_words_true (homes only) (mark_said profile words) (λ said e. mark_valid profile words said e) (λ e is. mark_refuses profile words e is))
 
     rmm_words_true : AreAllHomes run c → (value : Result RmmWords Ended) → ((words : RmmWords) → value ≡ Ok words → IsValid words.folder) → ((e : Ended) → value ≡ Err e → IsRefusal e.fault)
-        → Gives (by_view true) z fresh (rmm_words_work run box profile value).text (rmm_by run profile value) (CommandEnds true (rmm_words_work run box profile value))
+        → Gives (by_view true) z fresh (rmm_words_work (alone_meeting run) box profile value).text (rmm_by run profile value) (CommandEnds true (rmm_words_work (alone_meeting run) box profile value))
     unfolding Gives lifted mailbox_in
     rmm_words_true there (Ok words) valid r =
-        gives_bind (by_view true) z fresh (rmm_words_work run box profile (Ok words)).text (rmm_begun run profile words) (λ q. Return (converted plain q)) (WorkEnds (stage true c profile words.folder z fresh same (λ e. begun) (rmms run box profile words)))
-        (CommandEnds true (rmm_words_work run box profile (Ok words)))
+        gives_bind (by_view true) z fresh (rmm_words_work (alone_meeting run) box profile (Ok words)).text (rmm_begun run profile words) (λ q. Return (converted plain q)) (WorkEnds (stage true c profile words.folder z fresh same (λ e. begun) (rmms (alone_meeting run) box profile words)))
+        (CommandEnds true (rmm_words_work (alone_meeting run) box profile (Ok words)))
         (rmm_stage run c few there profile words (valid words refl) z fresh same unmet begun)
-        (λ y j left q e. mark_ends (stage true c profile words.folder z fresh same (λ e. begun) (rmms run box profile words)) y j left q e)
+        (λ y j left q e. mark_ends (stage true c profile words.folder z fresh same (λ e. begun) (rmms (alone_meeting run) box profile words)) y j left q e)
     rmm_words_true there (Err e) valid r = let is = r e refl in plain_refused true c e is.0 z fresh [] is.1 refl same
 
-    rmm_words_give : alone ≡ true → (words : List (List ℕ)) → Gives (by_view alone) z fresh (rmm_words_work run box profile (rmm_said profile words)).text (rmm_by run profile (rmm_said profile words)) (CommandEnds alone (rmm_words_work run box profile (rmm_said profile words)))
+    rmm_words_give : alone ≡ true → (words : List (List ℕ)) → Gives (by_view alone) z fresh (rmm_words_work (alone_meeting run) box profile (rmm_said profile words)).text (rmm_by run profile (rmm_said profile words)) (CommandEnds alone (rmm_words_work (alone_meeting run) box profile (rmm_said profile words)))
     rmm_words_give only words =
-        subst (λ b. Gives (by_view b) z fresh (rmm_words_work run box profile (rmm_said profile words)).text (rmm_by run profile (rmm_said profile words)) (CommandEnds b (rmm_words_work run box profile (rmm_said profile words)))) (sym only)
+        subst (λ b. Gives (by_view b) z fresh (rmm_words_work (alone_meeting run) box profile (rmm_said profile words)).text (rmm_by run profile (rmm_said profile words)) (CommandEnds b (rmm_words_work (alone_meeting run) box profile (rmm_said profile words)))) (sym only)
         (rmm_words_true (homes only) (rmm_said profile words) (λ said e. rmm_words_valid profile words said e) (λ e is. rmm_refuses profile words e is))
 
-    by_word : (word : List ℕ) (words : List (List ℕ)) (name : Option CommandName) → (begins_folders name ≡ true → alone ≡ true) → Gives (by_view alone) z fresh (word_work run box profile word words name).text (word_by run profile word words name) (CommandEnds alone (word_work run box profile word words name))
+    by_word : (word : List ℕ) (words : List (List ℕ)) (name : Option CommandName) → (begins_folders name ≡ true → alone ≡ true) → Gives (by_view alone) z fresh (word_work (alone_meeting run) box profile word words name).text (word_by run profile word words name) (CommandEnds alone (word_work (alone_meeting run) box profile word words name))
     unfolding Gives
     by_word word words None only = (refl, inl (refl, λ a. ap mailbox_in same))
     by_word word words (Some Scan) only = scan_words_give (scan_said profile (map chars words)) (λ e is. scan_refuses profile (map chars words) e is)
     by_word word words (Some Mark) only = mark_words_give (only refl) (map chars words)
     by_word word words (Some Rmm) only = rmm_words_give (only refl) (map chars words)
 
-    by_name : (words : List (List ℕ)) → (begins_folders (command_of words) ≡ true → alone ≡ true) → Gives (by_view alone) z fresh (named_work run box profile words).text (command_by run profile words) (CommandEnds alone (named_work run box profile words))
+    by_name : (words : List (List ℕ)) → (begins_folders (command_of words) ≡ true → alone ≡ true) → Gives (by_view alone) z fresh (named_work (alone_meeting run) box profile words).text (command_by run profile words) (CommandEnds alone (named_work (alone_meeting run) box profile words))
     unfolding Gives
     by_name [] only = (refl, inl (refl, λ a. ap mailbox_in same))
     by_name (word ∷ words) only = by_word word words (named word) only
@@ -354,19 +354,19 @@ module _ (alone : Bool) (run : ℕ) (c : Contents) (few : run < 2 ^ 128) (homes 
       profile_at : (o : Result (List ℕ) CommandFault) → o ≡ readable (v.contents.texts Home profile_name) → readable (c.texts Home profile_name) ≡ o
       profile_at o is = ap (λ d. readable (d.texts Home profile_name)) (sym same) ∙ sym is
 
-      work_by : (o : Result (List ℕ) CommandFault) → readable (c.texts Home profile_name) ≡ o → whole_work ≡ with_profile run box words o
-      unfolding work_of mailbox_in
-      work_by o is = ap (with_profile run box words) is
+      works_by : (o : Result (List ℕ) CommandFault) → readable (c.texts Home profile_name) ≡ o → whole_work ≡ with_profile (alone_meeting run) box words o
+      unfolding work_by mailbox_in
+      works_by o is = ap (with_profile (alone_meeting run) box words) is
 
       after_profile : (z : View) (j : Hand) (left : List ℕ) (r : Result (List ℕ) CommandFault) → TextRead v Home profile_name fresh whole_work.text z j left r → Gives (by_view alone) z j left (after (λ text. command_by run (entries_in text) words) (converted plain r)) (CommandEnds alone whole_work)
       unfolding Gives
       after_profile z j left (Ok text) t =
-          let w = work_by (Ok text) (profile_at (Ok text) t.value) in
+          let w = works_by (Ok text) (profile_at (Ok text) t.value) in
           rw (t.view, t.hand, t.rest) (subst (λ x. Gives (by_view alone) (after_read v Home profile_name) fresh x.text (command_by run (entries_in text) words) (CommandEnds alone x)) (sym w)
           (by_name (entries_in text) (after_read v Home profile_name) same (λ p x. first.unmet p x) (begun_first v first) words only))
       after_profile z j left (Err e) t =
           let is = profile_at (Err e) t.value in
-          let w = work_by (Err e) is in
+          let w = works_by (Err e) is in
           let l = unreadable (c.texts Home profile_name) e is in
           subst (λ x. CommandEnds alone x z j left (Err (plain e))) (sym w) (plain_refused alone c (plain e) (refusal.TooLarge l.0 LIMIT_BYTES) z j left l.1 (t.rest ∙ ap (λ x. x.text) w) (ap (λ y. y.contents) t.view ∙ same))
 

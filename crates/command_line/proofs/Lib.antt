@@ -1,3 +1,4 @@
+pub mod BegunEnding
 pub mod Ending
 pub mod FolderChars
 pub mod Giving

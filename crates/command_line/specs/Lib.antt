@@ -1,3 +1,4 @@
+pub mod BegunCauses
 pub mod Causes
 pub mod Command
 pub mod CommandMarks

@@ -4,10 +4,11 @@ use Rattle.std.specs.Str.{chars}
 use Rattle.mh_profile.specs.declared.named_value.NamedValue.{NamedValue}
 use Rattle.mh_profile.specs.Reading.{entries_in}
 use Rattle.folder_files.specs.declared.place.Place.TheVariants.{Folder, Mail}
-use Rattle.file_plans.specs.Mailboxes.{Mailbox}
+use Rattle.file_plans.specs.Mailboxes.{Folder as FolderValue, Mailbox}
 use Rattle.step_plans.specs.declared.command_fault.CommandFault.{CommandFault}
 use Rattle.command_stages.specs.Works.{Work, refused_at, readable}
 use Rattle.mh_looks.specs.Outcomes.{scan_work}
+use Rattle.opened_folders.specs.BegunWork.{Homes}
 use Rattle.opened_folders.specs.HomesOf.{homes_at}
 use Rattle.mark_command.specs.Outcomes.{mark_work}
 use Rattle.refile_command.specs.RmmOutcome.{rmm_work}
@@ -59,40 +60,54 @@ abbrev pub scan_words_work : Mailbox → List NamedValue → Result ScanWords En
 scan_words_work m profile (Ok words) = of_stage (on_folder m profile words.folder (scans m profile words))
 scan_words_work m profile (Err e) = refused_at m e
 
--- `mark`: what other runs hold aside in the folder goes first where it goes alone
-abbrev pub marks : ℕ → Mailbox → List NamedValue → MarkWords → FolderWork
-marks run m profile words context folder =
-    mark_work (path_of profile) context (homes_at run (m.folders (Folder (path_of profile) folder))) (mark_job folder words profile) m
+-- What a command meets that begins a folder: where each message goes that other runs held aside there, and the context's entries as they are read
+-- under the folder's lock, by those that were read before.
+pub record Meeting : Type 0 where
+  pub homes : Option FolderValue → Homes
+  pub entries : List NamedValue → List NamedValue
 
-abbrev pub mark_words_work : ℕ → Mailbox → List NamedValue → Result MarkWords Ended → Work Ended
-mark_words_work run m profile (Ok words) = of_stage (on_folder m profile words.folder (marks run m profile words))
-mark_words_work run m profile (Err e) = refused_at m e
+-- alone each goes where it goes alone, and the context is what it was; this run is the one that held nothing aside
+abbrev pub alone_meeting : ℕ → Meeting
+alone_meeting run = record { homes = homes_at run; entries = λ es. es }
+
+-- `mark`: what other runs hold aside in the folder goes first
+abbrev pub marks : Meeting → Mailbox → List NamedValue → MarkWords → FolderWork
+marks g m profile words context folder =
+    mark_work (path_of profile) (g.entries context) (g.homes (m.folders (Folder (path_of profile) folder))) (mark_job folder words profile) m
+
+abbrev pub mark_words_work : Meeting → Mailbox → List NamedValue → Result MarkWords Ended → Work Ended
+mark_words_work g m profile (Ok words) = of_stage (on_folder m profile words.folder (marks g m profile words))
+mark_words_work g m profile (Err e) = refused_at m e
 
 -- `rmm`: so too
-abbrev pub rmms : ℕ → Mailbox → List NamedValue → RmmWords → FolderWork
-rmms run m profile words context folder =
-    rmm_work (path_of profile) context (homes_at run (m.folders (Folder (path_of profile) folder))) (rmm_job folder words profile) m
+abbrev pub rmms : Meeting → Mailbox → List NamedValue → RmmWords → FolderWork
+rmms g m profile words context folder =
+    rmm_work (path_of profile) (g.entries context) (g.homes (m.folders (Folder (path_of profile) folder))) (rmm_job folder words profile) m
 
-abbrev pub rmm_words_work : ℕ → Mailbox → List NamedValue → Result RmmWords Ended → Work Ended
-rmm_words_work run m profile (Ok words) = of_stage (on_folder m profile words.folder (rmms run m profile words))
-rmm_words_work run m profile (Err e) = refused_at m e
+abbrev pub rmm_words_work : Meeting → Mailbox → List NamedValue → Result RmmWords Ended → Work Ended
+rmm_words_work g m profile (Ok words) = of_stage (on_folder m profile words.folder (rmms g m profile words))
+rmm_words_work g m profile (Err e) = refused_at m e
 
 -- the command of this name
-abbrev pub word_work : ℕ → Mailbox → List NamedValue → List ℕ → List (List ℕ) → Option CommandName → Work Ended
-word_work run m profile word words None = refused_at m (no_command (Some word))
-word_work run m profile word words (Some Scan) = scan_words_work m profile (scan_said profile (map chars words))
-word_work run m profile word words (Some Mark) = mark_words_work run m profile (mark_said profile (map chars words))
-word_work run m profile word words (Some Rmm) = rmm_words_work run m profile (rmm_said profile (map chars words))
+abbrev pub word_work : Meeting → Mailbox → List NamedValue → List ℕ → List (List ℕ) → Option CommandName → Work Ended
+word_work g m profile word words None = refused_at m (no_command (Some word))
+word_work g m profile word words (Some Scan) = scan_words_work m profile (scan_said profile (map chars words))
+word_work g m profile word words (Some Mark) = mark_words_work g m profile (mark_said profile (map chars words))
+word_work g m profile word words (Some Rmm) = rmm_words_work g m profile (rmm_said profile (map chars words))
 
-abbrev pub named_work : ℕ → Mailbox → List NamedValue → List (List ℕ) → Work Ended
-named_work run m profile [] = refused_at m (no_command None)
-named_work run m profile (word ∷ words) = word_work run m profile word words (named word)
+abbrev pub named_work : Meeting → Mailbox → List NamedValue → List (List ℕ) → Work Ended
+named_work g m profile [] = refused_at m (no_command None)
+named_work g m profile (word ∷ words) = word_work g m profile word words (named word)
 
 -- the profile that is read
-abbrev pub with_profile : ℕ → Mailbox → List (List ℕ) → Result (List ℕ) CommandFault → Work Ended
-with_profile run m words (Ok text) = named_work run m (entries_in text) words
-with_profile run m words (Err e) = refused_at m (plain e)
+abbrev pub with_profile : Meeting → Mailbox → List (List ℕ) → Result (List ℕ) CommandFault → Work Ended
+with_profile g m words (Ok text) = named_work g m (entries_in text) words
+with_profile g m words (Err e) = refused_at m (plain e)
 
--- what a command comes to, in its stages: the profile, the words, the context, the folder, the work; this run is the one that held nothing aside
-unfoldable pub work_of : ℕ → List (List ℕ) → Mailbox → Work Ended
-work_of run words m = with_profile run m words (readable (m.home profile_name))
+-- what a command comes to, in its stages: the profile, the words, the context, the folder, the work
+unfoldable pub work_by : Meeting → List (List ℕ) → Mailbox → Work Ended
+work_by g words m = with_profile g m words (readable (m.home profile_name))
+
+-- what it comes to alone
+abbrev pub work_of : ℕ → List (List ℕ) → Mailbox → Work Ended
+work_of run words m = work_by (alone_meeting run) words m

@@ -1,6 +1,8 @@
 pub mod Ends
+pub mod LooksEnd
 pub mod Loops
 pub mod MarkAlone
+pub mod MarkEnds
 pub mod MarkGiven
 pub mod MarkMinds
 pub mod MarkPledged

@@ -78,7 +78,7 @@ module _ (run : ℕ) (few : run < 2 ^ 128) (path : List ℕ) (job : MarkJob) (a 
   abbrev any_step : List Deed → Step → Type 0
   any_step own s = Unit {0}
 
-  lets : LetsBegin path job.folder (Marking path job.folder) any_step
+  pub lets : LetsBegin path job.folder (Marking path job.folder) any_step
   lets = record {
     kinds = λ own kind s k. k;
     makes = λ own q. tt;

@@ -74,7 +74,7 @@ pub data ScanShows (run : ℕ) (mail folder : List ℕ) : CommandFault → List 
   meddled : {place : Place} {name : List ℕ} {own : List Deed} → IsMeddled run place name own → ScanShows run mail folder (fault.Meddled place name) own
 
 -- what words refuse
-by_choice : (C : CommandFault → Type 0) (folder : MsgFolder) (words : List (List ℕ)) (e : CommandFault) → chosen_in folder words ≡ Err e → ((w : List ℕ) → C (fault.Refused (refusal.BadSpec w)))
+pub by_choice : (C : CommandFault → Type 0) (folder : MsgFolder) (words : List (List ℕ)) (e : CommandFault) → chosen_in folder words ≡ Err e → ((w : List ℕ) → C (fault.Refused (refusal.BadSpec w)))
     → ((w : List ℕ) → C (fault.Refused (refusal.Absent w))) → ((w : List ℕ) → C (fault.Refused (refusal.EmptyRange w))) → ((w : List ℕ) → C (fault.Refused (refusal.EmptySequence w))) → C e
 by_choice C folder words e is bad none range sequence = go (selected folder (map encode_utf8_all words)) refl is
   where
@@ -86,7 +86,7 @@ by_choice C folder words e is bad none range sequence = go (selected folder (map
     go (Err (select.EmptySequence k)) s is = let same : fault.Refused (refusal.EmptySequence (word_at words k)) ≡ e = cc in subst C same (sequence (word_at words k))
     go (Err select.Memory) s is = absurd (never_memory folder (map encode_utf8_all words) s)
 
-selects : (folder : MsgFolder) (words : List (List ℕ)) (numbers : List ℕ) → chosen_in folder words ≡ Ok numbers → selected folder (map encode_utf8_all words) ≡ Ok numbers
+pub selects : (folder : MsgFolder) (words : List (List ℕ)) (numbers : List ℕ) → chosen_in folder words ≡ Ok numbers → selected folder (map encode_utf8_all words) ≡ Ok numbers
 selects folder words numbers is = go (selected folder (map encode_utf8_all words)) is
   where
     go : (s : Result (List ℕ) SelectFault) → refused_by words s ≡ Ok numbers → s ≡ Ok numbers
@@ -169,14 +169,14 @@ module _ (run : ℕ) (mail : List ℕ) (job : ScanJob) (h : Hand) (numbered : na
   fresh_name = temp_name run h.next
 
   -- the next name of the run was not made in the mail directory
-  abbrev IsUnmade : List Deed → Type 0
+  abbrev pub IsUnmade : List Deed → Type 0
   IsUnmade own = WasMade (Mail mail) fresh_name own → ⊥
 
   abbrev pub ScanEnds : {A : Type 0} → Outcome (Result A CommandFault)
   ScanEnds later j (Ok a) = Unit {0}
   ScanEnds later j (Err e) = ScanShows run mail job.folder e later
 
-  unread : (p : Place) (x : List ℕ) (a : Answer) (own : List Deed) → IsUnmade own → IsUnmade (did (step.Read p x LIMIT_BYTES) a ∷ own)
+  pub unread : (p : Place) (x : List ℕ) (a : Answer) (own : List Deed) → IsUnmade own → IsUnmade (did (step.Read p x LIMIT_BYTES) a ∷ own)
   unread p x a own f = unmade_more (Mail mail) fresh_name (step.Read p x LIMIT_BYTES) a own (λ b e. cc (e)) f
 
   -- one message
@@ -216,7 +216,7 @@ module _ (run : ℕ) (mail : List ℕ) (job : ScanJob) (h : Hand) (numbered : na
   fault_shows later (plan.TooLarge l) (inr f) = long_text f
   fault_shows later plan.Memory e = let no_number : true ≡ false = sym numbered ∙ e in cc
 
-  current_comes : (own : List Deed) → IsUnmade own → Comes own h (made_current run mail folder) ScanEnds
+  pub current_comes : (own : List Deed) → IsUnmade own → Comes own h (made_current run mail folder) ScanEnds
   unfolding made_current
   current_comes own unmade =
       comes_then own h _ (λ (done : Unit {0}). Return (Ok tt)) ScanEnds ScanEnds
@@ -229,7 +229,7 @@ module _ (run : ℕ) (mail : List ℕ) (job : ScanJob) (h : Hand) (numbered : na
   ListEnds own later j (Ok names) = (later ≡ did (step.List place) (answer.Names names) ∷ own) × (j ≡ h)
   ListEnds own later j (Err e) = ScanShows run mail job.folder e later
 
-  list_comes : (own : List Deed) → Comes own h (folder_listed place folder) (ListEnds own)
+  pub list_comes : (own : List Deed) → Comes own h (folder_listed place folder) (ListEnds own)
   unfolding folder_listed
   list_comes own =
       comes_list own h of_stop (ListEnds own) place (names_by folder) (λ names. comes_to _ h (Ok names) (ListEnds own) (refl, refl)) (comes_to _ h (Err (fault.Refused (refusal.NoFolder folder))) (ListEnds own) no_folder)

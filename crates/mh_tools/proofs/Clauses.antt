@@ -7,53 +7,56 @@ use Rattle.mh_base.specs.Streams.{Adds, AddsPart, SinkState}
 use Rattle.folder_files.specs.Deeds as deeds
 use Rattle.folder_files.specs.Histories.{own, past_of}
 use Rattle.folder_files.specs.Story.{FilesState, Story, Grows, GrowsBy}
-use Rattle.folder_files.specs.Worlds.{WorldMap}
 use Rattle.folder_files.specs.declared.place.Place.{Place}
 use Rattle.folder_files.specs.declared.refusal.Refusal.{Refusal}
 use Rattle.folder_files.specs.declared.refusal.Which.{Which}
 use Rattle.folder_files.specs.declared.refusal.Which.TheVariants.{Files, Source, Out}
-use Rattle.file_plans.specs.Agreeing.{MailboxAgrees, AgreesWith, is_first_met, numbers_put}
+use Rattle.file_plans.specs.Agreeing.{FitPast, MailboxAgrees, AgreesWith, is_first_met, numbers_put}
 use Rattle.file_plans.specs.Alone.{first_of, world_at, mailbox_at}
-use Rattle.file_plans.specs.Contents.{Contents, contents_of, mailbox_in}
+use Rattle.file_plans.specs.Contents.{Contents, by_contents, contents_of, mailbox_in}
 use Rattle.file_plans.specs.Follows.{Follows, Went, by_out, filed_in, deeds_in}
 use Rattle.file_plans.specs.Giving as giving
+use Rattle.file_plans.specs.Giving.{FitAll}
 use Rattle.file_plans.specs.Mailboxes.{Mailbox}
 use Rattle.file_plans.specs.Plan.{Hand, Plan, fresh}
 use Rattle.file_plans.specs.Runs.{Exit, Returned, OutFailed, OfPlan, Runs, exit_by, exit_of}
 use Rattle.file_plans.specs.Sightings.{AreMade, Made, events_since, IsFailed}
 use Rattle.file_plans.specs.Text.{said_of}
-use Rattle.file_plans.specs.Views.{View, first_view}
+use Rattle.file_plans.specs.Views.{View, by_view, first_view, nothing_seen}
 use Rattle.file_plans.proofs.Acting.{acts, acts_made}
-use Rattle.file_plans.proofs.Beside.{lone_changes}
-use Rattle.file_plans.proofs.Both.{GaveSeen, seen_gave, alone_gave, possible_agrees}
+use Rattle.file_plans.proofs.Beside.{fit_acts, lone_changes}
+use Rattle.file_plans.proofs.Both.{GaveSeen, alone_fit, seen_gave, alone_gave, possible_agrees}
 use Rattle.file_plans.proofs.Contents.{mailbox_is}
 use Rattle.file_plans.proofs.Existing.{puts_in}
 use Rattle.file_plans.proofs.Failing.{said_are, failed_made, made_failed, run_failed}
+use Rattle.file_plans.proofs.Giving.{run_gives}
 use Rattle.step_plans.specs.CommandFaults.{command_cause}
 use Rattle.step_plans.specs.Pledges.{Pledge}
 use Rattle.step_plans.specs.Promises.{Promises}
 use Rattle.step_plans.specs.declared.command_fault.CommandFault.{CommandFault}
 use Rattle.step_plans.specs.declared.command_fault.CommandFault.TheVariants as fault
 use Rattle.command_stages.specs.Works.{Work}
-use Rattle.opened_folders.specs.BegunWork.{AreHomesAt}
-use Rattle.opened_folders.specs.HomesOf.{homes_at}
 use Rattle.opened_folders.proofs.HomesFound.{homes_there}
+use Rattle.opened_folders.specs.Endings.{IsEndedBy}
+use Rattle.command_line.specs.BegunCauses.{ShowsFault}
 use Rattle.command_line.specs.Causes.{ShowsCommandFault}
 use Rattle.command_line.specs.Command.{command}
 use Rattle.command_words.specs.Ended.{ended_cause}
 use Rattle.command_line.specs.Outcomes.{work_of}
 use Rattle.command_words.specs.declared.ended.Ended.{Ended}
+use Rattle.command_line.proofs.BegunEnding.{run_ends_by}
 use Rattle.command_line.proofs.Ending.{EndsAs, run_ends}
-use Rattle.command_line.proofs.Giving.{AreAllHomes, IsLateEnd, DecidesEnd, ByFault, CommandEnds, command_gives}
+use Rattle.command_line.proofs.Giving.{IsLateEnd, DecidesEnd, ByFault, CommandEnds, command_gives}
 use Rattle.command_line.proofs.FolderChars.{AreUtf8}
 use Rattle.command_line.proofs.MarksKept.{command_keeps_marks}
 use Rattle.command_line.proofs.Pledging.{command_clean, command_keeps}
 use Rattle.command_line.proofs.Unlinked.{command_first}
 use Rattle.mh_tools.proofs.Told.{adds_none, fault_undone}
 use Rattle.mh_tools.specs.AnswersAlone.{HasOutcome, IsUnfaulted, HasOutcomeAlone, AloneIfTold, AnswersAlone}
+use Rattle.mh_tools.specs.AnswersAsOne.{AnswersAsOne}
 use Rattle.mh_tools.specs.Calls.{Call, LooksOnly, begins, ends, MadeBy}
 use Rattle.mh_tools.specs.FollowsItsPlan.{TellsStatus, FollowsItsPlan}
-use Rattle.mh_tools.specs.IsCaused.{IsCaused, IsShown}
+use Rattle.mh_tools.specs.IsCaused.{IsCaused, IsShown, IsShownBegun, MayBegin}
 use Rattle.mh_tools.specs.KeepsMail.{KeepsMail, KeepsMarks}
 use Rattle.mh_tools.specs.Lines.{error_line_of}
 use Rattle.mh_tools.specs.Outcome.{error_of, answered, outcome_of}
@@ -181,6 +184,23 @@ module _ (c : Call) (plan : FollowsItsPlan c) where
         let shows = shown_at (Err x) is at in
         (subst (λ j. ShowsCommandFault run j steps) f shows.0, shows.1)
 
+  -- and of one that may begin a folder
+  module _ (few : run < 2 ^ 128) (may : MayBegin c) where
+    begun_shown : (r : Result Unit Ended) (s : Status) (k : CommandFault) → outcome ≡ r → ended_status r ≡ s → (s ≡ Done → ⊥) → ((f : CommandFault) → fault_status f ≡ s → f ≡ k) → command_cause k ≡ OfPlan → IsEndedBy (ShowsFault run c.words) k steps
+    begun_shown (Ok tt) s k is e never only cause = absurd (never (sym e))
+    begun_shown (Err x) s k is e never only cause =
+        let f : x.fault ≡ k = only x.fault e in
+        let at : exit ≡ Returned (Err x) = ap (exit_of ended_cause) is ∙ (exit_fault x k f ∙ ap (exit_by {T = Unit {0}} x) cause) in
+        subst (λ j. IsEndedBy (ShowsFault run c.words) j steps) f
+        (run_ends_by run few c.words may (deeds_in went.log) plan.left (Err x) (subst (λ z. Runs (command run c.words) fresh (deeds_in went.log) plan.left z) at went.runs))
+
+    shown_begun : IsShownBegun c steps
+    shown_begun = record {
+      refused = λ r q. begun_shown outcome (Refused r) (fault.Refused r) refl (settle (Refused r) q (λ e. cc (e))) (λ e. cc (e)) (λ f e. fault_refused f r e) refl;
+      locked = λ place q. begun_shown outcome (Locked place) (fault.Locked place) refl (settle (Locked place) q (λ e. cc (e))) (λ e. cc (e)) (λ f e. fault_locked f place e) refl;
+      meddled = λ place name q. begun_shown outcome (Meddled place name) (fault.Meddled place name) refl (settle (Meddled place name) q (λ e. cc (e))) (λ e. cc (e)) (λ f e. fault_meddled f place name e) refl;
+    }
+
   -- a fault of the surroundings
   faulted : (r : Result Unit Ended) (w : Which) → outcome ≡ r → ended_status r ≡ Faulted w → (e : Ended) × (exit ≡ exit_by {T = Unit {0}} e (command_cause (fault.Faulted w)))
   faulted (Ok tt) w is e = absurd (cc (e))
@@ -273,6 +293,7 @@ module _ (c : Call) (plan : FollowsItsPlan c) where
           source = λ q. plan.source (settle (Faulted Source) q (λ e. cc (e)));
           out = λ q. went.out_cause (out_fault (settle (Faulted Out) q (λ e. cc (e))));
           shown = shown;
+          begun = λ may. shown_begun few may;
         }
 
     some_agrees : (old new : Option Story) → GrowsBy run old new (filed_in went.log) → AreMade run old new steps → SomeAgrees old steps
@@ -311,10 +332,6 @@ module _ (c : Call) (plan : FollowsItsPlan c) where
     pub marks : AreUtf8 c.words → KeepsMarks c
     marks texts = command_keeps_marks run few (begins c fresh) (ends c plan.left) outcome c.words texts plan.follows
 
-    -- where what other runs hold aside goes
-    all_homes : (w : WorldMap) → AreAllHomes run (contents_of w)
-    all_homes w p = subst (λ m. AreHomesAt run (m.folders p) (homes_at run (m.folders p))) (mailbox_is w) (homes_there run w p)
-
     -- alone
     error_told : (r : Result Unit Ended) (s : Status) → s ≡ ended_status r → IsVerdict s → TellsStatus (ended_word r) c.before.err c.after.err s → (Rose c.before.err.faults c.after.err.faults → ⊥) → Adds c.before.err.told c.after.err.told (error_of r)
     error_told (Ok tt) s is v told never = silent (subst (λ x. TellsStatus None c.before.err c.after.err x) is told)
@@ -332,7 +349,7 @@ module _ (c : Call) (plan : FollowsItsPlan c) where
         go (Meddled p y) v told e = absurd v
         go NoMemory v told e = absurd v
 
-    module _ (unfaulted : IsUnfaulted c) (is : c.status ≡ ended_status outcome) where
+    module _ (is : c.status ≡ ended_status outcome) where
       -- the outcome on the mailbox that the call came upon
       answers_by : (w : Work Ended) (z : View) (j : Hand) (left : List ℕ) (after : Mailbox) → mailbox_in z.contents ≡ after → said_of (deeds_in went.log) ++ left ≡ w.text → IsVerdict (ended_status outcome) → CommandEnds true w z j left outcome → HasOutcome (answered w) after c
       answers_by w z j left after there prefix v e =
@@ -351,10 +368,11 @@ module _ (c : Call) (plan : FollowsItsPlan c) where
           surely (inl d) = d
           surely (inr late) = absurd (let e : true ≡ false = late.0 in cc)
 
+    module _ (unfaulted : IsUnfaulted c) (is : c.status ≡ ended_status outcome) where
       by_end : (w : Work Ended) (z : View) (j : Hand) (after : Mailbox) → mailbox_in z.contents ≡ after → (g : giving.Gave z j w.text (said_of (deeds_in went.log)) exit (CommandEnds true w)) → (r : Result Unit Ended) → outcome ≡ r → (c.status ≡ NoMemory) ⊎ HasOutcome (answered w) after c
       by_end w z j after there g (Ok tt) same =
           let v : IsVerdict (ended_status outcome) = subst (λ r. IsVerdict (ended_status r)) (sym same) tt in
-          inr (answers_by w z j g.left after there g.prefix v (g.returned outcome (exit_verdict outcome v)))
+          inr (answers_by is w z j g.left after there g.prefix v (g.returned outcome (exit_verdict outcome v)))
       by_end w z j after there g (Err x) same = go x.fault refl
         where
           at : (k : CommandFault) → x.fault ≡ k → exit ≡ exit_by {T = Unit {0}} x (command_cause k)
@@ -366,7 +384,7 @@ module _ (c : Call) (plan : FollowsItsPlan c) where
           go : (k : CommandFault) → x.fault ≡ k → (c.status ≡ NoMemory) ⊎ HasOutcome (answered w) after c
           go (fault.Refused r) e =
               let v : IsVerdict (ended_status outcome) = subst (λ q. IsVerdict (ended_status q)) (sym same) (subst (λ f. IsVerdict (fault_status f)) (sym e) tt) in
-              inr (answers_by w z j g.left after there g.prefix v (g.returned outcome (exit_verdict outcome v)))
+              inr (answers_by is w z j g.left after there g.prefix v (g.returned outcome (exit_verdict outcome v)))
           go (fault.Faulted Files) e = absurd (unfaulted.files (went.files_cause (at (fault.Faulted Files) e)))
           go (fault.Faulted Source) e = absurd (plan.source (ap ended_status same ∙ ap fault_status e))
           go (fault.Faulted Out) e = absurd (unfaulted.out (went.out_cause (at (fault.Faulted Out) e)))
@@ -382,7 +400,7 @@ module _ (c : Call) (plan : FollowsItsPlan c) where
           let d = contents_of (world_at new first) in
           let w = work (mailbox_in d) in
           let g = alone_gave (λ p x. false) run old new added (command run c.words) fresh plan.left (deeds_in went.log) exit w.text (CommandEnds true w) (lone_changes run old new (filed_in went.log) added grows asked start possible alone never) (sym made_) went.runs
-          (command_gives true run d few (λ e. all_homes (world_at new first)) c.words (λ is. refl) (first_view d (puts_in (deeds_in went.log)) (λ p x. false)) refl (record { seen = refl; unmet = λ p x. refl })) in
+          (command_gives true run d few (λ e p. homes_there run d p) c.words (λ is. refl) (first_view d (puts_in (deeds_in went.log)) (λ p x. false)) refl (record { seen = refl; unmet = λ p x. refl })) in
           subst (λ m. (c.status ≡ NoMemory) ⊎ HasOutcome (answered (work m)) (mailbox_at new (first + length added)) c) (sym (mailbox_is (world_at new first)))
           (by_end w g.view plan.left (mailbox_at new (first + length added)) (ap mailbox_in g.contents ∙ sym (mailbox_is (world_at new (first + length added)))) g.gave outcome refl)
 
@@ -395,3 +413,43 @@ module _ (c : Call) (plan : FollowsItsPlan c) where
         by_story (Some old) None grows made_ unfaulted e = absurd grows
         by_story (Some old) (Some new) grows made_ unfaulted (inl is) = alone_told unfaulted is old new grows made_
         by_story (Some old) (Some new) grows made_ unfaulted (inr is) = λ added asked start possible alone. inl is
+
+    -- where one mailbox answers all steps
+    module _ (d z : Contents) (fits : FitPast by_contents d steps z) where
+      abbrev first : View
+      first = first_view d (puts_in (deeds_in went.log)) (λ p x. false)
+
+      fitted : (y : View) × (y.contents ≡ z) × FitAll (by_view true) first (deeds_in went.log) y
+      fitted = alone_fit (λ p x. false) (deeds_in went.log) d z nothing_seen (fit_acts by_contents d z (deeds_in went.log) fits)
+
+      gave : giving.Gave fitted.0 plan.left (work (mailbox_in d)).text (said_of (deeds_in went.log)) exit (CommandEnds true (work (mailbox_in d)))
+      gave =
+          run_gives (by_view true) first fitted.0 fresh plan.left (work (mailbox_in d)).text (command run c.words) (deeds_in went.log) exit (CommandEnds true (work (mailbox_in d)))
+          (command_gives true run d few (λ e p. homes_there run d p) c.words (λ is. refl) first refl (record { seen = refl; unmet = λ p x. refl })) fitted.2 went.runs
+
+      -- another run's lock and a name that was changed meanwhile are not answered
+      never : (r : Result Unit Ended) (k : CommandFault) (s : Status) → outcome ≡ r → ended_status r ≡ s → (s ≡ Done → ⊥) → ((f : CommandFault) → fault_status f ≡ s → f ≡ k) → command_cause k ≡ OfPlan
+          → ((left : List ℕ) (x : Ended) → ByFault true (work (mailbox_in d)) fitted.0 left x k → ⊥) → ⊥
+      never (Ok u) k s same e undone only cause refutes = undone (sym e)
+      never (Err x) k s same e undone only cause refutes =
+          let f : x.fault ≡ k = only x.fault e in
+          let at : exit ≡ Returned (Err x) = ap (exit_of ended_cause) same ∙ (exit_fault x k f ∙ ap (exit_by {T = Unit {0}} x) cause) in
+          refutes gave.left x (subst (λ i. ByFault true (work (mailbox_in d)) fitted.0 gave.left x i) f (gave.returned (Err x) at))
+
+      verdict_on : (n : Mailbox) → mailbox_in z ≡ n → IsVerdict c.status → HasOutcome (answered (work (mailbox_in d))) n c
+      verdict_on n at v =
+          let so = verdict_so v in
+          answers_by so.1 (work (mailbox_in d)) fitted.0 plan.left gave.left n (ap mailbox_in fitted.1 ∙ at) gave.prefix so.0 (gave.returned outcome (exit_verdict outcome so.0))
+
+    pub answers_as_one : AnswersAsOne c
+    unfolding outcome_of
+    answers_as_one =
+        record {
+          deeds = steps;
+          made = made;
+          prefix = λ m n a. subst (λ k. AddsPart c.before.out.told c.after.out.told (work k).text) a.shown
+              (let g = gave a.contents a.left a.answers in (said_of (deeds_in went.log), g.left, g.prefix, said_adds));
+          verdict = λ m n a v. subst (λ k. HasOutcome (answered (work k)) n c) a.shown (verdict_on a.contents a.left a.answers n a.made v);
+          unlocked = λ m n a place q. never a.contents a.left a.answers outcome (fault.Locked place) (Locked place) refl (settle (Locked place) q (λ e. cc (e))) (λ e. cc (e)) (λ f e. fault_locked f place e) refl (λ left x e. e refl);
+          unmeddled = λ m n a place name q. never a.contents a.left a.answers outcome (fault.Meddled place name) (Meddled place name) refl (settle (Meddled place name) q (λ e. cc (e))) (λ e. cc (e)) (λ f e. fault_meddled f place name e) refl (λ left x e. e refl);
+        }

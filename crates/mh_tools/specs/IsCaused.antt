@@ -1,5 +1,5 @@
 -- Where each answer of `mh` comes from.
-use Rattle.std.specs.Prelude.{◌≡◌, ◌≢◌, ℕ, List, []}
+use Rattle.std.specs.Prelude.{◌≡◌, ◌≢◌, ℕ, true, List, []}
 use Rattle.mh_base.specs.Counts.{Rose}
 use Rattle.folder_files.specs.Deeds.{Deed}
 use Rattle.folder_files.specs.declared.place.Place.{Place}
@@ -11,7 +11,11 @@ use Rattle.file_plans.specs.Mailboxes.{Mailbox}
 use Rattle.file_plans.specs.Sightings.{Made, IsFailed}
 use Rattle.step_plans.specs.ContextCommit.{TRIES}
 use Rattle.step_plans.specs.Endings.{IsHeld, IsMeddled}
+use Rattle.step_plans.specs.declared.command_fault.CommandFault.TheVariants as fault
+use Rattle.opened_folders.specs.Endings.{IsShownBy}
+use Rattle.command_line.specs.BegunCauses.{ShowsFault}
 use Rattle.command_line.specs.Causes.{ShowsRefusal}
+use Rattle.command_line.specs.CommandNames.{begins_folders, command_of}
 use Rattle.mh_tools.specs.Calls.{Call, LooksOnly, MadeBy}
 use Rattle.mh_tools.specs.TellsWhatItSaw.{outcome_on}
 use Rattle.mh_tools.specs.declared.status.Status.TheVariants.{Done, Refused, Faulted, Locked, Meddled}
@@ -25,9 +29,26 @@ pub record IsShown (c : Call) (deeds : List Deed) : Type 0 where
   pub locked : (place : Place) → c.status ≡ Locked place → ((mail : List ℕ) × (place ≡ Mail mail) × IsHeld place TRIES deeds) × (Made IsFailed deeds → ⊥)
   pub meddled : (place : Place) (name : List ℕ) → c.status ≡ Meddled place name → IsMeddled c.setting.run place name deeds × (Made IsFailed deeds → ⊥)
 
--- Where each answer comes from, by the answers to the call's own steps. Done comes only where no step failed. A fault comes only where the count of that
--- which failed rose: of the files where a step failed; the input never fails, since no command that there is reads it. What else is shown is said of the
--- commands that only look at a folder. Want of memory alone is free.
+-- the words name a command that begins a folder, by its name at least
+abbrev pub MayBegin : Call → Type 0
+MayBegin c = begins_folders (command_of c.words) ≡ true
+
+-- Of a command that may begin a folder: a refusal, Locked and Meddled come only where what shows them was answered.
+-- After a refusal and after Locked it may have let the folder go that it had locked, as its last step. But for that
+-- step no step failed.
+pub record IsShownBegun (c : Call) (deeds : List Deed) : Type 0 where
+  pub refused : (r : Refusal) → c.status ≡ Refused r
+      → IsShownBy (ShowsFault c.setting.run c.words (fault.Refused r)) deeds
+  pub locked : (place : Place) → c.status ≡ Locked place
+      → IsShownBy (ShowsFault c.setting.run c.words (fault.Locked place)) deeds
+  pub meddled : (place : Place) (name : List ℕ) → c.status ≡ Meddled place name
+      → ShowsFault c.setting.run c.words (fault.Meddled place name) deeds × (Made IsFailed deeds → ⊥)
+
+-- Where each answer comes from, by the answers to the call's own steps. Done comes only where no step failed. A fault
+-- comes only where the count of that which failed rose: of the files where a step failed; the input never fails,
+-- since no command that there is reads it. Each refusal, Locked and Meddled come only where own steps show them. That
+-- a fault of the output comes only where there is a text to write is said of the commands that only look at a folder.
+-- Want of memory alone is free.
 pub record IsCaused (c : Call) : Type 0 where
   pub deeds : List Deed
   pub made : MadeBy c deeds
@@ -36,3 +57,4 @@ pub record IsCaused (c : Call) : Type 0 where
   pub source : c.status ≢ Faulted Source
   pub out : c.status ≡ Faulted Out → Rose c.before.out.faults c.after.out.faults
   pub shown : LooksOnly c → IsShown c deeds
+  pub begun : MayBegin c → IsShownBegun c deeds

@@ -1,4 +1,5 @@
 pub mod AnswersAlone
+pub mod AnswersAsOne
 pub mod Calls
 pub mod FollowsItsPlan
 pub mod IsCaused

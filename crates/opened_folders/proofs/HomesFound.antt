@@ -4,10 +4,10 @@ use Rattle.std.specs.Prelude.{not, is_some, nat_le, if◌then◌else◌}
 use Rattle.std.proofs.lemmas.Bool.{and_from, and_parts, eqb-false, leb-true, lt-ltb, ltb-false, ltb-true}
 use Rattle.std.proofs.lemmas.Bool.Decides.{Decides-eqb}
 use Rattle.folder_files.specs.Places.{is_folder}
-use Rattle.folder_files.specs.Worlds.{WorldMap}
 use Rattle.folder_files.specs.declared.place.Place.{Place}
 use Rattle.folder_files.proofs.Names.{num_itself, or_case, or_left}
-use Rattle.file_plans.specs.Mailboxes.{Folder as FolderValue, as_folder, is_message_number, mailbox_of, numbered}
+use Rattle.file_plans.specs.Contents.{Contents, folder_at, mailbox_in}
+use Rattle.file_plans.specs.Mailboxes.{Folder as FolderValue, is_message_number, numbered}
 use Rattle.held_messages.specs.HeldPairs.{AreInOrder, has_pair, is_before, is_pair}
 use Rattle.held_messages.specs.declared.held.HeldPair.{HeldPair}
 use Rattle.opened_folders.specs.BegunWork.{AreHomes, AreHomesAt}
@@ -217,7 +217,7 @@ homes_are own f numbers = record {
         let high = high_number n number in
         from_has own f 1 999999 run n low (omega (arith, high)) (ltb-true run (2 ^ 128) q.0) (and_from (not (run == own)) (is_some (f.held run n)) p.0 q.1)
 
--- the folders of a world have such numbers alone
+-- folders show such numbers alone
 numbered_some : (n : ℕ) (text : Option (List ℕ)) → is_some (numbered n text) ≡ true → is_message_number n ≡ true
 numbered_some n text e = go (is_message_number n) e
   where
@@ -229,14 +229,14 @@ held_some : (b : Bool) (n : ℕ) (text : Option (List ℕ)) → is_some (if b th
 held_some true n text e = numbered_some n text e
 held_some false n text e = cc (e)
 
-abbrev shown_folder : WorldMap → Place → Bool → Bool → Option FolderValue
-shown_folder w p b there = if b then (if there then Some (as_folder w (w.directories p)) else None) else None
+abbrev shown_folder : Contents → Place → Bool → Bool → Option FolderValue
+shown_folder c p b there = if b then (if there then Some (folder_at c p) else None) else None
 
-pub homes_there : (own : ℕ) (w : WorldMap) (p : Place) → AreHomesAt own ((mailbox_of w).folders p) (homes_at own ((mailbox_of w).folders p))
-unfolding mailbox_of
-homes_there own w p = go (is_folder p) ((w.directories p).there)
+pub homes_there : (own : ℕ) (c : Contents) (p : Place) → AreHomesAt own ((mailbox_in c).folders p) (homes_at own ((mailbox_in c).folders p))
+unfolding mailbox_in
+homes_there own c p = go (is_folder p) (c.there p)
   where
-    go : (b there : Bool) → AreHomesAt own (shown_folder w p b there) (homes_at own (shown_folder w p b there))
-    go true true = homes_are own (as_folder w (w.directories p)) (record { messages = λ n e. numbered_some n _ e; held = λ r n e. held_some (nat_lt r (2 ^ 128)) n _ e })
+    go : (b there : Bool) → AreHomesAt own (shown_folder c p b there) (homes_at own (shown_folder c p b there))
+    go true true = homes_are own (folder_at c p) (record { messages = λ n e. numbered_some n _ e; held = λ r n e. held_some (nat_lt r (2 ^ 128)) n _ e })
     go true false = tt
     go false there = tt

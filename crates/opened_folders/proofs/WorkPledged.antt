@@ -50,7 +50,7 @@ use Rattle.opened_folders.proofs.EndedKept.{Still, ended_keeps, none_keeps}
 use Rattle.opened_folders.proofs.FolderPledged.{Begins, HasBegun, begun_goes, seen_kept}
 
 -- what serves a commit begins a folder too
-serves_begins : (k : Kind) → serves_commit k ≡ true → begins_folder k ≡ true
+pub serves_begins : (k : Kind) → serves_commit k ≡ true → begins_folder k ≡ true
 serves_begins Makes e = refl
 serves_begins Creates e = refl
 serves_begins Puts e = cc (e)
@@ -148,7 +148,7 @@ module _ (run : ℕ) (few : run < 2 ^ 128) (path folder : List ℕ) (Makes_ : Li
       (λ later old made f m. record { listing = listing; read_text = text; context = context; seen = f; new = told_within listing text context folder; made = inl refl; writes = inr (inr m) })
 
   -- the folder may be begun
-  begins : Begins w path folder
+  pub begins : Begins w path folder
   begins = record {
     serves = serves_folder;
     mail = serves_mail;

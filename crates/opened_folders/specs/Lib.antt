@@ -1,6 +1,7 @@
 pub mod BegunAlone
 pub mod BegunWork
 pub mod Ending
+pub mod Endings
 pub mod Existing
 pub mod FolderPledge
 pub mod HomesOf

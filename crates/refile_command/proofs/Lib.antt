@@ -1,4 +1,5 @@
 pub mod Loops
+pub mod RmmEnds
 pub mod RmmGiven
 pub mod RmmMinds
 pub mod RmmPledged

@@ -91,7 +91,7 @@ unfolding numbers_settled
 settled_runs run s = all_runs _
 
 -- what was listed are runs
-listed_runs : (run : ℕ) (p mail : Place) (listing : List Run) (text context : List ℕ) (own : List Deed) → HaveSeen run p mail listing text context own → AreRuns listing
+pub listed_runs : (run : ℕ) (p mail : Place) (listing : List Run) (text context : List ℕ) (own : List Deed) → HaveSeen run p mail listing text context own → AreRuns listing
 listed_runs run p mail listing text context own f = subst AreRuns (sym f.listed.1) (settled_runs run f.listed.0)
 
 module _ (run : ℕ) (few : run < 2 ^ 128) (path : List ℕ) (job : RmmJob) where
@@ -107,7 +107,7 @@ module _ (run : ℕ) (few : run < 2 ^ 128) (path : List ℕ) (job : RmmJob) wher
   abbrev no_piece : List Deed → List ℕ → Type 0
   no_piece own piece = ⊥
 
-  lets : LetsBegin path job.folder (Removing path job.folder every_message) (RemovesChosen run path job)
+  pub lets : LetsBegin path job.folder (Removing path job.folder every_message) (RemovesChosen run path job)
   lets = record {
     kinds = λ own kind s k. inl k;
     makes = λ own q. λ n r. absurd r;

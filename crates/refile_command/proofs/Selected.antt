@@ -49,7 +49,7 @@ module _ (job : RmmJob) (listing : List Run) (m : Marked) (numbers : List ℕ) (
   chosen_listed n e = sym (lists_numbers listing n) ∙ selected_within f (map encode_utf8_all job.specs) numbers selection n e
 
 -- numbers of runs are message numbers
-in_runs : (rs : List Run) → AreRuns rs → (n : ℕ) → has rs n ≡ true → IsMsgNum n
+pub in_runs : (rs : List Run) → AreRuns rs → (n : ℕ) → has rs n ≡ true → IsMsgNum n
 in_runs rs valid n e = elim (in_range_or n) [
   | inl l ↦ (l.0, l.1)
   | inr out ↦ absurd (let no : true ≡ false = sym e ∙ none_outside rs n valid out in cc (no))

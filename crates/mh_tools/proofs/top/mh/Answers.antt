@@ -1,5 +1,5 @@
 use Rattle.file_plans.proofs.Following.{beside}
-use Rattle.mh_tools.proofs.Clauses.{answers_alone, caused, keeps, marks, never_source, string_texts, tells}
+use Rattle.mh_tools.proofs.Clauses.{answers_alone, answers_as_one, caused, keeps, marks, never_source, string_texts, tells}
 use Rattle.mh_tools.proofs.top.mh.Goals as goal
 
 pub returns-clause-plan : goal.returns-clause-plan
@@ -15,6 +15,9 @@ returns-clause-seen g c = tells _ (returns-clause-plan g c) (rw c.run.ensures at
 
 pub returns-clause-alone : goal.returns-clause-alone
 returns-clause-alone g c = answers_alone _ (returns-clause-plan g c) (rw c.run.ensures at c.run.type_inv)
+
+pub returns-clause-as_one : goal.returns-clause-as_one
+returns-clause-as_one g c = answers_as_one _ (returns-clause-plan g c) (rw c.run.ensures at c.run.type_inv)
 
 pub returns-clause-keeps : goal.returns-clause-keeps
 returns-clause-keeps g c = keeps _ (returns-clause-plan g c) (rw c.run.ensures at c.run.type_inv)

@@ -1,0 +1,471 @@
+-- How a command ends whose words name one that begins a folder, and what shows it.
+use Rattle.std.proofs.Common.{◌≡◌, ◌++◌, ◌<◌, inl, inr, ◌^◌, ◌∷◌, [], ℕ, Bool, true, false, List, Option, Some, None, Result, Ok, Err, nat_lt, refl, sym, ap, subst, arith}
+use Rattle.std.specs.Prelude.{codes, map, if◌then◌else◌}
+use Rattle.std.specs.Str.{chars}
+use Rattle.mh_base.specs.Folders.{is_folder_name, without_plus}
+use Rattle.mh_base.specs.Entries.{kind_of}
+use Rattle.mh_profile.specs.declared.named_value.NamedValue.{NamedValue}
+use Rattle.mh_profile.specs.Reading.{entries_in}
+use Rattle.mh_words.specs.Whole.{Wrong, read_in}
+use Rattle.mh_words.specs.declared.item.Item.{Item}
+use Rattle.folder_files.specs.Careful.{WasMade}
+use Rattle.folder_files.specs.Deeds.{Deed, HasFailed, Once, did, now, on}
+use Rattle.folder_files.specs.Named.{is_number}
+use Rattle.folder_files.specs.declared.place.Place.{Place}
+use Rattle.folder_files.specs.declared.place.Place.TheVariants.{Folder, Home, Mail}
+use Rattle.folder_files.specs.declared.refusal.Refusal.TheVariants as refusal
+use Rattle.folder_files.specs.declared.step.Answer.{Answer}
+use Rattle.folder_files.specs.declared.step.Answer.TheVariants as answer
+use Rattle.folder_files.specs.declared.step.Step.TheVariants as step
+use Rattle.file_plans.specs.Asking.{reading_of}
+use Rattle.file_plans.specs.Plan.{Hand, Recall, Return, after, converted, fresh, lifted, ◌>>=◌}
+use Rattle.file_plans.specs.Rules.{Keeps}
+use Rattle.file_plans.specs.Runs as runs
+use Rattle.file_plans.specs.Runs.{Returned, Runs}
+use Rattle.file_plans.proofs.Acting.{acts}
+use Rattle.file_plans.proofs.Framing.{AnyStep, asks_any}
+use Rattle.file_plans.proofs.Keeping.{keeps_bind, run_keeps}
+use Rattle.step_plans.specs.CommandFaults.{of_stop}
+use Rattle.step_plans.specs.ContextCommit.{LIMIT_BYTES, context_name}
+use Rattle.step_plans.specs.Endings.{IsTakenAway}
+use Rattle.step_plans.specs.Hands.{knowing, temp_name}
+use Rattle.step_plans.specs.declared.command_fault.CommandFault.{CommandFault}
+use Rattle.step_plans.specs.declared.command_fault.CommandFault.TheVariants as fault
+use Rattle.step_plans.proofs.Coming.{Comes, NoneFailed, OfActs, anything, comes_clean, comes_framed, comes_keeps, comes_lifted, comes_read, comes_then, comes_to}
+use Rattle.step_plans.proofs.Going.{Outcome}
+use Rattle.step_plans.proofs.Lasting.{KeptBy}
+use Rattle.step_plans.proofs.Past.{did_step}
+use Rattle.command_stages.specs.Texts.{Commanded, text_by, text_read, too_large}
+use Rattle.mh_looks.specs.Scan.{entries_seen}
+use Rattle.mh_looks.proofs.Ending.{ScanEnds}
+use Rattle.opened_folders.specs.Endings.{IsEndedBy, IsShownBy, PutsNone, ShowsEnd, at_once, let_go}
+use Rattle.opened_folders.proofs.CleanRuns.{Clean}
+use Rattle.opened_folders.proofs.EndedKept.{keeps_more}
+use Rattle.opened_folders.proofs.NamesKept.{putting, taking}
+use Rattle.opened_folders.proofs.WorkEnds.{EndsSo, ShowsSo}
+use Rattle.mark_command.specs.Mark.{mark, mark_by_act}
+use Rattle.mark_command.specs.MarkPledge.{Marks}
+use Rattle.mark_command.specs.declared.job.MarkAct.{MarkAct}
+use Rattle.mark_command.specs.declared.job.MarkJob.{MarkJob}
+use Rattle.mark_command.proofs.LooksEnd.{looks_comes, looks_job}
+use Rattle.mark_command.proofs.MarkEnds.{changes_end}
+use Rattle.refile_command.specs.Rmm.{rmm}
+use Rattle.refile_command.specs.RmmPledge.{Withdraws}
+use Rattle.refile_command.proofs.RmmEnds.{rmm_ends}
+use Rattle.command_words.specs.Ended.{plain, wrong_at, wrong_word as wrong_ended}
+use Rattle.command_words.specs.FolderWords.{folder_named, folders, named_folder, one_folder, some_named}
+use Rattle.command_words.specs.MarkWords as mark_words
+use Rattle.command_words.specs.MarkWords.{lacks_sequence, mark_line, mark_said, missing_after}
+use Rattle.command_words.specs.RmmWords as rmm_words
+use Rattle.command_words.specs.RmmWords.{rmm_said}
+use Rattle.command_words.specs.SequenceNames.{unless_wrong}
+use Rattle.command_words.specs.Tables.{mark_table, rmm_table}
+use Rattle.command_words.specs.Words.{profile_words}
+use Rattle.command_words.specs.declared.ended.Ended.{Ended}
+use Rattle.command_words.specs.declared.mark.MarkWords.{MarkWords}
+use Rattle.command_words.specs.declared.rmm.RmmWords.{RmmWords}
+use Rattle.command_line.specs.BegunCauses.{ShowsEarly, ShowsFault, ShowsMark, ShowsMarking, ShowsNamed, ShowsRmm, long_context, long_profile, wrong_folder, wrong_name, wrong_stored, wrong_word}
+use Rattle.command_line.specs.Causes.{ShowsCommandFault}
+use Rattle.command_line.specs.Command.{command, command_by, context_entered, context_seen, folder_found, mark_begun, mark_by, mark_job, rmm_begun, rmm_by, rmm_job, word_by}
+use Rattle.command_line.specs.CommandNames.{begins_folders, command_of, named}
+use Rattle.command_line.specs.CommandPledge.{entries_by, text_of}
+use Rattle.command_line.specs.Profile.{folder_of, path_of, profile_name, stored_of}
+use Rattle.command_line.specs.declared.name.CommandName.{CommandName}
+use Rattle.command_line.specs.declared.name.CommandName.TheVariants.{Mark, Rmm, Scan}
+use Rattle.command_line.proofs.Ending.{scan_shows}
+
+-- where less is asked of what shows an end
+shown_more : (S T : List Deed → Type 0) → ((own : List Deed) → S own → T own) → (own : List Deed) → IsShownBy S own → IsShownBy T own
+shown_more S T f _ (at_once {own = own} s clean) = at_once (f own s) clean
+shown_more S T f _ (let_go {own = own} s clean lock) = let_go (f own s) clean lock
+
+ended_more : (S T : CommandFault → List Deed → Type 0) → ((e : CommandFault) (own : List Deed) → S e own → T e own) → (e : CommandFault) (own : List Deed) → IsEndedBy S e own → IsEndedBy T e own
+ended_more S T f (fault.Refused r) own s = shown_more (S (fault.Refused r)) (T (fault.Refused r)) (f (fault.Refused r)) own s
+ended_more S T f (fault.Faulted which) own s = s
+ended_more S T f (fault.Locked q) own s = shown_more (S (fault.Locked q)) (T (fault.Locked q)) (f (fault.Locked q)) own s
+ended_more S T f (fault.Meddled q x) own s = (f (fault.Meddled q x) own s.0, s.1)
+ended_more S T f fault.Memory own s = s
+
+-- the deeds after the profile was read, and after the context was
+abbrev after_profile : Answer → List Deed
+after_profile a = did (step.Read Home profile_name LIMIT_BYTES) a ∷ []
+
+abbrev after_context : List ℕ → Answer → Answer → List Deed
+after_context path a b = did (step.Read (Mail path) context_name LIMIT_BYTES) b ∷ after_profile a
+
+-- a text that is read, as its answer tells it
+abbrev Tells : Place → List ℕ → List Deed → Hand → Outcome (Result (List ℕ) CommandFault)
+Tells p x own h later j (Ok text) = (a : Answer) × (later ≡ did (step.Read p x LIMIT_BYTES) a ∷ own) × (j ≡ h) × (text ≡ text_of (reading_of a))
+Tells p x own h later j (Err e) = (l : ℕ) × (e ≡ too_large l) × (later ≡ did (step.Read p x LIMIT_BYTES) (answer.Long l) ∷ own)
+
+told_comes : (p : Place) (x : List ℕ) (own : List Deed) (h : Hand) → Comes own h (text_read p x) (Tells p x own h)
+unfolding text_read
+told_comes p x own h =
+    comes_read own h of_stop (Tells p x own h) p x LIMIT_BYTES text_by (λ bytes. comes_to _ h (Ok bytes) (Tells p x own h) (answer.Content bytes, refl, refl, refl))
+    (λ l. comes_to _ h (Err (too_large l)) (Tells p x own h) (l, refl, refl)) (comes_to _ h (Ok []) (Tells p x own h) (answer.Gone, refl, refl, refl))
+
+unfailed_by : (own : List Deed) → NoneFailed own → HasFailed own → ⊥
+unfailed_by (d ∷ own) clean (now e) = clean (inl e)
+unfailed_by (d ∷ own) clean (on z) = unfailed_by own (λ m. clean (inr m)) z
+unfailed_by [] clean z = elim z [ ]
+
+-- two readings put no name anywhere, and take none away
+none_put : (p : Place) (path : List ℕ) (a b : Answer) → PutsNone p (after_context path a b)
+none_put p path a b (now w) = putting p w.0 (step.Read (Mail path) context_name LIMIT_BYTES) b w.1
+none_put p path a b (on (now w)) = putting p w.0 (step.Read Home profile_name LIMIT_BYTES) a w.1
+none_put p path a b (on (on z)) = elim z [ ]
+
+none_taken : (p : Place) (path : List ℕ) (a b : Answer) (x : List ℕ) → is_number (kind_of x) ≡ true → Once (λ d older. IsTakenAway p x d) (after_context path a b) → ⊥
+none_taken p path a b x n (now t) = taking p x (step.Read (Mail path) context_name LIMIT_BYTES) b t
+none_taken p path a b x n (on (now t)) = taking p x (step.Read Home profile_name LIMIT_BYTES) a t
+none_taken p path a b x n (on (on z)) = elim z [ ]
+
+not_created : (p q : Place) (x y bytes : List ℕ) (limit : ℕ) (a : Answer) → did (step.Read q y limit) a ≡ did (step.Create p x bytes) answer.Done → ⊥
+not_created p q x y bytes limit a e = let same : step.Read q y limit ≡ step.Create p x bytes = did_step e in cc
+
+none_made : (p : Place) (x path : List ℕ) (a b : Answer) → WasMade p x (after_context path a b) → ⊥
+none_made p x path a b (now w) = not_created p (Mail path) x context_name w.0 LIMIT_BYTES b w.1
+none_made p x path a b (on (now w)) = not_created p Home x profile_name w.0 LIMIT_BYTES a w.1
+none_made p x path a b (on (on z)) = elim z [ ]
+
+module _ (run : ℕ) (few : run < 2 ^ 128) (words_ : List (List ℕ)) where
+  abbrev Shows : CommandFault → List Deed → Type 0
+  Shows e own = ShowsFault run words_ e own
+
+  -- how the command ends
+  abbrev pub EndsBy : List runs.Deed → Hand → Result Unit Ended → Type 0
+  EndsBy past h (Ok u) = Unit {0}
+  EndsBy past h (Err x) = IsEndedBy Shows x.fault (acts past)
+
+  abbrev Plainly : List runs.Deed → Hand → Result Unit CommandFault → Type 0
+  Plainly past h (Ok u) = Unit {0}
+  Plainly past h (Err e) = IsEndedBy Shows e (acts past)
+
+  -- an end before the command came to a folder
+  early : (e : CommandFault) (own : List Deed) → ShowsEarly e own → NoneFailed own → IsEndedBy Shows e own
+  early _ own (wrong_word f) clean = at_once (inl (wrong_word f)) clean
+  early _ own (wrong_folder f) clean = at_once (inl (wrong_folder f)) clean
+  early _ own (wrong_name f) clean = at_once (inl (wrong_name f)) clean
+  early _ own (wrong_stored f) clean = at_once (inl (wrong_stored f)) clean
+  early _ _ long_profile clean = at_once (inl long_profile) clean
+  early _ _ long_context clean = at_once (inl long_context) clean
+
+  -- that of a command that looks
+  looked : (e : CommandFault) (own : List Deed) → ShowsCommandFault run e own → (ShowsCommandFault run e own → Shows e own) → NoneFailed own → IsEndedBy Shows e own
+  looked (fault.Refused r) own s so clean = at_once (so s) clean
+  looked (fault.Faulted which) own s so clean = absurd s
+  looked (fault.Locked q) own s so clean = at_once (so s) clean
+  looked (fault.Meddled q x) own s so clean = (so s, clean)
+  looked fault.Memory own s so clean = absurd s
+
+  stops : (past : List runs.Deed) (h : Hand) (x : Ended) → IsEndedBy Shows x.fault (acts past) → Keeps anything past h (Return (Err x)) EndsBy
+  unfolding Keeps
+  stops past h x s = (tt, s)
+
+  stops_plainly : (past : List runs.Deed) (h : Hand) (e : CommandFault) → IsEndedBy Shows e (acts past) → Keeps anything past h (Return (Err e)) Plainly
+  unfolding Keeps
+  stops_plainly past h e s = (tt, s)
+
+  -- one whose faults speak of no word
+  plain_keeps : (past : List runs.Deed) (h : Hand) (q : Commanded Unit) → Keeps anything past h q Plainly → Keeps anything past h (lifted plain q) EndsBy
+  unfolding lifted Keeps
+  plain_keeps past h q k = keeps_bind anything past h q (λ r. Return (converted plain r)) Plainly EndsBy k go
+    where
+      go : (later : List runs.Deed) (j : Hand) (r : Result Unit CommandFault) → Plainly later j r → Keeps anything later j (Return (converted plain r)) EndsBy
+      go later j (Ok u) s = (tt, tt)
+      go later j (Err e) s = (tt, s)
+
+  long_there : (path : List ℕ) (a : Answer) (later : List Deed) (l : ℕ) (e : CommandFault) → e ≡ too_large l → later ≡ did (step.Read (Mail path) context_name LIMIT_BYTES) (answer.Long l) ∷ after_profile a → ShowsEarly e later
+  long_there path a later l e is at = rw (is, at) long_context
+
+  long_first : (later : List Deed) (l : ℕ) (e : CommandFault) → e ≡ too_large l → later ≡ did (step.Read Home profile_name LIMIT_BYTES) (answer.Long l) ∷ [] → ShowsEarly e later
+  long_first later l e is at = rw (is, at) long_profile
+
+  -- the profile was read
+  module _ (a : Answer) where
+    abbrev profile : List NamedValue
+    profile = entries_by a
+
+    abbrev path : List ℕ
+    path = path_of profile
+
+    -- the folder that is acted on
+    abbrev Found : Option (List ℕ) → Outcome (Result (List ℕ) CommandFault)
+    Found said later j (Ok folder) = (b : Answer) × (later ≡ after_context path a b) × (j.next ≡ 0) × (folder_of said (entries_by b) profile ≡ Ok folder)
+    Found said later j (Err e) = ShowsEarly e later
+
+    abbrev Enters : Outcome (Result Unit CommandFault)
+    Enters later j (Ok u) = (b : Answer) × (later ≡ after_context path a b) × (j ≡ knowing (entries_by b) fresh)
+    Enters later j (Err e) = ShowsEarly e later
+
+    seen_comes : (b : Answer) (es : List NamedValue) → es ≡ entries_by b → Comes (after_context path a b) fresh (context_seen es) Enters
+    unfolding Comes context_seen
+    seen_comes b es is = (b, refl, ap (λ z. knowing z fresh) is)
+
+    at : {A : Type 0} (own now_ : List Deed) (j i : Hand) (q : Commanded A) (Q : Outcome (Result A CommandFault)) → own ≡ now_ → j ≡ i → Comes now_ i q Q → Comes own j q Q
+    at own now_ j i q Q e f g = rw (e, f) g
+
+    entered_comes : Comes (after_profile a) fresh (context_entered (Mail path)) Enters
+    unfolding context_entered
+    entered_comes =
+        comes_then (after_profile a) fresh (text_read (Mail path) context_name) (λ text. context_seen (entries_in text)) (Tells (Mail path) context_name (after_profile a) fresh) Enters (told_comes (Mail path) context_name (after_profile a) fresh)
+        (λ later j text q. at later (after_context path a q.0) j fresh (context_seen (entries_in text)) Enters q.1 q.2 (seen_comes q.0 (entries_in text) (ap entries_in q.3)))
+        (λ later j e q. long_there path a later q.0 e q.1 q.2)
+
+    refused_comes : (said : Option (List ℕ)) (b : Answer) (j : Hand) → j ≡ knowing (entries_by b) fresh → Comes (after_context path a b) j (Recall (λ h. Return (folder_of said (entries_seen h.context) profile))) (Found said)
+    unfolding Comes
+    refused_comes said b j is = rw is (go said)
+      where
+        stored : List ℕ
+        stored = stored_of (entries_by b) profile
+
+        by_name : (c : Bool) → (if c then Ok (without_plus stored) else Err (fault.Refused (refusal.BadFolder stored))) ≡ named_folder stored
+            → Found None (after_context path a b) (knowing (entries_by b) fresh) (if c then Ok (without_plus stored) else Err (fault.Refused (refusal.BadFolder stored)))
+        by_name true same = (b, refl, refl, sym same)
+        by_name false same = wrong_stored (path, a, b, refl)
+
+        go : (said : Option (List ℕ)) → Found said (after_context path a b) (knowing (entries_by b) fresh) (folder_of said (entries_by b) profile)
+        go (Some name) = (b, refl, refl, refl)
+        go None = by_name (is_folder_name (without_plus stored)) refl
+
+    found_comes : (said : Option (List ℕ)) → Comes (after_profile a) fresh (folder_found profile said) (Found said)
+    unfolding folder_found
+    found_comes said =
+        comes_then (after_profile a) fresh (context_entered (Mail path)) (λ entered. Recall (λ h. Return (folder_of said (entries_seen h.context) profile))) Enters (Found said) entered_comes
+        (λ later j u q. at later (after_context path a q.0) j j _ (Found said) q.1 refl (refused_comes said q.0 j q.2)) (λ later j e q. q)
+
+    -- the command on it
+    abbrev Behind : Answer → List Deed → Type 0
+    Behind b own = (newer : List Deed) × (own ≡ newer ++ after_context path a b)
+
+    behind_kept : (b : Answer) → KeptBy AnyStep (Behind b)
+    behind_kept b own s x any f = (did s x ∷ f.0, ap (λ t. did s x ∷ t) f.1)
+
+    clean_there : (b : Answer) (own : List Deed) (j : Hand) → own ≡ after_context path a b → j.next ≡ 0 → NoneFailed own → Clean run own j
+    clean_there b own j is first clean = record {
+      numbered = rw is (tt, (tt, tt));
+      unfailed = unfailed_by own clean;
+      few = rw first (omega arith);
+    }
+
+    numbered_there : (j : Hand) → j.next ≡ 0 → nat_lt j.next (2 ^ 64) ≡ true
+    numbered_there j first = rw first refl
+
+    on_folder : (word : List ℕ) (rest : List (List ℕ)) → words_ ≡ word ∷ rest → (b : Answer) (folder : List ℕ) (e : CommandFault) (own : List Deed) → Behind b own
+        → ShowsNamed run profile (entries_by b) folder e own rest (named word) → Shows e own
+    on_folder word rest is b folder e own f s = inr (record { profile = a; context = b; folder = folder; newer = f.0; begun = f.1; shows = rw is s })
+
+    module _ (word : List ℕ) (rest : List (List ℕ)) (is_words : words_ ≡ word ∷ rest) where
+      -- `mark`
+      module _ (name : named word ≡ Some Mark) (words : MarkWords) (said : mark_said profile (map chars rest) ≡ Ok words) where
+        mark_on : (b : Answer) (folder : List ℕ) → folder_of words.folder (entries_by b) profile ≡ Ok folder → (e : CommandFault) (own : List Deed)
+            → Behind b own × ShowsMarking run path (mark_job folder words profile) e own words.act → Shows e own
+        mark_on b folder there e own s =
+            on_folder word rest is_words b folder e own s.0
+            (subst (λ n. ShowsNamed run profile (entries_by b) folder e own rest n) (sym name)
+            (subst (λ m. ShowsMark run profile (entries_by b) folder e own m) (sym said) (there, s.1)))
+
+        module _ (past : List runs.Deed) (j : Hand) (folder : List ℕ) (b : Answer) (is : acts past ≡ after_context path a b) (first : j.next ≡ 0) (there : folder_of words.folder (entries_by b) profile ≡ Ok folder) (clean : NoneFailed (acts past)) where
+          abbrev job : MarkJob
+          job = mark_job folder words profile
+
+          changing : (act : MarkAct) → words.act ≡ Some act → Keeps anything past j (mark_by_act run path job (Some act)) Plainly
+          changing act is_act =
+              keeps_more anything past j _ (EndsSo run few path folder (Marks job act) (Behind b)) Plainly more
+              (changes_end run few path job act (Behind b) (behind_kept b) past j clean (clean_there b (acts past) j is first clean) (subst (PutsNone (Mail path)) (sym is) (none_put (Mail path) path a b))
+              (λ x n t. none_taken (Folder path folder) path a b x n (subst (λ o. Once (λ d older. IsTakenAway (Folder path folder) x d) o) is t)) ([], is))
+            where
+              more : (later : List runs.Deed) (i : Hand) (r : Result Unit CommandFault) → EndsSo run few path folder (Marks job act) (Behind b) later i r → Plainly later i r
+              more later i (Ok u) s = tt
+              more later i (Err e) s =
+                  ended_more (ShowsSo run few path folder (Marks job act) (Behind b)) Shows
+                  (λ x own q. mark_on b folder there x own (q.0, subst (λ z. ShowsMarking run path job x own z) (sym is_act) q.1)) e (acts later) s
+
+          looking : words.act ≡ None → Keeps anything past j (mark_by_act run path job None) Plainly
+          looking is_act =
+              keeps_more anything past j _ (OfActs Looks) Plainly more
+              (comes_keeps past (acts past) j (mark_by_act run path job None) Looks refl
+              (comes_clean (acts past) j (mark_by_act run path job None) Looked clean
+              (comes_framed AnyStep (Behind b) (behind_kept b) (acts past) j (mark_by_act run path job None) (ScanEnds run path (looks_job job) j (numbered_there j first)) (asks_any (mark_by_act run path job None)) ([], is)
+              (looks_comes run path job j (numbered_there j first) (acts past) (λ w. none_made (Mail path) (temp_name run j.next) path a b (subst (λ o. WasMade (Mail path) (temp_name run j.next) o) is w))))))
+            where
+              Looked : Outcome (Result Unit CommandFault)
+              Looked later i r = Behind b later × ScanEnds run path (looks_job job) j (numbered_there j first) later i r
+
+              Looks : Outcome (Result Unit CommandFault)
+              Looks later i r = NoneFailed later × Looked later i r
+
+              more : (later : List runs.Deed) (i : Hand) (r : Result Unit CommandFault) → OfActs Looks later i r → Plainly later i r
+              more later i (Ok u) s = tt
+              more later i (Err e) s =
+                  looked e (acts later) (scan_shows run path folder e (acts later) s.1.1)
+                  (λ f. mark_on b folder there e (acts later) (s.1.0, subst (λ z. ShowsMarking run path job e (acts later) z) (sym is_act) f)) s.0
+
+          mark_keeps : Keeps anything past j (mark run path job) Plainly
+          unfolding mark
+          mark_keeps = go words.act refl
+            where
+              go : (act : Option MarkAct) → words.act ≡ act → Keeps anything past j (mark_by_act run path job act) Plainly
+              go None is_act = looking is_act
+              go (Some act) is_act = changing act is_act
+
+        mark_begun_keeps : (past : List runs.Deed) → acts past ≡ after_profile a → NoneFailed (acts past) → Keeps anything past fresh (mark_begun run profile words) Plainly
+        unfolding mark_begun ◌>>=◌
+        mark_begun_keeps past is clean =
+            keeps_bind anything past fresh (folder_found profile words.folder) (after (λ folder. mark run path (mark_job folder words profile))) (OfActs Finds) Plainly
+            (comes_keeps past (acts past) fresh (folder_found profile words.folder) Finds refl
+            (comes_clean (acts past) fresh (folder_found profile words.folder) (Found words.folder) clean (subst (λ o. Comes o fresh (folder_found profile words.folder) (Found words.folder)) (sym is) (found_comes words.folder))))
+            go
+          where
+            Finds : Outcome (Result (List ℕ) CommandFault)
+            Finds later j r = NoneFailed later × Found words.folder later j r
+
+            go : (later : List runs.Deed) (j : Hand) (r : Result (List ℕ) CommandFault) → OfActs Finds later j r → Keeps anything later j (after (λ folder. mark run path (mark_job folder words profile)) r) Plainly
+            go later j (Ok folder) q = mark_keeps later j folder q.1.0 q.1.1 q.1.2 q.1.3 q.0
+            go later j (Err e) q = stops_plainly later j e (early e (acts later) q.1 q.0)
+
+      -- `rmm`
+      module _ (name : named word ≡ Some Rmm) (words : RmmWords) (said : rmm_said profile (map chars rest) ≡ Ok words) where
+        rmm_on : (b : Answer) (folder : List ℕ) → folder_of words.folder (entries_by b) profile ≡ Ok folder → (e : CommandFault) (own : List Deed)
+            → Behind b own × ShowsEnd run path folder (Withdraws (rmm_job folder words profile)) e own → Shows e own
+        rmm_on b folder there e own s =
+            on_folder word rest is_words b folder e own s.0
+            (subst (λ n. ShowsNamed run profile (entries_by b) folder e own rest n) (sym name)
+            (subst (λ m. ShowsRmm run profile (entries_by b) folder e own m) (sym said) (there, s.1)))
+
+        rmm_keeps : (past : List runs.Deed) (j : Hand) (folder : List ℕ) (b : Answer) → acts past ≡ after_context path a b → j.next ≡ 0 → folder_of words.folder (entries_by b) profile ≡ Ok folder → NoneFailed (acts past)
+            → Keeps anything past j (rmm run path (rmm_job folder words profile)) Plainly
+        rmm_keeps past j folder b is first there clean =
+            keeps_more anything past j (rmm run path (rmm_job folder words profile)) (EndsSo run few path folder (Withdraws (rmm_job folder words profile)) (Behind b)) Plainly more
+            (rmm_ends run few path (rmm_job folder words profile) (Behind b) (behind_kept b) past j clean (clean_there b (acts past) j is first clean) (subst (PutsNone (Mail path)) (sym is) (none_put (Mail path) path a b))
+            (λ x n t. none_taken (Folder path folder) path a b x n (subst (λ o. Once (λ d older. IsTakenAway (Folder path folder) x d) o) is t)) ([], is))
+          where
+            more : (later : List runs.Deed) (i : Hand) (r : Result Unit CommandFault) → EndsSo run few path folder (Withdraws (rmm_job folder words profile)) (Behind b) later i r → Plainly later i r
+            more later i (Ok u) s = tt
+            more later i (Err e) s = ended_more (ShowsSo run few path folder (Withdraws (rmm_job folder words profile)) (Behind b)) Shows (λ x own q. rmm_on b folder there x own q) e (acts later) s
+
+        rmm_begun_keeps : (past : List runs.Deed) → acts past ≡ after_profile a → NoneFailed (acts past) → Keeps anything past fresh (rmm_begun run profile words) Plainly
+        unfolding rmm_begun ◌>>=◌
+        rmm_begun_keeps past is clean =
+            keeps_bind anything past fresh (folder_found profile words.folder) (after (λ folder. rmm run path (rmm_job folder words profile))) (OfActs Finds) Plainly
+            (comes_keeps past (acts past) fresh (folder_found profile words.folder) Finds refl
+            (comes_clean (acts past) fresh (folder_found profile words.folder) (Found words.folder) clean (subst (λ o. Comes o fresh (folder_found profile words.folder) (Found words.folder)) (sym is) (found_comes words.folder))))
+            go
+          where
+            Finds : Outcome (Result (List ℕ) CommandFault)
+            Finds later j r = NoneFailed later × Found words.folder later j r
+
+            go : (later : List runs.Deed) (j : Hand) (r : Result (List ℕ) CommandFault) → OfActs Finds later j r → Keeps anything later j (after (λ folder. rmm run path (rmm_job folder words profile)) r) Plainly
+            go later j (Ok folder) q = rmm_keeps later j folder q.1.0 q.1.1 q.1.2 q.1.3 q.0
+            go later j (Err e) q = stops_plainly later j e (early e (acts later) q.1 q.0)
+
+    -- the words
+    module _ (past : List runs.Deed) (is : acts past ≡ after_profile a) (clean : NoneFailed (acts past)) where
+      wrong : (w : Wrong) (word : Option (List ℕ)) → IsEndedBy Shows (wrong_ended w word).fault (acts past)
+      wrong w word = at_once (inl (wrong_word (a, is))) clean
+
+      -- what the words of `mark` refuse
+      abbrev MarkShown : Result MarkWords Ended → Type 0
+      MarkShown (Ok words) = Unit {0}
+      MarkShown (Err x) = IsEndedBy Shows x.fault (acts past)
+
+      names_shown : (folder : Option (List ℕ)) (items : List Item) (words wrongs : List (List ℕ)) → MarkShown (mark_words.with_names folder items (unless_wrong words wrongs))
+      names_shown folder items words [] = tt
+      names_shown folder items words (word ∷ wrongs) = at_once (inl (wrong_name (a, is))) clean
+
+      folder_shown : (items : List Item) (word : Option (List ℕ)) → MarkShown (mark_words.with_folder items (folder_named word))
+      folder_shown items None = names_shown None items _ _
+      folder_shown items (Some word) = go (is_folder_name (without_plus word))
+        where
+          go : (c : Bool) → MarkShown (mark_words.with_folder items (some_named (if c then Ok (without_plus word) else Err (fault.Refused (refusal.BadFolder word)))))
+          go true = names_shown (Some (without_plus word)) items _ _
+          go false = at_once (inl (wrong_folder (a, is))) clean
+
+      word_shown : (words : List (List ℕ)) (items : List Item) (word : Option (List ℕ)) → MarkShown (mark_words.word_said words items word)
+      word_shown words items word = go (lacks_sequence items)
+        where
+          go : (c : Bool) → MarkShown (if c then Err (wrong_at words (missing_after words)) else mark_words.with_folder items (folder_named word))
+          go true = wrong (missing_after words) None
+          go false = folder_shown items word
+
+      one_shown : (words : List (List ℕ)) (items : List Item) (r : Result (Option (List ℕ)) Wrong) → MarkShown (mark_words.folder_said words items r)
+      one_shown words items (Ok word) = word_shown words items word
+      one_shown words items (Err w) = wrong w None
+
+      items_shown : (words : List (List ℕ)) (r : Result (List Item) Wrong) → MarkShown (mark_words.items_said words r)
+      items_shown words (Ok items) = one_shown words items (one_folder (folders items))
+      items_shown words (Err w) = wrong w None
+
+      mark_refused : (words : List (List ℕ)) (x : Ended) → mark_said profile words ≡ Err x → IsEndedBy Shows x.fault (acts past)
+      mark_refused words x e = subst MarkShown e (items_shown (mark_line profile words) (read_in mark_table 0 (mark_line profile words)))
+
+      -- and those of `rmm`
+      abbrev RmmShown : Result RmmWords Ended → Type 0
+      RmmShown (Ok words) = Unit {0}
+      RmmShown (Err x) = IsEndedBy Shows x.fault (acts past)
+
+      rmm_folder_shown : (items : List Item) (word : List ℕ) → RmmShown (rmm_words.with_folder items (named_folder word))
+      rmm_folder_shown items word = go (is_folder_name (without_plus word))
+        where
+          go : (c : Bool) → RmmShown (rmm_words.with_folder items (if c then Ok (without_plus word) else Err (fault.Refused (refusal.BadFolder word))))
+          go true = tt
+          go false = at_once (inl (wrong_folder (a, is))) clean
+
+      rmm_one_shown : (words : List (List ℕ)) (items : List Item) (r : Result (Option (List ℕ)) Wrong) → RmmShown (rmm_words.folder_said words items r)
+      rmm_one_shown words items (Ok None) = tt
+      rmm_one_shown words items (Ok (Some word)) = rmm_folder_shown items word
+      rmm_one_shown words items (Err w) = wrong w None
+
+      rmm_items_shown : (words : List (List ℕ)) (r : Result (List Item) Wrong) → RmmShown (rmm_words.items_said words r)
+      rmm_items_shown words (Ok items) = rmm_one_shown words items (one_folder (folders items))
+      rmm_items_shown words (Err w) = wrong w None
+
+      rmm_refused : (words : List (List ℕ)) (x : Ended) → rmm_said profile words ≡ Err x → IsEndedBy Shows x.fault (acts past)
+      rmm_refused words x e = subst RmmShown e (rmm_items_shown (profile_words (codes "rmm") profile ++ words) (read_in rmm_table 0 (profile_words (codes "rmm") profile ++ words)))
+
+      by_word : (word : List ℕ) (rest : List (List ℕ)) → words_ ≡ word ∷ rest → (n : Option CommandName) → named word ≡ n → begins_folders n ≡ true → Keeps anything past fresh (word_by run profile word rest n) EndsBy
+      by_word word rest is_words None name begins = cc (begins)
+      by_word word rest is_words (Some Scan) name begins = cc (begins)
+      by_word word rest is_words (Some Mark) name begins = go (mark_said profile (map chars rest)) refl
+        where
+          go : (r : Result MarkWords Ended) → mark_said profile (map chars rest) ≡ r → Keeps anything past fresh (mark_by run profile r) EndsBy
+          go (Ok words) said = plain_keeps past fresh (mark_begun run profile words) (mark_begun_keeps word rest is_words name words said past is clean)
+          go (Err x) said = stops past fresh x (mark_refused (map chars rest) x said)
+      by_word word rest is_words (Some Rmm) name begins = go (rmm_said profile (map chars rest)) refl
+        where
+          go : (r : Result RmmWords Ended) → rmm_said profile (map chars rest) ≡ r → Keeps anything past fresh (rmm_by run profile r) EndsBy
+          go (Ok words) said = plain_keeps past fresh (rmm_begun run profile words) (rmm_begun_keeps word rest is_words name words said past is clean)
+          go (Err x) said = stops past fresh x (rmm_refused (map chars rest) x said)
+
+      by_words : (words : List (List ℕ)) → words_ ≡ words → begins_folders (command_of words) ≡ true → Keeps anything past fresh (command_by run profile words) EndsBy
+      by_words [] is_words begins = cc (begins)
+      by_words (word ∷ rest) is_words begins = by_word word rest is_words (named word) refl begins
+
+  -- the profile
+  abbrev Profile : Outcome (Result (List ℕ) Ended)
+  Profile later j (Ok text) = (a : Answer) × (later ≡ after_profile a) × (j ≡ fresh) × (text ≡ text_of (reading_of a))
+  Profile later j (Err x) = ShowsEarly x.fault later
+
+  profile_comes : Comes [] fresh (lifted plain (text_read Home profile_name)) Profile
+  profile_comes =
+      comes_lifted [] fresh plain (text_read Home profile_name) (Tells Home profile_name [] fresh) Profile (told_comes Home profile_name [] fresh) (λ later j text q. q) (λ later j e q. long_first later q.0 e q.1 q.2)
+
+  -- a command whose words name one that begins folders: how it ends, and what shows it
+  pub begun_ends_by : begins_folders (command_of words_) ≡ true → Keeps anything [] fresh (command run words_) EndsBy
+  unfolding command ◌>>=◌
+  begun_ends_by begins =
+      keeps_bind anything [] fresh (lifted plain (text_read Home profile_name)) (after (λ text. command_by run (entries_in text) words_)) (OfActs Reads) EndsBy
+      (comes_keeps [] [] fresh (lifted plain (text_read Home profile_name)) Reads refl (comes_clean [] fresh (lifted plain (text_read Home profile_name)) Profile (λ m. m) profile_comes)) go
+    where
+      Reads : Outcome (Result (List ℕ) Ended)
+      Reads later j r = NoneFailed later × Profile later j r
+
+      go : (later : List runs.Deed) (j : Hand) (r : Result (List ℕ) Ended) → OfActs Reads later j r → Keeps anything later j (after (λ text. command_by run (entries_in text) words_) r) EndsBy
+      go later j (Ok text) q =
+          subst (λ i. Keeps anything later i (command_by run (entries_in text) words_) EndsBy) (sym q.1.2)
+          (subst (λ t. Keeps anything later fresh (command_by run (entries_in t) words_) EndsBy) (sym q.1.3) (by_words q.1.0 later q.1.1 q.0 words_ refl begins))
+      go later j (Err x) q = stops later j x (early x.fault (acts later) q.1 q.0)
+
+  -- so does each run of it
+  pub run_ends_by : begins_folders (command_of words_) ≡ true → (ds : List runs.Deed) (j : Hand) (r : Result Unit Ended) → Runs (command run words_) fresh ds j (Returned r) → EndsBy ds j r
+  run_ends_by begins ds j r f = (run_keeps anything [] fresh (command run words_) ds j (Returned r) EndsBy (begun_ends_by begins) f).gave

@@ -1,0 +1,61 @@
+// What a directory has, as a run sees it.
+use crate::quoted::show_quoted;
+use file_plans::{Listing, Locking, Reading, ask_list, ask_lock, ask_read};
+use folder_files::{Files, Place};
+use mh_base::{Bytes, Name};
+use std::alloc::Global;
+use std::test::Fail;
+
+fn show_file<F: Files>(
+    alloc: Global,
+    files: &mut F,
+    run: u128,
+    place: &Place,
+    name: &Name,
+    told: &mut Bytes,
+) -> Result<(), Fail> {
+    told.extend(b" ")?;
+    told.extend(name.bytes())?;
+    told.extend(b"=")?;
+    if let Reading::Content(bytes) = ask_read(alloc, run, files, place, name, u64::MAX)? {
+        show_quoted(told, bytes.as_slice())?;
+    }
+    Ok(())
+}
+
+/// Each name with its bytes, behind a space, on one line; ` is not there` where the directory isn't.
+pub(crate) fn show_place<F: Files>(
+    alloc: Global,
+    files: &mut F,
+    run: u128,
+    place: &Place,
+    told: &mut Bytes,
+) -> Result<(), Fail> {
+    match ask_list(alloc, run, files, place)? {
+        Listing::Names(names) => {
+            for name in names.as_slice() {
+                show_file(alloc, files, run, place, name, told)?;
+            }
+        }
+        _ => told.extend(b" is not there")?,
+    }
+    told.extend(b"\n")?;
+    Ok(())
+}
+
+/// Whether a run gets the directory's lock, behind a space.
+pub(crate) fn show_lock<F: Files>(
+    alloc: Global,
+    files: &mut F,
+    run: u128,
+    place: &Place,
+    told: &mut Bytes,
+) -> Result<(), Fail> {
+    let state: &[u8] = match ask_lock(alloc, run, files, place)? {
+        Locking::Done => b" is free\n",
+        Locking::Busy => b" is locked\n",
+        Locking::Gone => b" is not there\n",
+    };
+    told.extend(state)?;
+    Ok(())
+}

@@ -1,0 +1,130 @@
+-- How `mark` ends, and what shows it.
+use Rattle.std.proofs.Common.{◌≡◌, ◌<◌, ◌^◌, ◌∷◌, [], ℕ, Bool, true, false, List, Result, Ok, Err, inr, refl, sym, ◌∙◌, ap}
+use Rattle.mh_sequences.specs.Runs.{numbers_of}
+use Rattle.mh_sequences.specs.Sequences.{Marked}
+use Rattle.mh_sequences.specs.declared.run.Run.{Run}
+use Rattle.msg_ranges.specs.Selection.{marks_of}
+use Rattle.folder_files.specs.Commands.{Marking}
+use Rattle.folder_files.specs.Deeds.{Deed}
+use Rattle.folder_files.specs.declared.place.Place.{Place}
+use Rattle.folder_files.specs.declared.place.Place.TheVariants.{Folder, Mail}
+use Rattle.folder_files.specs.declared.step.Step.{Step}
+use Rattle.file_plans.specs.Plan.{Hand, Return, after, bind, lifted, ◌>>=◌}
+use Rattle.file_plans.specs.Rules.{Keeps}
+use Rattle.file_plans.specs.Runs as runs
+use Rattle.file_plans.proofs.Acting.{acts}
+use Rattle.file_plans.proofs.Framing.{AnyStep}
+use Rattle.step_plans.specs.CommandFaults.{of_sink}
+use Rattle.step_plans.specs.declared.command_fault.CommandFault.{CommandFault}
+use Rattle.step_plans.proofs.Coming.{Comes, NoneFailed, anything, comes_more, comes_say, comes_then, comes_to}
+use Rattle.step_plans.proofs.Going.{Outcome}
+use Rattle.step_plans.proofs.Lasting.{KeptBy}
+use Rattle.sequence_commits.specs.Committing.{changed_sequences}
+use Rattle.command_stages.specs.Chosen.{folder_with}
+use Rattle.command_stages.specs.Current.{made_current}
+use Rattle.command_stages.specs.Endings.{of_plan}
+use Rattle.mh_looks.proofs.Ending.{by_choice}
+use Rattle.opened_folders.specs.Endings.{HasFolder, PutsNone, ShowsEnd}
+use Rattle.opened_folders.specs.Opening.{Opened, with_sequences}
+use Rattle.opened_folders.proofs.BeginState.{HasState, TakesNone, begin_state, has_folder, locked_there}
+use Rattle.opened_folders.proofs.CleanRuns.{Clean}
+use Rattle.opened_folders.proofs.SequencesEnd.{Left, changed_comes}
+use Rattle.opened_folders.proofs.WorkEnds.{Ends, EndsSo, begun_ends, comes_shown, current_comes}
+use Rattle.mark_command.specs.Lines.{lines_for}
+use Rattle.mark_command.specs.Mark.{chosen_from, chosen_marked, lines_said, mark_changes, opened_marked, said_if}
+use Rattle.mark_command.specs.MarkPledge.{Marks}
+use Rattle.mark_command.specs.Marking.{marked_for}
+use Rattle.mark_command.specs.declared.job.MarkAct.{MarkAct}
+use Rattle.mark_command.specs.declared.job.MarkJob.{MarkJob}
+use Rattle.mark_command.proofs.MarkPledged.{lets}
+
+-- lines are said, and that is all
+module _ (own : List Deed) (h : Hand) (Q : Outcome (Result Unit CommandFault)) (q : Q own h (Ok tt)) where
+  lines_come : (lines : List (List ℕ)) → Comes own h (lines_said lines) Q
+  unfolding lines_said
+  lines_come [] = comes_to own h (Ok tt) Q q
+  lines_come (line ∷ lines) = comes_say own h of_sink Q line (λ told. lines_said lines) (lines_come lines)
+
+  said_comes : (list : Bool) (lines : List (List ℕ)) → Comes own h (said_if list lines) Q
+  said_comes true lines = lines_come lines
+  said_comes false lines = comes_to own h (Ok tt) Q q
+
+module _ (run : ℕ) (few : run < 2 ^ 128) (path : List ℕ) (job : MarkJob) (a : MarkAct) where
+  abbrev p : Place
+  p = Folder path job.folder
+
+  abbrev mail : Place
+  mail = Mail path
+
+  abbrev any_piece : List Deed → List ℕ → Type 0
+  any_piece own piece = Unit {0}
+
+  abbrev any_step : List Deed → Step → Type 0
+  any_step own s = Unit {0}
+
+  abbrev So : {A : Type 0} → Outcome A → Outcome (Result A CommandFault)
+  So P later j r = Ends run few path job.folder (Marks job a) P later j r
+
+  abbrev Shows : CommandFault → List Deed → Type 0
+  Shows e own = ShowsEnd run path job.folder (Marks job a) e own
+
+  abbrev Leaves : {A : Type 0} → Outcome A
+  Leaves later j x = Left run few path job.folder (Marks job a) later j
+
+  abbrev State : List Deed → Hand → Opened → Type 0
+  State own h o = HasState run few path job.folder (Marks job a) (Marking path job.folder) any_piece any_step (lets run few path job a) own h o
+
+  -- what words refuse, once the folder was listed and read
+  refused_shows : (own : List Deed) (listing : List Run) (m : Marked) (e : CommandFault) → HasFolder run path job.folder own → chosen_from job listing m ≡ Err e → Shows e own
+  refused_shows own listing m e b is = by_choice (λ z. Shows z own) (folder_with job.negation (numbers_of listing) (marks_of m)) job.specs e is (λ word. b) (λ word. b) (λ word. b) (λ word. b)
+
+  module _ (own : List Deed) (h : Hand) (o : Opened) (s : State own h o) where
+    abbrev made : List ℕ → Marked
+    made numbers = marked_for job a o.listing numbers o.sequences
+
+    commits : (numbers : List ℕ) → chosen_from job o.listing o.sequences ≡ Ok numbers
+        → Comes own h (lifted (of_plan job.folder) (changed_sequences run p mail job.folder o.sequences (made numbers)) >>= (λ done. Return (Ok (with_sequences (made numbers) o)))) (So Leaves)
+    commits numbers is =
+        comes_then own h (lifted (of_plan job.folder) (changed_sequences run p mail job.folder o.sequences (made numbers))) (λ done. Return (Ok (with_sequences (made numbers) o))) (So Leaves) (So Leaves)
+        (comes_shown run few path job.folder (Marks job a) own h (changed_sequences run p mail job.folder o.sequences (made numbers)) Leaves
+        (changed_comes run few path job.folder (Marks job a) o.listing s.begun_there.text s.begun_there.context (made numbers)
+        (inr (numbers, ap (λ m. chosen_from job o.listing m) (sym s.begun_there.sequences) ∙ is, ap (marked_for job a o.listing numbers) s.begun_there.sequences))
+        o.sequences own h s.begun_there.seen (locked_there run few path job.folder (Marks job a) (Marking path job.folder) any_piece any_step (lets run few path job a) own h o s) s.left))
+        (λ later j u f. comes_to later j (Ok (with_sequences (made numbers) o)) (So Leaves) f) (λ later j e f. f)
+
+    chosen_by : (value : Result (List ℕ) CommandFault) → chosen_from job o.listing o.sequences ≡ value
+        → Comes own h (after (λ numbers. lifted (of_plan job.folder) (changed_sequences run p mail job.folder o.sequences (made numbers)) >>= (λ done. Return (Ok (with_sequences (made numbers) o)))) value) (So Leaves)
+    chosen_by (Ok numbers) is = commits numbers is
+    chosen_by (Err e) is = comes_to own h (Err e) (So Leaves) (refused_shows own o.listing o.sequences e (has_folder run few path job.folder (Marks job a) (Marking path job.folder) any_piece any_step (lets run few path job a) own h o s) is)
+
+    chosen_at : (q : Place) (n : List ℕ) → q ≡ p → n ≡ job.folder
+        → Comes own h (Return (chosen_from job o.listing o.sequences) >>= (λ numbers. lifted (of_plan job.folder) (changed_sequences run q mail n o.sequences (made numbers)) >>= (λ done. Return (Ok (with_sequences (made numbers) o))))) (So Leaves)
+    unfolding Comes bind ◌>>=◌
+    chosen_at q n place name = rw (place, name) (chosen_by (chosen_from job o.listing o.sequences) refl)
+
+    chosen_comes : Comes own h (chosen_marked run path job a o) (So Leaves)
+    unfolding chosen_marked
+    chosen_comes = chosen_at o.place o.folder s.begun_there.place s.begun_there.name
+
+    -- the work on a folder that was begun
+    opened_comes : Comes own h (opened_marked run path job a o) (So (λ later j u. Unit {0}))
+    unfolding opened_marked
+    opened_comes =
+        comes_then own h (chosen_marked run path job a o) (λ marked. said_if job.list (lines_for job.names marked.sequences) >>= (λ told. made_current run path job.folder)) (So Leaves) (So (λ later j u. Unit {0})) chosen_comes
+        (λ later j marked f.
+        comes_then later j (said_if job.list (lines_for job.names marked.sequences)) (λ told. made_current run path job.folder) (So Leaves) (So (λ end i u. Unit {0})) (said_comes later j (So Leaves) f job.list (lines_for job.names marked.sequences))
+        (λ end i u g. comes_more end i (made_current run path job.folder) (So Leaves) (So (λ last k v. Unit {0})) forget (current_comes run few path job.folder (Marks job a) end i g)) (λ end i e g. g))
+        (λ later j e f. f)
+      where
+        forget : (last : List Deed) (k : Hand) (r : Result Unit CommandFault) → So Leaves last k r → So (λ end i v. Unit {0}) last k r
+        forget last k (Ok u) f = tt
+        forget last k (Err e) f = f
+
+  -- a `mark` that changes something, after deeds of which none failed and none put a name into the mail directory
+  pub changes_end : (F : List Deed → Type 0) → KeptBy AnyStep F → (past : List runs.Deed) (h : Hand) → NoneFailed (acts past) → Clean run (acts past) h → PutsNone mail (acts past) → TakesNone run few path job.folder (Marks job a) (Marking path job.folder) any_piece any_step (lets run few path job a) (acts past) → F (acts past)
+      → Keeps anything past h (mark_changes run path job a) (EndsSo run few path job.folder (Marks job a) F)
+  unfolding mark_changes
+  changes_end F keeps past h none clean free takes f =
+      begun_ends run few path job.folder (Marks job a) F keeps State (opened_marked run path job a)
+      (locked_there run few path job.folder (Marks job a) (Marking path job.folder) any_piece any_step (lets run few path job a)) opened_comes past h none f
+      (begin_state run few path job.folder (Marks job a) (Marking path job.folder) any_piece any_step (lets run few path job a) (acts past) h clean free takes)

@@ -1,0 +1,248 @@
+-- How `rmm` ends, and what shows it.
+use Rattle.std.proofs.Common.{◌≡◌, ◌<◌, ◌+◌, ◌^◌, ◌∷◌, [], ℕ, Bool, true, false, List, Result, Ok, Err, inl, inr, refl, sym, ◌∙◌, ap, arith}
+use Rattle.std.specs.Prelude.{not}
+use Rattle.mh_base.specs.Entries.{entry_text, kind_of}
+use Rattle.mh_base.specs.Numbers.{IsMsgNum}
+use Rattle.mh_base.specs.declared.entry.Entry.TheVariants.{Backup, Number}
+use Rattle.mh_base.proofs.EntryKinds.{kind_of-entry_text}
+use Rattle.mh_sequences.specs.Runs.{has, numbers_of}
+use Rattle.mh_sequences.specs.Sequences.{Marked}
+use Rattle.mh_sequences.specs.declared.run.Run.{Run}
+use Rattle.msg_ranges.specs.Selection.{marks_of}
+use Rattle.msg_ranges.proofs.Rising.{Rise, lists, none_below}
+use Rattle.folder_files.specs.Commands.{Removing}
+use Rattle.folder_files.specs.Deeds.{Deed, WasDone, did, last, on, still}
+use Rattle.folder_files.proofs.Names.{not_both}
+use Rattle.folder_files.specs.declared.place.Place.{Place}
+use Rattle.folder_files.specs.declared.place.Place.TheVariants.{Folder, Mail}
+use Rattle.folder_files.specs.declared.step.Answer.{Answer}
+use Rattle.folder_files.specs.declared.step.Answer.TheVariants as answer
+use Rattle.folder_files.specs.declared.step.Step.TheVariants as step
+use Rattle.file_plans.specs.Plan.{Hand, Plan, Return, after, bind, lifted, ◌>>=◌}
+use Rattle.file_plans.specs.Rules.{Keeps}
+use Rattle.file_plans.specs.Runs as runs
+use Rattle.file_plans.proofs.Acting.{acts}
+use Rattle.file_plans.proofs.Framing.{AnyStep, asks_any}
+use Rattle.step_plans.specs.Locking.{lock_name, removed}
+use Rattle.step_plans.specs.PlanFaults.{of_stop}
+use Rattle.step_plans.specs.Removing.{message_removed}
+use Rattle.step_plans.specs.Replacing.{held_to, renamed, synced}
+use Rattle.step_plans.specs.declared.command_fault.CommandFault.{CommandFault}
+use Rattle.step_plans.specs.declared.fault.PlanFault.{PlanFault}
+use Rattle.step_plans.specs.declared.fault.PlanFault.TheVariants as fault
+use Rattle.step_plans.proofs.Coming.{Comes, NoneFailed, anything, comes_framed, comes_more, comes_rename, comes_sync_folder, comes_then, comes_to, comes_unlink}
+use Rattle.step_plans.proofs.Going.{Outcome}
+use Rattle.step_plans.proofs.Lasting.{KeptBy}
+use Rattle.step_plans.proofs.Past.{did_step}
+use Rattle.sequence_commits.specs.Committing.{changed_sequences}
+use Rattle.command_stages.specs.Chosen.{folder_with}
+use Rattle.command_stages.specs.Current.{made_current}
+use Rattle.command_stages.specs.Endings.{of_plan}
+use Rattle.mh_looks.proofs.Ending.{by_choice}
+use Rattle.opened_folders.specs.Endings.{HasMetIn, HasFolder, PutsName, PutsNone, ShowsEnd, met_gone, removed_gone}
+use Rattle.opened_folders.specs.Opening.{Opened}
+use Rattle.opened_folders.specs.Reads.{HaveSeen}
+use Rattle.opened_folders.proofs.BeginState.{HasState, TakesNone, begin_state, has_folder, locked_there}
+use Rattle.opened_folders.proofs.CleanRuns.{Clean, clean_more}
+use Rattle.opened_folders.proofs.FolderPledged.{seen_kept}
+use Rattle.opened_folders.proofs.NamesKept.{backups_kept, other_renamed, other_unlinked, putting}
+use Rattle.opened_folders.proofs.SequencesEnd.{Left, changed_comes}
+use Rattle.opened_folders.proofs.SettledEnds.{Shown}
+use Rattle.opened_folders.proofs.WorkEnds.{Ends, EndsSo, begun_ends, comes_shown, current_comes}
+use Rattle.refile_command.specs.Rmm.{all_removed, chosen_from, opened_removed, removed_marked, removed_safely, rmm, said_removed, withdrawn}
+use Rattle.refile_command.specs.RmmPledge.{RemovesChosen, Withdraws, every_message}
+use Rattle.refile_command.specs.declared.job.RmmJob.{RmmJob}
+use Rattle.refile_command.proofs.RmmPledged.{lets, listed_runs}
+use Rattle.refile_command.proofs.Selected.{chosen_listed, chosen_rise, first_of, in_runs, rest_of}
+
+-- numbers that rise from a later one on are others
+later_ones : (first n : ℕ) (ns : List ℕ) → Rise first (n ∷ ns) → (k : ℕ) → lists ns k ≡ true → n ≡ k → ⊥
+later_ones first n ns rise k e same = not_both (lists ns k) e (none_below (n + 1) ns rise.1 k (omega (arith, same)))
+
+number_names : (n k : ℕ) → IsMsgNum n → IsMsgNum k → entry_text (Number n) ≡ entry_text (Number k) → n ≡ k
+number_names n k good fine e = let same : Number n ≡ Number k = sym (kind_of-entry_text (Number n) good) ∙ (ap kind_of e ∙ kind_of-entry_text (Number k) fine) in cc (same)
+
+module _ (run : ℕ) (few : run < 2 ^ 128) (path : List ℕ) (job : RmmJob) where
+  abbrev p : Place
+  p = Folder path job.folder
+
+  abbrev mail : Place
+  mail = Mail path
+
+  abbrev no_piece : List Deed → List ℕ → Type 0
+  no_piece own piece = ⊥
+
+  abbrev Makes : List Run → Marked → Marked → Type 0
+  Makes = Withdraws job
+
+  abbrev So : {A : Type 0} → Outcome A → Outcome (Result A CommandFault)
+  So P later j r = Ends run few path job.folder Makes P later j r
+
+  abbrev Plainly : {A : Type 0} → Outcome A → Outcome (Result A PlanFault)
+  Plainly P later j r = Shown run path job.folder Makes P later j r
+
+  abbrev Shows : CommandFault → List Deed → Type 0
+  Shows e own = ShowsEnd run path job.folder Makes e own
+
+  abbrev Leaves : {A : Type 0} → Outcome A
+  Leaves later j x = Left run few path job.folder Makes later j
+
+  abbrev State : List Deed → Hand → Opened → Type 0
+  State own h o = HasState run few path job.folder Makes (Removing path job.folder every_message) no_piece (RemovesChosen run path job) (lets run few path job) own h o
+
+  -- what words refuse, once the folder was listed and read
+  refused_shows : (own : List Deed) (listing : List Run) (m : Marked) (e : CommandFault) → HasFolder run path job.folder own → chosen_from job listing m ≡ Err e → Shows e own
+  refused_shows own listing m e b is = by_choice (λ z. Shows z own) (folder_with job.negation (numbers_of listing) (marks_of m)) job.specs e is (λ word. b) (λ word. b) (λ word. b) (λ word. b)
+
+  -- while messages are removed: of those that are left the run has met each name
+  record Removes (left : List ℕ) (own : List Deed) (h : Hand) : Type 0 where
+    lock : WasDone (step.Lock p) own
+    rest : Left run few path job.folder Makes own h
+    met : (k : ℕ) → lists left k ≡ true → IsMsgNum k × HasMetIn p (entry_text (Number k)) own
+
+  -- it puts no name but the backup's
+  puts_backup : (n : ℕ) (y : List ℕ) (a : Answer) → PutsName p y (did (step.Rename p (entry_text (Number n)) (entry_text (Backup n))) a) → y ≡ entry_text (Backup n)
+  puts_backup n y a (inl w) = let same : step.Rename p (entry_text (Number n)) (entry_text (Backup n)) ≡ step.Create p y w.0 = did_step w.1 in cc
+  puts_backup n y a (inr (inl w)) = let same : step.Rename p (entry_text (Number n)) (entry_text (Backup n)) ≡ step.Link p w.0 y = did_step w.1 in cc
+  puts_backup n y a (inr (inr w)) = let same : step.Rename p (entry_text (Number n)) (entry_text (Backup n)) ≡ step.Rename p w.0 y = did_step w.1 in cc
+
+  backed_up : (n : ℕ) (ns : List ℕ) (own : List Deed) (h : Hand) → ((k : ℕ) → lists ns k ≡ true → n ≡ k → ⊥) → Removes (n ∷ ns) own h → Removes ns (did (step.Rename p (entry_text (Number n)) (entry_text (Backup n))) answer.Done ∷ own) h
+  backed_up n ns own h other f = record {
+    lock = on f.lock;
+    rest = record {
+      clean = clean_more run own h (step.Rename p (entry_text (Number n)) (entry_text (Backup n))) answer.Done (λ e. cc (e)) tt f.rest.clean;
+      safe = still (λ w. w.2 n (puts_backup n w.0 answer.Done w.1)) f.rest.safe;
+    };
+    met = λ k e. (
+      (rest_of {F = λ z. IsMsgNum z × HasMetIn p (entry_text (Number z)) own} n ns f.met k e).0,
+      still (other_renamed p (entry_text (Number n)) (entry_text (Backup n)) (entry_text (Number k)) answer.Done
+          (λ same. other k e (number_names n k (first_of {F = λ z. IsMsgNum z × HasMetIn p (entry_text (Number z)) own} n ns f.met).0 (rest_of {F = λ z. IsMsgNum z × HasMetIn p (entry_text (Number z)) own} n ns f.met k e).0 same)))
+          (rest_of {F = λ z. IsMsgNum z × HasMetIn p (entry_text (Number z)) own} n ns f.met k e).1,
+    );
+  }
+
+  unlinked : (n : ℕ) (ns : List ℕ) (own : List Deed) (h : Hand) → ((k : ℕ) → lists ns k ≡ true → n ≡ k → ⊥) → Removes (n ∷ ns) own h → Removes ns (did (step.Unlink p (entry_text (Number n))) answer.Done ∷ own) h
+  unlinked n ns own h other f = record {
+    lock = on f.lock;
+    rest = record {
+      clean = clean_more run own h (step.Unlink p (entry_text (Number n))) answer.Done (λ e. cc (e)) tt f.rest.clean;
+      safe = backups_kept p (step.Unlink p (entry_text (Number n))) answer.Done own (λ y w. putting p y (step.Unlink p (entry_text (Number n))) answer.Done w) f.rest.safe;
+    };
+    met = λ k e. (
+      (rest_of {F = λ z. IsMsgNum z × HasMetIn p (entry_text (Number z)) own} n ns f.met k e).0,
+      still (other_unlinked p (entry_text (Number n)) (entry_text (Number k)) answer.Done
+          (λ same. other k e (number_names n k (first_of {F = λ z. IsMsgNum z × HasMetIn p (entry_text (Number z)) own} n ns f.met).0 (rest_of {F = λ z. IsMsgNum z × HasMetIn p (entry_text (Number z)) own} n ns f.met k e).0 same)))
+          (rest_of {F = λ z. IsMsgNum z × HasMetIn p (entry_text (Number z)) own} n ns f.met k e).1,
+    );
+  }
+
+  abbrev Left_ : List ℕ → Outcome Unit
+  Left_ ns later j u = Removes ns later j
+
+  message_comes : (b : Bool) (n : ℕ) (ns : List ℕ) (own : List Deed) (h : Hand) → ((k : ℕ) → lists ns k ≡ true → n ≡ k → ⊥) → Removes (n ∷ ns) own h → Comes own h (message_removed p n b) (Plainly (Left_ ns))
+  unfolding renamed removed
+  message_comes true n ns own h other f =
+      comes_rename own h of_stop (Plainly (Left_ ns)) p (entry_text (Number n)) (entry_text (Backup n)) (held_to p (entry_text (Number n))) (comes_to _ h (Ok tt) (Plainly (Left_ ns)) (backed_up n ns own h other f))
+      (comes_to _ h (Err (fault.Meddled p (entry_text (Number n)))) (Plainly (Left_ ns))
+      (met_gone (inl (inr (inr (inr (entry_text (Backup n), refl))))) (first_of {F = λ z. IsMsgNum z × HasMetIn p (entry_text (Number z)) own} n ns f.met).1))
+  message_comes false n ns own h other f =
+      comes_unlink own h of_stop (Plainly (Left_ ns)) p (entry_text (Number n)) (held_to p (entry_text (Number n))) (comes_to _ h (Ok tt) (Plainly (Left_ ns)) (unlinked n ns own h other f))
+      (comes_to _ h (Err (fault.Meddled p (entry_text (Number n)))) (Plainly (Left_ ns)) (met_gone (inl (inr (inr (inl refl)))) (first_of {F = λ z. IsMsgNum z × HasMetIn p (entry_text (Number z)) own} n ns f.met).1))
+
+  all_comes : (b : Bool) (first : ℕ) (ns : List ℕ) → Rise first ns → (own : List Deed) (h : Hand) → Removes ns own h → Comes own h (all_removed p b ns) (Plainly (Left_ []))
+  unfolding all_removed
+  all_comes b first [] rise own h f = comes_to own h (Ok tt) (Plainly (Left_ [])) f
+  all_comes b first (n ∷ ns) rise own h f =
+      comes_then own h (message_removed p n b) (λ gone. all_removed p b ns) (Plainly (Left_ ns)) (Plainly (Left_ [])) (message_comes b n ns own h (later_ones first n ns rise) f)
+      (λ later j u g. all_comes b (n + 1) ns rise.1 later j g) (λ later j e g. g)
+
+  -- and the folder is made safe
+  safely_comes : (b : Bool) (ns : List ℕ) → Rise 1 ns → (own : List Deed) (h : Hand) → Removes ns own h → Comes own h (removed_safely p b ns) (Plainly (λ later j u. WasDone (step.Lock p) later × Left run few path job.folder Makes later j))
+  unfolding removed_safely synced
+  safely_comes b ns rise own h f =
+      comes_then own h (all_removed p b ns) (λ gone. synced p lock_name) (Plainly (Left_ [])) (Plainly Safe) (all_comes b 1 ns rise own h f)
+      (λ later j u g.
+      comes_sync_folder later j of_stop (Plainly Safe) p (held_to p lock_name) (comes_to _ j (Ok tt) (Plainly Safe) (
+        on g.lock,
+        record {
+          clean = clean_more run later j (step.SyncFolder p) answer.Done (λ e. cc (e)) tt g.rest.clean;
+          safe = last (inr refl);
+        },
+      ))
+      (comes_to _ j (Err (fault.Meddled p lock_name)) (Plainly Safe) (removed_gone refl g.lock g.rest.safe)))
+      (λ later j e g. g)
+    where
+      Safe : Outcome Unit
+      Safe later j u = WasDone (step.Lock p) later × Left run few path job.folder Makes later j
+
+  module _ (own : List Deed) (h : Hand) (o : Opened) (s : State own h o) where
+    abbrev Seen : List Deed → Type 0
+    Seen later = HaveSeen run p mail o.listing s.begun_there.text s.begun_there.context later
+
+    abbrev Safe : Outcome (Result Unit PlanFault)
+    Safe later j r = Seen later × Plainly (λ end i u. WasDone (step.Lock p) end × Left run few path job.folder Makes end i) later j r
+
+    seen_safe : (numbers : List ℕ) → chosen_from job o.listing o.sequences ≡ Ok numbers → Comes own h (removed_safely p (not job.unlink) numbers) Safe
+    seen_safe numbers is =
+        comes_framed AnyStep Seen (seen_kept run p mail o.listing s.begun_there.text s.begun_there.context) own h (removed_safely p (not job.unlink) numbers)
+        (Plainly (λ end i u. WasDone (step.Lock p) end × Left run few path job.folder Makes end i)) (asks_any (removed_safely p (not job.unlink) numbers)) s.begun_there.seen
+        (safely_comes (not job.unlink) numbers (chosen_rise job o.listing o.sequences numbers is) own h begins)
+      where
+        there : (k : ℕ) → lists numbers k ≡ true → has o.listing k ≡ true
+        there k e = chosen_listed job o.listing o.sequences numbers is k e
+
+        ok : (k : ℕ) → lists numbers k ≡ true → IsMsgNum k
+        ok k e = in_runs o.listing (listed_runs run p mail o.listing s.begun_there.text s.begun_there.context own s.begun_there.seen) k (there k e)
+
+        begins : Removes numbers own h
+        begins = record {
+          lock = locked_there run few path job.folder Makes (Removing path job.folder every_message) no_piece (RemovesChosen run path job) (lets run few path job) own h o s;
+          rest = s.left;
+          met = λ k e. (ok k e, s.numbers k (ok k e) (there k e));
+        }
+
+    removing_comes : (numbers : List ℕ) → chosen_from job o.listing o.sequences ≡ Ok numbers
+        → Comes own h (removed_safely p (not job.unlink) numbers >>= (λ gone. changed_sequences run p mail job.folder o.sequences (withdrawn numbers o.sequences))) (Plainly Leaves)
+    removing_comes numbers is =
+        comes_then own h (removed_safely p (not job.unlink) numbers) (λ gone. changed_sequences run p mail job.folder o.sequences (withdrawn numbers o.sequences)) Safe (Plainly Leaves) (seen_safe numbers is)
+        (λ later j u q. changed_comes run few path job.folder Makes o.listing s.begun_there.text s.begun_there.context (withdrawn numbers o.sequences)
+        (inr (numbers, ap (λ m. chosen_from job o.listing m) (sym s.begun_there.sequences) ∙ is, ap (withdrawn numbers) s.begun_there.sequences)) o.sequences later j q.0 q.1.0 q.1.1)
+        (λ later j e q. q.1)
+
+    abbrev then_removed : Place → List ℕ → List ℕ → Plan (Result Unit PlanFault)
+    then_removed q n numbers = removed_safely q (not job.unlink) numbers >>= (λ gone. changed_sequences run q mail n o.sequences (withdrawn numbers o.sequences))
+
+    by_value : (value : Result (List ℕ) CommandFault) → chosen_from job o.listing o.sequences ≡ value → Comes own h (after (λ numbers. lifted (of_plan job.folder) (then_removed p job.folder numbers)) value) (So Leaves)
+    by_value (Ok numbers) is = comes_shown run few path job.folder Makes own h (then_removed p job.folder numbers) Leaves (removing_comes numbers is)
+    by_value (Err e) is =
+        comes_to own h (Err e) (So Leaves)
+        (refused_shows own o.listing o.sequences e (has_folder run few path job.folder Makes (Removing path job.folder every_message) no_piece (RemovesChosen run path job) (lets run few path job) own h o s) is)
+
+    at_place : (q : Place) (n : List ℕ) → q ≡ p → n ≡ job.folder → Comes own h (Return (chosen_from job o.listing o.sequences) >>= (λ numbers. lifted (of_plan job.folder) (then_removed q n numbers))) (So Leaves)
+    unfolding Comes bind ◌>>=◌
+    at_place q n place name = rw (place, name) (by_value (chosen_from job o.listing o.sequences) refl)
+
+    said_comes : Comes own h (said_removed run path job o) (So Leaves)
+    unfolding said_removed removed_marked
+    said_comes = at_place o.place o.folder s.begun_there.place s.begun_there.name
+
+    -- the work on a folder that was begun
+    opened_comes : Comes own h (opened_removed run path job o) (So (λ later j u. Unit {0}))
+    unfolding opened_removed
+    opened_comes =
+        comes_then own h (said_removed run path job o) (λ gone. made_current run path job.folder) (So Leaves) (So (λ later j u. Unit {0})) said_comes
+        (λ later j u f. comes_more later j (made_current run path job.folder) (So Leaves) (So (λ end i v. Unit {0})) forget (current_comes run few path job.folder Makes later j f)) (λ later j e f. f)
+      where
+        forget : (end : List Deed) (i : Hand) (r : Result Unit CommandFault) → So Leaves end i r → So (λ last_ k v. Unit {0}) end i r
+        forget end i (Ok u) f = tt
+        forget end i (Err e) f = f
+
+  -- `rmm`, after deeds of which none failed, none put a name into the mail directory and none took a number away
+  pub rmm_ends : (F : List Deed → Type 0) → KeptBy AnyStep F → (past : List runs.Deed) (h : Hand) → NoneFailed (acts past) → Clean run (acts past) h → PutsNone mail (acts past)
+      → TakesNone run few path job.folder Makes (Removing path job.folder every_message) no_piece (RemovesChosen run path job) (lets run few path job) (acts past) → F (acts past)
+      → Keeps anything past h (rmm run path job) (EndsSo run few path job.folder Makes F)
+  unfolding rmm
+  rmm_ends F keeps past h none clean free takes f =
+      begun_ends run few path job.folder Makes F keeps State (opened_removed run path job)
+      (locked_there run few path job.folder Makes (Removing path job.folder every_message) no_piece (RemovesChosen run path job) (lets run few path job)) opened_comes past h none f
+      (begin_state run few path job.folder Makes (Removing path job.folder every_message) no_piece (RemovesChosen run path job) (lets run few path job) (acts past) h clean free takes)
