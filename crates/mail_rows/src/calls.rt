@@ -1,14 +1,13 @@
 // Commands over a mailbox in memory. What calls `mh` is generic over its files, so that its contract is looked at once.
 use crate::counted::show_counted;
 use crate::given::Given;
-use crate::lines::{number, word, words};
 use crate::places::place;
-use crate::quoted::show_quoted;
 use crate::shown::{show_lock, show_place};
 use folder_files::{Files, Place, Refusal};
 use folder_room::{PromptList, Room};
 use mh_base::{Bytes, Duplicate, MemSink, NumberList, PlainSink, PlainSource, Text};
 use mh_tools::{Setting, Status, mh};
+use row_text::{number, show_quoted, word, words};
 use std::alloc::Global;
 use std::test::Fail;
 

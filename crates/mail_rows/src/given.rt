@@ -1,5 +1,4 @@
 // The mailbox that is given.
-use crate::lines::number;
 use crate::places::name;
 use folder_files::{
     ChangeList, Directory, DirectoryList, File, FileList, FilePath, Held, LockList, Outside,
@@ -7,6 +6,7 @@ use folder_files::{
 };
 use folder_room::{Keep, KeepList};
 use mh_base::{Bytes, Duplicate, Name, NumberList};
+use row_text::number;
 use std::alloc::Global;
 use std::test::Fail;
 

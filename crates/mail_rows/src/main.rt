@@ -5,11 +5,9 @@
 mod calls;
 mod counted;
 mod given;
-mod lines;
 mod places;
 mod play;
 mod prompts;
-mod quoted;
 mod shown;
 mod steps;
 mod sweep;

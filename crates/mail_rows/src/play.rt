@@ -1,13 +1,13 @@
 // The lines, one after another.
 use crate::calls::Scene;
 use crate::given::Given;
-use crate::lines::{number, signed, word, words};
 use crate::places::{path, place};
 use crate::prompts::prompt;
 use crate::sweep::Sweep;
 use folder_room::PromptList;
 use mh_base::{Bytes, Text};
 use mh_tools::Setting;
+use row_text::{number, signed, word, words};
 use std::alloc::Global;
 use std::test::Fail;
 

@@ -1,11 +1,11 @@
 // What else happens, by words.
 use crate::given::Given;
-use crate::lines::{number, word};
 use crate::places::path;
 use crate::steps::step;
 use folder_files::After;
 use folder_room::{Happening, KeepList, Prompt};
 use mh_base::{Bytes, NumberList};
+use row_text::{number, word};
 use std::alloc::Global;
 use std::test::Fail;
 

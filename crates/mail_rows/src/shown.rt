@@ -1,8 +1,8 @@
 // What a directory has, as a run sees it.
-use crate::quoted::show_quoted;
 use file_plans::{Listing, Locking, Reading, ask_list, ask_lock, ask_read};
 use folder_files::{Files, Place};
 use mh_base::{Bytes, Name};
+use row_text::show_quoted;
 use std::alloc::Global;
 use std::test::Fail;
 

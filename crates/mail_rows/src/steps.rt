@@ -1,8 +1,8 @@
 // Steps of other runs, by words.
-use crate::lines::word;
 use crate::places::{name, place};
 use folder_files::Step;
 use mh_base::Bytes;
+use row_text::word;
 use std::alloc::Global;
 use std::test::Fail;
 

@@ -115,7 +115,7 @@ impl Cutter {
 
 /// The words of a line, between spaces. One in double quotes may have spaces, and for other bytes `\n`, `\r`, `\t`, `\"`, `\\` and `\x` with two
 /// digits.
-pub(crate) fn words(alloc: Global, line: &[u8]) -> Result<Vec<Bytes>, Fail> {
+pub fn words(alloc: Global, line: &[u8]) -> Result<Vec<Bytes>, Fail> {
     let mut cutter = Cutter {
         alloc,
         words: Vec::new(alloc),
@@ -134,15 +134,20 @@ pub(crate) fn words(alloc: Global, line: &[u8]) -> Result<Vec<Bytes>, Fail> {
 }
 
 /// The word at this place of a line.
-pub(crate) fn word<'a>(words: &'a [Bytes], index: usize) -> Result<&'a [u8], Fail> {
+pub fn word<'a>(words: &'a [Bytes], index: usize) -> Result<&'a [u8], Fail> {
     match words.get(index) {
         Some(word) => Ok(word.as_slice()),
         None => Err("a word more".into()),
     }
 }
 
+/// A word as text.
+pub fn text(word: &[u8]) -> Result<&str, Fail> {
+    Ok(std::str::from_utf8(word).ok().ok_or("text")?)
+}
+
 /// The number that a word is.
-pub(crate) fn number(word: &[u8]) -> Result<u64, Fail> {
+pub fn number(word: &[u8]) -> Result<u64, Fail> {
     let mut number = 0u64;
     for byte in word {
         if !byte.is_ascii_digit() {
@@ -155,7 +160,7 @@ pub(crate) fn number(word: &[u8]) -> Result<u64, Fail> {
 }
 
 /// The same, with a dash before it where it is below 0.
-pub(crate) fn signed(word: &[u8]) -> Result<i64, Fail> {
+pub fn signed(word: &[u8]) -> Result<i64, Fail> {
     let (below, digits) = match word.strip_prefix(b"-") {
         Some(digits) => (true, digits),
         None => (false, word),

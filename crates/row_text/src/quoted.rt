@@ -25,7 +25,7 @@ fn show_byte(told: &mut Bytes, byte: u8) -> Result<(), Fail> {
 }
 
 /// In double quotes, as a word of a line has them.
-pub(crate) fn show_quoted(told: &mut Bytes, bytes: &[u8]) -> Result<(), Fail> {
+pub fn show_quoted(told: &mut Bytes, bytes: &[u8]) -> Result<(), Fail> {
     told.extend(b"\"")?;
     for byte in bytes {
         show_byte(told, *byte)?;
