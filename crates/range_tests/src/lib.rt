@@ -1,4 +1,4 @@
-//! Tests of words that name messages. There is nothing here but tests.
+//! Words that name messages, beside a plain body. There is nothing here but tests.
 #![tactic(auto)]
 
 #[cfg(test)]

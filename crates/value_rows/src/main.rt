@@ -1,25 +1,33 @@
 //! Rows of calls of pure crates. `stdin` names calls and what they are given; `stdout` is what they give. docs/ROWS.md tells the lines.
 #![tactic(auto)]
 
+mod codes;
+mod dates;
+mod drops;
+mod formats;
+mod lines;
+mod mime;
 mod numbers;
 mod plain_set;
 mod profile;
+mod ranges;
 mod rows;
 mod sequences;
+mod texts;
 mod told;
 mod words;
 
-use mh_base::Bytes;
+use rows::Rows;
 use std::io::{self, Write};
 use std::test::Fail;
 
 fn main(rt: HostRuntime) -> Result<(), Fail> {
     let alloc = rt.alloc();
     let text = io::read_to_string(alloc, rt.stdin())?;
-    let mut told = Bytes::new(alloc);
+    let mut rows = Rows::new(alloc);
     for line in text.as_str().lines() {
-        rows::row(alloc, line.as_bytes(), &mut told)?;
+        rows.row(line.as_bytes())?;
     }
-    rt.stdout().write_all(told.as_slice())?;
+    rt.stdout().write_all(rows.told())?;
     Ok(())
 }
