@@ -18,7 +18,6 @@ use Rattle.file_plans.specs.Text.{said_of}
 use Rattle.file_plans.proofs.Acting.{acts, acts_append}
 use Rattle.file_plans.proofs.Framing.{AnyStep}
 use Rattle.file_plans.proofs.Keeping.{keeps_bind}
-use Rattle.step_plans.specs.CommandFaults.{of_sink}
 use Rattle.step_plans.specs.Pledges.{Pledge}
 use Rattle.step_plans.specs.declared.command_fault.CommandFault.{CommandFault}
 use Rattle.step_plans.specs.declared.command_fault.CommandFault.TheVariants as fault
@@ -88,23 +87,23 @@ module _ (u : Rules) (none : (past : List Deed) (piece : List ℕ) → u.may_say
     tt,
     tt,
     λ a row live.
-    keeps_more everything (past ++ Did s a ∷ []) h (next a) (λ later j r. Quiet P (past ++ Did s a ∷ []) later j r) (λ later j r. Quiet P past later j r)
-    (λ later j r q. (q.0 ∙ said_did past s a, (λ z. q.1 (fact_did past s a z)), q.2)) (quietly (past ++ Did s a ∷ []) h (next a) P (f.3 a row live)),
+        keeps_more everything (past ++ Did s a ∷ []) h (next a) (λ later j r. Quiet P (past ++ Did s a ∷ []) later j r) (λ later j r. Quiet P past later j r)
+        (λ later j r q. (q.0 ∙ said_did past s a, (λ z. q.1 (fact_did past s a z)), q.2)) (quietly (past ++ Did s a ∷ []) h (next a) P (f.3 a row live)),
   )
   quietly past h (Try s next) P f = (
     tt,
     tt,
     λ a row.
-    keeps_more everything (past ++ Did s a ∷ []) h (next a) (λ later j r. Quiet P (past ++ Did s a ∷ []) later j r) (λ later j r. Quiet P past later j r)
-    (λ later j r q. (q.0 ∙ said_did past s a, (λ z. q.1 (fact_did past s a z)), q.2)) (quietly (past ++ Did s a ∷ []) h (next a) P (f.2 a row)),
+        keeps_more everything (past ++ Did s a ∷ []) h (next a) (λ later j r. Quiet P (past ++ Did s a ∷ []) later j r) (λ later j r. Quiet P past later j r)
+        (λ later j r q. (q.0 ∙ said_did past s a, (λ z. q.1 (fact_did past s a z)), q.2)) (quietly (past ++ Did s a ∷ []) h (next a) P (f.2 a row)),
   )
   quietly past h (Say piece next) P f = absurd (none past piece f.1)
   quietly past h (Hear most next) P f = (
     tt,
     tt,
     λ piece short.
-    keeps_more everything (past ++ Heard piece ∷ []) h (next piece) (λ later j r. Quiet P (past ++ Heard piece ∷ []) later j r) (λ later j r. Quiet P past later j r)
-    (λ later j r q. (q.0 ∙ said_heard past piece, (λ z. q.1 (fact_heard past piece z)), q.2)) (quietly (past ++ Heard piece ∷ []) h (next piece) P (f.2 piece short)),
+        keeps_more everything (past ++ Heard piece ∷ []) h (next piece) (λ later j r. Quiet P (past ++ Heard piece ∷ []) later j r) (λ later j r. Quiet P past later j r)
+        (λ later j r q. (q.0 ∙ said_heard past piece, (λ z. q.1 (fact_heard past piece z)), q.2)) (quietly (past ++ Heard piece ∷ []) h (next piece) P (f.2 piece short)),
   )
   quietly past h (Recall next) P f = quietly past h (next h) P f
   quietly past h (Note j next) P f = (tt, quietly past j next P f.1)
@@ -121,7 +120,7 @@ lines_say past h (line ∷ lines) = (
   tt,
   (λ part rest is. tt),
   keeps_more everything (past ++ Said line ∷ []) h (lines_said lines) (λ later j r. Adds (joined lines) (past ++ Said line ∷ []) h later j r) (λ later j r. Adds (line ++ joined lines) past h later j r)
-  (λ later j r q. (q.0 ∙ (ap (λ t. t ++ joined lines) (said_more past line) ∙ append_assoc (said_of past) line (joined lines)), q.1 ∙ acts_append [] past (Said line ∷ []), q.2)) (lines_say (past ++ Said line ∷ []) h lines),
+      (λ later j r q. (q.0 ∙ (ap (λ t. t ++ joined lines) (said_more past line) ∙ append_assoc (said_of past) line (joined lines)), q.1 ∙ acts_append [] past (Said line ∷ []), q.2)) (lines_say (past ++ Said line ∷ []) h lines),
 )
 
 none_said : (past : List Deed) (h : Hand) → Keeps everything past h (Return (Ok tt)) (λ later j r. Adds [] past h later j r)
@@ -322,3 +321,27 @@ module _ (run : ℕ) (few : run < 2 ^ 128) (path : List ℕ) (job : MarkJob) (a 
         go later j (Ok o) q =
             keeps_bind everything later j (opened_marked run path job a o) (ended p) Ends Ends (opened_says (acts past) later o q.2.1 j q.2.0 q.0)
             (λ last i r s. at_end last i r s)
+
+-- under both rules
+pub keeps_both : {R : Type 0} (u w : Rules) (past : List Deed) (h : Hand) (p : Plan R) (P Q : List Deed → Hand → R → Type 0) → Keeps u past h p P → Keeps w past h p Q → Keeps u past h p (λ later j r. P later j r × Q later j r)
+unfolding Keeps
+keeps_both u w past h (Return r) P Q f g = (f.0, (f.1, g.1))
+keeps_both u w past h (Ask s next) P Q f g = (f.0, f.1, f.2, λ b row live. keeps_both u w (past ++ Did s b ∷ []) h (next b) P Q (f.3 b row live) (g.3 b row live))
+keeps_both u w past h (Try s next) P Q f g = (f.0, f.1, λ b row. keeps_both u w (past ++ Did s b ∷ []) h (next b) P Q (f.2 b row) (g.2 b row))
+keeps_both u w past h (Say piece next) P Q f g = (f.0, f.1, f.2, keeps_both u w (past ++ Said piece ∷ []) h next P Q f.3 g.3)
+keeps_both u w past h (Hear most next) P Q f g = (f.0, f.1, λ piece short. keeps_both u w (past ++ Heard piece ∷ []) h (next piece) P Q (f.2 piece short) (g.2 piece short))
+keeps_both u w past h (Recall next) P Q f g = keeps_both u w past h (next h) P Q f g
+keeps_both u w past h (Note j next) P Q f g = (f.0, keeps_both u w past j next P Q f.1 g.1)
+
+-- the rules that let nothing be said
+abbrev pub silence : Rules
+silence = record { may_ask = λ past step. Unit {0}; may_say = λ past piece. ⊥; may_hear = λ past. Unit {0}; holds = λ past hand. Unit {0} }
+
+abbrev pub all_past : List deeds.Deed → Type 0
+all_past own = Unit {0}
+
+-- a part that is silent leaves what was said
+pub silently : {R : Type 0} (past : List Deed) (h : Hand) (p : Plan R) → Keeps silence past h p (λ later j r. Unit {0}) → Keeps everything past h p (λ later j r. said_of later ≡ said_of past)
+silently past h p f =
+    keeps_more everything past h p (λ later j r. (said_of later ≡ said_of past) × (all_past (acts past) → all_past (acts later)) × Unit {0}) (λ later j r. said_of later ≡ said_of past) (λ later j r q. q.0)
+    (quietly silence (λ now_ piece none. none) all_past (λ own s b any z. tt) past h p (λ later j r. Unit {0}) f)
