@@ -1,5 +1,5 @@
 -- How a command ends whose words name one that begins a folder, and what shows it.
-use Rattle.std.proofs.Common.{◌≡◌, ◌++◌, ◌<◌, inl, inr, ◌^◌, ◌∷◌, [], ℕ, Bool, true, false, List, Option, Some, None, Result, Ok, Err, nat_lt, refl, sym, ap, subst, arith}
+use Rattle.std.proofs.Common.{◌≡◌, ◌++◌, ◌<◌, inl, inr, ◌^◌, ◌∷◌, [], ℕ, Bool, true, false, List, Option, Some, None, Result, Ok, Err, nat_lt, refl, sym, ◌∙◌, ap, subst, arith}
 use Rattle.std.specs.Prelude.{codes, map, if◌then◌else◌}
 use Rattle.std.specs.Str.{chars}
 use Rattle.mh_base.specs.Folders.{is_folder_name, without_plus}
@@ -17,9 +17,12 @@ use Rattle.folder_files.specs.declared.refusal.Refusal.TheVariants as refusal
 use Rattle.folder_files.specs.declared.step.Answer.{Answer}
 use Rattle.folder_files.specs.declared.step.Answer.TheVariants as answer
 use Rattle.folder_files.specs.declared.step.Step.TheVariants as step
-use Rattle.file_plans.specs.Asking.{reading_of}
-use Rattle.file_plans.specs.Plan.{Hand, Recall, Return, after, converted, fresh, lifted, ◌>>=◌}
-use Rattle.file_plans.specs.Rules.{Keeps}
+use Rattle.file_plans.specs.Asking.{read, reading_of}
+use Rattle.file_plans.specs.declared.answers.Reading.{Reading}
+use Rattle.file_plans.specs.declared.answers.Reading.TheVariants as reading
+use Rattle.file_plans.specs.Text.{said_of}
+use Rattle.file_plans.specs.Plan.{Hand, Recall, Return, after, ask, bind, converted, fresh, lifted, ◌>>=◌}
+use Rattle.file_plans.specs.Rules.{IfOkay, Keeps}
 use Rattle.file_plans.specs.Runs as runs
 use Rattle.file_plans.specs.Runs.{Returned, Runs}
 use Rattle.file_plans.proofs.Acting.{acts}
@@ -44,12 +47,17 @@ use Rattle.opened_folders.proofs.EndedKept.{keeps_more}
 use Rattle.opened_folders.proofs.NamesKept.{putting, taking}
 use Rattle.opened_folders.proofs.WorkEnds.{EndsSo, ShowsSo}
 use Rattle.mark_command.specs.Mark.{mark, mark_by_act}
-use Rattle.mark_command.specs.MarkAnswers.{HasChosen, ShowsListing, mark_answers}
+use Rattle.mark_command.specs.MarkAnswers.{HasMarked, ShowsListing, mark_answers}
 use Rattle.mark_command.specs.declared.job.MarkAct.{MarkAct}
 use Rattle.mark_command.specs.declared.job.MarkJob.{MarkJob}
 use Rattle.mark_command.proofs.LooksEnd.{looks_comes, looks_job}
 use Rattle.mark_command.proofs.LooksRefused.{Refuses, comes_both, looks_refuses}
 use Rattle.mark_command.proofs.MarkEnds.{changes_end}
+use Rattle.mark_command.proofs.MarkSays.{SaysMarked, changes_say, everything, keeps_both, silence, silently}
+use Rattle.mark_command.specs.Lines.{lines_for}
+use Rattle.mark_command.specs.Marking.{marked_for}
+use Rattle.mark_command.specs.Outcomes.{text_if}
+use Rattle.opened_folders.specs.FolderPledge.{told_within}
 use Rattle.refile_command.specs.Rmm.{rmm}
 use Rattle.refile_command.specs.RmmAnswers.{HasRemovedChosen, rmm_answers}
 use Rattle.refile_command.proofs.RmmEnds.{rmm_ends}
@@ -129,17 +137,52 @@ none_made p x path a b (now w) = not_created p (Mail path) x context_name w.0 LI
 none_made p x path a b (on (now w)) = not_created p Home x profile_name w.0 LIMIT_BYTES a w.1
 none_made p x path a b (on (on z)) = elim z [ ]
 
+-- readings say nothing
+text_silent : (past : List runs.Deed) (h : Hand) (p : Place) (x : List ℕ) → Keeps silence past h (text_read p x) (λ later j r. Unit {0})
+unfolding Keeps text_read read ask lifted bind ◌>>=◌
+text_silent past h p x = (tt, tt, tt, λ a row live. by a (reading_of a))
+  where
+    by : (a : Answer) (r : Reading) → Keeps silence (past ++ runs.Did (step.Read p x LIMIT_BYTES) a ∷ []) h (text_by r) (λ later j s. Unit {0})
+    by a (reading.Content bytes) = (tt, tt)
+    by a (reading.Long l) = (tt, tt)
+    by a reading.Gone = (tt, tt)
+
+lifted_silent : (past : List runs.Deed) (h : Hand) (q : Commanded (List ℕ)) → Keeps silence past h q (λ later j r. Unit {0}) → Keeps silence past h (lifted plain q) (λ later j r. Unit {0})
+unfolding lifted Keeps
+lifted_silent past h q f = keeps_bind silence past h q (λ r. Return (converted plain r)) (λ later j r. Unit {0}) (λ later j r. Unit {0}) f (λ later j r u. (tt, tt))
+
+profile_silent : (past : List runs.Deed) (h : Hand) → Keeps silence past h (lifted plain (text_read Home profile_name)) (λ later j r. Unit {0})
+profile_silent past h = lifted_silent past h (text_read Home profile_name) (text_silent past h Home profile_name)
+
+entered_silent : (past : List runs.Deed) (h : Hand) (mail : Place) → Keeps silence past h (context_entered mail) (λ later j r. Unit {0})
+unfolding Keeps context_entered context_seen ◌>>=◌
+entered_silent past h mail = keeps_bind silence past h (text_read mail context_name) (after (λ text. context_seen (entries_in text))) (λ later j r. Unit {0}) (λ later j r. Unit {0}) (text_silent past h mail context_name) go
+  where
+    go : (later : List runs.Deed) (j : Hand) (r : Result (List ℕ) CommandFault) → Unit {0} → Keeps silence later j (after (λ text. context_seen (entries_in text)) r) (λ last i s. Unit {0})
+    go later j (Ok text) u = (tt, (tt, tt))
+    go later j (Err e) u = (tt, tt)
+
+found_silent : (past : List runs.Deed) (h : Hand) (profile : List NamedValue) (said : Option (List ℕ)) → Keeps silence past h (folder_found profile said) (λ later j r. Unit {0})
+unfolding Keeps folder_found ◌>>=◌
+found_silent past h profile said =
+    keeps_bind silence past h (context_entered (Mail (path_of profile))) (after (λ entered. Recall (λ i. Return (folder_of said (entries_seen i.context) profile)))) (λ later j r. Unit {0}) (λ later j r. Unit {0})
+    (entered_silent past h (Mail (path_of profile))) go
+  where
+    go : (later : List runs.Deed) (j : Hand) (r : Result Unit CommandFault) → Unit {0} → Keeps silence later j (after (λ entered. Recall (λ i. Return (folder_of said (entries_seen i.context) profile))) r) (λ last i s. Unit {0})
+    go later j (Ok entered) u = (tt, tt)
+    go later j (Err e) u = (tt, tt)
+
 module _ (run : ℕ) (few : run < 2 ^ 128) (words_ : List (List ℕ)) where
   abbrev Shows : CommandFault → List Deed → Type 0
   Shows e own = ShowsFault run words_ e own
 
   -- how the command ends
   abbrev pub EndsBy : List runs.Deed → Hand → Result Unit Ended → Type 0
-  EndsBy past h (Ok u) = ShowsOnFolder run words_ (Ok u) (acts past)
+  EndsBy past h (Ok u) = ShowsOnFolder run words_ (Ok (said_of past)) (acts past)
   EndsBy past h (Err x) = IsEndedBy Shows x.fault (acts past)
 
   abbrev Plainly : List runs.Deed → Hand → Result Unit CommandFault → Type 0
-  Plainly past h (Ok u) = ShowsOnFolder run words_ (Ok u) (acts past)
+  Plainly past h (Ok u) = ShowsOnFolder run words_ (Ok (said_of past)) (acts past)
   Plainly past h (Err e) = IsEndedBy Shows e (acts past)
 
   -- an end before the command came to a folder
@@ -252,35 +295,58 @@ module _ (run : ℕ) (few : run < 2 ^ 128) (words_ : List (List ℕ)) where
     numbered_there : (b : Answer) (j : Hand) → j ≡ knowing (entries_by b) fresh → nat_lt j.next (2 ^ 64) ≡ true
     numbered_there b j first = rw first refl
 
-    on_folder : (word : List ℕ) (rest : List (List ℕ)) → words_ ≡ word ∷ rest → (b : Answer) (folder : List ℕ) (r : Result Unit CommandFault) (own : List Deed) → Behind b own
+    on_folder : (word : List ℕ) (rest : List (List ℕ)) → words_ ≡ word ∷ rest → (b : Answer) (folder : List ℕ) (r : Result (List ℕ) CommandFault) (own : List Deed) → Behind b own
         → ShowsNamed run profile (entries_by b) folder r own rest (named word) → ShowsOnFolder run words_ r own
     on_folder word rest is b folder r own f s = record { profile = a; context = b; folder = folder; newer = f.0; begun = f.1; shows = rw is s }
 
     module _ (word : List ℕ) (rest : List (List ℕ)) (is_words : words_ ≡ word ∷ rest) where
       -- `mark`
       module _ (name : named word ≡ Some Mark) (words : MarkWords) (said : mark_said profile (map chars rest) ≡ Ok words) where
-        mark_on : (b : Answer) (folder : List ℕ) → folder_of words.folder (entries_by b) profile ≡ Ok folder → (r : Result Unit CommandFault) (own : List Deed)
+        mark_on : (b : Answer) (folder : List ℕ) → folder_of words.folder (entries_by b) profile ≡ Ok folder → (r : Result (List ℕ) CommandFault) (own : List Deed)
             → Behind b own × ShowsMarking run path (mark_job folder words profile) (entries_by b) r own words.act → ShowsOnFolder run words_ r own
         mark_on b folder there r own s =
             on_folder word rest is_words b folder r own s.0
             (subst (λ n. ShowsNamed run profile (entries_by b) folder r own rest n) (sym name)
             (subst (λ m. ShowsMark run profile (entries_by b) folder r own m) (sym said) (there, s.1)))
 
-        module _ (past : List runs.Deed) (j : Hand) (folder : List ℕ) (b : Answer) (is : acts past ≡ after_context path a b) (first : j ≡ knowing (entries_by b) fresh) (there : folder_of words.folder (entries_by b) profile ≡ Ok folder) (clean : NoneFailed (acts past)) where
+        module _ (past : List runs.Deed) (j : Hand) (folder : List ℕ) (b : Answer) (is : acts past ≡ after_context path a b) (first : j ≡ knowing (entries_by b) fresh) (there : folder_of words.folder (entries_by b) profile ≡ Ok folder) (clean : NoneFailed (acts past)) (silent : said_of past ≡ []) where
           abbrev job : MarkJob
           job = mark_job folder words profile
 
           changing : (act : MarkAct) → words.act ≡ Some act → Keeps anything past j (mark_by_act run path job (Some act)) Plainly
           changing act is_act =
-              keeps_more anything past j _ (EndsSo run few path folder (mark_answers job act) (Behind b) (λ own. HasChosen run path job own)) Plainly more
-              (changes_end run few path job act (Behind b) (behind_kept b) past j clean (clean_there b (acts past) j is first clean) (subst (PutsNone (Mail path)) (sym is) (none_put (Mail path) path a b))
+              keeps_more anything past j (mark_by_act run path job (Some act)) Both Plainly more
+              (keeps_both anything everything past j (mark_by_act run path job (Some act)) (EndsSo run few path folder (mark_answers job act) (Behind b) (λ own. Unit {0})) Says
+              (changes_end run few path job act (Behind b) (behind_kept b) past j clean begins (subst (PutsNone (Mail path)) (sym is) (none_put (Mail path) path a b))
               (λ x n t. none_taken (Folder path folder) path a b x n (subst (λ o. Once (λ d older. IsTakenAway (Folder path folder) x d) o) is t)) ([], is))
+              (changes_say run few path job act past j (record { numbered = begins.numbered; unfailed = begins.unfailed })))
             where
-              more : (later : List runs.Deed) (i : Hand) (r : Result Unit CommandFault) → EndsSo run few path folder (mark_answers job act) (Behind b) (λ own. HasChosen run path job own) later i r → Plainly later i r
-              more later i (Ok u) s = mark_on b folder there (Ok u) (acts later) (s.0, subst (λ z. ShowsMarking run path job (entries_by b) (Ok u) (acts later) z) (sym is_act) s.1)
+              begins : Clean run (acts past) j
+              begins = clean_there b (acts past) j is first clean
+
+              Says : List runs.Deed → Hand → Result Unit CommandFault → Type 0
+              Says later i r = IfOkay (λ last k u. SaysMarked run few path job act past last) later i r
+
+              Both : List runs.Deed → Hand → Result Unit CommandFault → Type 0
+              Both later i r = EndsSo run few path folder (mark_answers job act) (Behind b) (λ own. Unit {0}) later i r × Says later i r
+
+              has : (later : List runs.Deed) → SaysMarked run few path job act past later → HasMarked run path job act (said_of later) (acts later)
+              has later m = record {
+                listing = m.listing;
+                text = m.text;
+                context = m.context;
+                seen = m.seen;
+                numbers = m.numbers;
+                chosen = m.chosen;
+                lines = m.said ∙ ap (λ t. t ++ text_if job.list (lines_for job.names (marked_for job act m.listing m.numbers (told_within m.listing m.text m.context job.folder)))) silent;
+              }
+
+              more : (later : List runs.Deed) (i : Hand) (r : Result Unit CommandFault) → Both later i r → Plainly later i r
+              more later i (Ok u) s =
+                  mark_on b folder there (Ok (said_of later)) (acts later) (s.0.0, subst (λ z. ShowsMarking run path job (entries_by b) (Ok (said_of later)) (acts later) z) (sym is_act) (has later s.1))
               more later i (Err e) s =
                   ended_more (ShowsSo run few path folder (mark_answers job act) (Behind b)) Shows
-                  (λ x own q. inr (mark_on b folder there (Err x) own (q.0, subst (λ z. ShowsMarking run path job (entries_by b) (Err x) own z) (sym is_act) q.1))) e (acts later) s
+                  (λ x own q. inr (mark_on b folder there (Err x) own (q.0, subst (λ z. ShowsMarking run path job (entries_by b) (Err x) own z) (sym is_act) q.1))) e (acts later) s.0
 
           looking : words.act ≡ None → Keeps anything past j (mark_by_act run path job None) Plainly
           looking is_act =
@@ -307,7 +373,7 @@ module _ (run : ℕ) (few : run < 2 ^ 128) (words_ : List (List ℕ)) where
               refuses e own f = subst (λ i. ShowsListing path job (entries_seen i.context) e own) first f
 
               more : (later : List runs.Deed) (i : Hand) (r : Result Unit CommandFault) → OfActs Looks later i r → Plainly later i r
-              more later i (Ok u) s = mark_on b folder there (Ok u) (acts later) (s.1.0, subst (λ z. ShowsMarking run path job (entries_by b) (Ok u) (acts later) z) (sym is_act) tt)
+              more later i (Ok u) s = mark_on b folder there (Ok (said_of later)) (acts later) (s.1.0, subst (λ z. ShowsMarking run path job (entries_by b) (Ok (said_of later)) (acts later) z) (sym is_act) tt)
               more later i (Err e) s =
                   looked e (acts later) (scan_shows run path folder e (acts later) s.1.1.0)
                   (λ f. inr (mark_on b folder there (Err e) (acts later) (s.1.0, subst (λ z. ShowsMarking run path job (entries_by b) (Err e) (acts later) z) (sym is_act) (f, refuses e (acts later) s.1.1.1)))) s.0
@@ -320,24 +386,26 @@ module _ (run : ℕ) (few : run < 2 ^ 128) (words_ : List (List ℕ)) where
               go None is_act = looking is_act
               go (Some act) is_act = changing act is_act
 
-        mark_begun_keeps : (past : List runs.Deed) → acts past ≡ after_profile a → NoneFailed (acts past) → Keeps anything past fresh (mark_begun run profile words) Plainly
+        mark_begun_keeps : (past : List runs.Deed) → acts past ≡ after_profile a → NoneFailed (acts past) → said_of past ≡ [] → Keeps anything past fresh (mark_begun run profile words) Plainly
         unfolding mark_begun ◌>>=◌
-        mark_begun_keeps past is clean =
-            keeps_bind anything past fresh (folder_found profile words.folder) (after (λ folder. mark run path (mark_job folder words profile))) (OfActs Finds) Plainly
+        mark_begun_keeps past is clean silent =
+            keeps_bind anything past fresh (folder_found profile words.folder) (after (λ folder. mark run path (mark_job folder words profile))) _ Plainly
+            (keeps_both anything everything past fresh (folder_found profile words.folder) (OfActs Finds) (λ later j r. said_of later ≡ said_of past)
             (comes_keeps past (acts past) fresh (folder_found profile words.folder) Finds refl
             (comes_clean (acts past) fresh (folder_found profile words.folder) (Found words.folder) clean (subst (λ o. Comes o fresh (folder_found profile words.folder) (Found words.folder)) (sym is) (found_comes words.folder))))
+            (silently past fresh (folder_found profile words.folder) (found_silent past fresh profile words.folder)))
             go
           where
             Finds : Outcome (Result (List ℕ) CommandFault)
             Finds later j r = NoneFailed later × Found words.folder later j r
 
-            go : (later : List runs.Deed) (j : Hand) (r : Result (List ℕ) CommandFault) → OfActs Finds later j r → Keeps anything later j (after (λ folder. mark run path (mark_job folder words profile)) r) Plainly
-            go later j (Ok folder) q = mark_keeps later j folder q.1.0 q.1.1 q.1.2 q.1.3 q.0
-            go later j (Err e) q = stops_plainly later j e (early e (acts later) q.1 q.0)
+            go : (later : List runs.Deed) (j : Hand) (r : Result (List ℕ) CommandFault) → OfActs Finds later j r × (said_of later ≡ said_of past) → Keeps anything later j (after (λ folder. mark run path (mark_job folder words profile)) r) Plainly
+            go later j (Ok folder) q = mark_keeps later j folder q.0.1.0 q.0.1.1 q.0.1.2 q.0.1.3 q.0.0 (q.1 ∙ silent)
+            go later j (Err e) q = stops_plainly later j e (early e (acts later) q.0.1 q.0.0)
 
       -- `rmm`
       module _ (name : named word ≡ Some Rmm) (words : RmmWords) (said : rmm_said profile (map chars rest) ≡ Ok words) where
-        rmm_on : (b : Answer) (folder : List ℕ) → folder_of words.folder (entries_by b) profile ≡ Ok folder → (r : Result Unit CommandFault) (own : List Deed)
+        rmm_on : (b : Answer) (folder : List ℕ) → folder_of words.folder (entries_by b) profile ≡ Ok folder → (r : Result (List ℕ) CommandFault) (own : List Deed)
             → Behind b own × ShowsRemoving run path (rmm_job folder words profile) r own → ShowsOnFolder run words_ r own
         rmm_on b folder there r own s =
             on_folder word rest is_words b folder r own s.0
@@ -352,7 +420,7 @@ module _ (run : ℕ) (few : run < 2 ^ 128) (words_ : List (List ℕ)) where
             (λ x n t. none_taken (Folder path folder) path a b x n (subst (λ o. Once (λ d older. IsTakenAway (Folder path folder) x d) o) is t)) ([], is))
           where
             more : (later : List runs.Deed) (i : Hand) (r : Result Unit CommandFault) → EndsSo run few path folder (rmm_answers (rmm_job folder words profile)) (Behind b) (λ own. HasRemovedChosen run path (rmm_job folder words profile) own) later i r → Plainly later i r
-            more later i (Ok u) s = rmm_on b folder there (Ok u) (acts later) s
+            more later i (Ok u) s = rmm_on b folder there (Ok (said_of later)) (acts later) s
             more later i (Err e) s = ended_more (ShowsSo run few path folder (rmm_answers (rmm_job folder words profile)) (Behind b)) Shows (λ x own q. inr (rmm_on b folder there (Err x) own q)) e (acts later) s
 
         rmm_begun_keeps : (past : List runs.Deed) → acts past ≡ after_profile a → NoneFailed (acts past) → Keeps anything past fresh (rmm_begun run profile words) Plainly
@@ -371,7 +439,7 @@ module _ (run : ℕ) (few : run < 2 ^ 128) (words_ : List (List ℕ)) where
             go later j (Err e) q = stops_plainly later j e (early e (acts later) q.1 q.0)
 
     -- the words
-    module _ (past : List runs.Deed) (is : acts past ≡ after_profile a) (clean : NoneFailed (acts past)) where
+    module _ (past : List runs.Deed) (is : acts past ≡ after_profile a) (clean : NoneFailed (acts past)) (silent : said_of past ≡ []) where
       wrong : (w : Wrong) (word : Option (List ℕ)) → IsEndedBy Shows (wrong_ended w word).fault (acts past)
       wrong w word = at_once (inl (wrong_word (a, is))) clean
 
@@ -440,7 +508,7 @@ module _ (run : ℕ) (few : run < 2 ^ 128) (words_ : List (List ℕ)) where
       by_word word rest is_words (Some Mark) name begins = go (mark_said profile (map chars rest)) refl
         where
           go : (r : Result MarkWords Ended) → mark_said profile (map chars rest) ≡ r → Keeps anything past fresh (mark_by run profile r) EndsBy
-          go (Ok words) said = plain_keeps past fresh (mark_begun run profile words) (mark_begun_keeps word rest is_words name words said past is clean)
+          go (Ok words) said = plain_keeps past fresh (mark_begun run profile words) (mark_begun_keeps word rest is_words name words said past is clean silent)
           go (Err x) said = stops past fresh x (mark_refused (map chars rest) x said)
       by_word word rest is_words (Some Rmm) name begins = go (rmm_said profile (map chars rest)) refl
         where
@@ -465,17 +533,20 @@ module _ (run : ℕ) (few : run < 2 ^ 128) (words_ : List (List ℕ)) where
   pub begun_ends_by : begins_folders (command_of words_) ≡ true → Keeps anything [] fresh (command run words_) EndsBy
   unfolding command ◌>>=◌
   begun_ends_by begins =
-      keeps_bind anything [] fresh (lifted plain (text_read Home profile_name)) (after (λ text. command_by run (entries_in text) words_)) (OfActs Reads) EndsBy
-      (comes_keeps [] [] fresh (lifted plain (text_read Home profile_name)) Reads refl (comes_clean [] fresh (lifted plain (text_read Home profile_name)) Profile (λ m. m) profile_comes)) go
+      keeps_bind anything [] fresh (lifted plain (text_read Home profile_name)) (after (λ text. command_by run (entries_in text) words_)) _ EndsBy
+      (keeps_both anything everything [] fresh (lifted plain (text_read Home profile_name)) (OfActs Reads) (λ later j r. said_of later ≡ [])
+      (comes_keeps [] [] fresh (lifted plain (text_read Home profile_name)) Reads refl (comes_clean [] fresh (lifted plain (text_read Home profile_name)) Profile (λ m. m) profile_comes))
+      (silently [] fresh (lifted plain (text_read Home profile_name)) (profile_silent [] fresh)))
+      go
     where
       Reads : Outcome (Result (List ℕ) Ended)
       Reads later j r = NoneFailed later × Profile later j r
 
-      go : (later : List runs.Deed) (j : Hand) (r : Result (List ℕ) Ended) → OfActs Reads later j r → Keeps anything later j (after (λ text. command_by run (entries_in text) words_) r) EndsBy
+      go : (later : List runs.Deed) (j : Hand) (r : Result (List ℕ) Ended) → OfActs Reads later j r × (said_of later ≡ []) → Keeps anything later j (after (λ text. command_by run (entries_in text) words_) r) EndsBy
       go later j (Ok text) q =
-          subst (λ i. Keeps anything later i (command_by run (entries_in text) words_) EndsBy) (sym q.1.2)
-          (subst (λ t. Keeps anything later fresh (command_by run (entries_in t) words_) EndsBy) (sym q.1.3) (by_words q.1.0 later q.1.1 q.0 words_ refl begins))
-      go later j (Err x) q = stops later j x (early x.fault (acts later) q.1 q.0)
+          subst (λ i. Keeps anything later i (command_by run (entries_in text) words_) EndsBy) (sym q.0.1.2)
+          (subst (λ t. Keeps anything later fresh (command_by run (entries_in t) words_) EndsBy) (sym q.0.1.3) (by_words q.0.1.0 later q.0.1.1 q.0.0 q.1 words_ refl begins))
+      go later j (Err x) q = stops later j x (early x.fault (acts later) q.0.1 q.0.0)
 
   -- so does each run of it
   pub run_ends_by : begins_folders (command_of words_) ≡ true → (ds : List runs.Deed) (j : Hand) (r : Result Unit Ended) → Runs (command run words_) fresh ds j (Returned r) → EndsBy ds j r

@@ -15,7 +15,7 @@ use Rattle.step_plans.specs.declared.command_fault.CommandFault.{CommandFault}
 use Rattle.step_plans.specs.declared.command_fault.CommandFault.TheVariants as fault
 use Rattle.command_stages.specs.Texts.{too_large}
 use Rattle.opened_folders.specs.Endings.{ShowsEnd}
-use Rattle.mark_command.specs.MarkAnswers.{HasChosen, ShowsListing, mark_answers}
+use Rattle.mark_command.specs.MarkAnswers.{HasMarked, ShowsListing, mark_answers}
 use Rattle.mark_command.specs.declared.job.MarkAct.{MarkAct}
 use Rattle.mark_command.specs.declared.job.MarkJob.{MarkJob}
 use Rattle.refile_command.specs.RmmAnswers.{HasRemovedChosen, rmm_answers}
@@ -54,27 +54,27 @@ pub data ShowsEarly : CommandFault → List Deed → Type 0 where
 
 -- a `mark` that only lists is a command that looks; it refuses its words by what it read, and by these entries of the
 -- context
-abbrev pub ShowsLooking : ℕ → List ℕ → MarkJob → List NamedValue → Result Unit CommandFault → List Deed → Type 0
-ShowsLooking run path job context (Ok u) own = Unit {0}
+abbrev pub ShowsLooking : ℕ → List ℕ → MarkJob → List NamedValue → Result (List ℕ) CommandFault → List Deed → Type 0
+ShowsLooking run path job context (Ok said) own = Unit {0}
 ShowsLooking run path job context (Err e) own = ShowsCommandFault run e own × ShowsListing path job context e own
 
--- one that changes something on this folder: at its end the job's words had chosen messages, or this shows its fault
-abbrev pub ShowsChanging : ℕ → List ℕ → MarkJob → MarkAct → Result Unit CommandFault → List Deed → Type 0
-ShowsChanging run path job a (Ok u) own = HasChosen run path job own
+-- one that changes something on this folder: at its end it had marked messages and said this, or this shows its fault
+abbrev pub ShowsChanging : ℕ → List ℕ → MarkJob → MarkAct → Result (List ℕ) CommandFault → List Deed → Type 0
+ShowsChanging run path job a (Ok said) own = HasMarked run path job a said own
 ShowsChanging run path job a (Err e) own = ShowsEnd run path job.folder (mark_answers job a) e own
 
-abbrev pub ShowsMarking : ℕ → List ℕ → MarkJob → List NamedValue → Result Unit CommandFault → List Deed
+abbrev pub ShowsMarking : ℕ → List ℕ → MarkJob → List NamedValue → Result (List ℕ) CommandFault → List Deed
     → Option MarkAct → Type 0
 ShowsMarking run path job context r own None = ShowsLooking run path job context r own
 ShowsMarking run path job context r own (Some a) = ShowsChanging run path job a r own
 
 -- `rmm` on this folder: at its end it had removed the messages that the job's words choose, or this shows its fault
-abbrev pub ShowsRemoving : ℕ → List ℕ → RmmJob → Result Unit CommandFault → List Deed → Type 0
-ShowsRemoving run path job (Ok u) own = HasRemovedChosen run path job own
+abbrev pub ShowsRemoving : ℕ → List ℕ → RmmJob → Result (List ℕ) CommandFault → List Deed → Type 0
+ShowsRemoving run path job (Ok said) own = HasRemovedChosen run path job own
 ShowsRemoving run path job (Err e) own = ShowsEnd run path job.folder (rmm_answers job) e own
 
 -- the words of `mark`, the context or the profile name this folder, and this shows how it ended there
-abbrev pub ShowsMark : ℕ → List NamedValue → List NamedValue → List ℕ → Result Unit CommandFault → List Deed
+abbrev pub ShowsMark : ℕ → List NamedValue → List NamedValue → List ℕ → Result (List ℕ) CommandFault → List Deed
     → Result MarkWords Ended → Type 0
 ShowsMark run profile context folder r own (Ok words) =
     (folder_of words.folder context profile ≡ Ok folder)
@@ -82,7 +82,7 @@ ShowsMark run profile context folder r own (Ok words) =
 ShowsMark run profile context folder r own (Err x) = ⊥
 
 -- the same of `rmm`
-abbrev pub ShowsRmm : ℕ → List NamedValue → List NamedValue → List ℕ → Result Unit CommandFault → List Deed
+abbrev pub ShowsRmm : ℕ → List NamedValue → List NamedValue → List ℕ → Result (List ℕ) CommandFault → List Deed
     → Result RmmWords Ended → Type 0
 ShowsRmm run profile context folder r own (Ok words) =
     (folder_of words.folder context profile ≡ Ok folder)
@@ -90,7 +90,7 @@ ShowsRmm run profile context folder r own (Ok words) =
 ShowsRmm run profile context folder r own (Err x) = ⊥
 
 -- by the command's name
-abbrev pub ShowsNamed : ℕ → List NamedValue → List NamedValue → List ℕ → Result Unit CommandFault → List Deed
+abbrev pub ShowsNamed : ℕ → List NamedValue → List NamedValue → List ℕ → Result (List ℕ) CommandFault → List Deed
     → List (List ℕ) → Option CommandName → Type 0
 ShowsNamed run profile context folder r own words None = ⊥
 ShowsNamed run profile context folder r own words (Some Scan) = ⊥
@@ -100,15 +100,15 @@ ShowsNamed run profile context folder r own words (Some Rmm) =
     ShowsRmm run profile context folder r own (rmm_said profile (map chars words))
 
 -- by the command that the first word names
-abbrev pub ShowsWords : ℕ → List NamedValue → List NamedValue → List ℕ → Result Unit CommandFault → List Deed
+abbrev pub ShowsWords : ℕ → List NamedValue → List NamedValue → List ℕ → Result (List ℕ) CommandFault → List Deed
     → List (List ℕ) → Type 0
 ShowsWords run profile context folder r own [] = ⊥
 ShowsWords run profile context folder r own (word ∷ words) =
     ShowsNamed run profile context folder r own words (named word)
 
 -- the call read the profile and then the context of the mail directory that it names; by these and by the words the
--- command was on this folder, and the later deeds show how it ended there
-pub record ShowsOnFolder (run : ℕ) (words : List (List ℕ)) (r : Result Unit CommandFault) (own : List Deed) : Type 0 where
+-- command was on this folder, and the later deeds show how it ended there: done, with this output, or by this fault
+pub record ShowsOnFolder (run : ℕ) (words : List (List ℕ)) (r : Result (List ℕ) CommandFault) (own : List Deed) : Type 0 where
   pub profile : Answer
   pub context : Answer
   pub folder : List ℕ

@@ -7,4 +7,5 @@ pub mod MarkEnds
 pub mod MarkGiven
 pub mod MarkMinds
 pub mod MarkPledged
+pub mod MarkSays
 pub mod Values

@@ -31,12 +31,11 @@ use Rattle.opened_folders.specs.Endings.{IsRefusedBy, PutsNone, ShowsEnd}
 use Rattle.opened_folders.specs.Opening.{Opened, with_sequences}
 use Rattle.opened_folders.proofs.BeginState.{HasState, TakesNone, begin_state, locked_there, refused_there}
 use Rattle.opened_folders.proofs.CleanRuns.{Clean}
-use Rattle.opened_folders.proofs.FolderPledged.{seen_kept}
 use Rattle.opened_folders.proofs.SequencesEnd.{Left, changed_comes}
 use Rattle.opened_folders.proofs.WorkEnds.{Ends, EndsSo, begun_ends, comes_shown, current_beside, shown_beside}
 use Rattle.mark_command.specs.Lines.{lines_for}
 use Rattle.mark_command.specs.Mark.{chosen_from, chosen_marked, lines_said, mark_changes, opened_marked, said_if}
-use Rattle.mark_command.specs.MarkAnswers.{HasChosen, mark_answers}
+use Rattle.mark_command.specs.MarkAnswers.{mark_answers}
 use Rattle.mark_command.specs.Marking.{marked_for}
 use Rattle.mark_command.specs.declared.job.MarkAct.{MarkAct}
 use Rattle.mark_command.specs.declared.job.MarkJob.{MarkJob}
@@ -78,18 +77,12 @@ module _ (run : ℕ) (few : run < 2 ^ 128) (path : List ℕ) (job : MarkJob) (a 
   abbrev State : List Deed → Hand → Opened → Type 0
   State own h o = HasState run few path job.folder (mark_answers job a) (Marking path job.folder) any_piece any_step (lets run few path job a) own h o
 
+  -- what it chose, and by what, is said with what it says (MarkSays)
   abbrev Has : List Deed → Type 0
-  Has own = HasChosen run path job own
+  Has own = Unit {0}
 
   has_kept : KeptBy AnyStep Has
-  has_kept own s x any f = record {
-    listing = f.listing;
-    text = f.text;
-    context = f.context;
-    seen = seen_kept run p mail f.listing f.text f.context own s x any f.seen;
-    numbers = f.numbers;
-    chosen = f.chosen;
-  }
+  has_kept own s x any f = tt
 
   abbrev Chooses : {A : Type 0} → Outcome A
   Chooses later j x = Left run few path job.folder (mark_answers job a) later j × Has later
@@ -105,22 +98,12 @@ module _ (run : ℕ) (few : run < 2 ^ 128) (path : List ℕ) (job : MarkJob) (a 
     abbrev made : List ℕ → Marked
     made numbers = marked_for job a o.listing numbers o.sequences
 
-    has : (numbers : List ℕ) → chosen_from job o.listing o.sequences ≡ Ok numbers → Has own
-    has numbers is = record {
-      listing = o.listing;
-      text = s.begun_there.text;
-      context = s.begun_there.context;
-      seen = s.begun_there.seen;
-      numbers = numbers;
-      chosen = ap (λ m. chosen_from job o.listing m) (sym s.begun_there.sequences) ∙ is;
-    }
-
     commits : (numbers : List ℕ) → chosen_from job o.listing o.sequences ≡ Ok numbers
         → Comes own h (lifted (of_plan job.folder) (changed_sequences run p mail job.folder o.sequences (made numbers)) >>= (λ done. Return (Ok (with_sequences (made numbers) o)))) (So Chooses)
     commits numbers is =
         comes_then own h (lifted (of_plan job.folder) (changed_sequences run p mail job.folder o.sequences (made numbers))) (λ done. Return (Ok (with_sequences (made numbers) o))) (So Chooses) (So Chooses)
         (comes_shown run few path job.folder (mark_answers job a) own h (changed_sequences run p mail job.folder o.sequences (made numbers)) Chooses
-        (shown_beside run few path job.folder (mark_answers job a) Has has_kept own h (changed_sequences run p mail job.folder o.sequences (made numbers)) Leaves (has numbers is)
+        (shown_beside run few path job.folder (mark_answers job a) Has has_kept own h (changed_sequences run p mail job.folder o.sequences (made numbers)) Leaves tt
         (changed_comes run few path job.folder (mark_answers job a) o.listing s.begun_there.text s.begun_there.context (made numbers)
         (inr (numbers, ap (λ m. chosen_from job o.listing m) (sym s.begun_there.sequences) ∙ is, ap (marked_for job a o.listing numbers) s.begun_there.sequences))
         o.sequences own h s.begun_there.seen (locked_there run few path job.folder (mark_answers job a) (Marking path job.folder) any_piece any_step (lets run few path job a) own h o s) s.left)))

@@ -15,8 +15,11 @@ use Rattle.step_plans.specs.declared.command_fault.CommandFault.TheVariants as c
 use Rattle.opened_folders.specs.Endings.{Answering}
 use Rattle.opened_folders.specs.FolderPledge.{told_within}
 use Rattle.opened_folders.specs.Reads.{HaveSeen, TellsText}
+use Rattle.mark_command.specs.Lines.{lines_for}
 use Rattle.mark_command.specs.Mark.{chosen_from, sequences_seen}
 use Rattle.mark_command.specs.MarkPledge.{Marks}
+use Rattle.mark_command.specs.Marking.{marked_for}
+use Rattle.mark_command.specs.Outcomes.{text_if}
 use Rattle.mark_command.specs.declared.job.MarkAct.{MarkAct}
 use Rattle.mark_command.specs.declared.job.MarkJob.{MarkJob}
 
@@ -27,14 +30,16 @@ mark_answers job a = record {
   refuses = λ listing m r. chosen_from job listing m ≡ Err (command.Refused r);
 }
 
--- the run listed the folder and read its sequences and then the context, and by these the job's words choose messages
-pub record HasChosen (run : ℕ) (path : List ℕ) (job : MarkJob) (own : List Deed) : Type 0 where
+-- the run listed the folder and read its sequences and then the context; by these the job's words choose messages, and
+-- this text is the lines of the sequences with the job's marks on these messages, where they are listed
+pub record HasMarked (run : ℕ) (path : List ℕ) (job : MarkJob) (a : MarkAct) (said : List ℕ) (own : List Deed) : Type 0 where
   pub listing : List Run
   pub text : List ℕ
   pub context : List ℕ
   pub seen : HaveSeen run (Folder path job.folder) (Mail path) listing text context own
   pub numbers : List ℕ
   pub chosen : chosen_from job listing (told_within listing text context job.folder) ≡ Ok numbers
+  pub lines : said ≡ text_if job.list (lines_for job.names (marked_for job a listing numbers (told_within listing text context job.folder)))
 
 -- the newest two steps listed the folder and read its sequences; by these, and by the entries of the context that were
 -- read before, a job that only lists refuses its words so

@@ -194,14 +194,14 @@ module _ (c : Call) (plan : FollowsItsPlan c) where
         subst (λ j. IsEndedBy (ShowsFault run c.words) j steps) f
         (run_ends_by run few c.words may (deeds_in went.log) plan.left (Err x) (subst (λ z. Runs (command run c.words) fresh (deeds_in went.log) plan.left z) at went.runs))
 
-    begun_done : (r : Result Unit Ended) → outcome ≡ r → ended_status r ≡ Done → ShowsOnFolder run c.words (Ok tt) steps
+    begun_done : (r : Result Unit Ended) → outcome ≡ r → ended_status r ≡ Done → ShowsOnFolder run c.words (Ok (said_of (deeds_in went.log))) steps
     begun_done (Ok tt) is e =
         run_ends_by run few c.words may (deeds_in went.log) plan.left (Ok tt) (subst (λ z. Runs (command run c.words) fresh (deeds_in went.log) plan.left z) (ap (exit_of ended_cause) is) went.runs)
     begun_done (Err x) is e = absurd (fault_undone x.fault e)
 
     shown_begun : IsShownBegun c steps
     shown_begun = record {
-      done = λ q. begun_done outcome refl (settle Done q (λ e. cc (e)));
+      done = λ q. (said_of (deeds_in went.log), said_adds, begun_done outcome refl (settle Done q (λ e. cc (e))));
       refused = λ r q. begun_shown outcome (Refused r) (fault.Refused r) refl (settle (Refused r) q (λ e. cc (e))) (λ e. cc (e)) (λ f e. fault_refused f r e) refl;
       locked = λ place q. begun_shown outcome (Locked place) (fault.Locked place) refl (settle (Locked place) q (λ e. cc (e))) (λ e. cc (e)) (λ f e. fault_locked f place e) refl;
       meddled = λ place name q. begun_shown outcome (Meddled place name) (fault.Meddled place name) refl (settle (Meddled place name) q (λ e. cc (e))) (λ e. cc (e)) (λ f e. fault_meddled f place name e) refl;

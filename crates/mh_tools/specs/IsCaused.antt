@@ -1,6 +1,7 @@
 -- Where each answer of `mh` comes from.
 use Rattle.std.specs.Prelude.{◌≡◌, ◌≢◌, ℕ, true, List, [], Ok}
 use Rattle.mh_base.specs.Counts.{Rose}
+use Rattle.mh_base.specs.Streams.{Adds}
 use Rattle.folder_files.specs.Deeds.{Deed}
 use Rattle.folder_files.specs.declared.place.Place.{Place}
 use Rattle.folder_files.specs.declared.place.Place.TheVariants.{Mail}
@@ -34,10 +35,12 @@ abbrev pub MayBegin : Call → Type 0
 MayBegin c = begins_folders (command_of c.words) ≡ true
 
 -- Of a command that may begin a folder: Done, a refusal, Locked and Meddled come only where what shows them was
--- answered. After a refusal and after Locked it may have let the folder go that it had locked, as its last step. But for
--- that step no step failed.
+-- answered; at Done of a `mark` that changes something this shows the output too. After a refusal and after Locked it may
+-- have let the folder go that it had locked, as its last step. But for that step no step failed.
 pub record IsShownBegun (c : Call) (deeds : List Deed) : Type 0 where
-  pub done : c.status ≡ Done → ShowsOnFolder c.setting.run c.words (Ok tt) deeds
+  pub done : c.status ≡ Done
+      → (said : List ℕ) × Adds c.before.out.told c.after.out.told said
+      × ShowsOnFolder c.setting.run c.words (Ok said) deeds
   pub refused : (r : Refusal) → c.status ≡ Refused r
       → IsShownBy (ShowsFault c.setting.run c.words (fault.Refused r)) deeds
   pub locked : (place : Place) → c.status ≡ Locked place
