@@ -1,10 +1,9 @@
 // Sets of message numbers.
 ghost use Rattle.std.specs.Prelude.{◌≤◌, IfOk};
 
-use crate::told::{from, halves, show_line, show_number, show_whether};
 use mh_base::{Bytes, MsgNum};
 use mh_sequences::{Join, NumSet, Pile, Run};
-use row_text::{number, text, word};
+use row_text::{from, halves, number, show_line, show_number, show_whether, text, word};
 use std::alloc::Global;
 use std::test::Fail;
 

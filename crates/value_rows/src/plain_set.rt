@@ -1,9 +1,8 @@
 // Sets beside plain ones, which have a truth value for each number.
 use crate::numbers::reserve;
-use crate::told::{show_line, show_number};
 use mh_base::{Bytes, MsgNum};
 use mh_sequences::NumSet;
-use row_text::{number, word};
+use row_text::{number, show_line, show_number, word};
 use std::alloc::Global;
 use std::test::Fail;
 

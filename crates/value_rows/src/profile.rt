@@ -1,8 +1,7 @@
 // Profiles and their entries.
-use crate::told::{from, show_number, show_quoted_line, show_whether};
 use mh_base::Bytes;
 use mh_profile::{Entries, is_field_name, is_unfolded};
-use row_text::{show_quoted, text, word};
+use row_text::{from, show_number, show_quoted, show_quoted_line, show_whether, text, word};
 use std::alloc::{AllocError, Global};
 use std::test::Fail;
 

@@ -1,11 +1,10 @@
 // Words that select messages.
 use crate::numbers::{set_of, show_all};
 use crate::sequences;
-use crate::told::{from, show_line, texts};
 use mh_base::Bytes;
 use mh_sequences::NumSet;
 use msg_ranges::select;
-use row_text::word;
+use row_text::{from, show_line, texts, word};
 use std::alloc::Global;
 use std::test::Fail;
 

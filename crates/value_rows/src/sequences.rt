@@ -1,10 +1,11 @@
 // Sequences of the folder `inbox`.
 use crate::numbers::{message, set_of};
-use crate::told::{from, own, show_line, show_number, show_quoted_line, show_whether};
 use mh_base::{Bytes, FolderName};
 use mh_profile::Entries;
 use mh_sequences::{Mark, Pair, PairList, SeqName, Sequences};
-use row_text::{show_quoted, text, word};
+use row_text::{
+    from, own, show_line, show_number, show_quoted, show_quoted_line, show_whether, text, word,
+};
 use std::alloc::Global;
 use std::test::Fail;
 

@@ -1,8 +1,7 @@
 // Command lines, and what they say.
-use crate::told::{from, halves, show_line, texts};
 use mh_base::{Bytes, List, Text};
 use mh_words::{Item, Kind, Switch, SwitchTable, WordFault, Words, read_words};
-use row_text::word;
+use row_text::{from, halves, show_line, texts, word};
 use std::alloc::{AllocError, Global};
 use std::test::Fail;
 

@@ -1,10 +1,9 @@
 // Lines of formats for a message.
-use crate::told::{own, show_line, show_quoted_line};
 use format_compiler::{FormatFault, Program, compile};
 use format_run::{View, line};
 use mail_headers::Message;
-use mh_base::{Bytes, Text};
-use row_text::{number, word};
+use mh_base::{Bytes, MsgNum, Text};
+use row_text::{number, own, show_line, show_quoted_line, word};
 use std::alloc::Global;
 use std::test::Fail;
 
@@ -15,7 +14,7 @@ const NOW: i64 = 1_780_394_400;
 fn view<'a>(view: &'a [Bytes], user: &'a Text) -> Result<View<'a>, Fail> {
     let stands = word(view, 2)?;
     Ok(View {
-        number: crate::numbers::message(word(view, 1)?)?,
+        number: MsgNum::read(word(view, 1)?).ok_or("a message number")?,
         current: stands == b"current".as_slice(),
         unseen: stands == b"unseen".as_slice(),
         message: Message::cut(word(view, 4)?),

@@ -1,8 +1,7 @@
 // Texts of mail as they are shown.
-use crate::told::{own, show_quoted_line};
 use mail_text::{Shown, decode_words, show_bytes, strip};
 use mh_base::{Bytes, Text};
-use row_text::{show_quoted, word};
+use row_text::{own, show_quoted, show_quoted_line, word};
 use std::alloc::Global;
 use std::test::Fail;
 

@@ -1,9 +1,8 @@
 // Trees of parts.
-use crate::told::{own, show_line, show_quoted_line};
 use mail_text::show_bytes;
 use mh_base::Bytes;
 use mime_tree::{Odd, Param, Part, PartPath, Tree};
-use row_text::{number, show_quoted, word};
+use row_text::{number, own, show_line, show_quoted, show_quoted_line, word};
 use std::alloc::{AllocError, Global};
 use std::test::Fail;
 

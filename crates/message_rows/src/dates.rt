@@ -1,8 +1,7 @@
 // Dates of mail.
-use crate::told::{own, show_line, show_quoted_line};
 use mail_dates::{MailDate, pick_date};
 use mh_base::Bytes;
-use row_text::{signed, word};
+use row_text::{own, show_line, show_quoted_line, signed, word};
 use std::alloc::Global;
 use std::test::Fail;
 

@@ -1,10 +1,9 @@
 // Codes of MIME.
 ghost use Rattle.std.specs.Prelude.{◌≡◌, IfOk, length};
 
-use crate::told::{show_number, show_quoted_line};
 use mh_base::Bytes;
 use mime_codes::{b64_decode, b64_encode, qp_decode, qp_encode};
-use row_text::{number, word};
+use row_text::{number, show_number, show_quoted_line, word};
 use std::alloc::{AllocError, Global};
 use std::test::Fail;
 

@@ -1,8 +1,7 @@
 // Drops, whole and in pieces.
-use crate::told::{from, show_line, show_number};
 use mbox_drop::{CutFault, DropCounter, DropCutter, MailDrop};
 use mh_base::Bytes;
-use row_text::{show_quoted, word};
+use row_text::{from, show_line, show_number, show_quoted, word};
 use std::alloc::Global;
 use std::test::Fail;
 

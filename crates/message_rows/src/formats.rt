@@ -1,10 +1,9 @@
 // Formats, and the instructions that they give.
-use crate::told::{from, show_line};
 use format_compiler::{
     Argument, Call, FUNCTIONS, FormatFault, Instruction, Piece, Program, Test, Width, compile,
 };
 use mh_base::Bytes;
-use row_text::{number, text, word};
+use row_text::{from, number, show_line, text, word};
 use std::alloc::{AllocError, Global};
 use std::test::Fail;
 
