@@ -129,11 +129,7 @@ impl Play {
 
     fn begin_sweep(&mut self, line: &[u8], words: Vec<Bytes>) -> Result<(), Fail> {
         self.echo(line)?;
-        let mut what = words;
-        if !what.is_empty() {
-            what.remove(0);
-        }
-        self.sweep = Some(Sweep::new(self.alloc, what));
+        self.sweep = Some(Sweep::new(self.alloc, words));
         Ok(())
     }
 

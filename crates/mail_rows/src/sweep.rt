@@ -14,6 +14,7 @@ const STEPS: u64 = 500;
 #[derive(Drop)]
 pub(crate) struct Sweep {
     alloc: Global,
+    /// The words of its line.
     what: Vec<Bytes>,
     lines: Vec<Bytes>,
 }
@@ -49,7 +50,12 @@ impl Sweep {
 
     fn scene(&self, given: &Given, at: u64) -> Result<Scene, Fail> {
         let mut prompts = PromptList::new(self.alloc);
-        prompts.push(prompt(self.alloc, given, at, self.what.as_slice())?)?;
+        prompts.push(prompt(
+            self.alloc,
+            given,
+            at,
+            self.what.as_slice().get(1..).unwrap_or(&[]),
+        )?)?;
         Scene::new(self.alloc, given, prompts)
     }
 
