@@ -1,5 +1,5 @@
 -- How a command ends whose words name one that begins a folder, and what shows it.
-use Rattle.std.proofs.Common.{◌≡◌, ◌++◌, ◌<◌, inl, inr, ◌^◌, ◌∷◌, [], ℕ, Bool, true, false, List, Option, Some, None, Result, Ok, Err, nat_lt, refl, sym, ◌∙◌, ap, subst, arith}
+use Rattle.std.proofs.Common.{◌≡◌, ◌≢◌, ◌++◌, ◌<◌, inl, inr, ◌^◌, ◌∷◌, [], ℕ, Bool, true, false, List, Option, Some, None, Result, Ok, Err, nat_lt, refl, sym, ◌∙◌, ap, subst, arith}
 use Rattle.std.specs.Prelude.{codes, map, if◌then◌else◌}
 use Rattle.std.specs.Str.{chars}
 use Rattle.mh_base.specs.Folders.{is_folder_name, without_plus}
@@ -9,7 +9,7 @@ use Rattle.mh_profile.specs.Reading.{entries_in}
 use Rattle.mh_words.specs.Whole.{Wrong, read_in}
 use Rattle.mh_words.specs.declared.item.Item.{Item}
 use Rattle.folder_files.specs.Careful.{WasMade}
-use Rattle.folder_files.specs.Deeds.{Deed, HasFailed, Once, did, now, on}
+use Rattle.folder_files.specs.Deeds.{Deed, Once, did, now, on}
 use Rattle.folder_files.specs.Named.{is_number}
 use Rattle.folder_files.specs.declared.place.Place.{Place}
 use Rattle.folder_files.specs.declared.place.Place.TheVariants.{Folder, Home, Mail}
@@ -17,14 +17,12 @@ use Rattle.folder_files.specs.declared.refusal.Refusal.TheVariants as refusal
 use Rattle.folder_files.specs.declared.step.Answer.{Answer}
 use Rattle.folder_files.specs.declared.step.Answer.TheVariants as answer
 use Rattle.folder_files.specs.declared.step.Step.TheVariants as step
-use Rattle.file_plans.specs.Asking.{read, reading_of}
-use Rattle.file_plans.specs.declared.answers.Reading.{Reading}
-use Rattle.file_plans.specs.declared.answers.Reading.TheVariants as reading
+use Rattle.file_plans.specs.Asking.{reading_of}
 use Rattle.file_plans.specs.Text.{said_of}
-use Rattle.file_plans.specs.Plan.{Hand, Recall, Return, after, ask, bind, converted, fresh, lifted, ◌>>=◌}
-use Rattle.file_plans.specs.Rules.{IfOkay, Keeps}
+use Rattle.file_plans.specs.Plan.{Hand, Plan, Recall, Return, after, converted, fresh, lifted, ◌>>=◌}
+use Rattle.file_plans.specs.Rules.{IfOkay, Keeps, Rules}
 use Rattle.file_plans.specs.Runs as runs
-use Rattle.file_plans.specs.Runs.{Returned, Runs}
+use Rattle.file_plans.specs.Runs.{Exit, OutFailed, Returned, Runs}
 use Rattle.file_plans.proofs.Acting.{acts}
 use Rattle.file_plans.proofs.Framing.{AnyStep, asks_any}
 use Rattle.file_plans.proofs.Keeping.{keeps_bind, run_keeps}
@@ -38,29 +36,31 @@ use Rattle.step_plans.proofs.Coming.{Comes, NoneFailed, OfActs, anything, comes_
 use Rattle.step_plans.proofs.Going.{Outcome}
 use Rattle.step_plans.proofs.Lasting.{KeptBy}
 use Rattle.step_plans.proofs.Past.{did_step}
+use Rattle.step_plans.proofs.Ruling.{rules_of}
 use Rattle.command_stages.specs.Texts.{Commanded, text_by, text_read, too_large}
 use Rattle.mh_looks.specs.Scan.{entries_seen}
 use Rattle.mh_looks.proofs.Ending.{ScanEnds}
-use Rattle.opened_folders.specs.Endings.{IsEndedBy, IsShownBy, PutsNone, at_once, let_go}
-use Rattle.opened_folders.proofs.CleanRuns.{Clean}
-use Rattle.opened_folders.proofs.EndedKept.{keeps_more}
+use Rattle.opened_folders.specs.Endings.{IsEndedBy, IsShownBy, IsToldBy, PutsNone, at_once, let_go}
+use Rattle.opened_folders.proofs.CleanRuns.{Clean, comes_both, unfailed_by}
+use Rattle.opened_folders.proofs.EndedKept.{Still, keeps_more}
 use Rattle.opened_folders.proofs.NamesKept.{putting, taking}
+use Rattle.opened_folders.proofs.Speaking.{Quiet, keeps_both, keeps_holding, quietly, run_speaks, silence, silent_told, silently, speaking, speaks_more, text_silent}
 use Rattle.opened_folders.proofs.WorkEnds.{EndsSo, ShowsSo}
 use Rattle.mark_command.specs.Mark.{mark, mark_by_act}
-use Rattle.mark_command.specs.MarkAnswers.{HasMarked, ShowsListing, mark_answers}
+use Rattle.mark_command.specs.MarkAnswers.{HasMarked, ShowsListing, TellsMarks, mark_answers}
 use Rattle.mark_command.specs.declared.job.MarkAct.{MarkAct}
 use Rattle.mark_command.specs.declared.job.MarkJob.{MarkJob}
 use Rattle.mark_command.proofs.LooksEnd.{looks_comes, looks_job}
-use Rattle.mark_command.proofs.LooksRefused.{Refuses, comes_both, looks_refuses}
+use Rattle.mark_command.proofs.LooksRefused.{Refuses, looks_refuses}
 use Rattle.mark_command.proofs.MarkEnds.{changes_end}
-use Rattle.mark_command.proofs.MarkSays.{SaysMarked, changes_say, everything, keeps_both, silence, silently}
-use Rattle.mark_command.specs.Lines.{lines_for}
-use Rattle.mark_command.specs.Marking.{marked_for}
-use Rattle.mark_command.specs.Outcomes.{text_if}
-use Rattle.opened_folders.specs.FolderPledge.{told_within}
+use Rattle.mark_command.proofs.MarkSays.{changes_say}
+use Rattle.mark_command.proofs.ListingSays.{listing_says}
 use Rattle.refile_command.specs.Rmm.{rmm}
 use Rattle.refile_command.specs.RmmAnswers.{HasRemovedChosen, rmm_answers}
 use Rattle.refile_command.proofs.RmmEnds.{rmm_ends}
+use Rattle.refile_command.proofs.RmmPledged.{rmm_keeps as rmm_pledged}
+use Rattle.refile_command.specs.RmmPledge.{rmm_pledge}
+use Rattle.refile_command.specs.declared.job.RmmJob.{RmmJob}
 use Rattle.command_words.specs.Ended.{plain, wrong_at, wrong_word as wrong_ended}
 use Rattle.command_words.specs.FolderWords.{folder_named, folders, named_folder, one_folder, some_named}
 use Rattle.command_words.specs.MarkWords as mark_words
@@ -73,7 +73,7 @@ use Rattle.command_words.specs.Words.{profile_words}
 use Rattle.command_words.specs.declared.ended.Ended.{Ended}
 use Rattle.command_words.specs.declared.mark.MarkWords.{MarkWords}
 use Rattle.command_words.specs.declared.rmm.RmmWords.{RmmWords}
-use Rattle.command_line.specs.BegunCauses.{ShowsEarly, ShowsFault, ShowsMark, ShowsMarking, ShowsNamed, ShowsOnFolder, ShowsRemoving, ShowsRmm, long_context, long_profile, wrong_folder, wrong_name, wrong_stored, wrong_word}
+use Rattle.command_line.specs.BegunCauses.{ShowsEarly, ShowsFault, TellsOnFolder, ShowsMark, ShowsMarking, ShowsNamed, ShowsOnFolder, ShowsRemoving, ShowsRmm, long_context, long_profile, wrong_folder, wrong_name, wrong_stored, wrong_word}
 use Rattle.command_line.specs.Causes.{ShowsCommandFault}
 use Rattle.command_line.specs.Command.{command, command_by, context_entered, context_seen, folder_found, mark_begun, mark_by, mark_job, rmm_begun, rmm_by, rmm_job, word_by}
 use Rattle.command_line.specs.CommandNames.{begins_folders, command_of, named}
@@ -113,11 +113,6 @@ told_comes p x own h =
     comes_read own h of_stop (Tells p x own h) p x LIMIT_BYTES text_by (λ bytes. comes_to _ h (Ok bytes) (Tells p x own h) (answer.Content bytes, refl, refl, refl))
     (λ l. comes_to _ h (Err (too_large l)) (Tells p x own h) (l, refl, refl)) (comes_to _ h (Ok []) (Tells p x own h) (answer.Gone, refl, refl, refl))
 
-unfailed_by : (own : List Deed) → NoneFailed own → HasFailed own → ⊥
-unfailed_by (d ∷ own) clean (now e) = clean (inl e)
-unfailed_by (d ∷ own) clean (on z) = unfailed_by own (λ m. clean (inr m)) z
-unfailed_by [] clean z = elim z [ ]
-
 -- two readings put no name anywhere, and take none away
 none_put : (p : Place) (path : List ℕ) (a b : Answer) → PutsNone p (after_context path a b)
 none_put p path a b (now w) = putting p w.0 (step.Read (Mail path) context_name LIMIT_BYTES) b w.1
@@ -138,15 +133,6 @@ none_made p x path a b (on (now w)) = not_created p Home x profile_name w.0 LIMI
 none_made p x path a b (on (on z)) = elim z [ ]
 
 -- readings say nothing
-text_silent : (past : List runs.Deed) (h : Hand) (p : Place) (x : List ℕ) → Keeps silence past h (text_read p x) (λ later j r. Unit {0})
-unfolding Keeps text_read read ask lifted bind ◌>>=◌
-text_silent past h p x = (tt, tt, tt, λ a row live. by a (reading_of a))
-  where
-    by : (a : Answer) (r : Reading) → Keeps silence (past ++ runs.Did (step.Read p x LIMIT_BYTES) a ∷ []) h (text_by r) (λ later j s. Unit {0})
-    by a (reading.Content bytes) = (tt, tt)
-    by a (reading.Long l) = (tt, tt)
-    by a reading.Gone = (tt, tt)
-
 lifted_silent : (past : List runs.Deed) (h : Hand) (q : Commanded (List ℕ)) → Keeps silence past h q (λ later j r. Unit {0}) → Keeps silence past h (lifted plain q) (λ later j r. Unit {0})
 unfolding lifted Keeps
 lifted_silent past h q f = keeps_bind silence past h q (λ r. Return (converted plain r)) (λ later j r. Unit {0}) (λ later j r. Unit {0}) f (λ later j r u. (tt, tt))
@@ -176,6 +162,28 @@ module _ (run : ℕ) (few : run < 2 ^ 128) (words_ : List (List ℕ)) where
   abbrev Shows : CommandFault → List Deed → Type 0
   Shows e own = ShowsFault run words_ e own
 
+  -- what it may say
+  abbrev Spoken : List ℕ → List Deed → Type 0
+  Spoken text own = TellsOnFolder run words_ text own
+
+  abbrev pub Speech : Rules
+  Speech = speaking Spoken
+
+  abbrev none_told : List ℕ → List Deed → Type 0
+  none_told text own = ⊥
+
+  none_lasts : (text : List ℕ) → KeptBy AnyStep (none_told text)
+  none_lasts text own s x any f = f
+
+  -- a part that is silent, where nothing was said before
+  in_silence : {R : Type 0} (past : List runs.Deed) (h : Hand) (p : Plan R) (P : List runs.Deed → Hand → R → Type 0) → said_of past ≡ [] → Keeps silence past h p (λ later j r. Unit {0}) → Keeps anything past h p P
+      → Keeps Speech past h p (λ later j r. (said_of later ≡ []) × P later j r)
+  in_silence past h p P silent f g =
+      keeps_more Speech past h p (λ later j r. ((said_of later ≡ said_of past) × IsToldBy none_told (said_of later) (acts later)) × P later j r) (λ later j r. (said_of later ≡ []) × P later j r) (λ later j r q. (q.0.0 ∙ silent, q.1))
+      (speaks_more none_told Spoken (λ text own t. absurd t) past h p (λ later j r. ((said_of later ≡ said_of past) × IsToldBy none_told (said_of later) (acts later)) × P later j r)
+      (keeps_both (speaking none_told) anything past h p (λ later j r. (said_of later ≡ said_of past) × IsToldBy none_told (said_of later) (acts later)) P
+      (silently none_told none_lasts past h p (silent_told none_told none_lasts past silent) f) g))
+
   -- how the command ends
   abbrev pub EndsBy : List runs.Deed → Hand → Result Unit Ended → Type 0
   EndsBy past h (Ok u) = ShowsOnFolder run words_ (Ok (said_of past)) (acts past)
@@ -202,22 +210,22 @@ module _ (run : ℕ) (few : run < 2 ^ 128) (words_ : List (List ℕ)) where
   looked (fault.Meddled q x) own s so clean = (so s, clean)
   looked fault.Memory own s so clean = absurd s
 
-  stops : (past : List runs.Deed) (h : Hand) (x : Ended) → IsEndedBy Shows x.fault (acts past) → Keeps anything past h (Return (Err x)) EndsBy
+  stops : (past : List runs.Deed) (h : Hand) (x : Ended) → said_of past ≡ [] → IsEndedBy Shows x.fault (acts past) → Keeps Speech past h (Return (Err x)) EndsBy
   unfolding Keeps
-  stops past h x s = (tt, s)
+  stops past h x silent s = (inl silent, s)
 
-  stops_plainly : (past : List runs.Deed) (h : Hand) (e : CommandFault) → IsEndedBy Shows e (acts past) → Keeps anything past h (Return (Err e)) Plainly
+  stops_plainly : (past : List runs.Deed) (h : Hand) (e : CommandFault) → said_of past ≡ [] → IsEndedBy Shows e (acts past) → Keeps Speech past h (Return (Err e)) Plainly
   unfolding Keeps
-  stops_plainly past h e s = (tt, s)
+  stops_plainly past h e silent s = (inl silent, s)
 
   -- one whose faults speak of no word
-  plain_keeps : (past : List runs.Deed) (h : Hand) (q : Commanded Unit) → Keeps anything past h q Plainly → Keeps anything past h (lifted plain q) EndsBy
+  plain_keeps : (past : List runs.Deed) (h : Hand) (q : Commanded Unit) → Keeps Speech past h q Plainly → Keeps Speech past h (lifted plain q) EndsBy
   unfolding lifted Keeps
-  plain_keeps past h q k = keeps_bind anything past h q (λ r. Return (converted plain r)) Plainly EndsBy k go
+  plain_keeps past h q k = keeps_bind Speech past h q (λ r. Return (converted plain r)) (λ later j r. Speech.holds later j × Plainly later j r) EndsBy (keeps_holding Speech past h q Plainly k) go
     where
-      go : (later : List runs.Deed) (j : Hand) (r : Result Unit CommandFault) → Plainly later j r → Keeps anything later j (Return (converted plain r)) EndsBy
-      go later j (Ok u) s = (tt, s)
-      go later j (Err e) s = (tt, s)
+      go : (later : List runs.Deed) (j : Hand) (r : Result Unit CommandFault) → Speech.holds later j × Plainly later j r → Keeps Speech later j (Return (converted plain r)) EndsBy
+      go later j (Ok u) s = s
+      go later j (Err e) s = s
 
   long_there : (path : List ℕ) (a : Answer) (later : List Deed) (l : ℕ) (e : CommandFault) → e ≡ too_large l → later ≡ did (step.Read (Mail path) context_name LIMIT_BYTES) (answer.Long l) ∷ after_profile a → ShowsEarly e later
   long_there path a later l e is at = rw (is, at) long_context
@@ -278,6 +286,16 @@ module _ (run : ℕ) (few : run < 2 ^ 128) (words_ : List (List ℕ)) where
         comes_then (after_profile a) fresh (context_entered (Mail path)) (λ entered. Recall (λ h. Return (folder_of said (entries_seen h.context) profile))) Enters (Found said) entered_comes
         (λ later j u q. at later (after_context path a q.0) j j _ (Found said) q.1 refl (refused_comes said q.0 j q.2)) (λ later j e q. q)
 
+    abbrev Finds : Option (List ℕ) → Outcome (Result (List ℕ) CommandFault)
+    Finds said later j r = NoneFailed later × Found said later j r
+
+    folder_keeps : (said : Option (List ℕ)) (past : List runs.Deed) → acts past ≡ after_profile a → NoneFailed (acts past) → said_of past ≡ []
+        → Keeps Speech past fresh (folder_found profile said) (λ later j r. (said_of later ≡ []) × OfActs (Finds said) later j r)
+    folder_keeps said past is clean silent =
+        in_silence past fresh (folder_found profile said) (OfActs (Finds said)) silent (found_silent past fresh profile said)
+        (comes_keeps past (acts past) fresh (folder_found profile said) (Finds said) refl
+        (comes_clean (acts past) fresh (folder_found profile said) (Found said) clean (subst (λ o. Comes o fresh (folder_found profile said) (Found said)) (sym is) (found_comes said))))
+
     -- the command on it
     abbrev Behind : Answer → List Deed → Type 0
     Behind b own = (newer : List Deed) × (own ≡ newer ++ after_context path a b)
@@ -313,52 +331,60 @@ module _ (run : ℕ) (few : run < 2 ^ 128) (words_ : List (List ℕ)) where
           abbrev job : MarkJob
           job = mark_job folder words profile
 
-          changing : (act : MarkAct) → words.act ≡ Some act → Keeps anything past j (mark_by_act run path job (Some act)) Plainly
+          begins : Clean run (acts past) j
+          begins = clean_there b (acts past) j is first clean
+
+          changing : (act : MarkAct) → words.act ≡ Some act → Keeps Speech past j (mark_by_act run path job (Some act)) Plainly
           changing act is_act =
-              keeps_more anything past j (mark_by_act run path job (Some act)) Both Plainly more
-              (keeps_both anything everything past j (mark_by_act run path job (Some act)) (EndsSo run few path folder (mark_answers job act) (Behind b) (λ own. Unit {0})) Says
+              keeps_more Speech past j (mark_by_act run path job (Some act)) Both Plainly more
+              (keeps_both Speech anything past j (mark_by_act run path job (Some act)) Says (EndsSo run few path folder (mark_answers job act) (Behind b) (λ own. Unit {0}))
+              (speaks_more T Spoken tells past j (mark_by_act run path job (Some act)) Says
+              (changes_say run few path job act (Behind b) (behind_kept b) past j silent ([], is) (record { numbered = begins.numbered; unfailed = begins.unfailed })))
               (changes_end run few path job act (Behind b) (behind_kept b) past j clean begins (subst (PutsNone (Mail path)) (sym is) (none_put (Mail path) path a b))
-              (λ x n t. none_taken (Folder path folder) path a b x n (subst (λ o. Once (λ d older. IsTakenAway (Folder path folder) x d) o) is t)) ([], is))
-              (changes_say run few path job act past j (record { numbered = begins.numbered; unfailed = begins.unfailed })))
+              (λ x n t. none_taken (Folder path folder) path a b x n (subst (λ o. Once (λ d older. IsTakenAway (Folder path folder) x d) o) is t)) ([], is)))
             where
-              begins : Clean run (acts past) j
-              begins = clean_there b (acts past) j is first clean
+              T : List ℕ → List Deed → Type 0
+              T text own = Behind b own × HasMarked run path job act text own
 
               Says : List runs.Deed → Hand → Result Unit CommandFault → Type 0
-              Says later i r = IfOkay (λ last k u. SaysMarked run few path job act past last) later i r
+              Says later i r = IfOkay (λ last k u. T (said_of last) (acts last)) later i r
 
               Both : List runs.Deed → Hand → Result Unit CommandFault → Type 0
-              Both later i r = EndsSo run few path folder (mark_answers job act) (Behind b) (λ own. Unit {0}) later i r × Says later i r
+              Both later i r = Says later i r × EndsSo run few path folder (mark_answers job act) (Behind b) (λ own. Unit {0}) later i r
 
-              has : (later : List runs.Deed) → SaysMarked run few path job act past later → HasMarked run path job act (said_of later) (acts later)
-              has later m = record {
-                listing = m.listing;
-                text = m.text;
-                context = m.context;
-                seen = m.seen;
-                numbers = m.numbers;
-                chosen = m.chosen;
-                lines = m.said ∙ ap (λ t. t ++ text_if job.list (lines_for job.names (marked_for job act m.listing m.numbers (told_within m.listing m.text m.context job.folder)))) silent;
-              }
+              tells : (text : List ℕ) (own : List Deed) → T text own → Spoken text own
+              tells text own t = mark_on b folder there (Ok text) own (t.0, subst (λ z. ShowsMarking run path job (entries_by b) (Ok text) own z) (sym is_act) t.1)
 
               more : (later : List runs.Deed) (i : Hand) (r : Result Unit CommandFault) → Both later i r → Plainly later i r
-              more later i (Ok u) s =
-                  mark_on b folder there (Ok (said_of later)) (acts later) (s.0.0, subst (λ z. ShowsMarking run path job (entries_by b) (Ok (said_of later)) (acts later) z) (sym is_act) (has later s.1))
+              more later i (Ok u) s = tells (said_of later) (acts later) s.0
               more later i (Err e) s =
                   ended_more (ShowsSo run few path folder (mark_answers job act) (Behind b)) Shows
-                  (λ x own q. inr (mark_on b folder there (Err x) own (q.0, subst (λ z. ShowsMarking run path job (entries_by b) (Err x) own z) (sym is_act) q.1))) e (acts later) s.0
+                  (λ x own q. inr (mark_on b folder there (Err x) own (q.0, subst (λ z. ShowsMarking run path job (entries_by b) (Err x) own z) (sym is_act) q.1))) e (acts later) s.1
 
-          looking : words.act ≡ None → Keeps anything past j (mark_by_act run path job None) Plainly
+          looking : words.act ≡ None → Keeps Speech past j (mark_by_act run path job None) Plainly
           looking is_act =
-              keeps_more anything past j _ (OfActs Looks) Plainly more
+              keeps_more Speech past j (mark_by_act run path job None) (λ later i r. Says later i r × OfActs Looks later i r) Plainly more
+              (keeps_both Speech anything past j (mark_by_act run path job None) Says (OfActs Looks)
+              (speaks_more T Spoken tells past j (mark_by_act run path job None) Says (listing_says run few path job j (Behind b) (behind_kept b) past silent ([], is) begins.numbered clean))
               (comes_keeps past (acts past) j (mark_by_act run path job None) Looks refl
               (comes_clean (acts past) j (mark_by_act run path job None) Looked clean
               (comes_framed AnyStep (Behind b) (behind_kept b) (acts past) j (mark_by_act run path job None) LookedSo (asks_any (mark_by_act run path job None)) ([], is)
               (comes_both (acts past) j (mark_by_act run path job None) (ScanEnds run path (looks_job job) j (numbered_there b j first)) (Refuses run path job j)
-              (looks_comes run path job j (numbered_there b j first) (acts past) unmade) (looks_refuses run path job j (acts past) unmade)))))
+              (looks_comes run path job j (numbered_there b j first) (acts past) unmade) (looks_refuses run path job j (acts past) unmade))))))
             where
               unmade : WasMade (Mail path) (temp_name run j.next) (acts past) → ⊥
               unmade w = none_made (Mail path) (temp_name run j.next) path a b (subst (λ o. WasMade (Mail path) (temp_name run j.next) o) is w)
+
+              T : List ℕ → List Deed → Type 0
+              T text own = Behind b own × TellsMarks path job (entries_seen j.context) text own
+
+              Says : List runs.Deed → Hand → Result Unit CommandFault → Type 0
+              Says later i r = IfOkay (λ last k u. T (said_of last) (acts last)) later i r
+
+              tells : (text : List ℕ) (own : List Deed) → T text own → Spoken text own
+              tells text own t =
+                  mark_on b folder there (Ok text) own
+                  (t.0, subst (λ z. ShowsMarking run path job (entries_by b) (Ok text) own z) (sym is_act) (subst (λ i. TellsMarks path job (entries_seen i.context) text own) first t.1))
 
               LookedSo : Outcome (Result Unit CommandFault)
               LookedSo later i r = ScanEnds run path (looks_job job) j (numbered_there b j first) later i r × Refuses run path job j later i r
@@ -372,36 +398,28 @@ module _ (run : ℕ) (few : run < 2 ^ 128) (words_ : List (List ℕ)) where
               refuses : (e : CommandFault) (own : List Deed) → ShowsListing path job (entries_seen j.context) e own → ShowsListing path job (entries_by b) e own
               refuses e own f = subst (λ i. ShowsListing path job (entries_seen i.context) e own) first f
 
-              more : (later : List runs.Deed) (i : Hand) (r : Result Unit CommandFault) → OfActs Looks later i r → Plainly later i r
-              more later i (Ok u) s = mark_on b folder there (Ok (said_of later)) (acts later) (s.1.0, subst (λ z. ShowsMarking run path job (entries_by b) (Ok (said_of later)) (acts later) z) (sym is_act) tt)
+              more : (later : List runs.Deed) (i : Hand) (r : Result Unit CommandFault) → Says later i r × OfActs Looks later i r → Plainly later i r
+              more later i (Ok u) s = tells (said_of later) (acts later) s.0
               more later i (Err e) s =
-                  looked e (acts later) (scan_shows run path folder e (acts later) s.1.1.0)
-                  (λ f. inr (mark_on b folder there (Err e) (acts later) (s.1.0, subst (λ z. ShowsMarking run path job (entries_by b) (Err e) (acts later) z) (sym is_act) (f, refuses e (acts later) s.1.1.1)))) s.0
+                  looked e (acts later) (scan_shows run path folder e (acts later) s.1.1.1.0)
+                  (λ f. inr (mark_on b folder there (Err e) (acts later) (s.1.1.0, subst (λ z. ShowsMarking run path job (entries_by b) (Err e) (acts later) z) (sym is_act) (f, refuses e (acts later) s.1.1.1.1)))) s.1.0
 
-          mark_keeps : Keeps anything past j (mark run path job) Plainly
+          mark_keeps : Keeps Speech past j (mark run path job) Plainly
           unfolding mark
           mark_keeps = go words.act refl
             where
-              go : (act : Option MarkAct) → words.act ≡ act → Keeps anything past j (mark_by_act run path job act) Plainly
+              go : (act : Option MarkAct) → words.act ≡ act → Keeps Speech past j (mark_by_act run path job act) Plainly
               go None is_act = looking is_act
               go (Some act) is_act = changing act is_act
 
-        mark_begun_keeps : (past : List runs.Deed) → acts past ≡ after_profile a → NoneFailed (acts past) → said_of past ≡ [] → Keeps anything past fresh (mark_begun run profile words) Plainly
+        mark_begun_keeps : (past : List runs.Deed) → acts past ≡ after_profile a → NoneFailed (acts past) → said_of past ≡ [] → Keeps Speech past fresh (mark_begun run profile words) Plainly
         unfolding mark_begun ◌>>=◌
         mark_begun_keeps past is clean silent =
-            keeps_bind anything past fresh (folder_found profile words.folder) (after (λ folder. mark run path (mark_job folder words profile))) _ Plainly
-            (keeps_both anything everything past fresh (folder_found profile words.folder) (OfActs Finds) (λ later j r. said_of later ≡ said_of past)
-            (comes_keeps past (acts past) fresh (folder_found profile words.folder) Finds refl
-            (comes_clean (acts past) fresh (folder_found profile words.folder) (Found words.folder) clean (subst (λ o. Comes o fresh (folder_found profile words.folder) (Found words.folder)) (sym is) (found_comes words.folder))))
-            (silently past fresh (folder_found profile words.folder) (found_silent past fresh profile words.folder)))
-            go
+            keeps_bind Speech past fresh (folder_found profile words.folder) (after (λ folder. mark run path (mark_job folder words profile))) _ Plainly (folder_keeps words.folder past is clean silent) go
           where
-            Finds : Outcome (Result (List ℕ) CommandFault)
-            Finds later j r = NoneFailed later × Found words.folder later j r
-
-            go : (later : List runs.Deed) (j : Hand) (r : Result (List ℕ) CommandFault) → OfActs Finds later j r × (said_of later ≡ said_of past) → Keeps anything later j (after (λ folder. mark run path (mark_job folder words profile)) r) Plainly
-            go later j (Ok folder) q = mark_keeps later j folder q.0.1.0 q.0.1.1 q.0.1.2 q.0.1.3 q.0.0 (q.1 ∙ silent)
-            go later j (Err e) q = stops_plainly later j e (early e (acts later) q.0.1 q.0.0)
+            go : (later : List runs.Deed) (j : Hand) (r : Result (List ℕ) CommandFault) → (said_of later ≡ []) × OfActs (Finds words.folder) later j r → Keeps Speech later j (after (λ folder. mark run path (mark_job folder words profile)) r) Plainly
+            go later j (Ok folder) q = mark_keeps later j folder q.1.1.0 q.1.1.1 q.1.1.2 q.1.1.3 q.1.0 q.0
+            go later j (Err e) q = stops_plainly later j e q.0 (early e (acts later) q.1.1 q.1.0)
 
       -- `rmm`
       module _ (name : named word ≡ Some Rmm) (words : RmmWords) (said : rmm_said profile (map chars rest) ≡ Ok words) where
@@ -412,31 +430,44 @@ module _ (run : ℕ) (few : run < 2 ^ 128) (words_ : List (List ℕ)) where
             (subst (λ n. ShowsNamed run profile (entries_by b) folder r own rest n) (sym name)
             (subst (λ m. ShowsRmm run profile (entries_by b) folder r own m) (sym said) (there, s.1)))
 
-        rmm_keeps : (past : List runs.Deed) (j : Hand) (folder : List ℕ) (b : Answer) → acts past ≡ after_context path a b → j ≡ knowing (entries_by b) fresh → folder_of words.folder (entries_by b) profile ≡ Ok folder → NoneFailed (acts past)
-            → Keeps anything past j (rmm run path (rmm_job folder words profile)) Plainly
-        rmm_keeps past j folder b is first there clean =
-            keeps_more anything past j (rmm run path (rmm_job folder words profile)) (EndsSo run few path folder (rmm_answers (rmm_job folder words profile)) (Behind b) (λ own. HasRemovedChosen run path (rmm_job folder words profile) own)) Plainly more
-            (rmm_ends run few path (rmm_job folder words profile) (Behind b) (behind_kept b) past j clean (clean_there b (acts past) j is first clean) (subst (PutsNone (Mail path)) (sym is) (none_put (Mail path) path a b))
-            (λ x n t. none_taken (Folder path folder) path a b x n (subst (λ o. Once (λ d older. IsTakenAway (Folder path folder) x d) o) is t)) ([], is))
-          where
-            more : (later : List runs.Deed) (i : Hand) (r : Result Unit CommandFault) → EndsSo run few path folder (rmm_answers (rmm_job folder words profile)) (Behind b) (λ own. HasRemovedChosen run path (rmm_job folder words profile) own) later i r → Plainly later i r
-            more later i (Ok u) s = rmm_on b folder there (Ok (said_of later)) (acts later) s
-            more later i (Err e) s = ended_more (ShowsSo run few path folder (rmm_answers (rmm_job folder words profile)) (Behind b)) Shows (λ x own q. inr (rmm_on b folder there (Err x) own q)) e (acts later) s
+        module _ (past : List runs.Deed) (j : Hand) (folder : List ℕ) (b : Answer) (is : acts past ≡ after_context path a b) (first : j ≡ knowing (entries_by b) fresh) (there : folder_of words.folder (entries_by b) profile ≡ Ok folder) (clean : NoneFailed (acts past)) (silent : said_of past ≡ []) where
+          abbrev removing : RmmJob
+          removing = rmm_job folder words profile
 
-        rmm_begun_keeps : (past : List runs.Deed) → acts past ≡ after_profile a → NoneFailed (acts past) → Keeps anything past fresh (rmm_begun run profile words) Plainly
+          begins_so : Clean run (acts past) j
+          begins_so = clean_there b (acts past) j is first clean
+
+          quiet : (now_ : List runs.Deed) (piece : List ℕ) → (rules_of (rmm_pledge run path removing)).may_say now_ piece → ⊥
+          quiet now_ piece f = f
+
+          rmm_keeps : Keeps Speech past j (rmm run path removing) Plainly
+          rmm_keeps =
+              keeps_more Speech past j (rmm run path removing) (λ later i r. Silent later i r × So later i r) Plainly more
+              (keeps_both Speech anything past j (rmm run path removing) Silent So
+              (speaks_more none_told Spoken (λ text own t. absurd t) past j (rmm run path removing) Silent
+              (quietly none_told none_lasts (rules_of (rmm_pledge run path removing)) quiet (Behind b) (behind_kept b) past j (rmm run path removing) (IfOkay (Still (acts past))) (silent_told none_told none_lasts past silent)
+              (rmm_pledged run few path removing past j (record { numbered = begins_so.numbered; unfailed = begins_so.unfailed }))))
+              (rmm_ends run few path removing (Behind b) (behind_kept b) past j clean begins_so (subst (PutsNone (Mail path)) (sym is) (none_put (Mail path) path a b))
+              (λ x n t. none_taken (Folder path folder) path a b x n (subst (λ o. Once (λ d older. IsTakenAway (Folder path folder) x d) o) is t)) ([], is)))
+            where
+              Silent : List runs.Deed → Hand → Result Unit CommandFault → Type 0
+              Silent later i r = Quiet none_told none_lasts (rules_of (rmm_pledge run path removing)) quiet (Behind b) (behind_kept b) (IfOkay (Still (acts past))) past later i r
+
+              So : List runs.Deed → Hand → Result Unit CommandFault → Type 0
+              So later i r = EndsSo run few path folder (rmm_answers removing) (Behind b) (λ own. HasRemovedChosen run path removing own) later i r
+
+              more : (later : List runs.Deed) (i : Hand) (r : Result Unit CommandFault) → Silent later i r × So later i r → Plainly later i r
+              more later i (Ok u) s = rmm_on b folder there (Ok (said_of later)) (acts later) (s.1.0, (s.1.1, s.0.0 ∙ silent))
+              more later i (Err e) s = ended_more (ShowsSo run few path folder (rmm_answers removing) (Behind b)) Shows (λ x own q. inr (rmm_on b folder there (Err x) own q)) e (acts later) s.1
+
+        rmm_begun_keeps : (past : List runs.Deed) → acts past ≡ after_profile a → NoneFailed (acts past) → said_of past ≡ [] → Keeps Speech past fresh (rmm_begun run profile words) Plainly
         unfolding rmm_begun ◌>>=◌
-        rmm_begun_keeps past is clean =
-            keeps_bind anything past fresh (folder_found profile words.folder) (after (λ folder. rmm run path (rmm_job folder words profile))) (OfActs Finds) Plainly
-            (comes_keeps past (acts past) fresh (folder_found profile words.folder) Finds refl
-            (comes_clean (acts past) fresh (folder_found profile words.folder) (Found words.folder) clean (subst (λ o. Comes o fresh (folder_found profile words.folder) (Found words.folder)) (sym is) (found_comes words.folder))))
-            go
+        rmm_begun_keeps past is clean silent =
+            keeps_bind Speech past fresh (folder_found profile words.folder) (after (λ folder. rmm run path (rmm_job folder words profile))) _ Plainly (folder_keeps words.folder past is clean silent) go
           where
-            Finds : Outcome (Result (List ℕ) CommandFault)
-            Finds later j r = NoneFailed later × Found words.folder later j r
-
-            go : (later : List runs.Deed) (j : Hand) (r : Result (List ℕ) CommandFault) → OfActs Finds later j r → Keeps anything later j (after (λ folder. rmm run path (rmm_job folder words profile)) r) Plainly
-            go later j (Ok folder) q = rmm_keeps later j folder q.1.0 q.1.1 q.1.2 q.1.3 q.0
-            go later j (Err e) q = stops_plainly later j e (early e (acts later) q.1 q.0)
+            go : (later : List runs.Deed) (j : Hand) (r : Result (List ℕ) CommandFault) → (said_of later ≡ []) × OfActs (Finds words.folder) later j r → Keeps Speech later j (after (λ folder. rmm run path (rmm_job folder words profile)) r) Plainly
+            go later j (Ok folder) q = rmm_keeps later j folder q.1.1.0 q.1.1.1 q.1.1.2 q.1.1.3 q.1.0 q.0
+            go later j (Err e) q = stops_plainly later j e q.0 (early e (acts later) q.1.1 q.1.0)
 
     -- the words
     module _ (past : List runs.Deed) (is : acts past ≡ after_profile a) (clean : NoneFailed (acts past)) (silent : said_of past ≡ []) where
@@ -502,21 +533,21 @@ module _ (run : ℕ) (few : run < 2 ^ 128) (words_ : List (List ℕ)) where
       rmm_refused : (words : List (List ℕ)) (x : Ended) → rmm_said profile words ≡ Err x → IsEndedBy Shows x.fault (acts past)
       rmm_refused words x e = subst RmmShown e (rmm_items_shown (profile_words (codes "rmm") profile ++ words) (read_in rmm_table 0 (profile_words (codes "rmm") profile ++ words)))
 
-      by_word : (word : List ℕ) (rest : List (List ℕ)) → words_ ≡ word ∷ rest → (n : Option CommandName) → named word ≡ n → begins_folders n ≡ true → Keeps anything past fresh (word_by run profile word rest n) EndsBy
+      by_word : (word : List ℕ) (rest : List (List ℕ)) → words_ ≡ word ∷ rest → (n : Option CommandName) → named word ≡ n → begins_folders n ≡ true → Keeps Speech past fresh (word_by run profile word rest n) EndsBy
       by_word word rest is_words None name begins = cc (begins)
       by_word word rest is_words (Some Scan) name begins = cc (begins)
       by_word word rest is_words (Some Mark) name begins = go (mark_said profile (map chars rest)) refl
         where
-          go : (r : Result MarkWords Ended) → mark_said profile (map chars rest) ≡ r → Keeps anything past fresh (mark_by run profile r) EndsBy
+          go : (r : Result MarkWords Ended) → mark_said profile (map chars rest) ≡ r → Keeps Speech past fresh (mark_by run profile r) EndsBy
           go (Ok words) said = plain_keeps past fresh (mark_begun run profile words) (mark_begun_keeps word rest is_words name words said past is clean silent)
-          go (Err x) said = stops past fresh x (mark_refused (map chars rest) x said)
+          go (Err x) said = stops past fresh x silent (mark_refused (map chars rest) x said)
       by_word word rest is_words (Some Rmm) name begins = go (rmm_said profile (map chars rest)) refl
         where
-          go : (r : Result RmmWords Ended) → rmm_said profile (map chars rest) ≡ r → Keeps anything past fresh (rmm_by run profile r) EndsBy
-          go (Ok words) said = plain_keeps past fresh (rmm_begun run profile words) (rmm_begun_keeps word rest is_words name words said past is clean)
-          go (Err x) said = stops past fresh x (rmm_refused (map chars rest) x said)
+          go : (r : Result RmmWords Ended) → rmm_said profile (map chars rest) ≡ r → Keeps Speech past fresh (rmm_by run profile r) EndsBy
+          go (Ok words) said = plain_keeps past fresh (rmm_begun run profile words) (rmm_begun_keeps word rest is_words name words said past is clean silent)
+          go (Err x) said = stops past fresh x silent (rmm_refused (map chars rest) x said)
 
-      by_words : (words : List (List ℕ)) → words_ ≡ words → begins_folders (command_of words) ≡ true → Keeps anything past fresh (command_by run profile words) EndsBy
+      by_words : (words : List (List ℕ)) → words_ ≡ words → begins_folders (command_of words) ≡ true → Keeps Speech past fresh (command_by run profile words) EndsBy
       by_words [] is_words begins = cc (begins)
       by_words (word ∷ rest) is_words begins = by_word word rest is_words (named word) refl begins
 
@@ -530,24 +561,28 @@ module _ (run : ℕ) (few : run < 2 ^ 128) (words_ : List (List ℕ)) where
       comes_lifted [] fresh plain (text_read Home profile_name) (Tells Home profile_name [] fresh) Profile (told_comes Home profile_name [] fresh) (λ later j text q. q) (λ later j e q. long_first later q.0 e q.1 q.2)
 
   -- a command whose words name one that begins folders: how it ends, and what shows it
-  pub begun_ends_by : begins_folders (command_of words_) ≡ true → Keeps anything [] fresh (command run words_) EndsBy
+  pub begun_ends_by : begins_folders (command_of words_) ≡ true → Keeps Speech [] fresh (command run words_) EndsBy
   unfolding command ◌>>=◌
   begun_ends_by begins =
-      keeps_bind anything [] fresh (lifted plain (text_read Home profile_name)) (after (λ text. command_by run (entries_in text) words_)) _ EndsBy
-      (keeps_both anything everything [] fresh (lifted plain (text_read Home profile_name)) (OfActs Reads) (λ later j r. said_of later ≡ [])
-      (comes_keeps [] [] fresh (lifted plain (text_read Home profile_name)) Reads refl (comes_clean [] fresh (lifted plain (text_read Home profile_name)) Profile (λ m. m) profile_comes))
-      (silently [] fresh (lifted plain (text_read Home profile_name)) (profile_silent [] fresh)))
+      keeps_bind Speech [] fresh (lifted plain (text_read Home profile_name)) (after (λ text. command_by run (entries_in text) words_)) _ EndsBy
+      (in_silence [] fresh (lifted plain (text_read Home profile_name)) (OfActs Reads) refl (profile_silent [] fresh)
+      (comes_keeps [] [] fresh (lifted plain (text_read Home profile_name)) Reads refl (comes_clean [] fresh (lifted plain (text_read Home profile_name)) Profile (λ m. m) profile_comes)))
       go
     where
       Reads : Outcome (Result (List ℕ) Ended)
       Reads later j r = NoneFailed later × Profile later j r
 
-      go : (later : List runs.Deed) (j : Hand) (r : Result (List ℕ) Ended) → OfActs Reads later j r × (said_of later ≡ []) → Keeps anything later j (after (λ text. command_by run (entries_in text) words_) r) EndsBy
+      go : (later : List runs.Deed) (j : Hand) (r : Result (List ℕ) Ended) → (said_of later ≡ []) × OfActs Reads later j r → Keeps Speech later j (after (λ text. command_by run (entries_in text) words_) r) EndsBy
       go later j (Ok text) q =
-          subst (λ i. Keeps anything later i (command_by run (entries_in text) words_) EndsBy) (sym q.0.1.2)
-          (subst (λ t. Keeps anything later fresh (command_by run (entries_in t) words_) EndsBy) (sym q.0.1.3) (by_words q.0.1.0 later q.0.1.1 q.0.0 q.1 words_ refl begins))
-      go later j (Err x) q = stops later j x (early x.fault (acts later) q.0.1 q.0.0)
+          subst (λ i. Keeps Speech later i (command_by run (entries_in text) words_) EndsBy) (sym q.1.1.2)
+          (subst (λ t. Keeps Speech later fresh (command_by run (entries_in t) words_) EndsBy) (sym q.1.1.3) (by_words q.1.1.0 later q.1.1.1 q.1.0 q.0 words_ refl begins))
+      go later j (Err x) q = stops later j x q.0 (early x.fault (acts later) q.1.1 q.1.0)
 
   -- so does each run of it
   pub run_ends_by : begins_folders (command_of words_) ≡ true → (ds : List runs.Deed) (j : Hand) (r : Result Unit Ended) → Runs (command run words_) fresh ds j (Returned r) → EndsBy ds j r
-  run_ends_by begins ds j r f = (run_keeps anything [] fresh (command run words_) ds j (Returned r) EndsBy (begun_ends_by begins) f).gave
+  run_ends_by begins ds j r f = (run_keeps Speech [] fresh (command run words_) ds j (Returned r) EndsBy (begun_ends_by begins) f).gave
+
+  -- and what it says however it ends
+  pub run_tells : begins_folders (command_of words_) ≡ true → (ds : List runs.Deed) (j : Hand) (x : Exit (Result Unit Ended)) → Runs (command run words_) fresh ds j x
+      → IsToldBy Spoken (said_of ds) (acts ds) × (x ≡ OutFailed → (text : List ℕ) × Spoken text (acts ds) × (text ≢ []))
+  run_tells begins ds j x f = run_speaks Spoken (command run words_) fresh ds j x EndsBy (begun_ends_by begins) f

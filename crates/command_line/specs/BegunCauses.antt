@@ -15,7 +15,7 @@ use Rattle.step_plans.specs.declared.command_fault.CommandFault.{CommandFault}
 use Rattle.step_plans.specs.declared.command_fault.CommandFault.TheVariants as fault
 use Rattle.command_stages.specs.Texts.{too_large}
 use Rattle.opened_folders.specs.Endings.{ShowsEnd}
-use Rattle.mark_command.specs.MarkAnswers.{HasMarked, ShowsListing, mark_answers}
+use Rattle.mark_command.specs.MarkAnswers.{HasMarked, ShowsListing, TellsMarks, mark_answers}
 use Rattle.mark_command.specs.declared.job.MarkAct.{MarkAct}
 use Rattle.mark_command.specs.declared.job.MarkJob.{MarkJob}
 use Rattle.refile_command.specs.RmmAnswers.{HasRemovedChosen, rmm_answers}
@@ -52,10 +52,10 @@ pub data ShowsEarly : CommandFault → List Deed → Type 0 where
       → ShowsEarly (too_large l)
       (did (Read (Mail path) context_name LIMIT_BYTES) (Long l) ∷ (did (Read Home profile_name LIMIT_BYTES) a ∷ []))
 
--- a `mark` that only lists is a command that looks; it refuses its words by what it read, and by these entries of the
--- context
+-- a `mark` that only lists tells of the sequences that it read, with these entries of the context; or it is refused as a
+-- command that looks, its words by what it read
 abbrev pub ShowsLooking : ℕ → List ℕ → MarkJob → List NamedValue → Result (List ℕ) CommandFault → List Deed → Type 0
-ShowsLooking run path job context (Ok said) own = Unit {0}
+ShowsLooking run path job context (Ok said) own = TellsMarks path job context said own
 ShowsLooking run path job context (Err e) own = ShowsCommandFault run e own × ShowsListing path job context e own
 
 -- one that changes something on this folder: at its end it had marked messages and said this, or this shows its fault
@@ -68,9 +68,10 @@ abbrev pub ShowsMarking : ℕ → List ℕ → MarkJob → List NamedValue → R
 ShowsMarking run path job context r own None = ShowsLooking run path job context r own
 ShowsMarking run path job context r own (Some a) = ShowsChanging run path job a r own
 
--- `rmm` on this folder: at its end it had removed the messages that the job's words choose, or this shows its fault
+-- `rmm` on this folder: at its end it had removed the messages that the job's words choose, and said nothing; or this
+-- shows its fault
 abbrev pub ShowsRemoving : ℕ → List ℕ → RmmJob → Result (List ℕ) CommandFault → List Deed → Type 0
-ShowsRemoving run path job (Ok said) own = HasRemovedChosen run path job own
+ShowsRemoving run path job (Ok said) own = HasRemovedChosen run path job own × (said ≡ [])
 ShowsRemoving run path job (Err e) own = ShowsEnd run path job.folder (rmm_answers job) e own
 
 -- the words of `mark`, the context or the profile name this folder, and this shows how it ended there
@@ -123,3 +124,8 @@ pub record ShowsOnFolder (run : ℕ) (words : List (List ℕ)) (r : Result (List
 -- what shows each fault of a command that may begin a folder
 abbrev pub ShowsFault : ℕ → List (List ℕ) → CommandFault → List Deed → Type 0
 ShowsFault run words e own = ShowsEarly e own ⊎ ShowsOnFolder run words (Err e) own
+
+-- by what these deeds show, this is the text of the command on its folder: that of the sequences that `mark` made or read,
+-- where it lists
+abbrev pub TellsOnFolder : ℕ → List (List ℕ) → List ℕ → List Deed → Type 0
+TellsOnFolder run words text own = ShowsOnFolder run words (Ok text) own

@@ -1,4 +1,5 @@
 pub mod Ends
+pub mod ListingSays
 pub mod LooksEnd
 pub mod LooksRefused
 pub mod Loops

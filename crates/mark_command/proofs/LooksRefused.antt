@@ -15,7 +15,7 @@ use Rattle.folder_files.specs.declared.refusal.Refusal.TheVariants as refusal
 use Rattle.folder_files.specs.declared.step.Answer.{Answer}
 use Rattle.folder_files.specs.declared.step.Answer.TheVariants as answer
 use Rattle.folder_files.specs.declared.step.Step.TheVariants as step
-use Rattle.file_plans.specs.Plan.{Ask, Hand, Hear, Note, Plan, Recall, Return, Say, Try, ◌>>=◌}
+use Rattle.file_plans.specs.Plan.{Hand, Plan, Recall, Return, ◌>>=◌}
 use Rattle.step_plans.specs.CommandFaults.{of_sink, of_stop}
 use Rattle.step_plans.specs.ContextCommit.{LIMIT_BYTES, commit_context}
 use Rattle.step_plans.specs.Hands.{temp_name}
@@ -40,17 +40,6 @@ use Rattle.mark_command.specs.MarkAnswers.{IsRefusedByListing, ShowsListing}
 use Rattle.mark_command.specs.declared.job.MarkJob.{MarkJob}
 use Rattle.mark_command.proofs.LooksEnd.{checked_so}
 
--- two things that hold where a plan returns
-pub comes_both : {R : Type 0} (own : List Deed) (h : Hand) (p : Plan R) (P Q : Outcome R) → Comes own h p P → Comes own h p Q → Comes own h p (λ later j r. P later j r × Q later j r)
-unfolding Comes
-comes_both own h (Return r) P Q f g = (f, g)
-comes_both own h (Ask s next) P Q f g = λ a row live. comes_both (did s a ∷ own) h (next a) P Q (f a row live) (g a row live)
-comes_both own h (Try s next) P Q f g = absurd f
-comes_both own h (Say piece next) P Q f g = comes_both own h next P Q f g
-comes_both own h (Hear most next) P Q f g = absurd f
-comes_both own h (Recall next) P Q f g = comes_both own h (next h) P Q f g
-comes_both own h (Note j next) P Q f g = comes_both own j next P Q f g
-
 module _ (run : ℕ) (mail : List ℕ) (job : MarkJob) (h : Hand) where
   abbrev place : Place
   place = Folder mail job.folder
@@ -58,7 +47,7 @@ module _ (run : ℕ) (mail : List ℕ) (job : MarkJob) (h : Hand) where
   abbrev entries : List NamedValue
   entries = entries_seen h.context
 
-  abbrev Shows : CommandFault → List Deed → Type 0
+  abbrev pub Shows : CommandFault → List Deed → Type 0
   Shows e own = ShowsListing mail job entries e own
 
   abbrev pub Refuses : {A : Type 0} → Outcome (Result A CommandFault)
@@ -86,23 +75,23 @@ module _ (run : ℕ) (mail : List ℕ) (job : MarkJob) (h : Hand) where
       (commit_comes run (Mail mail) (current_change job.folder) h own unmade) (λ later j u q. tt) (λ later j e q. of_plans e later))
       (λ later j u q. comes_to later j (Ok tt) Refuses tt) (λ later j e q. q)
 
-  abbrev Listing : List Deed → Outcome (Result (List (List ℕ)) CommandFault)
+  abbrev pub Listing : List Deed → Outcome (Result (List (List ℕ)) CommandFault)
   Listing own later j (Ok names) = (later ≡ did (step.List place) (answer.Names names) ∷ own) × (j ≡ h)
   Listing own later j (Err e) = Shows e later
 
-  list_comes : (own : List Deed) → Comes own h (folder_listed place job.folder) (Listing own)
+  pub list_comes : (own : List Deed) → Comes own h (folder_listed place job.folder) (Listing own)
   unfolding folder_listed
   list_comes own =
       comes_list own h of_stop (Listing own) place (names_by job.folder) (λ names. comes_to _ h (Ok names) (Listing own) (refl, refl)) (comes_to _ h (Err (fault.Refused (refusal.NoFolder job.folder))) (Listing own) tt)
 
-  abbrev reading : Answer → Deed
+  abbrev pub reading : Answer → Deed
   reading a = did (step.Read place (entry_text Sequences) LIMIT_BYTES) a
 
-  abbrev Reading : List Deed → Outcome (Result (List ℕ) CommandFault)
+  abbrev pub Reading : List Deed → Outcome (Result (List ℕ) CommandFault)
   Reading own later j (Ok text) = (a : Answer) × (later ≡ reading a ∷ own) × (j ≡ h) × TellsText place (entry_text Sequences) text (reading a)
   Reading own later j (Err e) = Shows e later
 
-  text_comes : (own : List Deed) → Comes own h (text_read place (entry_text Sequences)) (Reading own)
+  pub text_comes : (own : List Deed) → Comes own h (text_read place (entry_text Sequences)) (Reading own)
   unfolding text_read
   text_comes own =
       comes_read own h of_stop (Reading own) place (entry_text Sequences) LIMIT_BYTES text_by (λ bytes. comes_to _ h (Ok bytes) (Reading own) (answer.Content bytes, refl, refl, inl (LIMIT_BYTES, refl)))

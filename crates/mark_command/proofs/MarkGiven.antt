@@ -99,7 +99,7 @@ cur_some : (n : ℕ) → cur_line n ≡ [] → ⊥
 unfolding cur_line
 cur_some n e = cc
 
-abbrev AreSome : List (List ℕ) → Type 0
+abbrev pub AreSome : List (List ℕ) → Type 0
 AreSome [] = Unit {0}
 AreSome (l ∷ ls) = (l ≢ []) × AreSome ls
 
@@ -119,7 +119,7 @@ some_named : (m : Marked) (names : List (List ℕ)) → AreSome (map (λ n. line
 some_named m [] = tt
 some_named m (n ∷ names) = (line_some (sequence_of m n), some_named m names)
 
-some_for : (names : List (List ℕ)) (m : Marked) → AreSome (lines_for names m)
+pub some_for : (names : List (List ℕ)) (m : Marked) → AreSome (lines_for names m)
 some_for [] m = some_both (lines_beside true m.users) _ (some_lines (filter (is_beside_cur true) m.users)) (some_both (cur_lines m.cur) _ (some_cur m.cur) (some_lines (filter (is_beside_cur false) m.users)))
 some_for (name ∷ names) m = some_named m (name ∷ names)
 

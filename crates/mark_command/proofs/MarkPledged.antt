@@ -135,10 +135,10 @@ module _ (run : ℕ) (few : run < 2 ^ 128) (path : List ℕ) (job : MarkJob) (a 
         (okay_more (Of (λ end. AreSettled later → AreSettled end)) (Of (λ end. AreSettled own → AreSettled end)) (λ end k v f s. f (m.1 s)))
         (current_goes run few path job.folder (Marks job a) (Marking path job.folder) any_piece any_step lets later i o.listing b.text b.context m.0))))
 
--- one that only lists
-module _ (run : ℕ) (few : run < 2 ^ 128) (path : List ℕ) (job : MarkJob) where
-  abbrev v : Pledge
-  v = looks_pledge run path job
+-- one that only lists makes its folder the current one, whatever it may tell
+module _ (run : ℕ) (few : run < 2 ^ 128) (path : List ℕ) (job : MarkJob) (tells : List Deed → List ℕ → Type 0) where
+  abbrev pub notes_pledge : Pledge
+  notes_pledge = record (looks_pledge run path job) { may_tell = tells }
 
   abbrev at : Place
   at = Folder path job.folder
@@ -146,13 +146,10 @@ module _ (run : ℕ) (few : run < 2 ^ 128) (path : List ℕ) (job : MarkJob) whe
   abbrev current : List ChangeEntry
   current = current_change job.folder
 
-  tells_any : (own : List Deed) (piece : List ℕ) → v.may_tell own piece
-  tells_any own piece = tt
-
-  serves_context : Serves v (Mail path)
+  serves_context : Serves notes_pledge (Mail path)
   serves_context = record { serves = λ own kind s k m. (k, m); make = λ own. tt; create = λ own temp bytes is. tt; clear = λ own temp is. tt }
 
-  listed_pledged : IsPledged v (Mail path) current AnyStep (HasListed at)
+  listed_pledged : IsPledged notes_pledge (Mail path) current AnyStep (HasListed at)
   listed_pledged = record {
     asks = record { make = tt; lock = tt; list = tt; clear = λ temp is. tt; read = tt; create = λ temp bytes. tt; sync_file = λ temp. tt; rename = λ temp. tt; sync = tt; unlock = tt };
     keeps = once_kept _ AnyStep;
@@ -161,29 +158,46 @@ module _ (run : ℕ) (few : run < 2 ^ 128) (path : List ℕ) (job : MarkJob) whe
   }
 
   -- what was settled of commits stays so
-  abbrev StillBy : List Deed → Outcome Unit
+  abbrev pub StillBy : List Deed → Outcome Unit
   StillBy own later j u = AreSettled own → AreSettled later
 
-  noted_goes : (own : List Deed) (h : Hand) → HasListed at own → Goes v own h (made_current run path job.folder) (okay (StillBy own))
+  pub noted_goes : (own : List Deed) (h : Hand) → HasListed at own → Goes notes_pledge own h (made_current run path job.folder) (okay (StillBy own))
   unfolding made_current
   noted_goes own h listed =
-      goes_then v own h (lifted (of_plan job.folder) (commit_context run (Mail path) current)) _ (Of (Known v own (Mail path) current h)) (StillBy own)
-      (goes_lifted v own h (of_plan job.folder) (commit_context run (Mail path) current) (Of (Known v own (Mail path) current h))
-      (commit_goes v few path serves_context current AnyStep (HasListed at) listed_pledged own h listed))
-      (λ later j u k. goes_return v later j tt (okay (StillBy own)) k.settled_still)
+      goes_then notes_pledge own h (lifted (of_plan job.folder) (commit_context run (Mail path) current)) _ (Of (Known notes_pledge own (Mail path) current h)) (StillBy own)
+      (goes_lifted notes_pledge own h (of_plan job.folder) (commit_context run (Mail path) current) (Of (Known notes_pledge own (Mail path) current h))
+      (commit_goes notes_pledge few path serves_context current AnyStep (HasListed at) listed_pledged own h listed))
+      (λ later j u k. goes_return notes_pledge later j tt (okay (StillBy own)) k.settled_still)
 
-  noted_after : (own later : List Deed) (h : Hand) → (AreSettled own → AreSettled later) → HasListed at later → Goes v later h (made_current run path job.folder) (okay (StillBy own))
+-- one that only lists
+module _ (run : ℕ) (few : run < 2 ^ 128) (path : List ℕ) (job : MarkJob) where
+  abbrev any_tells : List Deed → List ℕ → Type 0
+  any_tells own piece = Unit {0}
+
+  abbrev v : Pledge
+  v = looks_pledge run path job
+
+  abbrev folder_at : Place
+  folder_at = Folder path job.folder
+
+  abbrev StillBy_ : List Deed → Outcome Unit
+  StillBy_ own later j u = AreSettled own → AreSettled later
+
+  tells_any : (own : List Deed) (piece : List ℕ) → v.may_tell own piece
+  tells_any own piece = tt
+
+  noted_after : (own later : List Deed) (h : Hand) → (AreSettled own → AreSettled later) → HasListed folder_at later → Goes v later h (made_current run path job.folder) (okay (StillBy_ own))
   noted_after own later h f listed =
-      goes_more v later h (made_current run path job.folder) (okay (StillBy later)) (okay (StillBy own)) (okay_more (StillBy later) (StillBy own) (λ last j u g s. g (f s))) (noted_goes later h listed)
+      goes_more v later h (made_current run path job.folder) (okay (StillBy_ later)) (okay (StillBy_ own)) (okay_more (StillBy_ later) (StillBy_ own) (λ last j u g s. g (f s))) (noted_goes run few path job any_tells later h listed)
 
-  looks_go : (own : List Deed) (h : Hand) → Goes v own h (mark_looks run path job) (okay (StillBy own))
+  looks_go : (own : List Deed) (h : Hand) → Goes v own h (mark_looks run path job) (okay (StillBy_ own))
   unfolding mark_looks
   looks_go own h =
-      goes_then v own h (folder_listed at job.folder) _ (Lists v tells_any at own) (StillBy own) (listed_goes v tells_any own h at job.folder) (λ later j names f.
-      goes_then v later j (text_read at (entry_text Sequences)) _ (Looks later) (StillBy own) (text_goes v tells_any later j at (entry_text Sequences)) (λ next i text g.
-      goes_chosen v next i (λ k. sequences_seen job names text (entries_seen k.context)) _ (StillBy own) (λ m is.
-      goes_then v next i (lines_said (lines_for job.names m)) _ (λ last k u. last ≡ next) (StillBy own) (lines_go v tells_any next i (lines_for job.names m)) (λ last k u e.
-      goes_at v last next k (made_current run path job.folder) (okay (StillBy own)) e (noted_after own next k (λ s. g.settled (f.0.settled s)) (g.listed at f.1))))))
+      goes_then v own h (folder_listed folder_at job.folder) _ (Lists v tells_any folder_at own) (StillBy_ own) (listed_goes v tells_any own h folder_at job.folder) (λ later j names f.
+      goes_then v later j (text_read folder_at (entry_text Sequences)) _ (Looks later) (StillBy_ own) (text_goes v tells_any later j folder_at (entry_text Sequences)) (λ next i text g.
+      goes_chosen v next i (λ k. sequences_seen job names text (entries_seen k.context)) _ (StillBy_ own) (λ m is.
+      goes_then v next i (lines_said (lines_for job.names m)) _ (λ last k u. last ≡ next) (StillBy_ own) (lines_go v tells_any next i (lines_for job.names m)) (λ last k u e.
+      goes_at v last next k (made_current run path job.folder) (okay (StillBy_ own)) e (noted_after own next k (λ s. g.settled (f.0.settled s)) (g.listed folder_at f.1))))))
 
 module _ (run : ℕ) (few : run < 2 ^ 128) (path : List ℕ) (job : MarkJob) where
   changes_keep : (a : MarkAct) (past : List Done) (h : Hand) → Sound (mark_pledge run path job a) (acts past) h → Keeps (rules_of (mark_pledge run path job a)) past h (mark_changes run path job a) (IfOkay (Still (acts past)))
@@ -192,15 +206,15 @@ module _ (run : ℕ) (few : run < 2 ^ 128) (path : List ℕ) (job : MarkJob) whe
       begun_keeps run few path job.folder (Marks job a) (Marking path job.folder) (any_piece run few path job a) (any_step run few path job a) (lets run few path job a) (opened_marked run path job a)
       (λ first own o b i. opened_goes run few path job a first own o b i) past h sound
 
-  looked_so : (own : List Deed) (past : List Done) (h : Hand) (r : Result Unit CommandFault) → Sound (looks_pledge run path job) (acts past) h → okay (StillBy run few path job own) (acts past) h r → IfOkay (Still own) past h r
+  looked_so : (own : List Deed) (past : List Done) (h : Hand) (r : Result Unit CommandFault) → Sound (looks_pledge run path job) (acts past) h → okay (StillBy_ run few path job own) (acts past) h r → IfOkay (Still own) past h r
   looked_so own past h (Ok u) s f = record { settled = f; unfailed = s.unfailed }
   looked_so own past h (Err e) s f = tt
 
   looks_keep : (past : List Done) (h : Hand) → Sound (looks_pledge run path job) (acts past) h → Keeps (rules_of (looks_pledge run path job)) past h (mark_looks run path job) (IfOkay (Still (acts past)))
   looks_keep past h sound =
-      keeps_more (rules_of (looks_pledge run path job)) past h (mark_looks run path job) (ByActs (Soundly (looks_pledge run path job) (okay (StillBy run few path job (acts past))))) (IfOkay (Still (acts past)))
+      keeps_more (rules_of (looks_pledge run path job)) past h (mark_looks run path job) (ByActs (Soundly (looks_pledge run path job) (okay (StillBy_ run few path job (acts past))))) (IfOkay (Still (acts past)))
       (λ later j r q. looked_so (acts past) later j r q.0 q.1)
-      (goes_keeps (looks_pledge run path job) past (acts past) h (mark_looks run path job) (okay (StillBy run few path job (acts past))) refl sound (looks_go run few path job (acts past) h))
+      (goes_keeps (looks_pledge run path job) past (acts past) h (mark_looks run path job) (okay (StillBy_ run few path job (acts past))) refl sound (looks_go run few path job (acts past) h))
 
   -- a `mark` keeps the rules of its pledge, whatever its run has done before
   pub mark_keeps : (act : Option MarkAct) (past : List Done) (h : Hand) → Sound (pledge_by run path job act) (acts past) h → Keeps (rules_of (pledge_by run path job act)) past h (mark_by_act run path job act) (IfOkay (Still (acts past)))

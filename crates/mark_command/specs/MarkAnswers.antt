@@ -1,8 +1,9 @@
 -- What `mark` answers by what it read of its folder.
-use Rattle.std.specs.Prelude.{◌≡◌, ℕ, List, ◌∷◌, Ok, Err}
+use Rattle.std.specs.Prelude.{◌≡◌, ◌++◌, ℕ, List, ◌∷◌, Ok, Err}
 use Rattle.mh_base.specs.Entries.{entry_text}
 use Rattle.mh_base.specs.declared.entry.Entry.TheVariants.{Sequences}
 use Rattle.mh_profile.specs.declared.named_value.NamedValue.{NamedValue}
+use Rattle.mh_sequences.specs.Sequences.{Marked}
 use Rattle.mh_sequences.specs.declared.run.Run.{Run}
 use Rattle.folder_files.specs.Deeds.{Deed, did}
 use Rattle.folder_files.specs.declared.place.Place.TheVariants.{Folder, Mail}
@@ -19,7 +20,7 @@ use Rattle.mark_command.specs.Lines.{lines_for}
 use Rattle.mark_command.specs.Mark.{chosen_from, sequences_seen}
 use Rattle.mark_command.specs.MarkPledge.{Marks}
 use Rattle.mark_command.specs.Marking.{marked_for}
-use Rattle.mark_command.specs.Outcomes.{text_if}
+use Rattle.mark_command.specs.Outcomes.{joined, text_if}
 use Rattle.mark_command.specs.declared.job.MarkAct.{MarkAct}
 use Rattle.mark_command.specs.declared.job.MarkJob.{MarkJob}
 
@@ -40,6 +41,20 @@ pub record HasMarked (run : ℕ) (path : List ℕ) (job : MarkJob) (a : MarkAct)
   pub numbers : List ℕ
   pub chosen : chosen_from job listing (told_within listing text context job.folder) ≡ Ok numbers
   pub lines : said ≡ text_if job.list (lines_for job.names (marked_for job a listing numbers (told_within listing text context job.folder)))
+
+-- of a job that only lists: the run listed the folder and then read its sequences; by these, and by the entries of the
+-- context that were read before, this text is the lines of the folder's sequences
+pub record TellsMarks (path : List ℕ) (job : MarkJob) (entries : List NamedValue) (said : List ℕ) (own : List Deed) : Type 0 where
+  pub names : List (List ℕ)
+  pub text : List ℕ
+  pub reading : Deed
+  pub newer : List Deed
+  pub older : List Deed
+  pub seen : own ≡ newer ++ reading ∷ did (Lists (Folder path job.folder)) (Names names) ∷ older
+  pub told : TellsText (Folder path job.folder) (entry_text Sequences) text reading
+  pub marked : Marked
+  pub listed : sequences_seen job names text entries ≡ Ok marked
+  pub lines : said ≡ joined (lines_for job.names marked)
 
 -- the newest two steps listed the folder and read its sequences; by these, and by the entries of the context that were
 -- read before, a job that only lists refuses its words so

@@ -44,7 +44,7 @@ use Rattle.command_line.specs.Command.{command}
 use Rattle.command_words.specs.Ended.{ended_cause}
 use Rattle.command_line.specs.Outcomes.{work_of}
 use Rattle.command_words.specs.declared.ended.Ended.{Ended}
-use Rattle.command_line.proofs.BegunEnding.{run_ends_by}
+use Rattle.command_line.proofs.BegunEnding.{run_ends_by, run_tells}
 use Rattle.command_line.proofs.Ending.{EndsAs, run_ends}
 use Rattle.command_line.proofs.Giving.{IsLateEnd, DecidesEnd, ByFault, CommandEnds, command_gives}
 use Rattle.command_line.proofs.FolderChars.{AreUtf8}
@@ -170,6 +170,14 @@ module _ (c : Call) (plan : FollowsItsPlan c) where
       go (inl e) = (rw e at v, e)
       go (inr e) = absurd (rw e at v)
 
+  -- a fault of the surroundings
+  faulted : (r : Result Unit Ended) (w : Which) → outcome ≡ r → ended_status r ≡ Faulted w → (e : Ended) × (exit ≡ exit_by {T = Unit {0}} e (command_cause (fault.Faulted w)))
+  faulted (Ok tt) w is e = absurd (cc (e))
+  faulted (Err x) w is e = (x, ap (exit_of ended_cause) is ∙ exit_fault x (fault.Faulted w) (fault_faulted x.fault w e))
+
+  out_fault : ended_status outcome ≡ Faulted Out → exit ≡ OutFailed
+  out_fault e = (faulted outcome Out refl e).1
+
   -- what is shown where the plan of a command returned that looks
   module _ (looks : LooksOnly c) where
     shown_at : (r : Result Unit Ended) → outcome ≡ r → exit ≡ Returned r → EndsAs run (deeds_in went.log) plan.left r
@@ -205,20 +213,14 @@ module _ (c : Call) (plan : FollowsItsPlan c) where
       refused = λ r q. begun_shown outcome (Refused r) (fault.Refused r) refl (settle (Refused r) q (λ e. cc (e))) (λ e. cc (e)) (λ f e. fault_refused f r e) refl;
       locked = λ place q. begun_shown outcome (Locked place) (fault.Locked place) refl (settle (Locked place) q (λ e. cc (e))) (λ e. cc (e)) (λ f e. fault_locked f place e) refl;
       meddled = λ place name q. begun_shown outcome (Meddled place name) (fault.Meddled place name) refl (settle (Meddled place name) q (λ e. cc (e))) (λ e. cc (e)) (λ f e. fault_meddled f place name e) refl;
+      told = (said_of (deeds_in went.log), said_adds, (run_tells run few c.words may (deeds_in went.log) plan.left exit went.runs).0);
+      out = λ q. (run_tells run few c.words may (deeds_in went.log) plan.left exit went.runs).1 (out_fault (settle (Faulted Out) q (λ e. cc (e))));
     }
-
-  -- a fault of the surroundings
-  faulted : (r : Result Unit Ended) (w : Which) → outcome ≡ r → ended_status r ≡ Faulted w → (e : Ended) × (exit ≡ exit_by {T = Unit {0}} e (command_cause (fault.Faulted w)))
-  faulted (Ok tt) w is e = absurd (cc (e))
-  faulted (Err x) w is e = (x, ap (exit_of ended_cause) is ∙ exit_fault x (fault.Faulted w) (fault_faulted x.fault w e))
 
   files_at : ended_status outcome ≡ Faulted Files → Rose c.before.files.faults c.after.files.faults × Made IsFailed steps
   files_at e =
       let x = faulted outcome Files refl e in
       (went.files_cause x.1, failed_made (deeds_in went.log) (run_failed (command run c.words) fresh (deeds_in went.log) plan.left exit went.runs x.1))
-
-  out_fault : ended_status outcome ≡ Faulted Out → exit ≡ OutFailed
-  out_fault e = (faulted outcome Out refl e).1
 
   module _ (few : run < 2 ^ 128) where
     abbrev work : Mailbox → Work Ended

@@ -13,8 +13,8 @@ use Rattle.file_plans.specs.Sightings.{Made, IsFailed}
 use Rattle.step_plans.specs.ContextCommit.{TRIES}
 use Rattle.step_plans.specs.Endings.{IsHeld, IsMeddled}
 use Rattle.step_plans.specs.declared.command_fault.CommandFault.TheVariants as fault
-use Rattle.opened_folders.specs.Endings.{IsShownBy}
-use Rattle.command_line.specs.BegunCauses.{ShowsFault, ShowsOnFolder}
+use Rattle.opened_folders.specs.Endings.{IsShownBy, IsToldBy}
+use Rattle.command_line.specs.BegunCauses.{ShowsFault, ShowsOnFolder, TellsOnFolder}
 use Rattle.command_line.specs.Causes.{ShowsRefusal}
 use Rattle.command_line.specs.CommandNames.{begins_folders, command_of}
 use Rattle.mh_tools.specs.Calls.{Call, LooksOnly, MadeBy}
@@ -35,8 +35,10 @@ abbrev pub MayBegin : Call → Type 0
 MayBegin c = begins_folders (command_of c.words) ≡ true
 
 -- Of a command that may begin a folder: Done, a refusal, Locked and Meddled come only where what shows them was
--- answered; at Done of a `mark` that changes something this shows the output too. After a refusal and after Locked it may
--- have let the folder go that it had locked, as its last step. But for that step no step failed.
+-- answered; at Done this shows the output too. After a refusal and after Locked it may have let the folder go that it had
+-- locked, as its last step. But for that step no step failed. However the command ends, the output gained nothing, or a
+-- front of the text of what own steps show; and a fault of the output comes only where they show a text that is not empty,
+-- as `rmm` never has.
 pub record IsShownBegun (c : Call) (deeds : List Deed) : Type 0 where
   pub done : c.status ≡ Done
       → (said : List ℕ) × Adds c.before.out.told c.after.out.told said
@@ -47,12 +49,15 @@ pub record IsShownBegun (c : Call) (deeds : List Deed) : Type 0 where
       → IsShownBy (ShowsFault c.setting.run c.words (fault.Locked place)) deeds
   pub meddled : (place : Place) (name : List ℕ) → c.status ≡ Meddled place name
       → ShowsFault c.setting.run c.words (fault.Meddled place name) deeds × (Made IsFailed deeds → ⊥)
+  pub told : (said : List ℕ) × Adds c.before.out.told c.after.out.told said
+      × IsToldBy (TellsOnFolder c.setting.run c.words) said deeds
+  pub out : c.status ≡ Faulted Out → (text : List ℕ) × TellsOnFolder c.setting.run c.words text deeds × (text ≢ [])
 
 -- Where each answer comes from, by the answers to the call's own steps. Done comes only where no step failed. A fault
 -- comes only where the count of that which failed rose: of the files where a step failed; the input never fails,
 -- since no command that there is reads it. Each refusal, Locked and Meddled come only where own steps show them; and so
--- does Done of a command that may begin a folder. That a fault of the output comes only where there is a text to write
--- is said of the commands that only look at a folder. Want of memory alone is free.
+-- does Done of a command that may begin a folder. A fault of the output comes only where there is a text to write. Want of
+-- memory alone is free.
 pub record IsCaused (c : Call) : Type 0 where
   pub deeds : List Deed
   pub made : MadeBy c deeds

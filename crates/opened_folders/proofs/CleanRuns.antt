@@ -1,5 +1,5 @@
 -- What holds of a run beside what its plan answers: no step has failed, and its next name is one that it never made.
-use Rattle.std.proofs.Common.{◌≡◌, ◌≢◌, ◌≤◌, ◌<◌, ◌+◌, ◌++◌, ◌^◌, ◌∷◌, [], ℕ, zero, suc, Bool, true, false, List, Result, Ok, Err, nat_lt, refl, sym, ◌∙◌, ap, subst, arith}
+use Rattle.std.proofs.Common.{◌≡◌, ◌≢◌, inl, inr, ◌≤◌, ◌<◌, ◌+◌, ◌++◌, ◌^◌, ◌∷◌, [], ℕ, zero, suc, Bool, true, false, List, Result, Ok, Err, nat_lt, refl, sym, ◌∙◌, ap, subst, arith}
 use Rattle.std.specs.Prelude.{codes, decimal, if◌then◌else◌, length}
 use Rattle.std.specs.Str.Parse.{digits_value}
 use Rattle.std.proofs.lemmas.Bool.Decides.{nat_tests}
@@ -43,13 +43,19 @@ use Rattle.step_plans.specs.PlanFaults.{Planned, of_stop}
 use Rattle.step_plans.specs.Replacing.{created, entered_once, held_to, made_safe, renamed, replaced, synced, written}
 use Rattle.step_plans.specs.declared.change.ChangeEntry.{ChangeEntry}
 use Rattle.step_plans.specs.declared.fault.PlanFault.TheVariants as fault
-use Rattle.step_plans.proofs.Coming.{Comes, comes_more}
+use Rattle.step_plans.proofs.Coming.{Comes, NoneFailed, comes_more}
 use Rattle.step_plans.proofs.Ending.{CommitEnds, commit_comes}
 use Rattle.step_plans.proofs.Going.{Goes, Outcome, Sound, all_numbered, okay}
 use Rattle.step_plans.proofs.Noted.{context_goes}
 use Rattle.step_plans.proofs.Pledged.{Known, Of}
 use Rattle.step_plans.proofs.Ruling.{AreNumbered, IsNumbered}
 use Rattle.step_plans.proofs.Stepping.{on_new}
+
+-- where no deed was answered Failed, none failed
+pub unfailed_by : (own : List Deed) → NoneFailed own → HasFailed own → ⊥
+unfailed_by (d ∷ own) clean (now e) = clean (inl e)
+unfailed_by (d ∷ own) clean (on z) = unfailed_by own (λ m. clean (inr m)) z
+unfailed_by [] clean z = elim z [ ]
 
 -- a plan that comes in two ways comes in both
 pub comes_both : {R : Type 0} (own : List Deed) (h : Hand) (p : Plan R) (P Q : Outcome R) → Comes own h p P → Comes own h p Q → Comes own h p (λ later j r. P later j r × Q later j r)

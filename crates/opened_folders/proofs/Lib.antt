@@ -26,6 +26,7 @@ pub mod NumbersStay
 pub mod OneStep
 pub mod SequencesEnd
 pub mod Sets
+pub mod Speaking
 pub mod SettledEnds
 pub mod SettledSeen
 pub mod SettledShown

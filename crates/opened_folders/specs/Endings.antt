@@ -1,5 +1,5 @@
 -- What shows how a command ended that begins a folder: its run's own deeds, the newest first.
-use Rattle.std.specs.Prelude.{◌≡◌, ◌⊎◌, ℕ, true, nat_lt, List, ◌∷◌, length}
+use Rattle.std.specs.Prelude.{◌≡◌, ◌⊎◌, ◌++◌, ℕ, true, nat_lt, List, [], ◌∷◌, length}
 use Rattle.mh_base.specs.Entries.{entry_text}
 use Rattle.mh_base.specs.declared.entry.Entry.TheVariants.{Backup, Sequences}
 use Rattle.mh_profile.specs.declared.named_value.NamedValue.{NamedValue}
@@ -193,3 +193,7 @@ IsEndedBy S (command.Faulted which) own = ⊥
 IsEndedBy S (command.Locked q) own = IsShownBy (S (command.Locked q)) own
 IsEndedBy S (command.Meddled q x) own = S (command.Meddled q x) own × (Made IsFailed own → ⊥)
 IsEndedBy S command.Memory own = Unit {0}
+
+-- nothing was said, or a front of a text that the deeds tell
+abbrev pub IsToldBy : (List ℕ → List Deed → Type 0) → List ℕ → List Deed → Type 0
+IsToldBy T said own = (said ≡ []) ⊎ ((text : List ℕ) × T text own × ((rest : List ℕ) × (said ++ rest ≡ text)))
