@@ -35,11 +35,13 @@ given_up p held n (suc left) = do
 abbrev pub given_from : Place → List ℕ → ℕ → Planned (Option ℕ)
 given_from p held n = given_up p held n (1000000 - n)
 
+-- a name's file is linked to this number, or else above the highest
+abbrev pub homed_name : Place → List ℕ → ℕ → ℕ → Planned (Option ℕ)
+homed_name p name n top = linked p name n >>= (λ entered. given_at p name n entered (given_from p name (max n top + 1)))
+
 -- the held name is linked to its number, or else above the highest
 unfoldable pub homed : Place → HeldPair → ℕ → Planned (Option ℕ)
-homed p h top = do
-  entered ← linked p (held_name h) h.number
-  given_at p (held_name h) h.number entered (given_from p (held_name h) (max h.number top + 1))
+homed p h top = homed_name p (held_name h) h.number top
 
 -- one after another; these are the ends of those before
 unfoldable pub all_homed : Place → List HeldPair → ℕ → List (Option ℕ) → Planned (List (Option ℕ))

@@ -5,7 +5,7 @@ ghost use Rattle.file_plans.specs.Plan.{Hand};
 ghost use Rattle.file_plans.specs.Follows.{Follows, by_hand};
 ghost use Rattle.step_plans.specs.PlanFaults.{plan_cause};
 ghost use Rattle.held_messages.specs.HeldPairs.{held_name as held_name_text};
-ghost use Rattle.held_messages.specs.Settle.{given_from, homed, linked};
+ghost use Rattle.held_messages.specs.Settle.{given_from, homed, homed_name, linked};
 
 use crate::HeldPair;
 use crate::held::held_name;
@@ -53,8 +53,8 @@ fn above(number: MsgNum, highest: u32) -> u32
     number.get().max(highest) + 1
 }
 
-/// The held name is linked to the first free number from here on; where none is free it stays held.
-fn link_up<F: Files>(
+/// A name's file is linked to the first free number from here on, which is told; none where none is free up to 999,999.
+pub fn link_up<F: Files>(
     alloc: Global,
     run: u128,
     files: &mut F,
@@ -76,6 +76,30 @@ fn link_up<F: Files>(
     Ok(None)
 }
 
+/// A name's file is linked to this number, or where that is taken to the first free one above it and the highest; which number that is, or none
+/// where none is free up to 999,999.
+pub fn link_home<F: Files>(
+    alloc: Global,
+    run: u128,
+    files: &mut F,
+    place: &Place,
+    name: &Name,
+    number: MsgNum,
+    highest: u32,
+) -> Result<Option<MsgNum>, PlanFault>
+    requires { highest ≤ 999999 }
+    ensures { (h : Hand) → Follows run plan_cause (homed_name place.now name.now number highest) (by_hand h (F.state files.old)) (by_hand h (F.state files.new)) result }
+{
+    match link_to(alloc, run, files, place, name, number)? {
+        Entered::Done => Ok(Some(number)),
+        Entered::Exists => {
+            let first = above(number, highest);
+            link_up(alloc, run, files, place, name, first)
+        }
+        Entered::Gone => Err(meddled(alloc, place, name)?),
+    }
+}
+
 /// The held name is linked to its number, or else above the highest.
 pub(crate) fn put_home<F: Files>(
     alloc: Global,
@@ -89,12 +113,5 @@ pub(crate) fn put_home<F: Files>(
     ensures { (h : Hand) → Follows run plan_cause (homed place.now pair.now highest) (by_hand h (F.state files.old)) (by_hand h (F.state files.new)) result }
 {
     let held = held_name(alloc, pair)?;
-    match link_to(alloc, run, files, place, &held, pair.number)? {
-        Entered::Done => Ok(Some(pair.number)),
-        Entered::Exists => {
-            let first = above(pair.number, highest);
-            link_up(alloc, run, files, place, &held, first)
-        }
-        Entered::Gone => Err(meddled(alloc, place, &held)?),
-    }
+    link_home(alloc, run, files, place, &held, pair.number, highest)
 }

@@ -4,6 +4,7 @@
 #[cfg(test)]
 mod given;
 #[cfg(test)]
+mod puts;
 mod room;
 #[cfg(test)]
 mod script;

@@ -22,7 +22,7 @@ pub use clearing::{clear, clear_temps, unlink};
 pub use command_fault::CommandFault;
 pub use context::{commit_context, read_context};
 pub use fault::PlanFault;
-pub use file::replace_file;
+pub use file::{replace_file, write_file};
 pub use hand::Hand;
 pub use laws::{cut_drops_are_stored, durable_by_own_steps, lock_order, never_taken, no_loss};
 pub use locking::{let_go, lock};
