@@ -37,7 +37,9 @@ given_from p held n = given_up p held n (1000000 - n)
 
 -- a name's file is linked to this number, or else above the highest
 abbrev pub homed_name : Place → List ℕ → ℕ → ℕ → Planned (Option ℕ)
-homed_name p name n top = linked p name n >>= (λ entered. given_at p name n entered (given_from p name (max n top + 1)))
+homed_name p name n top = do
+  entered ← linked p name n
+  given_at p name n entered (given_from p name (max n top + 1))
 
 -- the held name is linked to its number, or else above the highest
 unfoldable pub homed : Place → HeldPair → ℕ → Planned (Option ℕ)
