@@ -1,8 +1,10 @@
 mod AloneLemmas
 mod CallLemmas
 mod CompileLemmas
+mod Completing
 mod GrammarLemmas
 mod LinkLemmas
+mod PartLemmas
 mod StandLemmas
 mod SteadyLemmas
 mod SteadyWords
