@@ -2,6 +2,14 @@ mod AloneLemmas
 mod CallLemmas
 mod CompileLemmas
 mod Completing
+mod CompletingArguments
+mod CompletingCalls
+mod CompletingComponents
+mod CompletingNames
+mod CompletingNumbers
+mod CompletingSources
+mod CompletingTests
+mod CompletingWords
 mod GrammarLemmas
 mod LinkLemmas
 mod PartLemmas

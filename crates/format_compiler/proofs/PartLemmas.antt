@@ -66,6 +66,17 @@ pub all : (p : ℕ → Bool) (text : List ℕ) → EachIs p text → IsAll p tex
 all p [] each = refl
 all p (c ∷ text) each = ap (λ z. drop z (c ∷ text)) (longer p c text each.0) ∙ all p text each.1
 
+each_by : (p : ℕ → Bool) (c : ℕ) (text : List ℕ) (b : Bool) → p c ≡ b → IsAll p (c ∷ text) → (IsAll p text → EachIs p text) → EachIs p (c ∷ text)
+each_by p c text true is h on = (is, on (sym (ap (λ z. drop z (c ∷ text)) (longer p c text is)) ∙ h))
+each_by p c text false other h on =
+    let n : prefix_len p (c ∷ text) ≡ 0 = ap (λ b. cond b (1 + prefix_len p text) 0) other in
+    let e : c ∷ text ≡ [] = sym (ap (λ z. drop z (c ∷ text)) n) ∙ h in
+    cc
+
+pub each : (p : ℕ → Bool) (text : List ℕ) → IsAll p text → EachIs p text
+each p [] h = tt
+each p (c ∷ text) h = each_by p c text (p c) refl h (each p text)
+
 -- one character more behind a front
 pub each_more : (p : ℕ → Bool) (front : List ℕ) (c : ℕ) → EachIs p front → p c ≡ true → EachIs p (front ++ c ∷ [])
 each_more p [] c each is = (is, tt)
