@@ -120,7 +120,7 @@ comment_seen o c whole text chosen =
     })
 
 -- the word that a percent sign begins, behind the sign
-percent_seen : (o : Open) (whole text : List ℕ) → LongSeen (BadWord whole (37 ∷ text)) (percent_read o) text (percent_in o whole text)
+pub percent_seen : (o : Open) (whole text : List ℕ) → LongSeen (BadWord whole (37 ∷ text)) (percent_read o) text (percent_in o whole text)
 percent_seen o whole [] = inl (at_once (percent_read o) [] (37 ∷ []) (Print (Character 37)) (λ w rest. refl))
 percent_seen o whole (c ∷ text) = sign (c == 37) refl
   where

@@ -9,6 +9,7 @@ mod CompletingNames
 mod CompletingNumbers
 mod CompletingSources
 mod CompletingTests
+mod CompletingTexts
 mod CompletingWords
 mod GrammarLemmas
 mod LinkLemmas
