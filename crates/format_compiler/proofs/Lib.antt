@@ -13,6 +13,7 @@ mod CompletingTexts
 mod CompletingWords
 mod GrammarLemmas
 mod LinkLemmas
+mod NoneBegins
 mod PartLemmas
 mod StandLemmas
 mod SteadyLemmas
