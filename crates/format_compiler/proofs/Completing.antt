@@ -1,8 +1,13 @@
 -- Fronts of texts that are read, and fronts that something behind them makes such.
-use Rattle.std.proofs.Common.{◌≡◌, ◌⊎◌, inl, inr, ℕ, ◌==◌, Bool, true, false, List, [], ◌∷◌, ◌++◌, Ok, Err, refl, sym, ap, ◌∙◌, subst, append-nil}
+use Rattle.std.proofs.Common.{◌≡◌, ◌⊎◌, inl, inr, ℕ, ◌==◌, Bool, true, false, List, [], ◌∷◌, ◌++◌, Ok, Err, refl, sym, ap, ◌∙◌, subst, arith}
 use Rattle.std.specs.Prelude.{if◌then◌else◌}
+use Rattle.std.proofs.lemmas.Bool.Decides.{nat_tests}
 use Rattle.std.proofs.lemmas.List.{append_assoc}
 use Rattle.format_compiler.specs.Reading.{before, Read, ◌>>=◌, then_character}
+
+-- a character that passes the test is this one
+pub equal : (a b : ℕ) → (a == b) ≡ true → a ≡ b
+equal a b e = grind (arith, nat_tests)
 
 -- the front is read as this, whatever stands behind it
 abbrev pub Reads : {A : Type 0} → (List ℕ → List ℕ → Read A) → List ℕ → A → Type 0
@@ -77,6 +82,16 @@ pub seen_behind : {A B : Type 0} (make : A → B) (inner : List ℕ → List ℕ
 seen_behind make inner outer bad worse lead text carries passes (Ok x) h = taken_behind make inner outer lead text x.0 x.1 carries h
 seen_behind make inner outer bad worse lead text carries passes (Err left) h = wrong_behind make inner outer bad worse lead text left carries passes h
 
+pub seen_at : {A : Type 0} (bad : List ℕ → Type 0) (read : List ℕ → List ℕ → Read A) (text other : List ℕ) (here : Read A) → text ≡ other → Seen bad read text here → Seen bad read other here
+seen_at bad read text other here is h = subst (λ (z : List ℕ). Seen bad read z here) is h
+
+pub read_at : {A : Type 0} (bad : List ℕ → Type 0) (read : List ℕ → List ℕ → Read A) (text : List ℕ) (here there : Read A) → here ≡ there → Seen bad read text here → Seen bad read text there
+read_at {A = A} bad read text here there is h = subst (λ (z : Read A). Seen bad read text z) is h
+
+pub made_same : {A : Type 0} (read : Read A) → made (λ x. x) read ≡ read
+made_same (Ok x) = refl
+made_same (Err left) = refl
+
 pub either_seen : {A : Type 0} (bad : List ℕ → Type 0) (read : List ℕ → List ℕ → Read A) (text : List ℕ) (b : Bool) (x y : Read A) → (b ≡ true → Seen bad read text x) → (b ≡ false → Seen bad read text y)
     → Seen bad read text (if b then x else y)
 either_seen bad read text true x y h k = h refl
@@ -103,7 +118,7 @@ closed_at {B = B} make read bad text x (c ∷ behind) t = choose (c == 41) refl
       front = t.front ++ c ∷ [];
       parts = append_assoc t.front (c ∷ []) behind ∙ t.parts;
       reads = λ whole rest. ap (λ z. closed make z) (ap (read whole) (append_assoc t.front (c ∷ []) rest) ∙ t.reads whole (c ∷ rest))
-      ∙ ap (λ b. before (make x) (if b then Ok rest else Err (c ∷ rest))) is;
+          ∙ ap (λ b. before (make x) (if b then Ok rest else Err (c ∷ rest))) is;
     }
     choose false is = inl (closing_left make read text x (c ∷ behind) t)
 

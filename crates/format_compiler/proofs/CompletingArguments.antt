@@ -1,21 +1,17 @@
 -- What stands behind functions' names, up to where it is wrong.
-use Rattle.std.proofs.Common.{◌≡◌, ◌⊎◌, inl, inr, ℕ, zero, suc, ◌+◌, ◌==◌, ◌||◌, not, Bool, true, false, List, [], ◌∷◌, ◌++◌, take, drop, Ok, Err, refl, sym, ap, ◌∙◌, subst, ℤ, pos, cond}
+use Rattle.std.proofs.Common.{◌≡◌, ◌⊎◌, inl, ℕ, ◌+◌, ◌==◌, ◌||◌, not, Bool, true, false, List, [], ◌∷◌, drop, Ok, Err, refl, sym, ap, ◌∙◌, subst, pos, cond}
 use Rattle.std.specs.Prelude.{if◌then◌else◌}
 use Rattle.std.specs.List.{prefix_len}
-use Rattle.std.proofs.lemmas.List.{append_assoc}
 use Rattle.format_compiler.specs.declared.argument.Argument.{Argument}
 use Rattle.format_compiler.specs.declared.argument.Argument.TheVariants.{Nothing, Literal, Number, Component}
 use Rattle.format_compiler.specs.declared.call.Call.{Call}
 use Rattle.format_compiler.specs.declared.function.ArgumentKind.{ArgumentKind}
 use Rattle.format_compiler.specs.declared.function.ArgumentKind.TheVariants.{Nothing as TakesNothing, Literal as TakesLiteral, LiteralOrNothing as MayTakeLiteral, Number as TakesNumber, Component as TakesComponent, Source as TakesSource, SourceOrNothing as MayTakeSource}
 use Rattle.format_compiler.specs.declared.function.Function.{Function}
-use Rattle.format_compiler.specs.Arguments.{literal_in, number_by, number_of, spaced_literal_in, spaced_number_in}
-use Rattle.format_compiler.specs.Calls.{Around, argument_in, behind_spaces, called, closed_component_in, closed_or, component_by, Front, is_in_name, is_space, one_call, source_by, Whole, whole_by, with_around}
-use Rattle.format_compiler.specs.Reading.{before, Read, ◌>>=◌, then_character}
-use Rattle.format_compiler.proofs.Completing.{at_once, Carries, closed, closed_seen, made, Mends, Passes, Reads, Seen, seen_behind, Taken}
-use Rattle.format_compiler.proofs.CompletingComponents.{closed_component_seen, equal}
-use Rattle.format_compiler.proofs.CompletingNumbers.{BadNumber, NumberEnds, spaced_literal, spaced_literal_seen, spaced_number, spaced_number_seen}
-use Rattle.format_compiler.proofs.PartLemmas.{by_parts, EachIs, far, StopsHere}
+use Rattle.format_compiler.specs.Arguments.{literal_in, number_by, number_of, spaced_literal_in}
+use Rattle.format_compiler.specs.Calls.{Around, argument_in, behind_spaces, called, closed_component_in, component_by, is_in_name, is_space, one_call, source_by, Whole, whole_by}
+use Rattle.format_compiler.specs.Reading.{before, Read, ◌>>=◌}
+use Rattle.format_compiler.proofs.Completing.{at_once, made, Mends, Reads}
 
 -- the argument of this kind, and the call that it makes
 abbrev pub argued : ArgumentKind → Function → (List ℕ → List ℕ → Read Call) → List ℕ → List ℕ → Read Call
@@ -118,16 +114,6 @@ pub once : (kind : ArgumentKind) (f : Function) (inner : List ℕ → List ℕ �
 once kind f inner bad text left is =
     inl (subst (λ (z : List ℕ). Mends (argued kind f inner) text z) (sym is) (at_once (argued kind f inner) text (some_argument kind) (some_call kind f) (some_reads kind f inner)))
 
-pub seen_at : {A : Type 0} (bad : List ℕ → Type 0) (read : List ℕ → List ℕ → Read A) (text other : List ℕ) (here : Read A) → text ≡ other → Seen bad read text here → Seen bad read other here
-seen_at bad read text other here is h = subst (λ (z : List ℕ). Seen bad read z here) is h
-
-pub read_at : {A : Type 0} (bad : List ℕ → Type 0) (read : List ℕ → List ℕ → Read A) (text : List ℕ) (here there : Read A) → here ≡ there → Seen bad read text here → Seen bad read text there
-read_at {A = A} bad read text here there is h = subst (λ (z : Read A). Seen bad read text z) is h
-
 pub called_made : {A : Type 0} (f : Function) (argument : A → Argument) (inner : List ℕ → List ℕ → Read Call) (read : Read A) → made (λ x. one_call f (argument x)) read ≡ (called f argument read >>= whole_by inner)
 called_made f argument inner (Ok x) = refl
 called_made f argument inner (Err left) = refl
-
-pub made_same : {A : Type 0} (read : Read A) → made (λ x. x) read ≡ read
-made_same (Ok x) = refl
-made_same (Err left) = refl

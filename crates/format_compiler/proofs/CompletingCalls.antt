@@ -3,17 +3,15 @@ use Rattle.std.proofs.Common.{◌≡◌, ◌⊎◌, inl, inr, ℕ, zero, suc, �
 use Rattle.std.specs.Prelude.{if◌then◌else◌}
 use Rattle.std.proofs.lemmas.List.{append_assoc}
 use Rattle.format_compiler.specs.declared.call.Call.{Call}
-use Rattle.format_compiler.specs.declared.function.ArgumentKind.TheVariants.{Number as TakesNumber}
 use Rattle.format_compiler.specs.declared.function.Function.{Function}
 use Rattle.format_compiler.specs.declared.function.Function.TheVariants.{Msg}
-use Rattle.format_compiler.specs.Calls.{Around, argument_in, call_in, fitting, front_in, function_by, function_in, is_in_name, whole_by}
+use Rattle.format_compiler.specs.Calls.{argument_in, call_in, fitting, function_by, function_in, is_in_name, whole_by}
 use Rattle.format_compiler.specs.Functions.{every_function, function_named, has_result, kind_of, name_of}
 use Rattle.format_compiler.specs.Reading.{Read, ◌>>=◌}
 use Rattle.format_compiler.specs.Unfinished.{begins_name, CallEndsInNone, in_argument, in_name, in_number}
-use Rattle.format_compiler.proofs.Completing.{at_once, carried, Carries, made, Mends, Reads, Seen, seen_behind}
-use Rattle.format_compiler.proofs.CompletingArguments.{argued, argument_ends, made_same, none_read, read_at, some_argument, some_call, some_reads}
+use Rattle.format_compiler.proofs.Completing.{at_once, carried, Carries, made, made_same, Mends, read_at, Reads, Seen, seen_behind}
+use Rattle.format_compiler.proofs.CompletingArguments.{argued, argument_ends, none_read, some_argument, some_call, some_reads}
 use Rattle.format_compiler.proofs.CompletingNames.{Begun, begun_among, name_reads, own_name_reads}
-use Rattle.format_compiler.proofs.CompletingNumbers.{NumberEnds}
 use Rattle.format_compiler.proofs.CompletingSources.{argument_seen, InnerSeen, Worse}
 use Rattle.format_compiler.proofs.PartLemmas.{all, by_parts, EachIs, StopsHere}
 
@@ -48,8 +46,8 @@ name_mends room in_test name b = record {
   more = b.more ++ some_argument (kind_of b.function);
   value = some_call (kind_of b.function) b.function;
   reads = subst (λ (z : List ℕ). Reads (call_in (suc room) in_test) z (some_call (kind_of b.function) b.function))
-  (ap (λ z. z ++ some_argument (kind_of b.function)) (sym b.whole) ∙ append_assoc name b.more (some_argument (kind_of b.function)))
-  (some_call_reads room in_test b.function b.fits);
+      (ap (λ z. z ++ some_argument (kind_of b.function)) (sym b.whole) ∙ append_assoc name b.more (some_argument (kind_of b.function)))
+      (some_call_reads room in_test b.function b.fits);
 }
 
 -- a call is wrong from where it began, or ends within a name or a number that none begins with
@@ -78,9 +76,6 @@ name_seen : (room : ℕ) (in_test : Bool) (whole : List ℕ) → InnerSeen (call
 name_seen room in_test whole seen name [] each stops = name_ends room in_test whole name each (begins_name in_test name) refl
 name_seen room in_test whole seen name (c ∷ rest) each stops = choose (function_named name) refl
   where
-    text : List ℕ
-    text = name ++ c ∷ rest
-
     fits : (f : Function) (b : Bool) → function_named name ≡ Some f → (in_test && not (has_result f)) ≡ b
         → Seen (BadCall in_test whole (name ++ c ∷ rest)) (call_in (suc room) in_test) (name ++ c ∷ rest) (behind_name room (if b then Err (name ++ c ∷ rest) else Ok (f, c ∷ rest)))
     fits f true found is = inl (name_at_once room in_test (name ++ c ∷ rest))

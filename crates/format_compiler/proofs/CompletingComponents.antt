@@ -1,16 +1,10 @@
 -- The names of components, up to where they are wrong.
-use Rattle.std.proofs.Common.{◌≡◌, inl, inr, ℕ, ◌==◌, Bool, true, false, List, [], ◌∷◌, ◌++◌, Ok, Err, refl, sym, ap, ◌∙◌, arith}
-use Rattle.std.specs.Prelude.{if◌then◌else◌}
+use Rattle.std.proofs.Common.{◌≡◌, inl, inr, ℕ, ◌==◌, List, [], ◌∷◌, ◌++◌, Ok, Err, refl, sym, ap, ◌∙◌}
 use Rattle.std.proofs.lemmas.List.{append_assoc}
-use Rattle.std.proofs.lemmas.Bool.Decides.{nat_tests}
 use Rattle.format_compiler.specs.Calls.{closed_component_in}
 use Rattle.format_compiler.specs.Components.{braced, component_in, is_name_character}
-use Rattle.format_compiler.specs.Reading.{Read}
-use Rattle.format_compiler.proofs.Completing.{closed_seen, either_seen, Mends, Reads, Seen}
-use Rattle.format_compiler.proofs.PartLemmas.{by_parts, EachIs, each_more, far, StopsHere}
-
-pub equal : (a b : ℕ) → (a == b) ≡ true → a ≡ b
-equal a b e = grind (arith, nat_tests)
+use Rattle.format_compiler.proofs.Completing.{closed_seen, either_seen, equal, Reads, Seen}
+use Rattle.format_compiler.proofs.PartLemmas.{by_parts, EachIs, each_more, far}
 
 name_reads : (n : ℕ) (name : List ℕ) → EachIs is_name_character (n ∷ name) → Reads component_in ((n ∷ name) ++ 125 ∷ []) (n ∷ name)
 name_reads n name each whole rest =

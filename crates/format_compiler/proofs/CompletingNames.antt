@@ -1,7 +1,7 @@
 -- The names of functions, up to where they are wrong.
-use Rattle.std.proofs.Common.{◌≡◌, ◌≢◌, ◌⊎◌, inl, inr, ℕ, ◌&&◌, not, Bool, true, false, List, [], ◌∷◌, ◌++◌, length, take, drop, Option, Some, None, Ok, Err, refl, sym, ap, ◌∙◌, subst}
+use Rattle.std.proofs.Common.{◌≡◌, ℕ, ◌&&◌, not, Bool, true, false, List, [], ◌∷◌, ◌++◌, length, take, drop, Some, Ok, Err, refl, sym, ap, ◌∙◌}
 use Rattle.std.specs.Prelude.{if◌then◌else◌, bytes_eq}
-use Rattle.std.proofs.lemmas.List.{append_assoc, take-append-drop}
+use Rattle.std.proofs.lemmas.List.{take-append-drop}
 use Rattle.std.proofs.lemmas.Slice.Eq.{bytes_eq-Decides}
 use Rattle.format_compiler.specs.declared.function.Function.{Function}
 use Rattle.format_compiler.specs.declared.function.Function.TheVariants.{Msg, Size, Cur, Unseen, Width, Charleft, Timenow, Me, Num, Lit, Eq, Ne, Gt, Plus, Divide, Modulo, Match, Amatch, Strlen, Null, Nonnull, Zero, Nonzero, Void, Comp, Compval, Trim, Unquote, Decode, Putstr, Putstrf, Putnum, Putnumf, Putlit, Sec, Min, Hour, Mday, Mon, Year, Wday, Day, Weekday, Month, Lmonth, Tzone, Clock, Rclock, Tws, Nodate, Friendly, Addr, Pers, Note, Mbox, Host}

@@ -5,8 +5,7 @@ use Rattle.std.proofs.lemmas.List.{append_assoc}
 use Rattle.format_compiler.specs.Arguments.{is_literal, literal_in, number_by, number_of, spaced_literal_in, spaced_number_in}
 use Rattle.format_compiler.specs.Reading.{before, Read, ◌>>=◌, then_character}
 use Rattle.format_compiler.specs.Unfinished.{begins_number, IsAll}
-use Rattle.format_compiler.proofs.Completing.{Mends, Reads, Seen, Taken}
-use Rattle.format_compiler.proofs.CompletingComponents.{equal}
+use Rattle.format_compiler.proofs.Completing.{equal, Reads, Seen}
 use Rattle.format_compiler.proofs.PartLemmas.{all, by_parts, EachIs, each_more, far, StopsHere}
 
 abbrev pub spaced_literal : List ℕ → List ℕ → Read (List ℕ)
@@ -80,7 +79,7 @@ unended c literal is each None (Some n) e f = inl (record {
   more = 48 ∷ (41 ∷ []);
   value = n;
   reads = λ whole rest.
-  ap (λ z. spaced_number_in (32 ∷ (z ++ rest))) (sym (append_assoc literal (48 ∷ []) (41 ∷ []))) ∙ number_reads (literal ++ 48 ∷ []) n (each_more is_literal literal 48 each refl) f whole rest;
+      ap (λ z. spaced_number_in (32 ∷ (z ++ rest))) (sym (append_assoc literal (48 ∷ []) (41 ∷ []))) ∙ number_reads (literal ++ 48 ∷ []) n (each_more is_literal literal 48 each refl) f whole rest;
 })
 unended c literal is each None None e f = inr (inr (record {
   literal = literal;

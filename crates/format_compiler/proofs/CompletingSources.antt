@@ -1,5 +1,5 @@
 -- Arguments that are components or functions, and the other kinds, up to where they are wrong.
-use Rattle.std.proofs.Common.{◌≡◌, ◌⊎◌, inl, inr, ℕ, ◌==◌, Bool, true, false, List, [], ◌∷◌, ◌++◌, Ok, Err, refl, sym, ap, ◌∙◌, subst, ℤ}
+use Rattle.std.proofs.Common.{◌≡◌, ◌⊎◌, inl, inr, ℕ, ◌==◌, Bool, true, false, List, [], ◌∷◌, ◌++◌, Ok, Err, refl, sym, ap, ◌∙◌, subst}
 use Rattle.std.specs.Prelude.{if◌then◌else◌}
 use Rattle.std.proofs.lemmas.List.{append_assoc}
 use Rattle.format_compiler.specs.declared.argument.Argument.TheVariants.{Nothing, Literal, Number, Component}
@@ -9,10 +9,10 @@ use Rattle.format_compiler.specs.declared.function.ArgumentKind.TheVariants.{Not
 use Rattle.format_compiler.specs.declared.function.Function.{Function}
 use Rattle.format_compiler.specs.Arguments.{spaced_literal_in, spaced_number_in}
 use Rattle.format_compiler.specs.Calls.{Around, argument_in, behind_spaces, called, closed_component_in, closed_or, component_by, Front, is_space, one_call, source_by, Whole, whole_by, with_around}
-use Rattle.format_compiler.specs.Reading.{before, Read, ◌>>=◌, then_character}
-use Rattle.format_compiler.proofs.Completing.{at_once, carried, Carries, closed, closed_seen, made, Mends, Passes, Reads, Seen, seen_behind, Taken}
-use Rattle.format_compiler.proofs.CompletingArguments.{argued, called_made, made_same, none_read, once, read_at, seen_at, some_argument, some_call, some_reads}
-use Rattle.format_compiler.proofs.CompletingComponents.{closed_component_seen, equal}
+use Rattle.format_compiler.specs.Reading.{before, Read, ◌>>=◌}
+use Rattle.format_compiler.proofs.Completing.{carried, Carries, closed, closed_seen, equal, made, made_same, Mends, Passes, read_at, Reads, Seen, seen_at, seen_behind, Taken}
+use Rattle.format_compiler.proofs.CompletingArguments.{argued, called_made, none_read, once}
+use Rattle.format_compiler.proofs.CompletingComponents.{closed_component_seen}
 use Rattle.format_compiler.proofs.CompletingNumbers.{BadNumber, NumberEnds, spaced_literal, spaced_literal_seen, spaced_number, spaced_number_seen}
 use Rattle.format_compiler.proofs.PartLemmas.{by_parts, EachIs, far, StopsHere}
 
@@ -44,7 +44,7 @@ spaces_mend f by inner at spaces each = record {
   more = 123 ∷ (97 ∷ (125 ∷ (41 ∷ [])));
   value = one_call f (Component (97 ∷ []));
   reads = subst (λ (z : List ℕ). Reads (spaced by inner) z (one_call f (Component (97 ∷ [])))) (append_assoc spaces (123 ∷ []) (97 ∷ (125 ∷ (41 ∷ []))))
-  (carried (λ name. one_call f (Component name)) closed_component_in (spaced by inner) (spaces ++ 123 ∷ []) (97 ∷ (125 ∷ (41 ∷ []))) (97 ∷ []) (brace_carries f by inner at spaces each) (λ whole rest. refl));
+      (carried (λ name. one_call f (Component name)) closed_component_in (spaced by inner) (spaces ++ 123 ∷ []) (97 ∷ (125 ∷ (41 ∷ []))) (97 ∷ []) (brace_carries f by inner at spaces each) (λ whole rest. refl));
 }
 
 -- what is wrong at the argument's begin can be completed
@@ -77,9 +77,6 @@ component_seen f inner bad text =
     at spaces [] each stops = inl (spaces_mend f (λ whole rest. component_by whole f rest) inner (λ whole rest. refl) spaces each)
     at spaces (c ∷ rest) each stops = choose (c == 123) refl
       where
-        all : List ℕ
-        all = spaces ++ c ∷ rest
-
         choose : (b : Bool) → (c == 123) ≡ b → Seen bad (argued TakesComponent f inner) (spaces ++ c ∷ rest) ((if b then called f Component (closed_component_in (spaces ++ c ∷ rest) rest) else Err (spaces ++ c ∷ rest)) >>= whole_by inner)
         choose true is =
             brace_seen f (λ whole rest. component_by whole f rest) inner bad (λ whole rest. refl) spaces each c rest (equal c 123 is) (once TakesComponent f inner bad (spaces ++ c ∷ rest))
@@ -128,9 +125,6 @@ source_seen f inner worse bad text seen on =
     at spaces [] each stops h = inl (spaces_mend f (λ whole rest. source_by whole f rest) inner (λ whole rest. refl) spaces each)
     at spaces (c ∷ rest) each stops h = choose (c == 123) refl
       where
-        all : List ℕ
-        all = spaces ++ c ∷ rest
-
         opening : (b : Bool) → (c == 123) ≡ false → (c == 40) ≡ b
             → Seen bad (argued TakesSource f inner) (spaces ++ c ∷ rest) ((if b then Ok (Around f (spaces ++ c ∷ rest), rest) else Err (spaces ++ c ∷ rest)) >>= whole_by inner)
         opening true other is =

@@ -1,24 +1,23 @@
 -- Tests, and what is printed behind a width, up to where they are wrong.
-use Rattle.std.proofs.Common.{◌≡◌, ◌⊎◌, inl, inr, ℕ, ◌+◌, ◌*◌, ◌≤◌, ◌==◌, ◌||◌, Bool, true, false, List, [], ◌∷◌, ◌++◌, Option, Some, None, Ok, Err, refl, sym, ap, ◌∙◌, subst, arith, length}
+use Rattle.std.proofs.Common.{◌≡◌, ◌⊎◌, inl, inr, ℕ, ◌+◌, ◌*◌, ◌≤◌, ◌==◌, ◌||◌, Bool, true, false, List, [], ◌∷◌, ◌++◌, Option, Some, None, Err, refl, sym, ap, ◌∙◌, subst, arith, length}
 use Rattle.std.specs.Prelude.{if◌then◌else◌, is_some, nat_lt}
 use Rattle.std.proofs.lemmas.Bool.Decides.{nat_tests}
 use Rattle.std.proofs.lemmas.List.{append_assoc}
 use Rattle.format_compiler.specs.declared.one_test.Test.{Test}
 use Rattle.format_compiler.specs.declared.one_test.Test.TheVariants.{Component as OfComponent, Call as OfCall}
-use Rattle.format_compiler.specs.declared.piece.Piece.TheVariants.{Character, Component as PrintedComponent, Call as PrintedCall}
+use Rattle.format_compiler.specs.declared.piece.Piece.TheVariants.{Component as PrintedComponent, Call as PrintedCall}
 use Rattle.format_compiler.specs.declared.width.Width.{Width}
 use Rattle.format_compiler.specs.declared.word.Word.{Word}
 use Rattle.format_compiler.specs.declared.word.Word.TheVariants.{Print}
 use Rattle.format_compiler.specs.Calls.{call_in}
 use Rattle.format_compiler.specs.Components.{component_in}
-use Rattle.format_compiler.specs.Reading.{Read, ◌>>=◌}
+use Rattle.format_compiler.specs.Reading.{Read}
 use Rattle.format_compiler.specs.Unfinished.{CallEndsInNone, printed, WordEndsInNone}
 use Rattle.format_compiler.specs.Widths.{begins_width, columns_by, digit_value, is_digit, width_of}
 use Rattle.format_compiler.specs.Words.{call_test_in, component_test_in, printed_by, printed_call_in, printed_component_in, printed_in, sized_by, test_in}
-use Rattle.format_compiler.proofs.Completing.{at_once, carried, Carries, made, Mends, Passes, Reads, Seen, seen_behind}
-use Rattle.format_compiler.proofs.CompletingArguments.{seen_at}
+use Rattle.format_compiler.proofs.Completing.{at_once, equal, made, Mends, Passes, Seen, seen_at, seen_behind}
 use Rattle.format_compiler.proofs.CompletingCalls.{BadCall, call_seen}
-use Rattle.format_compiler.proofs.CompletingComponents.{component_seen, equal}
+use Rattle.format_compiler.proofs.CompletingComponents.{component_seen}
 use Rattle.format_compiler.proofs.PartLemmas.{all, by_parts, EachIs, each_more, far, StopsHere}
 
 abbrev pub test_read : ℕ → List ℕ → List ℕ → Read Test
@@ -111,9 +110,9 @@ digits_mend room digits w = record {
   more = w.more ++ 123 ∷ (97 ∷ (125 ∷ []));
   value = Print (PrintedComponent w.width (97 ∷ []));
   reads = λ whole rest.
-  ap (λ z. printed_in room whole (z ++ rest)) (sym (append_assoc digits w.more (123 ∷ (97 ∷ (125 ∷ [])))) ∙ sym (append_assoc (digits ++ w.more) (123 ∷ []) (97 ∷ (125 ∷ []))))
-  ∙ ap (printed_in room whole) (append_assoc ((digits ++ w.more) ++ 123 ∷ []) (97 ∷ (125 ∷ [])) rest)
-  ∙ digits_read room whole (digits ++ w.more) 123 (97 ∷ (125 ∷ rest)) w.width w.each refl w.is;
+      ap (λ z. printed_in room whole (z ++ rest)) (sym (append_assoc digits w.more (123 ∷ (97 ∷ (125 ∷ [])))) ∙ sym (append_assoc (digits ++ w.more) (123 ∷ []) (97 ∷ (125 ∷ []))))
+      ∙ ap (printed_in room whole) (append_assoc ((digits ++ w.more) ++ 123 ∷ []) (97 ∷ (125 ∷ [])) rest)
+      ∙ digits_read room whole (digits ++ w.more) 123 (97 ∷ (125 ∷ rest)) w.width w.each refl w.is;
 }
 
 -- a word is wrong from where it began, or ends within a name or a number that none begins with
@@ -130,15 +129,12 @@ width_by : (room : ℕ) (whole digits : List ℕ) (c : ℕ) (text : List ℕ) �
 width_by room whole digits c text each stops None is = inr (inl refl)
 width_by room whole digits c text each stops (Some width) is = choose (c == 123) refl
   where
-    seam : (digits ++ c ∷ []) ++ text ≡ digits ++ c ∷ text
-    seam = append_assoc digits (c ∷ []) text
-
     ends : (c == 40) ≡ true → (left : List ℕ) → BadCall false whole text left → BadWord whole (37 ∷ (digits ++ c ∷ text)) left
     ends e left (inl h) = inl h
     ends e left (inr n) = inr (n.0, subst (λ (z : ℕ). WordEndsInNone (37 ∷ (digits ++ z ∷ text))) (sym (equal c 40 e)) (printed digits text (all is_digit digits each) n.1))
 
     opening : (b : Bool) → (c == 123) ≡ false → (c == 40) ≡ b
-        → Seen (BadWord whole (37 ∷ (digits ++ c ∷ text))) (printed_read room) (digits ++ c ∷ text) (if b then printed_call_in room (width) whole text else Err whole)
+        → Seen (BadWord whole (37 ∷ (digits ++ c ∷ text))) (printed_read room) (digits ++ c ∷ text) (if b then printed_call_in room width whole text else Err whole)
     opening true other e =
         seen_at (BadWord whole (37 ∷ (digits ++ c ∷ text))) (printed_read room) ((digits ++ c ∷ []) ++ text) (digits ++ c ∷ text) (printed_call_in room width whole text) (append_assoc digits (c ∷ []) text)
         (seen_behind (λ call. Print (PrintedCall width call)) (call_in room false) (printed_read room) (BadCall false whole text) (BadWord whole (37 ∷ (digits ++ c ∷ text))) (digits ++ c ∷ []) text

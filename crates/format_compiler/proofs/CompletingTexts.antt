@@ -1,5 +1,5 @@
 -- Texts, up to where they are wrong: their words, what closes the conditionals, and the place.
-use Rattle.std.proofs.Common.{◌≡◌, ◌≢◌, ◌⊎◌, inl, inr, ℕ, ◌-◌, ◌==◌, Bool, true, false, List, [], ◌∷◌, ◌++◌, length, take, Result, Ok, Err, refl, sym, ap, ◌∙◌, subst, arith, append-nil, length-append}
+use Rattle.std.proofs.Common.{◌≡◌, ◌⊎◌, inl, inr, ℕ, ◌-◌, ◌==◌, Bool, true, false, List, [], ◌∷◌, ◌++◌, length, take, Result, Ok, Err, refl, sym, ap, ◌∙◌, subst, arith, append-nil, length-append}
 use Rattle.std.specs.Prelude.{if◌then◌else◌, IfErr}
 use Rattle.std.specs.Str.{encode_utf8_all, IsUtf8}
 use Rattle.std.proofs.Math.Seq.{take-append_seam}
@@ -14,11 +14,11 @@ use Rattle.format_compiler.specs.Reading.{Read}
 use Rattle.format_compiler.specs.Texts.{characters_in, place_of, without_feed}
 use Rattle.format_compiler.specs.Unfinished.{WordEndsInNone}
 use Rattle.format_compiler.specs.Words.{behind_word, escape_in, Open, percent_in, word_in}
-use Rattle.format_compiler.proofs.Completing.{at_once, carried, Carries, Mends, mends_behind, Reads, Taken, taken_behind}
-use Rattle.format_compiler.proofs.CompletingComponents.{equal}
+use Rattle.format_compiler.proofs.Completing.{carried, Carries, equal, Mends, mends_behind, Reads, Taken, taken_behind}
 use Rattle.format_compiler.proofs.CompletingTests.{BadWord}
 use Rattle.format_compiler.proofs.CompletingWords.{LongSeen, percent_read, percent_seen, word_read}
 use Rattle.format_compiler.proofs.GrammarLemmas.{some_format}
+use Rattle.format_compiler.proofs.NoneBegins.{never_format}
 use Rattle.format_compiler.proofs.StandLemmas.{nothing_stands, stand_more}
 
 behind_sign : (o : Open) (c : ℕ) (text : List ℕ) → (c == 37) ≡ true → Carries (λ x. x) (percent_read o) (word_read o) (c ∷ []) → (here : Read Word) → LongSeen (BadWord (c ∷ text) (37 ∷ text)) (percent_read o) text here
@@ -50,8 +50,8 @@ word_seen o (c ∷ text) = sign (c == 37) refl
       front = c ∷ [];
       parts = refl;
       reads = λ whole rest.
-      ap (λ b. if b then percent_in o (c ∷ rest) rest else (if c == 92 then escape_in rest else Ok (Print (Character c), rest))) other
-      ∙ ap (λ b. if b then escape_in rest else Ok (Print (Character c), rest)) e;
+          ap (λ b. if b then percent_in o (c ∷ rest) rest else (if c == 92 then escape_in rest else Ok (Print (Character c), rest))) other
+          ∙ ap (λ b. if b then escape_in rest else Ok (Print (Character c), rest)) e;
     })
 
     sign : (b : Bool) → (c == 37) ≡ b
@@ -79,7 +79,7 @@ with_word word words o text behind after left on t = record {
   feed = on.feed;
   needed = on.needed;
   stand = λ rest.
-  (on.front ++ (on.feed ++ rest), ap (word_in o) (append_assoc t.front on.front (on.feed ++ rest)) ∙ t.reads [] (on.front ++ (on.feed ++ rest)), on.stand rest);
+      (on.front ++ (on.feed ++ rest), ap (word_in o) (append_assoc t.front on.front (on.feed ++ rest)) ∙ t.reads [] (on.front ++ (on.feed ++ rest)), on.stand rest);
 }
 
 -- the last word is a comment that a line feed ends
@@ -131,11 +131,11 @@ completed front more words after stand =
     let some = some_format (words ++ ends_of after) text all in
     record { more = more ++ closing after; format = some.format; denoted = (words ++ ends_of after, all, some.is) }
 
--- characters before what is left, which begin a format
+-- characters before what is left, which begin a format, or end within a name or a number that none begins with
 pub record Before (characters left : List ℕ) : Type 0 where
   pub front : List ℕ
   pub parts : front ++ left ≡ characters
-  pub begins : BeginSome front ⊎ ((left ≡ []) × EndInNone front)
+  pub begins : BeginSome front ⊎ EndInNone characters left
 
 words_before : (words : List Word) (characters : List ℕ) (after : Open) (text : List ℕ) → Fronted words [] characters after text → Before characters text
 words_before words characters after text s = record { front = s.front; parts = s.parts; begins = inl (completed s.front s.feed words after (s.stand (closing after))) }
@@ -153,7 +153,7 @@ word_before words characters after c text left s m = record {
   front = s.front ++ m.front;
   parts = append_assoc s.front m.front left ∙ ap (λ z. s.front ++ z) m.parts ∙ s.parts;
   begins = inl (completed (s.front ++ m.front) m.more (words ++ m.value ∷ []) now (subst (λ (z : List ℕ). Stand (words ++ m.value ∷ []) [] z now (closing now)) same
-  (stand_more words m.value [] (s.front ++ (s.feed ++ ((m.front ++ m.more) ++ closing now))) after ((m.front ++ m.more) ++ closing now) (closing now) (s.stand ((m.front ++ m.more) ++ closing now)) (m.reads [] (closing now)))));
+      (stand_more words m.value [] (s.front ++ (s.feed ++ ((m.front ++ m.more) ++ closing now))) after ((m.front ++ m.more) ++ closing now) (closing now) (s.stand ((m.front ++ m.more) ++ closing now)) (m.reads [] (closing now)))));
 }
   where
     now : Open
@@ -177,7 +177,7 @@ wrong_before words characters after (c ∷ text) left stand stuck =
     choose (inr (inr n)) = record {
       front = characters;
       parts = ap (λ z. characters ++ z) n.0 ∙ append-nil characters;
-      begins = inr (n.0, record { words = words; after = after; text = c ∷ text; stand = stand; ends = n.1 });
+      begins = inr (record { words = words; after = after; text = c ∷ text; stand = stand; ends = n.1; none = never_format words characters after c text stand n.1; nothing = n.0 });
     }
 
 cut_before : (Utf8 : Type 0) (characters left : List ℕ) → AreCutOff Utf8 characters left → Before characters left

@@ -1,19 +1,18 @@
 -- Words, up to where they are wrong.
-use Rattle.std.proofs.Common.{◌≡◌, ◌⊎◌, inl, inr, ℕ, zero, suc, ◌==◌, not, Bool, true, false, List, [], ◌∷◌, ◌++◌, drop, Ok, Err, refl, sym, ap, ◌∙◌, subst, append-nil}
+use Rattle.std.proofs.Common.{◌≡◌, ◌⊎◌, inl, inr, ℕ, zero, suc, ◌==◌, Bool, true, false, List, [], ◌∷◌, ◌++◌, drop, Ok, Err, refl, sym, ap, ◌∙◌, subst, append-nil}
 use Rattle.std.specs.Prelude.{if◌then◌else◌}
 use Rattle.std.proofs.lemmas.List.{append_assoc}
 use Rattle.format_compiler.specs.declared.one_test.Test.{Test}
 use Rattle.format_compiler.specs.declared.piece.Piece.TheVariants.{Character}
 use Rattle.format_compiler.specs.declared.word.Word.{Word}
 use Rattle.format_compiler.specs.declared.word.Word.TheVariants.{Nothing, Print, If, ElseIf, Else, End}
-use Rattle.format_compiler.specs.Reading.{Read, ◌>>=◌}
+use Rattle.format_compiler.specs.Reading.{Read}
 use Rattle.format_compiler.specs.Unfinished.{CallEndsInNone, else_if_test, if_test, WordEndsInNone}
-use Rattle.format_compiler.specs.Words.{behind_line, else_if_in, escape_in, if_in, is_in_line, is_inside, mark_in, may_choose, Open, percent_in, printed_in, room_in, test_in, word_in}
-use Rattle.format_compiler.proofs.Completing.{at_once, carried, Carries, made, Mends, Reads, Seen, seen_behind, Taken}
-use Rattle.format_compiler.proofs.CompletingArguments.{made_same, read_at}
-use Rattle.format_compiler.proofs.CompletingComponents.{equal}
+use Rattle.format_compiler.specs.Words.{behind_line, else_if_in, if_in, is_in_line, is_inside, mark_in, may_choose, Open, percent_in, printed_in, room_in, test_in, word_in}
+use Rattle.format_compiler.proofs.Completing.{at_once, Carries, equal, made, made_same, Mends, read_at, Reads, Seen, seen_behind, Taken}
 use Rattle.format_compiler.proofs.CompletingTests.{BadWord, printed_read, printed_seen, test_read, test_seen}
 use Rattle.format_compiler.proofs.PartLemmas.{by_parts, EachIs, far, StopsHere}
+use Rattle.format_compiler.proofs.SteadyWords.{comment}
 
 abbrev pub percent_read : Open → List ℕ → List ℕ → Read Word
 percent_read o whole text = percent_in o whole text
@@ -96,10 +95,6 @@ printed_alone o whole (c ∷ text) x behind h =
     ∙ ap (λ b. if b then mark_in (is_inside o) End whole text else printed_in (room_in o) whole (c ∷ text)) (d 62 refl)
     ∙ h whole
 
--- a comment, and what stands behind it
-abbrev pub comment : List ℕ → Read Word
-comment behind = Ok (Nothing, behind)
-
 line_read : (line : List ℕ) (c : ℕ) (rest : List ℕ) → EachIs is_in_line line → is_in_line c ≡ false → behind_line ((line ++ c ∷ []) ++ rest) ≡ rest
 line_read line c rest each stops =
     let f = far is_in_line line (c ∷ rest) each stops in
@@ -111,8 +106,11 @@ comment_seen o c whole text chosen =
   where
     at : (line rest : List ℕ) → EachIs is_in_line line → StopsHere is_in_line rest → LongSeen (BadWord whole (37 ∷ (c ∷ (line ++ rest)))) (percent_read o) (c ∷ (line ++ rest)) (comment (drop 1 rest))
     at line [] each stops =
-        inr (refl, λ w rest.
-        ap (λ z. percent_in o w (c ∷ ((z ++ 10 ∷ []) ++ rest))) (append-nil line) ∙ chosen w ((line ++ 10 ∷ []) ++ rest) ∙ ap comment (line_read line 10 rest each refl))
+        inr (
+          refl,
+          λ w rest.
+              ap (λ z. percent_in o w (c ∷ ((z ++ 10 ∷ []) ++ rest))) (append-nil line) ∙ chosen w ((line ++ 10 ∷ []) ++ rest) ∙ ap comment (line_read line 10 rest each refl),
+        )
     at line (d ∷ rest) each stops = inl (record {
       front = c ∷ (line ++ d ∷ []);
       parts = ap (λ z. c ∷ z) (append_assoc line (d ∷ []) rest);

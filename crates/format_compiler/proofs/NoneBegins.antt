@@ -1,12 +1,10 @@
 -- What ends within a name or a number that none begins with is wrong, whatever stands behind.
-use Rattle.std.proofs.Common.{◌≡◌, ◌≢◌, ℕ, zero, suc, ◌+◌, ◌*◌, ◌==◌, ◌&&◌, ◌||◌, not, Bool, true, false, List, [], ◌∷◌, ◌++◌, length, take, drop, Option, Some, None, Ok, Err, refl, sym, ap, ◌∙◌, subst, arith, ℤ, pos, neg_ℤ}
+use Rattle.std.proofs.Common.{◌≡◌, ℕ, zero, suc, ◌+◌, ◌*◌, ◌==◌, ◌&&◌, not, Bool, true, false, List, [], ◌∷◌, ◌++◌, length, take, drop, Option, Some, None, Ok, Err, refl, sym, ap, ◌∙◌, subst, ℤ, pos, neg_ℤ}
 use Rattle.std.specs.Prelude.{if◌then◌else◌, is_some, nat_le, bytes_eq}
 use Rattle.std.specs.List.{prefix_len}
 use Rattle.std.proofs.Math.Seq.{take-append_seam}
-use Rattle.std.proofs.lemmas.Bool.Decides.{nat_tests}
 use Rattle.std.proofs.lemmas.List.{append_assoc}
 use Rattle.std.proofs.lemmas.Slice.Eq.{bytes_eq-Decides}
-use Rattle.format_compiler.specs.declared.function.ArgumentKind.{ArgumentKind}
 use Rattle.format_compiler.specs.declared.function.ArgumentKind.TheVariants.{Number as TakesNumber}
 use Rattle.format_compiler.specs.declared.function.Function.{Function}
 use Rattle.format_compiler.specs.declared.width.Width.{Width}
@@ -22,7 +20,7 @@ use Rattle.format_compiler.specs.Reading.{before, Read, ◌>>=◌, then_characte
 use Rattle.format_compiler.specs.Unfinished.{begins_name, begins_name_among, begins_number, CallEndsInNone, else_if_test, if_test, in_argument, in_name, in_number, is_begun_by, IsAll, printed, WordEndsInNone}
 use Rattle.format_compiler.specs.Widths.{digit_value, is_digit, width_of}
 use Rattle.format_compiler.specs.Words.{behind_line, else_if_in, if_in, is_inside, mark_in, may_choose, Open, percent_in, printed_by, printed_in, room_in, sized_by, test_in, word_in}
-use Rattle.format_compiler.proofs.CompletingComponents.{equal}
+use Rattle.format_compiler.proofs.Completing.{equal}
 use Rattle.format_compiler.proofs.CompletingWords.{from_bar, from_bar_end, from_bracket, from_question, from_semicolon}
 use Rattle.format_compiler.proofs.PartLemmas.{each, EachIs, far}
 use Rattle.format_compiler.proofs.StandLemmas.{rest_stands}

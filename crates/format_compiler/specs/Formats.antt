@@ -95,24 +95,27 @@ pub record BeginSome (front : List ℕ) : Type 0 where
   pub format : Format
   pub denoted : Denote (front ++ more) format
 
--- behind the words that stand the last ends within a function's name, or a number, that none begins with
-pub record EndInNone (characters : List ℕ) : Type 0 where
+-- nothing is left of characters that end within a function's name, or a number, that none begins with: it belongs to the word
+-- behind those that stand, and nothing behind the characters makes them a format
+pub record EndInNone (characters left : List ℕ) : Type 0 where
   pub words : List Word
   pub after : Open
   pub text : List ℕ
   pub stand : Stand words [] characters after text
   pub ends : WordEndsInNone text
+  pub none : (more : List ℕ) (f : Format) → Denote (characters ++ more) f → ⊥
+  pub nothing : left ≡ []
 
--- the characters before this place begin a format; or it is the end of the characters, which end in such a name or number
+-- the characters before this place begin a format, or else it is the end of characters that end so
 pub record FrontBegins (characters : List ℕ) (at : ℕ) : Type 0 where
   pub front : List ℕ
   pub left : List ℕ
   pub parts : front ++ left ≡ characters
   pub place : at ≡ length (encode_utf8_all front)
-  pub begins : BeginSome front ⊎ ((left ≡ []) × EndInNone front)
+  pub begins : BeginSome front ⊎ EndInNone characters left
 
 -- what stands before the place of a refusal begins a format: something behind it makes them one; but a text that ends
--- within a function's name, or a number, is refused at its end though no name and no number begins so
+-- within a function's name, or a number, is refused at its end also where no name and no number begins so
 abbrev pub FrontBeginsSome : List ℕ → FormatFault → Type 0
 FrontBeginsSome text (Bad at) = FrontBegins (characters_in (without_feed text)) at
 FrontBeginsSome text Memory = Unit {0}
