@@ -95,8 +95,8 @@ pub record BeginSome (front : List ℕ) : Type 0 where
   pub format : Format
   pub denoted : Denote (front ++ more) format
 
--- nothing is left of characters that end within a function's name, or a number, that none begins with: it belongs to the word
--- behind those that stand, and nothing behind the characters makes them a format
+-- in the word behind those that stand the characters end, within a function's name, or a number, that none begins with; so
+-- nothing is left of them, and nothing behind them makes them a format
 pub record EndInNone (characters left : List ℕ) : Type 0 where
   pub words : List Word
   pub after : Open
