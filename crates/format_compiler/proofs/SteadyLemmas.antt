@@ -164,11 +164,11 @@ fitting_keeps more in_test text c behind None = wrong_keeps same more text
 fitting_keeps more in_test text c behind (Some f) =
     either_keeps same more (in_test && not (has_result f)) (Err text) (Ok (f, c ∷ behind)) (Err (text ++ more)) (Ok (f, (c ∷ behind) ++ more)) (wrong_keeps same more text) refl
 
-function_keeps : (more : List ℕ) (in_test : Bool) (text : List ℕ) → Keeps more (function_in in_test text) (function_in in_test (text ++ more))
+pub function_keeps : (more : List ℕ) (in_test : Bool) (text : List ℕ) → Keeps more (function_in in_test text) (function_in in_test (text ++ more))
 function_keeps more in_test text =
     front_by same is_in_name text more (function_by in_test text) (function_by in_test (text ++ more)) (λ name. refl) (λ name c behind. fitting_keeps more in_test text c behind (function_named name))
 
-front_in_keeps : (more : List ℕ) (in_test : Bool) (text : List ℕ) → KeepsBy (grown more) more (front_in in_test text) (front_in in_test (text ++ more))
+pub front_in_keeps : (more : List ℕ) (in_test : Bool) (text : List ℕ) → KeepsBy (grown more) more (front_in in_test text) (front_in in_test (text ++ more))
 front_in_keeps more in_test text =
     then_keeps same (grown more) more (function_in in_test text) (function_in in_test (text ++ more)) (λ f behind. argument_in (kind_of f) f behind) (λ f behind. argument_in (kind_of f) f behind)
     (function_keeps more in_test text) (λ f behind. argument_keeps more (kind_of f) f behind)

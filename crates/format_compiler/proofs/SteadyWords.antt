@@ -57,11 +57,11 @@ printed_keeps more room whole c text (Some width) =
     (either_keeps same more (c == 40) (printed_call_in room width whole text) (Err whole) (printed_call_in room width (whole ++ more) (text ++ more)) (Err (whole ++ more))
     (made_keeps more (λ call. Print (PrintedCall width call)) (call_in room false whole text) (call_in room false (whole ++ more) (text ++ more)) (call_keeps more room false whole text)) (wrong_keeps same more whole))
 
-left_false : (a b : Bool) → (a || b) ≡ false → a ≡ false
+pub left_false : (a b : Bool) → (a || b) ≡ false → a ≡ false
 left_false true b h = h
 left_false false b h = refl
 
-none_of : {A : Type 0} (o : Option A) → is_some o ≡ false → o ≡ None
+pub none_of : {A : Type 0} (o : Option A) → is_some o ≡ false → o ≡ None
 none_of None h = refl
 none_of (Some x) h = cc
 
@@ -94,7 +94,7 @@ pub record AllFront (p : ℕ → Bool) (text more : List ℕ) : Type 0 where
 equal_test : (a b : ℕ) → a ≡ b → eqb a b ≡ true
 equal_test a b e = grind (arith, nat_tests)
 
-all_front : (p : ℕ → Bool) (text more : List ℕ) → drop (prefix_len p text) text ≡ [] → AllFront p text more
+pub all_front : (p : ℕ → Bool) (text more : List ℕ) → drop (prefix_len p text) text ≡ [] → AllFront p text more
 all_front p text more none =
     let dropped = length-drop (prefix_len p text) text in
     let nothing = ap length none in
@@ -199,7 +199,7 @@ word_goes more o (c ∷ text) =
     (either_goes more (c == 92) _ _ _ _ (escape_goes more text) (goes_on more (Ok (Print (Character c), text)) (Ok (Print (Character c), text ++ more)) refl))
 
 -- words that stand before something stand also with more behind the text
-stand_longer : (more : List ℕ) (words : List Word) (o : Open) (text : List ℕ) (after : Open) (c : ℕ) (left : List ℕ) → Stand words o text after (c ∷ left) → Stand words o (text ++ more) after ((c ∷ left) ++ more)
+pub stand_longer : (more : List ℕ) (words : List Word) (o : Open) (text : List ℕ) (after : Open) (c : ℕ) (left : List ℕ) → Stand words o text after (c ∷ left) → Stand words o (text ++ more) after ((c ∷ left) ++ more)
 stand_longer more [] o text after c left h = (h.0, ap (λ z. z ++ more) h.1)
 stand_longer more (w ∷ []) o text after c left ([], is, h) = let e = h.1 in cc
 stand_longer more (w ∷ (v ∷ words)) o text after c left ([], is, (b, there, h)) = absurd (nothing_stands (behind_word w o) v [] b refl there)

@@ -7,6 +7,7 @@ use Rattle.format_compiler.specs.declared.piece.Piece.TheVariants.{Component as 
 use Rattle.format_compiler.specs.declared.word.Word.TheVariants.{Print, If}
 use Rattle.format_compiler.specs.Calls.{call_in}
 use Rattle.format_compiler.specs.Functions.{every_function}
+use Rattle.format_compiler.specs.Unfinished.{begins_name, begins_number}
 use Rattle.format_compiler.specs.Words.{word_in}
 
 -- an unknown name is wrong at its first byte
@@ -48,3 +49,27 @@ no_end = refl
 unfinished : word_in [] (codes "%(ms") ≡ Err []
 unfolding word_in call_in every_function
 unfinished = refl
+
+-- and so does one within a name that no function's begins with, or within a number that is too large
+unbegun : word_in [] (codes "%(nofu") ≡ Err []
+unfolding word_in call_in every_function
+unbegun = refl
+
+too_large : word_in [] (codes "%(num 9223372036854775808") ≡ Err []
+unfolding word_in call_in every_function
+too_large = refl
+
+name_begins : begins_name false (codes "voi") ≡ true
+unfolding every_function
+name_begins = refl
+
+-- no function with a result is named so
+no_name_begins : begins_name true (codes "voi") ≡ false
+unfolding every_function
+no_name_begins = refl
+
+minus_begins : begins_number (codes "-") ≡ true
+minus_begins = refl
+
+no_number_begins : begins_number (codes "9223372036854775808") ≡ false
+no_number_begins = refl

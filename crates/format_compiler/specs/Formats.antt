@@ -10,6 +10,7 @@ use Rattle.format_compiler.specs.declared.word.Word.{Word}
 use Rattle.format_compiler.specs.Code.{IsCodeOf}
 use Rattle.format_compiler.specs.Grammar.{Format, IsFormat}
 use Rattle.format_compiler.specs.Texts.{characters_in, place_of, without_feed}
+use Rattle.format_compiler.specs.Unfinished.{WordEndsInNone}
 use Rattle.format_compiler.specs.Words.{behind_word, Open, word_in}
 
 -- these words stand at the front of a text where these conditionals are open; behind them those are open and that is left
@@ -87,6 +88,37 @@ abbrev pub BeginsNone : List ℕ → FormatFault → Type 0
 BeginsNone text (Bad at) = at < length (encode_utf8_all (characters_in (without_feed text)))
     → (more : List ℕ) (f : Format) → Denote (characters_in (without_feed text) ++ more) f → ⊥
 BeginsNone text Memory = Unit {0}
+
+-- something behind these characters makes them a format
+pub record BeginSome (front : List ℕ) : Type 0 where
+  pub more : List ℕ
+  pub format : Format
+  pub denoted : Denote (front ++ more) format
+
+-- in the word behind those that stand the characters end, within a function's name, or a number, that none begins with; so
+-- nothing is left of them, and nothing behind them makes them a format
+pub record EndInNone (characters left : List ℕ) : Type 0 where
+  pub words : List Word
+  pub after : Open
+  pub text : List ℕ
+  pub stand : Stand words [] characters after text
+  pub ends : WordEndsInNone text
+  pub none : (more : List ℕ) (f : Format) → Denote (characters ++ more) f → ⊥
+  pub nothing : left ≡ []
+
+-- the characters before this place begin a format, or else it is the end of characters that end so
+pub record FrontBegins (characters : List ℕ) (at : ℕ) : Type 0 where
+  pub front : List ℕ
+  pub left : List ℕ
+  pub parts : front ++ left ≡ characters
+  pub place : at ≡ length (encode_utf8_all front)
+  pub begins : BeginSome front ⊎ EndInNone characters left
+
+-- what stands before the place of a refusal begins a format: something behind it makes them one; but a text that ends
+-- within a function's name, or a number, is refused at its end also where no name and no number begins so
+abbrev pub FrontBeginsSome : List ℕ → FormatFault → Type 0
+FrontBeginsSome text (Bad at) = FrontBegins (characters_in (without_feed text)) at
+FrontBeginsSome text Memory = Unit {0}
 
 -- where reading stops
 abbrev pub StopsAt : List ℕ → Stop → Type 0

@@ -11,5 +11,6 @@ pub mod Linking
 pub mod Outcomes
 pub mod Reading
 pub mod Texts
+pub mod Unfinished
 pub mod Widths
 pub mod Words

@@ -1,6 +1,7 @@
 use Rattle.std.proofs.Common.{ap, ◌∙◌}
 use Rattle.format_compiler.specs.Texts.{characters_in}
 use Rattle.format_compiler.proofs.CompileLemmas.{beyond, none, refused}
+use Rattle.format_compiler.proofs.CompletingTexts.{front_begins}
 use Rattle.format_compiler.proofs.compiling.compile.Goals as goal
 
 pub returns-clause-refused : goal.returns-clause-refused
@@ -14,3 +15,6 @@ returns-clause-none c = none c.args.text.now c.compile_characters.result (return
 
 pub returns-clause-beyond : goal.returns-clause-beyond
 returns-clause-beyond c = beyond c.args.text.now c.compile_characters.result (returns-clause-refused c)
+
+pub returns-clause-front : goal.returns-clause-front
+returns-clause-front c = front_begins c.args.text.now c.compile_characters.result (returns-clause-refused c)
