@@ -1,1 +1,2 @@
+pub mod PutGiven
 pub mod PutPledged
