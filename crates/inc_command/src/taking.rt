@@ -1,0 +1,100 @@
+// A message is taken in.
+ghost use Rattle.std.specs.Prelude.{◌≡◌, ◌≤◌, ℕ, OnOk};
+ghost use Rattle.folder_files.specs.Story.{FilesState};
+ghost use Rattle.file_plans.specs.Plan.{Hand as Kept, lifted};
+ghost use Rattle.file_plans.specs.Follows.{Follows, by_hand, by_out};
+ghost use Rattle.step_plans.specs.CommandFaults.{command_cause};
+ghost use Rattle.step_plans.specs.PlanFaults.{plan_cause};
+ghost use Rattle.command_stages.specs.Endings.{of_plan};
+ghost use Rattle.inc_command.specs.Taking.{message_stored, message_taken, message_told};
+
+use command_stages::fault_in;
+use file_plans::say;
+use folder_files::{Files, Place};
+use message_puts::put;
+use mh_base::{Bytes, Duplicate, Entry, FolderName, MsgNum, Sink, entry_name};
+use mh_looks::message_line;
+use std::alloc::Global;
+use step_plans::{CommandFault, Hand, PlanFault, sync};
+
+/// A message is put into a directory, and then that is made safe.
+fn store<F: Files>(
+    alloc: Global,
+    hand: &mut Hand,
+    files: &mut F,
+    place: &Place,
+    highest: u32,
+    bytes: &mut Bytes,
+) -> Result<MsgNum, PlanFault>
+    requires { highest ≤ 999999 }
+    ensures plan { Follows hand.old.run plan_cause (message_stored hand.old.run place.now highest bytes.old) (by_hand hand.old.kept (F.state files.old)) (by_hand hand.new.kept (F.state files.new)) result }
+    ensures same { (hand.new.run ≡ hand.old.run) × (hand.new.mail ≡ hand.old.mail) }
+    ensures bytes { OnOk result (bytes.new ≡ bytes.old) }
+{
+    let run = hand.run();
+    let number = put(alloc, hand, files, place, bytes, None, highest)?;
+    let name = entry_name(alloc, &Entry::Number(number))?;
+    sync(alloc, run, files, place, &name)?;
+    Ok(number)
+}
+
+/// The same, in this folder.
+fn store_in<F: Files>(
+    alloc: Global,
+    hand: &mut Hand,
+    files: &mut F,
+    folder: &FolderName,
+    place: &Place,
+    highest: u32,
+    bytes: &mut Bytes,
+) -> Result<MsgNum, CommandFault>
+    requires { highest ≤ 999999 }
+    ensures plan { Follows hand.old.run command_cause (lifted (of_plan folder.now) (message_stored hand.old.run place.now highest bytes.old)) (by_hand hand.old.kept (F.state files.old)) (by_hand hand.new.kept (F.state files.new)) result }
+    ensures same { (hand.new.run ≡ hand.old.run) × (hand.new.mail ≡ hand.old.mail) }
+    ensures bytes { OnOk result (bytes.new ≡ bytes.old) }
+{
+    let folder = folder.duplicate(alloc)?;
+    match store(alloc, hand, files, place, highest, bytes) {
+        Ok(number) => Ok(number),
+        Err(fault) => Err(fault_in(folder, fault)),
+    }
+}
+
+/// Its line is written, but where nothing is to be.
+fn tell<O: Sink>(
+    alloc: Global,
+    out: &mut O,
+    silent: bool,
+    number: MsgNum,
+    bytes: &Bytes,
+) -> Result<(), CommandFault>
+    ensures { (run : ℕ) (h : Kept) (f : FilesState) → Follows run command_cause (message_told silent number bytes.now) (by_out h f (O.state out.old)) (by_out h f (O.state out.new)) result }
+{
+    if silent {
+        return Ok(());
+    }
+    let line = message_line(alloc, number, bytes.as_slice())?;
+    say(out, line.as_slice())?;
+    Ok(())
+}
+
+/// A message is put into the folder, which is made safe; and only then its line is written.
+pub fn take<F: Files, O: Sink>(
+    alloc: Global,
+    hand: &mut Hand,
+    files: &mut F,
+    out: &mut O,
+    folder: &FolderName,
+    place: &Place,
+    silent: bool,
+    highest: u32,
+    bytes: &mut Bytes,
+) -> Result<MsgNum, CommandFault>
+    requires { highest ≤ 999999 }
+    ensures plan { Follows hand.old.run command_cause (message_taken hand.old.run folder.now place.now silent highest bytes.old) (by_out hand.old.kept (F.state files.old) (O.state out.old)) (by_out hand.new.kept (F.state files.new) (O.state out.new)) result }
+    ensures same { (hand.new.run ≡ hand.old.run) × (hand.new.mail ≡ hand.old.mail) }
+{
+    let number = store_in(alloc, hand, files, folder, place, highest, bytes)?;
+    tell(alloc, out, silent, number, bytes)?;
+    Ok(number)
+}
