@@ -1,10 +1,12 @@
-//! New mail is taken in: so far the first pass over a drop, and how a message is stored.
+//! New mail is taken in: so far the first pass over a drop, and how its messages are stored.
 #![tactic(auto)]
 
 mod counting;
+mod cutting;
 mod head;
+mod intake;
 mod piece;
 mod taking;
 
 pub use counting::{DropSize, count_drop};
-pub use taking::take;
+pub use intake::{Taken, take_all};

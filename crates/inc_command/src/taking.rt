@@ -79,7 +79,7 @@ fn tell<O: Sink>(
 }
 
 /// A message is put into the folder, which is made safe; and only then its line is written.
-pub fn take<F: Files, O: Sink>(
+pub(crate) fn take<F: Files, O: Sink>(
     alloc: Global,
     hand: &mut Hand,
     files: &mut F,

@@ -1,0 +1,54 @@
+// Messages are taken in, one after another.
+ghost use Rattle.std.specs.Prelude.{◌≡◌, ◌≤◌, IfOk};
+ghost use Rattle.file_plans.specs.Follows.{Follows, by_out};
+ghost use Rattle.step_plans.specs.CommandFaults.{command_cause};
+ghost use Rattle.inc_command.specs.Intake.{all_taken};
+
+use crate::taking::take;
+use folder_files::{Files, Place};
+use mh_base::{BytesList, FolderName, List, MsgNum, Sink};
+use std::alloc::Global;
+use step_plans::{CommandFault, Hand};
+
+/// The numbers that the new messages got, and the highest number of the folder.
+#[derive(Drop)]
+pub struct Taken {
+    pub numbers: List<MsgNum>,
+    pub highest: u32,
+}
+
+/// Messages are taken in after others.
+pub fn take_all<F: Files, O: Sink>(
+    alloc: Global,
+    hand: &mut Hand,
+    files: &mut F,
+    out: &mut O,
+    folder: &FolderName,
+    place: &Place,
+    silent: bool,
+    first: Taken,
+    messages: BytesList,
+) -> Result<Taken, CommandFault>
+    requires { first.highest ≤ 999999 }
+    ensures plan { Follows hand.old.run command_cause (all_taken hand.old.run folder.now place.now silent first messages) (by_out hand.old.kept (F.state files.old) (O.state out.old)) (by_out hand.new.kept (F.state files.new) (O.state out.new)) result }
+    ensures same { (hand.new.run ≡ hand.old.run) × (hand.new.mail ≡ hand.old.mail) }
+    ensures range { IfOk result (λ taken. taken.highest ≤ 999999) }
+{
+    let mut taken = first;
+    for mut message in messages.into_vec() {
+        let number = take(
+            alloc,
+            hand,
+            files,
+            out,
+            folder,
+            place,
+            silent,
+            taken.highest,
+            &mut message,
+        )?;
+        taken.numbers.push(number)?;
+        taken.highest = number.get();
+    }
+    Ok(taken)
+}
