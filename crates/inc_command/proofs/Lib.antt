@@ -1,4 +1,6 @@
 pub mod Cuts
+pub mod Pieces
+pub mod Rest
 pub mod Rounds
 pub mod Takes
 pub mod Telling

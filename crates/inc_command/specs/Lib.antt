@@ -1,5 +1,6 @@
 pub mod Counting
 pub mod Cutting
+pub mod DropTaken
 pub mod Intake
 pub mod Passing
 pub mod Taking

@@ -18,7 +18,7 @@ pub struct Taken {
 }
 
 /// Messages are taken in after others.
-pub fn take_all<F: Files, O: Sink>(
+pub(crate) fn take_all<F: Files, O: Sink>(
     alloc: Global,
     hand: &mut Hand,
     files: &mut F,

@@ -3,10 +3,12 @@
 
 mod counting;
 mod cutting;
+mod drop;
 mod head;
 mod intake;
 mod piece;
 mod taking;
 
 pub use counting::{DropSize, count_drop};
-pub use intake::{Taken, take_all};
+pub use drop::take_drop;
+pub use intake::Taken;
