@@ -2,9 +2,12 @@
 #![tactic(auto)]
 
 #[cfg(test)]
+mod drops;
+#[cfg(test)]
 mod given;
 #[cfg(test)]
 mod puts;
+#[cfg(test)]
 mod room;
 #[cfg(test)]
 mod script;
