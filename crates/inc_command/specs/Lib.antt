@@ -3,4 +3,5 @@ pub mod Cutting
 pub mod DropTaken
 pub mod Intake
 pub mod Passing
+pub mod Stored
 pub mod Taking

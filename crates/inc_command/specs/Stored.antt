@@ -1,0 +1,18 @@
+-- What may be told of messages that are taken in.
+use Rattle.std.specs.Prelude.{◌≡◌, ℕ, List, [], ◌∷◌}
+use Rattle.folder_files.specs.Deeds.{Deed}
+use Rattle.folder_files.specs.declared.place.Place.{Place}
+use Rattle.message_puts.specs.Stored.{HasStoredAt}
+use Rattle.mh_looks.specs.MessageLine.{line_of}
+
+-- the piece is the line of a message, and own steps put that message at the line's number and made its folder safe
+pub record IsLineOfStored (run : ℕ) (p : Place) (own : List Deed) (piece : List ℕ) : Type 0 where
+  pub number : ℕ
+  pub message : List ℕ
+  pub line : piece ≡ line_of number message
+  pub stored : HasStoredAt run p number message own
+
+-- own steps so stored each of these messages, at some number
+abbrev pub AreStored : ℕ → Place → List (List ℕ) → List Deed → Type 0
+AreStored run p [] own = Unit {0}
+AreStored run p (message ∷ messages) own = ((number : ℕ) × HasStoredAt run p number message own) × AreStored run p messages own
