@@ -89,7 +89,7 @@ own_name_reads in_test f fits c text ends =
     let n = named f in
     name_reads in_test (name_of f) f (each is_in_name (name_of f) n.all) n.found fits c text ends
 
--- a name that has a function
+-- a function whose name begins so
 pub record Begun (in_test : Bool) (name : List ℕ) : Type 0 where
   pub function : Function
   pub more : List ℕ

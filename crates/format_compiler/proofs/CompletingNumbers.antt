@@ -36,6 +36,7 @@ ends_it false h = cc
 begun : (literal : List ℕ) (c : ℕ) → (c == 32) ≡ true → (32 ∷ literal) ++ [] ≡ c ∷ (literal ++ [])
 begun literal c is = ap (λ z. z ∷ (literal ++ [])) (sym (equal c 32 is))
 
+-- and one that is closed
 ended : (literal : List ℕ) (c d : ℕ) (rest : List ℕ) → (c == 32) ≡ true → (d == 41) ≡ true → (32 ∷ (literal ++ 41 ∷ [])) ++ rest ≡ c ∷ (literal ++ d ∷ rest)
 ended literal c d rest is end =
     ap (λ z. 32 ∷ z) (append_assoc literal (41 ∷ []) rest) ∙ (λ i. sym (equal c 32 is) i ∷ (literal ++ (sym (equal d 41 end) i) ∷ rest))
@@ -70,6 +71,7 @@ pub record NumberEnds (text left : List ℕ) : Type 0 where
 abbrev pub BadNumber : List ℕ → List ℕ → Type 0
 BadNumber text left = (left ≡ text) ⊎ NumberEnds text left
 
+-- a number that the text's end cuts off
 unended : (c : ℕ) (literal : List ℕ) → (c == 32) ≡ true → EachIs is_literal literal → (now then_zero : Option ℤ) → number_of literal ≡ now → number_of (literal ++ 48 ∷ []) ≡ then_zero
     → Seen (BadNumber (c ∷ (literal ++ []))) spaced_number (c ∷ (literal ++ [])) (Err [])
 unended c literal is each (Some n) z e f = inl (record { front = 32 ∷ literal; parts = begun literal c is; more = 41 ∷ []; value = n; reads = number_reads literal n each e })
@@ -89,6 +91,7 @@ unended c literal is each None None e f = inr (inr (record {
   none = (λ i. is_some (e i) || is_some (f i));
 }))
 
+-- a number that is closed, right or wrong
 number_found : (c d : ℕ) (literal rest whole : List ℕ) → (c == 32) ≡ true → (d == 41) ≡ true → EachIs is_literal literal → whole ≡ c ∷ (literal ++ d ∷ rest) → (n : Option ℤ) → number_of literal ≡ n
     → Seen (BadNumber (c ∷ (literal ++ d ∷ rest))) spaced_number (c ∷ (literal ++ d ∷ rest)) (number_by whole rest n)
 number_found c d literal rest whole is end each same None e = inr (inl same)

@@ -51,9 +51,6 @@ spaces_mend f by inner at spaces each = record {
 abbrev pub AtOnce : (List ℕ → Type 0) → (List ℕ → List ℕ → Read Call) → List ℕ → Type 0
 AtOnce bad read text = (left : List ℕ) → left ≡ text → Mends read text left ⊎ bad left
 
-at_once_at : (bad : List ℕ → Type 0) (read : List ℕ → List ℕ → Read Call) (text other : List ℕ) → text ≡ other → AtOnce bad read text → AtOnce bad read other
-at_once_at bad read text other is h = subst (λ (z : List ℕ). AtOnce bad read z) is h
-
 seam : (spaces : List ℕ) (c d : ℕ) (text : List ℕ) → c ≡ d → spaces ++ c ∷ text ≡ (spaces ++ d ∷ []) ++ text
 seam spaces c d text is = ap (λ z. spaces ++ z ∷ text) is ∙ sym (append_assoc spaces (d ∷ []) text)
 

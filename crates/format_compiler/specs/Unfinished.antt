@@ -13,7 +13,7 @@ use Rattle.format_compiler.specs.Widths.{is_digit}
 abbrev pub IsAll : (ℕ → Bool) → List ℕ → Type 0
 IsAll p text = drop (prefix_len p text) text ≡ []
 
--- the name of a function begins so, in a test that of one with a result
+-- this function's name begins so, and in a test it has a result
 abbrev pub is_begun_by : Bool → List ℕ → Function → Bool
 is_begun_by in_test name f = bytes_eq (take (length name) (name_of f)) name && not (in_test && not (has_result f))
 
@@ -29,7 +29,8 @@ begins_name in_test name = begins_name_among in_test name every_function
 abbrev pub begins_number : List ℕ → Bool
 begins_number literal = is_some (number_of literal) || is_some (number_of (literal ++ 48 ∷ []))
 
--- what stands behind an opening parenthesis ends within such a name or number, of the call or of a function in it
+-- what stands behind an opening parenthesis ends within a function's name, or a number, that none begins with: of the call, or
+-- of a function in it
 pub data CallEndsInNone : Bool → List ℕ → Type 0 where
   in_name : {in_test : Bool} {name : List ℕ} → IsAll is_in_name name → begins_name in_test name ≡ false → CallEndsInNone in_test name
   in_number : {in_test : Bool} {text literal : List ℕ} {f : Function} → function_in in_test text ≡ Ok (f, 32 ∷ literal) → kind_of f ≡ TakesNumber
