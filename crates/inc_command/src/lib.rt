@@ -6,9 +6,11 @@ mod cutting;
 mod drop;
 mod head;
 mod intake;
+mod job;
 mod piece;
 mod taking;
 
 pub use counting::{DropSize, count_drop};
 pub use drop::take_drop;
 pub use intake::Taken;
+pub use job::IncJob;

@@ -1,0 +1,88 @@
+-- The plan of `inc`: the drop is counted, its messages are stored and told of, the marks and the context are committed, and only then is the drop cut.
+use Rattle.std.specs.Prelude.{◌+◌, ◌++◌, ◌∷◌, [], ℕ, Bool, true, false, nat_le, List, map, codes, Option, None, Some, Ok, Err}
+use Rattle.mh_sequences.specs.declared.mark.Mark.{Mark}
+use Rattle.mh_sequences.specs.declared.mark.Mark.TheVariants.{Add, Cur}
+use Rattle.mh_sequences.specs.declared.run.Run.{Run}
+use Rattle.mh_sequences.specs.Runs.{set_of}
+use Rattle.folder_files.specs.declared.place.FilePath.{FilePath}
+use Rattle.folder_files.specs.declared.place.Place.TheVariants.{Folder, Mail}
+use Rattle.folder_files.specs.declared.refusal.Refusal.TheVariants as refusal
+use Rattle.file_plans.specs.Asking.{cut_drop, make_folder}
+use Rattle.file_plans.specs.Plan.{Return, bind, lifted, say, ◌>>=◌}
+use Rattle.file_plans.specs.declared.answers.DropCut.{DropCut}
+use Rattle.file_plans.specs.declared.answers.DropCut.TheVariants as drop_cut
+use Rattle.step_plans.specs.CommandFaults.{of_sink, of_stop}
+use Rattle.step_plans.specs.declared.command_fault.CommandFault.TheVariants as fault
+use Rattle.sequence_commits.specs.Committing.{changed_sequences}
+use Rattle.sequence_commits.specs.Marking.{marked_by_all}
+use Rattle.sequence_commits.specs.RunsOfAll.{set_among}
+use Rattle.command_stages.specs.Current.{made_current}
+use Rattle.command_stages.specs.Endings.{of_plan}
+use Rattle.command_stages.specs.Texts.{Commanded}
+use Rattle.opened_folders.specs.Ending.{ended}
+use Rattle.opened_folders.specs.Opening.{Opened, begun}
+use Rattle.inc_command.specs.Counting.{drop_counted}
+use Rattle.inc_command.specs.DropTaken.{drop_taken, where_of}
+use Rattle.inc_command.specs.declared.job.IncJob.{IncJob}
+
+-- the highest number of a folder, or 0
+abbrev pub top_of : List Run → ℕ
+top_of [] = 0
+top_of (run ∷ []) = run.to
+top_of (run ∷ (next ∷ runs)) = top_of (next ∷ runs)
+
+-- so many numbers are free above the highest
+abbrev pub if_room : Bool → List ℕ → Commanded Unit
+if_room true folder = Return (Ok tt)
+if_room false folder = Return (Err (fault.Refused (refusal.Full folder)))
+
+-- what is written first
+abbrev pub heading : List ℕ → List ℕ
+heading folder = codes "Incorporating new mail into " ++ folder ++ codes "...\n\n"
+
+abbrev pub heading_told : Bool → List ℕ → Commanded Unit
+heading_told true folder = Return (Ok tt)
+heading_told false folder = lifted of_sink (say (heading folder))
+
+-- the first new message becomes the current one, where it is to
+abbrev pub cur_marks : Bool → List ℕ → List Mark
+cur_marks true [] = []
+cur_marks true (n ∷ ns) = Cur (Some n) ∷ []
+cur_marks false ns = []
+
+-- and all of them come to these sequences
+abbrev pub new_marks : IncJob → List ℕ → List Mark
+new_marks job numbers = cur_marks job.change_cur numbers ++ map (λ name. Add name (set_of (set_among numbers) 0) None) job.unseen
+
+-- the drop is cut at the length that was read, or isn't there any more; where it has grown mail was delivered meanwhile
+abbrev pub cut_by : DropCut → Commanded Unit
+cut_by drop_cut.Done = Return (Ok tt)
+cut_by drop_cut.Gone = Return (Ok tt)
+cut_by drop_cut.Grown = Return (Err (fault.Refused refusal.DropGrown))
+
+unfoldable pub drop_ended : FilePath → ℕ → Commanded Unit
+drop_ended path l = do
+  cut ← lifted of_stop (cut_drop path l)
+  cut_by cut
+
+abbrev pub cut_if : Bool → FilePath → ℕ → Commanded Unit
+cut_if true path l = drop_ended path l
+cut_if false path l = Return (Ok tt)
+
+-- the work on a folder that was begun
+unfoldable pub opened_incorporated : ℕ → List ℕ → IncJob → Opened → Commanded Unit
+opened_incorporated run path job o = do
+  size ← drop_counted job.drop
+  room ← if_room (nat_le (top_of o.listing + size.messages) 999999) job.folder
+  told ← heading_told job.silent job.folder
+  taken ← drop_taken (where_of run job.folder o.place job.silent) job.drop size.length size.messages (top_of o.listing)
+  marked ← lifted (of_plan job.folder) (changed_sequences run o.place (Mail path) o.folder o.sequences (marked_by_all (new_marks job taken.numbers) o.sequences))
+  current ← made_current run path job.folder
+  cut_if job.truncate job.drop size.length
+
+-- `inc`: the folder is made where it is missing and begun, the drop is taken in, and the folder's lock falls
+unfoldable pub inc : ℕ → List ℕ → IncJob → Commanded Unit
+inc run path job = do
+  made ← lifted of_stop (make_folder (Folder path job.folder))
+  o ← lifted (of_plan job.folder) (begun run (Folder path job.folder) (Mail path) job.folder)
+  bind (opened_incorporated run path job o) (ended (Folder path job.folder))
