@@ -1,5 +1,5 @@
 -- What a cutter answers is what the plan says of the bytes that it took.
-use Rattle.std.proofs.Common.{◌≡◌, ◌++◌, ◌∷◌, [], ℕ, Bool, true, false, List, Option, Some, None, Result, Ok, Err, length, drop, refl, sym, ◌∙◌, ap}
+use Rattle.std.proofs.Common.{◌≡◌, ◌++◌, ◌∷◌, [], ℕ, Bool, true, false, List, Option, Some, None, Ok, Err, length, drop, refl, ◌∙◌, ap}
 use Rattle.std.proofs.Math.Seq.{drop-append_seam}
 use Rattle.mbox_drop.specs.Cutting.{Ends, Feeds, IsLast}
 use Rattle.mbox_drop.specs.Drops.{finished, is_drop, lines, messages, parts, sections}

@@ -13,7 +13,7 @@ use Rattle.command_stages.specs.Values.{IsErrorOf}
 use Rattle.command_stages.proofs.Values.{value_off, value_on}
 use Rattle.inc_command.specs.Counting.{PIECE, piece_read}
 use Rattle.inc_command.specs.Cutting.{given_by}
-use Rattle.inc_command.specs.DropTaken.{Read, Where, into, piece_taken}
+use Rattle.inc_command.specs.DropTaken.{Where, into, piece_taken}
 use Rattle.inc_command.specs.Passing.{Takes}
 use Rattle.inc_command.specs.declared.intake.Taken.{Taken}
 

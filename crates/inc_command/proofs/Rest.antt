@@ -1,6 +1,6 @@
 -- The pieces of a drop one after another, each with what it finishes.
-use Rattle.std.proofs.Common.{◌≡◌, ◌<◌, ◌≤◌, ◌+◌, ◌-◌, [], ℕ, zero, suc, List, Result, Ok, Err, length, min, nat_lt, refl, sym, ◌∙◌, ap, subst, arith}
-use Rattle.std.specs.Prelude.{IsErr, IsErrAnd, if◌then◌else◌}
+use Rattle.std.proofs.Common.{◌≡◌, ◌<◌, ◌≤◌, ◌+◌, ◌-◌, [], ℕ, zero, suc, List, Result, Ok, Err, length, min, refl, sym, ◌∙◌, ap, subst, arith}
+use Rattle.std.specs.Prelude.{IsErr, IsErrAnd}
 use Rattle.mbox_drop.specs.Cutting.{HasTaken}
 use Rattle.mbox_drop.specs.declared.cutter.DropCutter.{DropCutter}
 use Rattle.folder_files.specs.declared.place.FilePath.{FilePath}

@@ -1,6 +1,6 @@
 -- One piece of a drop after another.
-use Rattle.std.proofs.Common.{◌≡◌, ◌<◌, ◌≤◌, ◌+◌, ◌-◌, ◌++◌, ℕ, zero, suc, Bool, true, false, List, [], Option, Some, None, Result, Ok, Err, length, min, nat_lt, refl, sym, ◌∙◌, ap, subst, arith, append_assoc}
-use Rattle.std.specs.Prelude.{IsErr, IsErrAnd, if◌then◌else◌}
+use Rattle.std.proofs.Common.{◌≡◌, ◌<◌, ◌≤◌, ◌+◌, ◌-◌, ◌++◌, ℕ, zero, suc, Bool, true, false, List, [], Option, Some, None, Result, Ok, Err, length, min, refl, sym, ◌∙◌, ap, subst, arith}
+use Rattle.std.specs.Prelude.{IsErr, IsErrAnd}
 use Rattle.std.proofs.lemmas.List.{length-append}
 use Rattle.mbox_drop.specs.Counting.{HasCounted}
 use Rattle.mbox_drop.specs.Drops.{is_drop, messages}
@@ -12,7 +12,6 @@ use Rattle.file_plans.specs.Follows.{State, Follows}
 use Rattle.file_plans.proofs.Following.{done, go, refuses, same_plan, stop}
 use Rattle.step_plans.specs.CommandFaults.{command_cause}
 use Rattle.step_plans.specs.declared.command_fault.CommandFault.{CommandFault}
-use Rattle.command_stages.specs.Texts.{Commanded}
 use Rattle.inc_command.specs.Counting.{PIECE, counted_by, drop_counted, drop_read, head_read, piece_read, rest_read, size_if, IsHead}
 use Rattle.inc_command.specs.Passing.{Passes}
 use Rattle.inc_command.specs.declared.counting.DropSize.{DropSize}

@@ -1,5 +1,5 @@
 -- A message is taken in as its command pledges: its line is told only once it is stored.
-use Rattle.std.proofs.Common.{◌≡◌, ◌<◌, ◌≤◌, ◌^◌, ◌∷◌, [], ℕ, Bool, true, false, List, None, Ok, refl, subst, sym}
+use Rattle.std.proofs.Common.{◌≡◌, ◌<◌, ◌≤◌, ◌^◌, ◌∷◌, [], ℕ, Bool, true, false, List, None, refl}
 use Rattle.std.specs.Prelude.{decimal}
 use Rattle.mh_base.specs.Numbers.{IsMsgNum}
 use Rattle.folder_files.specs.Careful.{HasLock}
@@ -8,17 +8,15 @@ use Rattle.folder_files.specs.Places.{is_folder}
 use Rattle.folder_files.specs.declared.place.Place.{Place}
 use Rattle.folder_files.specs.declared.step.Step.TheVariants as step
 use Rattle.folder_files.specs.declared.step.Answer.TheVariants as answer
-use Rattle.file_plans.specs.Plan.{Hand, Return, bind, lifted, say, ◌>>=◌}
+use Rattle.file_plans.specs.Plan.{Hand, bind, lifted, say, ◌>>=◌}
 use Rattle.file_plans.proofs.Framing.{AnyStep, asks_any}
-use Rattle.step_plans.specs.CommandFaults.{of_sink}
 use Rattle.step_plans.specs.Pledges.{Pledge}
 use Rattle.step_plans.specs.Replacing.{synced}
-use Rattle.step_plans.specs.Settled.{AreSettled}
-use Rattle.step_plans.proofs.Facts.{once_kept, settled_kept}
+use Rattle.step_plans.proofs.Facts.{settled_kept}
 use Rattle.step_plans.proofs.Going.{Goes, Outcome, goes_lifted, goes_more, goes_then, okay, okay_more}
 use Rattle.step_plans.proofs.Lasting.{KeptBy, keeping}
 use Rattle.step_plans.proofs.Pledged.{Held, synced_goes}
-use Rattle.step_plans.proofs.Stepping.{goes_return, goes_say}
+use Rattle.step_plans.proofs.Stepping.{goes_return}
 use Rattle.step_plans.proofs.Written.{Adds, goes_at}
 use Rattle.message_puts.specs.Stored.{HasPutAt, HasStoredAt}
 use Rattle.message_puts.specs.Putting.{message_put}

@@ -1,10 +1,9 @@
 -- One message after another.
-use Rattle.std.proofs.Common.{◌≡◌, ◌∷◌, [], ◌++◌, ◌+◌, ℕ, Bool, List, Result, Ok, Err, length, arith, refl, ap}
+use Rattle.std.proofs.Common.{◌≡◌, ◌∷◌, [], ◌+◌, ℕ, Bool, List, Result, Ok, Err, length, arith, refl}
 use Rattle.std.specs.Prelude.{IsErr, IsErrAnd}
 use Rattle.folder_files.specs.declared.place.Place.{Place}
 use Rattle.file_plans.specs.Follows.{State, Follows}
-use Rattle.file_plans.specs.Plan.{Return, ◌>>=◌}
-use Rattle.file_plans.proofs.Following.{done, go, no_room, same_plan, stop}
+use Rattle.file_plans.proofs.Following.{done, go, stop}
 use Rattle.step_plans.specs.CommandFaults.{command_cause}
 use Rattle.step_plans.specs.declared.command_fault.CommandFault.{CommandFault}
 use Rattle.inc_command.specs.Intake.{all_taken, with_number}

@@ -1,5 +1,5 @@
 -- A line that is written.
-use Rattle.std.proofs.Common.{◌≡◌, List, ℕ, Result, Ok, Err, refl}
+use Rattle.std.proofs.Common.{◌≡◌, List, ℕ, Result, Ok, Err}
 use Rattle.std.specs.Prelude.{IsErr, IsErrAnd}
 use Rattle.mh_base.specs.declared.streams.SinkFault.{SinkFault}
 use Rattle.file_plans.specs.Asking.{sink_cause}

@@ -1,5 +1,5 @@
 -- What each piece of a drop finishes, by the bytes that were read before.
-use Rattle.std.specs.Prelude.{◌≡◌, ◌++◌, ◌-◌, ℕ, Bool, true, false, List, [], ◌∷◌, length, drop, Option, None, Some, Result, Ok, Err}
+use Rattle.std.specs.Prelude.{◌≡◌, ◌++◌, ℕ, Bool, true, false, List, [], ◌∷◌, length, drop, Option, None, Some, Result, Ok, Err}
 use Rattle.mbox_drop.specs.Drops.{finished, is_drop, messages, open_bytes}
 use Rattle.mbox_drop.specs.Long.{excess, long_of}
 use Rattle.mbox_drop.specs.Places.{is_lost}

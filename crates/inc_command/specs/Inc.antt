@@ -1,5 +1,5 @@
 -- The plan of `inc`: the drop is counted, its messages are stored and told of, the marks and the context are committed, and only then is the drop cut.
-use Rattle.std.specs.Prelude.{◌+◌, ◌++◌, ◌∷◌, [], ℕ, Bool, true, false, nat_le, List, map, codes, Option, None, Some, Ok, Err}
+use Rattle.std.specs.Prelude.{◌+◌, ◌++◌, ◌∷◌, [], ℕ, Bool, true, false, nat_le, List, map, codes, None, Some, Ok, Err}
 use Rattle.mh_sequences.specs.declared.mark.Mark.{Mark}
 use Rattle.mh_sequences.specs.declared.mark.Mark.TheVariants.{Add, Cur}
 use Rattle.mh_sequences.specs.declared.run.Run.{Run}

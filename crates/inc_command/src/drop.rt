@@ -10,9 +10,10 @@ use crate::counting::DropSize;
 use crate::cutting::{end, feed};
 use crate::intake::{Taken, take_all};
 use crate::piece::{PIECE, drop_changed, read_piece};
-use folder_files::{FilePath, Files, Place};
+use crate::taking::Target;
+use folder_files::{FilePath, Files};
 use mbox_drop::DropCutter;
-use mh_base::{BytesList, FolderName, List, Sink};
+use mh_base::{BytesList, List, Sink};
 use std::alloc::Global;
 use step_plans::{CommandFault, Hand};
 
@@ -22,9 +23,7 @@ fn take_piece<F: Files, O: Sink>(
     hand: &mut Hand,
     files: &mut F,
     out: &mut O,
-    folder: &FolderName,
-    place: &Place,
-    silent: bool,
+    target: Target,
     path: &FilePath,
     length: u64,
     at: u64,
@@ -33,14 +32,14 @@ fn take_piece<F: Files, O: Sink>(
 ) -> Result<Taken, CommandFault>
     requires within { at ≤ length }
     requires range { taken.highest ≤ 999999 }
-    ensures takes { (d : TextOf ℕ) → HasTaken cutter.old d → length_of d ≡ at → Takes hand.old.run (piece_taken (where_of hand.old.run folder.now place.now silent) path.now length d taken) (by_out hand.old.kept (F.state files.old) (O.state out.old)) (by_out hand.new.kept (F.state files.new) (O.state out.new)) cutter.new (at + min (length - at) 65536) result }
+    ensures takes { (d : TextOf ℕ) → HasTaken cutter.old d → length_of d ≡ at → Takes hand.old.run (piece_taken (where_of hand.old.run target.entry.folder.now target.entry.place.now target.entry.silent) path.now length d taken) (by_out hand.old.kept (F.state files.old) (O.state out.old)) (by_out hand.new.kept (F.state files.new) (O.state out.new)) cutter.new (at + min (length - at) 65536) result }
     ensures same { (hand.new.run ≡ hand.old.run) × (hand.new.mail ≡ hand.old.mail) }
     ensures range { IfOk result (λ t. t.highest ≤ 999999) }
 {
     let asked = (length - at).min(PIECE);
     let bytes = read_piece(alloc, hand.run(), files, path, at, asked)?;
     let given = feed(cutter, bytes.as_slice())?;
-    take_all(alloc, hand, files, out, folder, place, silent, taken, given)
+    take_all(alloc, hand, files, out, target, taken, given)
 }
 
 /// All pieces are read, up to this length.
@@ -49,16 +48,14 @@ fn take_rest<F: Files, O: Sink>(
     hand: &mut Hand,
     files: &mut F,
     out: &mut O,
-    folder: &FolderName,
-    place: &Place,
-    silent: bool,
+    target: Target,
     path: &FilePath,
     length: u64,
     cutter: &mut DropCutter,
     first: Taken,
 ) -> Result<Taken, CommandFault>
     requires { first.highest ≤ 999999 }
-    ensures takes { HasTaken cutter.old [] → Takes hand.old.run (rest_taken (where_of hand.old.run folder.now place.now silent) path.now length length (record { bytes = []; taken = first })) (by_out hand.old.kept (F.state files.old) (O.state out.old)) (by_out hand.new.kept (F.state files.new) (O.state out.new)) cutter.new length result }
+    ensures takes { HasTaken cutter.old [] → Takes hand.old.run (rest_taken (where_of hand.old.run target.entry.folder.now target.entry.place.now target.entry.silent) path.now length length (record { bytes = []; taken = first })) (by_out hand.old.kept (F.state files.old) (O.state out.old)) (by_out hand.new.kept (F.state files.new) (O.state out.new)) cutter.new length result }
     ensures same { (hand.new.run ≡ hand.old.run) × (hand.new.mail ≡ hand.old.mail) }
     ensures range { IfOk result (λ t. t.highest ≤ 999999) }
 {
@@ -66,7 +63,7 @@ fn take_rest<F: Files, O: Sink>(
     let mut at = 0;
     while at < length {
         taken = take_piece(
-            alloc, hand, files, out, folder, place, silent, path, length, at, cutter, taken,
+            alloc, hand, files, out, target, path, length, at, cutter, taken,
         )?;
         at += (length - at).min(PIECE);
     }
@@ -79,14 +76,12 @@ fn take_last<F: Files, O: Sink>(
     hand: &mut Hand,
     files: &mut F,
     out: &mut O,
-    folder: &FolderName,
-    place: &Place,
-    silent: bool,
+    target: Target,
     cutter: DropCutter,
     taken: Taken,
 ) -> Result<Taken, CommandFault>
     requires { taken.highest ≤ 999999 }
-    ensures plan { (d : TextOf ℕ) → HasTaken cutter d → Follows hand.old.run command_cause (ended_taken (where_of hand.old.run folder.now place.now silent) (record { bytes = d; taken = taken })) (by_out hand.old.kept (F.state files.old) (O.state out.old)) (by_out hand.new.kept (F.state files.new) (O.state out.new)) result }
+    ensures plan { (d : TextOf ℕ) → HasTaken cutter d → Follows hand.old.run command_cause (ended_taken (where_of hand.old.run target.entry.folder.now target.entry.place.now target.entry.silent) (record { bytes = d; taken = taken })) (by_out hand.old.kept (F.state files.old) (O.state out.old)) (by_out hand.new.kept (F.state files.new) (O.state out.new)) result }
     ensures same { (hand.new.run ≡ hand.old.run) × (hand.new.mail ≡ hand.old.mail) }
 {
     let Some(message) = end(cutter)? else {
@@ -94,9 +89,7 @@ fn take_last<F: Files, O: Sink>(
     };
     let mut messages = BytesList::new(alloc);
     messages.push(message)?;
-    take_all(
-        alloc, hand, files, out, folder, place, silent, taken, messages,
-    )
+    take_all(alloc, hand, files, out, target, taken, messages)
 }
 
 /// Reads the first so many bytes of a drop again, and takes its messages in, above the highest number of the folder. The drop was changed where
@@ -106,15 +99,13 @@ pub fn take_drop<F: Files, O: Sink>(
     hand: &mut Hand,
     files: &mut F,
     out: &mut O,
-    folder: &FolderName,
-    place: &Place,
-    silent: bool,
+    target: Target,
     path: &FilePath,
     size: DropSize,
     highest: u32,
 ) -> Result<Taken, CommandFault>
     requires { highest ≤ 999999 }
-    ensures plan { Follows hand.old.run command_cause (drop_taken (where_of hand.old.run folder.now place.now silent) path.now size.length size.messages highest) (by_out hand.old.kept (F.state files.old) (O.state out.old)) (by_out hand.new.kept (F.state files.new) (O.state out.new)) result }
+    ensures plan { Follows hand.old.run command_cause (drop_taken (where_of hand.old.run target.entry.folder.now target.entry.place.now target.entry.silent) path.now size.length size.messages highest) (by_out hand.old.kept (F.state files.old) (O.state out.old)) (by_out hand.new.kept (F.state files.new) (O.state out.new)) result }
     ensures same { (hand.new.run ≡ hand.old.run) × (hand.new.mail ≡ hand.old.mail) }
 {
     let mut cutter = DropCutter::new(alloc);
@@ -125,17 +116,13 @@ pub fn take_drop<F: Files, O: Sink>(
         hand,
         files,
         out,
-        folder,
-        place,
-        silent,
+        target,
         path,
         size.length,
         &mut cutter,
         first,
     )?;
-    let taken = take_last(
-        alloc, hand, files, out, folder, place, silent, cutter, taken,
-    )?;
+    let taken = take_last(alloc, hand, files, out, target, cutter, taken)?;
     if taken.numbers.len() as u64 != size.messages {
         return Err(drop_changed());
     }

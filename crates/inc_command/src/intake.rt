@@ -4,9 +4,9 @@ ghost use Rattle.file_plans.specs.Follows.{Follows, by_out};
 ghost use Rattle.step_plans.specs.CommandFaults.{command_cause};
 ghost use Rattle.inc_command.specs.Intake.{all_taken};
 
-use crate::taking::take;
-use folder_files::{Files, Place};
-use mh_base::{BytesList, FolderName, List, MsgNum, Sink};
+use crate::taking::{Target, take};
+use folder_files::Files;
+use mh_base::{BytesList, List, MsgNum, Sink};
 use std::alloc::Global;
 use step_plans::{CommandFault, Hand};
 
@@ -23,30 +23,18 @@ pub(crate) fn take_all<F: Files, O: Sink>(
     hand: &mut Hand,
     files: &mut F,
     out: &mut O,
-    folder: &FolderName,
-    place: &Place,
-    silent: bool,
+    target: Target,
     first: Taken,
     messages: BytesList,
 ) -> Result<Taken, CommandFault>
     requires { first.highest ≤ 999999 }
-    ensures plan { Follows hand.old.run command_cause (all_taken hand.old.run folder.now place.now silent first messages) (by_out hand.old.kept (F.state files.old) (O.state out.old)) (by_out hand.new.kept (F.state files.new) (O.state out.new)) result }
+    ensures plan { Follows hand.old.run command_cause (all_taken hand.old.run target.entry.folder.now target.entry.place.now target.entry.silent first messages) (by_out hand.old.kept (F.state files.old) (O.state out.old)) (by_out hand.new.kept (F.state files.new) (O.state out.new)) result }
     ensures same { (hand.new.run ≡ hand.old.run) × (hand.new.mail ≡ hand.old.mail) }
     ensures range { IfOk result (λ taken. taken.highest ≤ 999999) }
 {
     let mut taken = first;
     for mut message in messages.into_vec() {
-        let number = take(
-            alloc,
-            hand,
-            files,
-            out,
-            folder,
-            place,
-            silent,
-            taken.highest,
-            &mut message,
-        )?;
+        let number = take(alloc, hand, files, out, target, taken.highest, &mut message)?;
         taken.numbers.push(number)?;
         taken.highest = number.get();
     }

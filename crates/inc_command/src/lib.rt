@@ -14,3 +14,4 @@ pub use counting::{DropSize, count_drop};
 pub use drop::take_drop;
 pub use intake::Taken;
 pub use job::IncJob;
+pub use taking::Target;

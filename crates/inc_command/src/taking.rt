@@ -17,6 +17,14 @@ use mh_looks::message_line;
 use std::alloc::Global;
 use step_plans::{CommandFault, Hand, PlanFault, sync};
 
+/// Where messages go: the folder, its place, and whether no line is written of them.
+#[derive(Clone, Copy)]
+pub struct Target<'a> {
+    pub folder: &'a FolderName,
+    pub place: &'a Place,
+    pub silent: bool,
+}
+
 /// A message is put into a directory, and then that is made safe.
 fn store<F: Files>(
     alloc: Global,
@@ -43,18 +51,17 @@ fn store_in<F: Files>(
     alloc: Global,
     hand: &mut Hand,
     files: &mut F,
-    folder: &FolderName,
-    place: &Place,
+    target: Target,
     highest: u32,
     bytes: &mut Bytes,
 ) -> Result<MsgNum, CommandFault>
     requires { highest ≤ 999999 }
-    ensures plan { Follows hand.old.run command_cause (lifted (of_plan folder.now) (message_stored hand.old.run place.now highest bytes.old)) (by_hand hand.old.kept (F.state files.old)) (by_hand hand.new.kept (F.state files.new)) result }
+    ensures plan { Follows hand.old.run command_cause (lifted (of_plan target.entry.folder.now) (message_stored hand.old.run target.entry.place.now highest bytes.old)) (by_hand hand.old.kept (F.state files.old)) (by_hand hand.new.kept (F.state files.new)) result }
     ensures same { (hand.new.run ≡ hand.old.run) × (hand.new.mail ≡ hand.old.mail) }
     ensures bytes { OnOk result (bytes.new ≡ bytes.old) }
 {
-    let folder = folder.duplicate(alloc)?;
-    match store(alloc, hand, files, place, highest, bytes) {
+    let folder = target.folder.duplicate(alloc)?;
+    match store(alloc, hand, files, target.place, highest, bytes) {
         Ok(number) => Ok(number),
         Err(fault) => Err(fault_in(folder, fault)),
     }
@@ -84,17 +91,15 @@ pub(crate) fn take<F: Files, O: Sink>(
     hand: &mut Hand,
     files: &mut F,
     out: &mut O,
-    folder: &FolderName,
-    place: &Place,
-    silent: bool,
+    target: Target,
     highest: u32,
     bytes: &mut Bytes,
 ) -> Result<MsgNum, CommandFault>
     requires { highest ≤ 999999 }
-    ensures plan { Follows hand.old.run command_cause (message_taken hand.old.run folder.now place.now silent highest bytes.old) (by_out hand.old.kept (F.state files.old) (O.state out.old)) (by_out hand.new.kept (F.state files.new) (O.state out.new)) result }
+    ensures plan { Follows hand.old.run command_cause (message_taken hand.old.run target.entry.folder.now target.entry.place.now target.entry.silent highest bytes.old) (by_out hand.old.kept (F.state files.old) (O.state out.old)) (by_out hand.new.kept (F.state files.new) (O.state out.new)) result }
     ensures same { (hand.new.run ≡ hand.old.run) × (hand.new.mail ≡ hand.old.mail) }
 {
-    let number = store_in(alloc, hand, files, folder, place, highest, bytes)?;
-    tell(alloc, out, silent, number, bytes)?;
+    let number = store_in(alloc, hand, files, target, highest, bytes)?;
+    tell(alloc, out, target.silent, number, bytes)?;
     Ok(number)
 }

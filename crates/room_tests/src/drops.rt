@@ -4,7 +4,7 @@ ghost use Rattle.std.specs.Prelude.{◌≤◌};
 use crate::given::{Mailbox, bytes_of, drop_of, drop_path, folder};
 use folder_files::{Files, Place};
 use folder_room::{PromptList, Room};
-use inc_command::{DropSize, Taken, count_drop, take_drop};
+use inc_command::{DropSize, Taken, Target, count_drop, take_drop};
 use mh_base::{FolderName, MemSink, NumberList, Sink, Text};
 use std::alloc::Global;
 use std::test::Fail;
@@ -34,9 +34,12 @@ fn taken<F: Files, O: Sink>(
     let mut hand = Hand::new(7, bytes_of(alloc, b"Mail")?);
     let name = inbox(alloc)?;
     let path = drop_path(alloc)?;
-    match take_drop(
-        alloc, &mut hand, files, out, &name, place, false, &path, size, 2,
-    ) {
+    let target = Target {
+        folder: &name,
+        place,
+        silent: false,
+    };
+    match take_drop(alloc, &mut hand, files, out, target, &path, size, 2) {
         Ok(taken) => Ok(taken),
         Err(_) => Err("two messages".into()),
     }

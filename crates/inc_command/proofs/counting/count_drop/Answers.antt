@@ -1,5 +1,4 @@
 use Rattle.std.proofs.Common.{[], sym}
-use Rattle.mbox_drop.specs.Counting.{HasCounted}
 use Rattle.inc_command.proofs.Rounds.{counted_all, counting_stops, first_enough, first_few, head_stops}
 use Rattle.inc_command.proofs.counting.count_drop.Goals as goal
 

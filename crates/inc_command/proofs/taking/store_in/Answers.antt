@@ -10,7 +10,7 @@ pub returns-in_err-folder-clause-plan : goal.returns-in_err-folder-clause-plan
 returns-in_err-folder-clause-plan g c = no_room _ c.from_residual.ensures refl
 
 pub returns-in-Ok-clause-plan : goal.returns-in-Ok-clause-plan
-returns-in-Ok-clause-plan g c = lift_ok _ plan_cause command_cause (of_plan c.args.folder.now) _ _ _ _ c.in-Ok.ensures.plan
+returns-in-Ok-clause-plan g c = lift_ok _ plan_cause command_cause (of_plan c.args.target.folder.now) _ _ _ _ c.in-Ok.ensures.plan
 
 pub returns-in-Err-clause-plan : goal.returns-in-Err-clause-plan
-returns-in-Err-clause-plan g c = lift_err _ plan_cause command_cause (of_plan c.args.folder.now) _ _ _ _ _ (plan_same _) (rw c.in_ok-folder.ensures at c.fault_in.ensures) c.in-Err.ensures.plan
+returns-in-Err-clause-plan g c = lift_err _ plan_cause command_cause (of_plan c.args.target.folder.now) _ _ _ _ _ (plan_same _) (rw c.in_ok-folder.ensures at c.fault_in.ensures) c.in-Err.ensures.plan
