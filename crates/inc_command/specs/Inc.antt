@@ -1,5 +1,6 @@
 -- The plan of `inc`: the drop is counted, its messages are stored and told of, the marks and the context are committed, and only then is the drop cut.
 use Rattle.std.specs.Prelude.{◌+◌, ◌++◌, ◌∷◌, [], ℕ, Bool, true, false, nat_le, List, map, codes, None, Some, Ok, Err}
+use Rattle.std.specs.Str.{encode_utf8_all}
 use Rattle.mh_sequences.specs.declared.mark.Mark.{Mark}
 use Rattle.mh_sequences.specs.declared.mark.Mark.TheVariants.{Add, Cur}
 use Rattle.mh_sequences.specs.declared.run.Run.{Run}
@@ -37,8 +38,8 @@ if_room true folder = Return (Ok tt)
 if_room false folder = Return (Err (fault.Refused (refusal.Full folder)))
 
 -- what is written first
-abbrev pub heading : List ℕ → List ℕ
-heading folder = codes "Incorporating new mail into " ++ folder ++ codes "...\n\n"
+unfoldable pub heading : List ℕ → List ℕ
+heading folder = codes "Incorporating new mail into " ++ encode_utf8_all folder ++ codes "...\n\n"
 
 abbrev pub heading_told : Bool → List ℕ → Commanded Unit
 heading_told true folder = Return (Ok tt)

@@ -4,7 +4,9 @@ ghost use Rattle.std.specs.Prelude.{◌≤◌};
 use crate::given::{Mailbox, bytes_of, drop_of, drop_path, folder};
 use folder_files::{Files, Place};
 use folder_room::{PromptList, Room};
-use inc_command::{DropSize, Taken, Target, count_drop, take_drop};
+use inc_command::{
+    DropSize, Taken, Target, ask_room, count_drop, cut_drop, take_drop, tell_heading,
+};
 use mh_base::{FolderName, MemSink, NumberList, Sink, Text};
 use std::alloc::Global;
 use std::test::Fail;
@@ -63,5 +65,41 @@ fn a_drop_is_taken_in(rt: HostRuntime) -> Result<(), Fail> {
     let taken = taken(alloc, &mut room, &mut out, &place, size)?;
     assert!(rt; taken.highest == 4 && taken.numbers.len() == 2);
     assert!(rt; out.bytes() == b"   3 One\n   4 Two\n".as_slice());
+    Ok(())
+}
+
+#[test]
+fn a_drop_is_cut(rt: HostRuntime) -> Result<(), Fail> {
+    let alloc = rt.alloc();
+    let mut room = room(alloc)?;
+    let path = drop_path(alloc)?;
+    let size = counted(alloc, &mut room)?;
+    assert!(rt; size.length == 47);
+    assert!(rt; cut_drop(alloc, 7, &mut room, false, &path, 47).is_ok());
+    assert!(rt; count_drop(alloc, 7, &mut room, &path).is_ok());
+    assert!(rt; cut_drop(alloc, 7, &mut room, true, &path, 46).is_err());
+    assert!(rt; count_drop(alloc, 7, &mut room, &path).is_ok());
+    assert!(rt; cut_drop(alloc, 7, &mut room, true, &path, 47).is_ok());
+    assert!(rt; count_drop(alloc, 7, &mut room, &path).is_err());
+    Ok(())
+}
+
+#[test]
+fn a_heading_names_the_folder(rt: HostRuntime) -> Result<(), Fail> {
+    let alloc = rt.alloc();
+    let name = inbox(alloc)?;
+    let mut out = MemSink::new(alloc, NumberList::new(alloc));
+    assert!(rt; tell_heading(alloc, &mut out, true, &name).is_ok());
+    assert!(rt; tell_heading(alloc, &mut out, false, &name).is_ok());
+    assert!(rt; out.bytes() == b"Incorporating new mail into inbox...\n\n".as_slice());
+    Ok(())
+}
+
+#[test]
+fn a_folder_ends_at_its_last_number(rt: HostRuntime) -> Result<(), Fail> {
+    let alloc = rt.alloc();
+    let name = inbox(alloc)?;
+    assert!(rt; ask_room(alloc, &name, 999_998, 1).is_ok());
+    assert!(rt; ask_room(alloc, &name, 999_998, 2).is_err());
     Ok(())
 }
