@@ -1,4 +1,5 @@
 pub mod AloneCommitted
+pub mod AsksSequences
 pub mod ChangesTo
 pub mod CommitPlans
 pub mod CutOnce
@@ -9,6 +10,7 @@ pub mod ListedNumbers
 pub mod MarkedOnce
 pub mod MarksInTurn
 pub mod NeverFailed
+pub mod PlainMarks
 pub mod ReadOnce
 pub mod RunTests
 pub mod SequencesGiven

@@ -3,6 +3,7 @@ pub mod Committing
 pub mod Cutting
 pub mod FolderEntries
 pub mod Marking
+pub mod PlainMarks
 pub mod PrivateChanges
 pub mod Reading
 pub mod RunsOfAll

@@ -5,7 +5,7 @@ use Rattle.mh_sequences.specs.Sequences.{Marked}
 use Rattle.mh_sequences.specs.declared.mark.Mark.{Mark}
 use Rattle.mh_sequences.specs.declared.mark.Mark.TheVariants as mark
 use Rattle.sequence_commits.specs.Marking.{marked_by, marked_by_all}
-use Rattle.mark_command.specs.Marking.{plain_mark}
+use Rattle.sequence_commits.specs.PlainMarks.{plain_mark}
 
 one_plain : (m : Mark) (s : Marked) → marked_by m s ≡ marked_by (plain_mark m) s
 unfolding marked_by
