@@ -1,4 +1,3 @@
-pub mod Ends
 pub mod ListingSays
 pub mod LooksEnd
 pub mod LooksRefused
@@ -9,4 +8,3 @@ pub mod MarkGiven
 pub mod MarkMinds
 pub mod MarkPledged
 pub mod MarkSays
-pub mod Values

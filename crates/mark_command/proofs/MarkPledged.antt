@@ -28,7 +28,7 @@ use Rattle.folder_files.specs.Commands.{Marking}
 use Rattle.folder_files.specs.declared.step.Step.{Step}
 use Rattle.opened_folders.proofs.EndedKept.{Still, keeps_more}
 use Rattle.opened_folders.proofs.FolderPledged.{HasBegun}
-use Rattle.opened_folders.proofs.WorkPledged.{LetsBegin, begun_keeps, committed_goes, current_goes}
+use Rattle.opened_folders.proofs.WorkPledged.{LetsBegin, begun_keeps, committed_goes, current_goes, whenever}
 use Rattle.std.specs.Prelude.{Option, None, Some}
 use Rattle.file_plans.specs.Follows.{Follows, State}
 use Rattle.file_plans.specs.Rules.{IfOkay, Keeps}
@@ -105,7 +105,7 @@ module _ (run : ℕ) (few : run < 2 ^ 128) (path : List ℕ) (job : MarkJob) (a 
     commits numbers is =
         goes_then w own h (lifted (of_plan job.folder) (changed_sequences run p mail job.folder o.sequences (made numbers))) (λ done. Return (Ok (with_sequences (made numbers) o))) (λ later j u. Seen o b.text b.context later × (AreSettled own → AreSettled later)) Marks_
         (subst (λ m. Goes w own h (lifted (of_plan job.folder) (changed_sequences run p mail job.folder m (made numbers))) (okay (λ later j u. Seen o b.text b.context later × (AreSettled own → AreSettled later)))) (sym b.sequences)
-        (committed_goes run few path job.folder (Marks job a) (Marking path job.folder) any_piece any_step lets own h o.listing b.text b.context (made numbers)
+        (committed_goes run few path job.folder (λ own. Marks job a) (Marking path job.folder) any_piece any_step lets (whenever (Marks job a)) own h o.listing b.text b.context (made numbers)
         (inr (numbers, ap (λ m. chosen_from job o.listing m) (sym b.sequences) ∙ is, ap (marked_for job a o.listing numbers) b.sequences)) b.seen b.held.lock b.base.0 b.base.1))
         (λ later j u f. goes_return w later j (with_sequences (made numbers) o) (okay Marks_) f)
 
@@ -133,7 +133,7 @@ module _ (run : ℕ) (few : run < 2 ^ 128) (path : List ℕ) (job : MarkJob) (a 
         (λ last i u e. goes_at w last later i (made_current run path job.folder) (okay (Of (λ end. AreSettled own → AreSettled end))) e
         (goes_more w later i (made_current run path job.folder) (okay (Of (λ end. AreSettled later → AreSettled end))) (okay (Of (λ end. AreSettled own → AreSettled end)))
         (okay_more (Of (λ end. AreSettled later → AreSettled end)) (Of (λ end. AreSettled own → AreSettled end)) (λ end k v f s. f (m.1 s)))
-        (current_goes run few path job.folder (Marks job a) (Marking path job.folder) any_piece any_step lets later i o.listing b.text b.context m.0))))
+        (current_goes run few path job.folder (λ own. Marks job a) (Marking path job.folder) any_piece any_step lets (whenever (Marks job a)) later i o.listing b.text b.context m.0))))
 
 -- one that only lists makes its folder the current one, whatever it may tell
 module _ (run : ℕ) (few : run < 2 ^ 128) (path : List ℕ) (job : MarkJob) (tells : List Deed → List ℕ → Type 0) where
@@ -203,7 +203,7 @@ module _ (run : ℕ) (few : run < 2 ^ 128) (path : List ℕ) (job : MarkJob) whe
   changes_keep : (a : MarkAct) (past : List Done) (h : Hand) → Sound (mark_pledge run path job a) (acts past) h → Keeps (rules_of (mark_pledge run path job a)) past h (mark_changes run path job a) (IfOkay (Still (acts past)))
   unfolding mark_changes
   changes_keep a past h sound =
-      begun_keeps run few path job.folder (Marks job a) (Marking path job.folder) (any_piece run few path job a) (any_step run few path job a) (lets run few path job a) (opened_marked run path job a)
+      begun_keeps run few path job.folder (λ own. Marks job a) (Marking path job.folder) (any_piece run few path job a) (any_step run few path job a) (lets run few path job a) (whenever (Marks job a)) (opened_marked run path job a)
       (λ first own o b i. opened_goes run few path job a first own o b i) past h sound
 
   looked_so : (own : List Deed) (past : List Done) (h : Hand) (r : Result Unit CommandFault) → Sound (looks_pledge run path job) (acts past) h → okay (StillBy_ run few path job own) (acts past) h r → IfOkay (Still own) past h r

@@ -39,7 +39,7 @@ use Rattle.opened_folders.specs.Reads.{HaveSeen}
 use Rattle.opened_folders.proofs.EndedKept.{keeps_more}
 use Rattle.opened_folders.proofs.FolderPledged.{HasBegun, begun_goes, seen_kept}
 use Rattle.opened_folders.proofs.Speaking.{Quiet, keeps_holding, quietly, said_did, said_more, silent_told, speaking, told_did}
-use Rattle.opened_folders.proofs.WorkPledged.{begins, committed_goes, current_goes}
+use Rattle.opened_folders.proofs.WorkPledged.{begins, committed_goes, current_goes, whenever}
 use Rattle.mark_command.specs.Lines.{lines_for}
 use Rattle.mark_command.specs.Mark.{chosen_from, chosen_marked, lines_said, mark_changes, opened_marked, said_if}
 use Rattle.mark_command.specs.MarkAnswers.{HasMarked}
@@ -101,7 +101,7 @@ module _ (run : ℕ) (few : run < 2 ^ 128) (path : List ℕ) (job : MarkJob) (a 
 
   -- a `mark` that says nothing
   abbrev v : Pledge
-  v = folder_pledge run path job.folder (Marks job a) (Marking path job.folder) no_piece any_step
+  v = folder_pledge run path job.folder (λ own. Marks job a) (Marking path job.folder) no_piece any_step
 
   abbrev Seen : List Run → List ℕ → List ℕ → List deeds.Deed → Type 0
   Seen listing text context own = HaveSeen run p mail listing text context own
@@ -121,7 +121,7 @@ module _ (run : ℕ) (few : run < 2 ^ 128) (path : List ℕ) (job : MarkJob) (a 
     commits numbers is =
         goes_then v own h (lifted (of_plan job.folder) (changed_sequences run p mail job.folder o.sequences (made numbers))) (λ done. Return (Ok (with_sequences (made numbers) o))) Commits Marks_
         (subst (λ m. Goes v own h (lifted (of_plan job.folder) (changed_sequences run p mail job.folder m (made numbers))) (okay Commits)) (sym b.sequences)
-        (committed_goes run few path job.folder (Marks job a) (Marking path job.folder) no_piece any_step (lets run few path job a) own h o.listing b.text b.context (made numbers)
+        (committed_goes run few path job.folder (λ own. Marks job a) (Marking path job.folder) no_piece any_step (lets run few path job a) (whenever (Marks job a)) own h o.listing b.text b.context (made numbers)
         (inr (numbers, ap (λ m. chosen_from job o.listing m) (sym b.sequences) ∙ is, ap (marked_for job a o.listing numbers) b.sequences)) b.seen b.held.lock b.base.0 b.base.1))
         (λ later j u f. goes_return v later j (with_sequences (made numbers) o) (okay Marks_) (f.0, (numbers, is, refl)))
 
@@ -219,7 +219,7 @@ module _ (run : ℕ) (few : run < 2 ^ 128) (path : List ℕ) (job : MarkJob) (a 
             (quietly T marked_kept (rules_of v) quiet S S_kept later j (made_current run path job.folder) (ByActs (Soundly v (okay (Of (λ last. AreSettled (acts later) → AreSettled last)))))
             (all_told T (new m.sequences) (said_of later) (acts later) (so (acts later) s) told)
             (goes_keeps v later (acts later) j (made_current run path job.folder) (okay (Of (λ last. AreSettled (acts later) → AreSettled last))) refl ok
-            (current_goes run few path job.folder (Marks job a) (Marking path job.folder) no_piece any_step (lets run few path job a) (acts later) j o.listing b.text b.context s.1)))
+            (current_goes run few path job.folder (λ own. Marks job a) (Marking path job.folder) no_piece any_step (lets run few path job a) (whenever (Marks job a)) (acts later) j o.listing b.text b.context s.1)))
           where
             go : (last : List Deed) (i : Hand) (r : Result Unit CommandFault)
                 → Quiet T marked_kept (rules_of v) quiet S S_kept (ByActs (Soundly v (okay (Of (λ end. AreSettled (acts later) → AreSettled end))))) later last i r → Ends last i r
@@ -263,7 +263,7 @@ module _ (run : ℕ) (few : run < 2 ^ 128) (path : List ℕ) (job : MarkJob) (a 
         (quietly T marked_kept (rules_of v) quiet F lasts past h plan (ByActs (Soundly v (okay (Begun (acts past))))) (silent_told T marked_kept past silent)
         (goes_keeps v past (acts past) h plan (okay (Begun (acts past))) refl sound
         (goes_lifted v (acts past) h (of_plan job.folder) (begun run p mail job.folder) (Begun (acts past))
-        (begun_goes v few path job.folder (begins run few path job.folder (Marks job a) (Marking path job.folder) no_piece any_step (lets run few path job a)) (acts past) h))))
+        (begun_goes v few path job.folder (begins run few path job.folder (λ own. Marks job a) (Marking path job.folder) no_piece any_step (lets run few path job a) (whenever (Marks job a))) (acts past) h))))
         go
       where
         plan : Plan (Result Opened CommandFault)

@@ -22,7 +22,7 @@ Marks job a listing m new = (numbers : List ℕ) × (chosen_from job listing m �
 
 -- a `mark` changes what marks a folder of this mail directory, and may say anything
 abbrev pub mark_pledge : ℕ → List ℕ → MarkJob → MarkAct → Pledge
-mark_pledge run path job a = folder_pledge run path job.folder (Marks job a) (Marking path job.folder) (λ own piece. Unit {0}) (λ own s. Unit {0})
+mark_pledge run path job a = folder_pledge run path job.folder (λ own. Marks job a) (Marking path job.folder) (λ own piece. Unit {0}) (λ own s. Unit {0})
 
 -- one that only lists changes nothing but the current folder, which becomes the one that it listed
 abbrev pub looks_pledge : ℕ → List ℕ → MarkJob → Pledge

@@ -1,7 +1,7 @@
 -- What `mark` makes of sequences.
 use Rattle.std.specs.Prelude.{ℕ, ◌&&◌, Bool, not, List, map, Option}
 use Rattle.mh_sequences.specs.declared.mark.Mark.{Mark}
-use Rattle.mh_sequences.specs.declared.mark.Mark.TheVariants.{Add, Delete, Set, Withdraw, Move, Cur}
+use Rattle.mh_sequences.specs.declared.mark.Mark.TheVariants.{Add, Delete, Set}
 use Rattle.mh_sequences.specs.declared.run.Run.{Run}
 use Rattle.mh_sequences.specs.Runs.{has, set_of}
 use Rattle.mh_sequences.specs.Sequences.{Marked}
@@ -36,12 +36,3 @@ marks_for job a listing chosen = map (mark_with a job.public (numbers_marked a l
 -- the sequences then
 abbrev pub marked_for : MarkJob → MarkAct → List Run → List ℕ → Marked → Marked
 marked_for job a listing numbers m = marked_by_all (marks_for job a listing (set_among numbers)) m
-
--- a mark, whatever room its set has
-abbrev pub plain_mark : Mark → Mark
-plain_mark (Add name numbers public) = Add name (set_of numbers.runs 0) public
-plain_mark (Delete name numbers public) = Delete name (set_of numbers.runs 0) public
-plain_mark (Set name numbers public) = Set name (set_of numbers.runs 0) public
-plain_mark (Withdraw numbers) = Withdraw (set_of numbers.runs 0)
-plain_mark (Move pairs) = Move pairs
-plain_mark (Cur cur) = Cur cur

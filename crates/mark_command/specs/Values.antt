@@ -4,9 +4,10 @@ use Rattle.mh_sequences.specs.declared.mark.Mark.{Mark}
 use Rattle.mh_sequences.specs.declared.run.Run.{Run}
 use Rattle.mh_sequences.specs.Sequences.{Marked}
 use Rattle.step_plans.specs.declared.command_fault.CommandFault.{CommandFault}
+use Rattle.sequence_commits.specs.PlainMarks.{plain_mark}
 use Rattle.sequence_commits.specs.RunsOfAll.{set_among}
 use Rattle.command_stages.specs.Values.{IsErrorOf}
-use Rattle.mark_command.specs.Marking.{marks_for, plain_mark}
+use Rattle.mark_command.specs.Marking.{marks_for}
 use Rattle.mark_command.specs.declared.job.MarkAct.{MarkAct}
 use Rattle.mark_command.specs.declared.job.MarkJob.{MarkJob}
 

@@ -1,6 +1,7 @@
 // The marks that `mark` sets.
 ghost use Rattle.std.specs.Prelude.{◌≡◌, map, IfOk};
-ghost use Rattle.mark_command.specs.Marking.{all_but as all_but_of, mark_with, marks_for, numbers_marked, plain_mark};
+ghost use Rattle.sequence_commits.specs.PlainMarks.{plain_mark};
+ghost use Rattle.mark_command.specs.Marking.{all_but as all_but_of, mark_with, marks_for, numbers_marked};
 
 use crate::{MarkAct, MarkJob};
 use mh_base::List;

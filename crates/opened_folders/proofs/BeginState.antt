@@ -32,7 +32,7 @@ use Rattle.opened_folders.proofs.FolderPledged.{HasBegun, begun_goes}
 use Rattle.opened_folders.proofs.NumbersStay.{met_still, takes_none}
 use Rattle.opened_folders.proofs.SequencesEnd.{Left}
 use Rattle.opened_folders.proofs.WorkEnds.{Ends, comes_shown}
-use Rattle.opened_folders.proofs.WorkPledged.{LetsBegin, begins}
+use Rattle.opened_folders.proofs.WorkPledged.{LetsBegin, begins, whenever}
 
 -- a lock that is had was taken
 pub was_locked : (p : Place) (own : List Deed) → HasLock p own → WasDone (step.Lock p) own
@@ -42,7 +42,7 @@ was_locked p _ (still {own = older} off f) = on (was_locked p older f)
 module _ (run : ℕ) (few : run < 2 ^ 128) (path folder : List ℕ) (Answers : Answering) (manner : Manner) (may_tell : List Deed → List ℕ → Type 0) (may_step : List Deed → Step → Type 0)
     (lets : LetsBegin path folder manner may_step) where
   abbrev w : Pledge
-  w = folder_pledge run path folder Answers.makes manner may_tell may_step
+  w = folder_pledge run path folder (λ own. Answers.makes) manner may_tell may_step
 
   abbrev p : Place
   p = Folder path folder
@@ -98,7 +98,7 @@ module _ (run : ℕ) (few : run < 2 ^ 128) (path folder : List ℕ) (Answers : A
   }
 
   abbrev marking : Pledge
-  marking = folder_pledge run path folder Answers.makes (Marking path folder) any_piece any_step
+  marking = folder_pledge run path folder (λ own. Answers.makes) (Marking path folder) any_piece any_step
 
   still_none : (own : List Deed) (s : Step) (a : Answer) → MayAsk marking own s → TakesNone own → TakesNone (did s a ∷ own)
   still_none own s a may f x n (now t) = takes_none run path folder own s a p x may.is_own n t
@@ -113,7 +113,7 @@ module _ (run : ℕ) (few : run < 2 ^ 128) (path folder : List ℕ) (Answers : A
   none_taken : (own : List Deed) (h : Hand) → Clean run own h → PutsNone mail own → TakesNone own → Comes own h plan (λ later j r. TakesNone later × Ends run few path folder Answers Begun later j r)
   none_taken own h clean none takes =
       comes_asked marking TakesNone still_none own h plan (okay (λ later j o. HasBegun marking own path folder later o)) (Ends run few path folder Answers Begun) (record { numbered = clean.numbered; unfailed = clean.unfailed })
-      (goes_lifted marking own h (of_plan folder) (begun run p mail folder) (λ later j o. HasBegun marking own path folder later o) (begun_goes marking few path folder (begins run few path folder Answers.makes (Marking path folder) any_piece any_step lets_begin) own h)) takes
+      (goes_lifted marking own h (of_plan folder) (begun run p mail folder) (λ later j o. HasBegun marking own path folder later o) (begun_goes marking few path folder (begins run few path folder (λ own. Answers.makes) (Marking path folder) any_piece any_step lets_begin (whenever Answers.makes)) own h)) takes
       (comes_shown run few path folder Answers own h (begun run p mail folder) Begun (begun_comes run few path folder Answers own h clean none))
 
   number_name : (n : ℕ) → IsMsgNum n → is_number (kind_of (entry_text (Number n))) ≡ true
@@ -128,7 +128,7 @@ module _ (run : ℕ) (few : run < 2 ^ 128) (path folder : List ℕ) (Answers : A
   begin_state own h clean none takes =
       comes_more own h plan (λ later j r. (Sound w later j × okay Pledged later j r) × (TakesNone later × Ends run few path folder Answers Begun later j r)) (Ends run few path folder Answers States) go
       (comes_goes w own h plan (okay Pledged) (λ later j r. TakesNone later × Ends run few path folder Answers Begun later j r) (record { numbered = clean.numbered; unfailed = clean.unfailed })
-      (goes_lifted w own h (of_plan folder) (begun run p mail folder) Pledged (begun_goes w few path folder (begins run few path folder Answers.makes manner may_tell may_step lets) own h))
+      (goes_lifted w own h (of_plan folder) (begun run p mail folder) Pledged (begun_goes w few path folder (begins run few path folder (λ own. Answers.makes) manner may_tell may_step lets (whenever Answers.makes)) own h))
       (none_taken own h clean none takes))
     where
       Pledged : Outcome Opened

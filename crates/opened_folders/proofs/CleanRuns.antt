@@ -115,6 +115,18 @@ comes_asked w F keeps own h (Hear most next) O Q s g i f = absurd f
 comes_asked w F keeps own h (Recall next) O Q s g i f = comes_asked w F keeps own h (next h) O Q s (g s) i f
 comes_asked w F keeps own h (Note j next) O Q s g i f = comes_asked w F keeps own j next O Q (record { numbered = all_numbered w.run h.next j.next own g.0 s.numbered; unfailed = s.unfailed }) g.1 i f
 
+-- the same of a part that goes as pledged
+pub goes_asked : {R : Type 0} (w : Pledge) (F : List Deed → Type 0) → ((own : List Deed) (s : Step) (a : Answer) → MayAsk w own s → F own → F (did s a ∷ own)) → (own : List Deed) (h : Hand) (p : Plan R) (Q : Outcome R) → Sound w own h → F own → Goes w own h p Q
+    → Goes w own h p (λ later j r. F later × Q later j r)
+unfolding Goes
+goes_asked w F keeps own h (Return r) Q s i g = (i, g)
+goes_asked w F keeps own h (Ask t next) Q s i g = (g.0, λ a row live. goes_asked w F keeps (did t a ∷ own) h (next a) Q (sound_more w own h t a live (g.0 s).1 s) (keeps own t a (g.0 s).0 i) (g.1 a row live))
+goes_asked w F keeps own h (Try t next) Q s i g = absurd g
+goes_asked w F keeps own h (Say piece next) Q s i g = (g.0, goes_asked w F keeps own h next Q s i g.1)
+goes_asked w F keeps own h (Hear most next) Q s i g = λ piece short. goes_asked w F keeps own h (next piece) Q s i (g piece short)
+goes_asked w F keeps own h (Recall next) Q s i g = λ z. goes_asked w F keeps own h (next h) Q s i (g z)
+goes_asked w F keeps own h (Note j next) Q s i g = (g.0, goes_asked w F keeps own j next Q (record { numbered = all_numbered w.run h.next j.next own g.0 s.numbered; unfailed = s.unfailed }) i g.1)
+
 -- names of the run with other numbers are other names
 other_number : (run n k : ℕ) → n ≤ 2 ^ 64 → k < n → k < 2 ^ 64 → temp_name run n ≡ temp_name run k → ⊥
 unfolding entry_text

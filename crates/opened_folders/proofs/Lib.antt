@@ -4,11 +4,13 @@ pub mod BegunEnds
 pub mod BegunSeen
 pub mod BegunWorks
 pub mod ChosenListed
+pub mod Causes
 pub mod CleanRuns
 pub mod CommitMinds
 pub mod CommitSeen
 pub mod EndedKept
 pub mod EndingParts
+pub mod EndsBeside
 pub mod ExistingNumbers
 pub mod FolderAlone
 pub mod FolderEndings

@@ -6,5 +6,6 @@ pub mod Existing
 pub mod FolderPledge
 pub mod HomesOf
 pub mod Kept
+pub mod Making
 pub mod Opening
 pub mod Reads

@@ -5,9 +5,11 @@
 mod beginning;
 mod ending;
 mod existing;
+mod making;
 mod opened;
 mod reading;
 
 pub use beginning::{begin, open};
 pub use ending::end;
+pub use making::open_made;
 pub use opened::{Opened, commit_marks};

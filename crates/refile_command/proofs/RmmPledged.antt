@@ -58,7 +58,7 @@ use Rattle.opened_folders.specs.Opening.{Opened}
 use Rattle.opened_folders.specs.Reads.{HaveSeen}
 use Rattle.opened_folders.proofs.EndedKept.{Still}
 use Rattle.opened_folders.proofs.FolderPledged.{HasBegun, seen_kept}
-use Rattle.opened_folders.proofs.WorkPledged.{LetsBegin, begun_keeps, current_goes, sequences_goes}
+use Rattle.opened_folders.proofs.WorkPledged.{LetsBegin, begun_keeps, current_goes, sequences_goes, whenever}
 use Rattle.refile_command.specs.Rmm.{all_removed, chosen_from, opened_removed, removed_marked, removed_safely, rmm, said_removed, withdrawn}
 use Rattle.refile_command.specs.RmmPledge.{Removes, RemovesChosen, WasChosen, Withdraws, every_message, numbers_up, rmm_pledge}
 use Rattle.refile_command.specs.RmmOutcome.{is_among}
@@ -224,7 +224,7 @@ module _ (run : ℕ) (few : run < 2 ^ 128) (path : List ℕ) (job : RmmJob) wher
         (λ later j u f.
         goes_more w later j (changed_sequences run p mail job.folder m (withdrawn numbers m)) (okay (λ end i v. HaveSeen run p mail listing text context end × (AreSettled later → AreSettled end))) (okay After)
         (okay_more (λ end i v. HaveSeen run p mail listing text context end × (AreSettled later → AreSettled end)) After (λ end i v e. (e.0, λ s. e.1 (f.settled s))))
-        (sequences_goes run few path job.folder (Withdraws job) (Removing path job.folder every_message) no_piece (RemovesChosen run path job) lets later j listing text context (withdrawn numbers m) (inr (numbers, is, refl)) f.seen f.lock old f.base))
+        (sequences_goes run few path job.folder (λ own. Withdraws job) (Removing path job.folder every_message) no_piece (RemovesChosen run path job) lets (whenever (Withdraws job)) later j listing text context (withdrawn numbers m) (inr (numbers, is, refl)) f.seen f.lock old f.base))
 
   -- the work on a folder that was begun
   module _ (begin own : List Deed) (o : Opened) (b : HasBegun w begin path job.folder own o) (h : Hand) where
@@ -258,13 +258,13 @@ module _ (run : ℕ) (few : run < 2 ^ 128) (path : List ℕ) (job : RmmJob) wher
         (λ later j u f.
         goes_more w later j (made_current run path job.folder) (okay (Of (λ end. AreSettled later → AreSettled end))) (okay (Of (λ end. AreSettled own → AreSettled end)))
         (okay_more (Of (λ end. AreSettled later → AreSettled end)) (Of (λ end. AreSettled own → AreSettled end)) (λ end i v g s. g (f.1 s)))
-        (current_goes run few path job.folder (Withdraws job) (Removing path job.folder every_message) no_piece (RemovesChosen run path job) lets later j o.listing b.text b.context f.0))
+        (current_goes run few path job.folder (λ own. Withdraws job) (Removing path job.folder every_message) no_piece (RemovesChosen run path job) lets (whenever (Withdraws job)) later j o.listing b.text b.context f.0))
 
   -- `rmm` keeps the rules of its pledge, whatever its run has done before
   pub rmm_keeps : (past : List Done) (h : Hand) → Sound w (acts past) h → Keeps (rules_of w) past h (rmm run path job) (IfOkay (Still (acts past)))
   unfolding rmm
   rmm_keeps past h sound =
-      begun_keeps run few path job.folder (Withdraws job) (Removing path job.folder every_message) no_piece (RemovesChosen run path job) lets (opened_removed run path job)
+      begun_keeps run few path job.folder (λ own. Withdraws job) (Removing path job.folder every_message) no_piece (RemovesChosen run path job) lets (whenever (Withdraws job)) (opened_removed run path job)
       (λ begin own o b i. opened_goes begin own o b i) past h sound
 
   pub rmm_promises : (x y : State) (result : Result Unit CommandFault) → Follows run command_cause (rmm run path job) x y result → Promises w x y

@@ -2,7 +2,7 @@ use Rattle.std.proofs.Common.{refl}
 use Rattle.file_plans.proofs.Following.{go, no_room, stop, whole}
 use Rattle.opened_folders.proofs.EndingParts.{ends_so}
 use Rattle.mark_command.specs.Mark.{mark_changes}
-use Rattle.mark_command.proofs.Ends.{ends_whole}
+use Rattle.opened_folders.proofs.EndsBeside.{ends_whole}
 use Rattle.mark_command.proofs.changing.change.Goals as goal
 
 pub returns-in_err-place-clause-plan : goal.returns-in_err-place-clause-plan

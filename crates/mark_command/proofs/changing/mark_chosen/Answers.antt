@@ -6,7 +6,7 @@ use Rattle.opened_folders.proofs.OneStep.{done_as}
 use Rattle.mark_command.specs.Mark.{chosen_from, chosen_marked}
 use Rattle.mark_command.specs.Marking.{marked_for}
 use Rattle.command_stages.proofs.Values.{value_off, value_on}
-use Rattle.mark_command.proofs.Values.{all_plain}
+use Rattle.sequence_commits.proofs.PlainMarks.{all_plain}
 use Rattle.mark_command.proofs.changing.mark_chosen.Goals as goal
 
 pub returns-in_err-marks-clause-plan : goal.returns-in_err-marks-clause-plan
