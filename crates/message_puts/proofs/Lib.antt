@@ -1,2 +1,3 @@
+pub mod FirstPuts
 pub mod PutGiven
 pub mod PutPledged

@@ -1,13 +1,13 @@
 -- What a put makes of contents alone: the message stands above the highest number, and nothing else is changed.
-use Rattle.std.proofs.Common.{◌≡◌, ◌<◌, ◌≤◌, ◌^◌, ◌+◌, ◌-◌, ◌∷◌, ℕ, suc, Bool, true, false, List, Option, Some, None, Result, Ok, Err, refl, sym, ◌∙◌, ap, subst, arith, bytes_eq, nat_lt}
-use Rattle.std.specs.Prelude.{decimal, is_some, if◌then◌else◌}
+use Rattle.std.proofs.Common.{◌≡◌, ◌<◌, ◌^◌, ◌+◌, ◌-◌, ◌∷◌, ℕ, suc, true, false, List, Option, Some, None, Result, Ok, Err, refl, sym, ◌∙◌, ap, subst, arith, bytes_eq, nat_lt}
+use Rattle.std.specs.Prelude.{decimal, is_some}
 use Rattle.mh_base.specs.Entries.{kind_of}
 use Rattle.mh_base.specs.Numbers.{IsMsgNum}
-use Rattle.folder_files.specs.Named.{is_number, is_temp}
+use Rattle.folder_files.specs.Named.{is_temp}
 use Rattle.folder_files.specs.declared.place.Place.{Place}
 use Rattle.folder_files.specs.declared.step.Answer.TheVariants as answer
 use Rattle.folder_files.specs.declared.step.Step.TheVariants as step
-use Rattle.file_plans.specs.Contents.{Contents, is_at, link_answer, with_text}
+use Rattle.file_plans.specs.Contents.{Contents, link_answer, with_text}
 use Rattle.file_plans.specs.Giving.{Gives}
 use Rattle.file_plans.specs.Plan.{Hand, Return, ◌>>=◌}
 use Rattle.file_plans.specs.Views.{View, by_view, fits_view, number_put, view_after}
