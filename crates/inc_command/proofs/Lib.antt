@@ -1,4 +1,10 @@
+pub mod Courses
 pub mod Cuts
+pub mod DropKept
+pub mod DropPledged
+pub mod Finishing
+pub mod IncPledged
+pub mod NewMarks
 pub mod Pieces
 pub mod Rest
 pub mod Rounds

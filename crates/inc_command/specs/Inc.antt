@@ -1,5 +1,5 @@
 -- The plan of `inc`: the drop is counted, its messages are stored and told of, the marks and the context are committed, and only then is the drop cut.
-use Rattle.std.specs.Prelude.{◌+◌, ◌++◌, ◌∷◌, [], ℕ, Bool, true, false, nat_le, List, map, codes, None, Some, Ok, Err}
+use Rattle.std.specs.Prelude.{◌+◌, ◌++◌, ◌∷◌, [], ℕ, Bool, true, false, max, nat_le, List, map, codes, None, Some, Ok, Err}
 use Rattle.std.specs.Str.{encode_utf8_all}
 use Rattle.mh_sequences.specs.declared.mark.Mark.{Mark}
 use Rattle.mh_sequences.specs.declared.mark.Mark.TheVariants.{Add, Cur}
@@ -8,7 +8,7 @@ use Rattle.mh_sequences.specs.Runs.{set_of}
 use Rattle.folder_files.specs.declared.place.FilePath.{FilePath}
 use Rattle.folder_files.specs.declared.place.Place.TheVariants.{Folder, Mail}
 use Rattle.folder_files.specs.declared.refusal.Refusal.TheVariants as refusal
-use Rattle.file_plans.specs.Asking.{cut_drop, make_folder}
+use Rattle.file_plans.specs.Asking.{cut_drop}
 use Rattle.file_plans.specs.Plan.{Return, bind, lifted, say, ◌>>=◌}
 use Rattle.file_plans.specs.declared.answers.DropCut.{DropCut}
 use Rattle.file_plans.specs.declared.answers.DropCut.TheVariants as drop_cut
@@ -21,16 +21,18 @@ use Rattle.command_stages.specs.Current.{made_current}
 use Rattle.command_stages.specs.Endings.{of_plan}
 use Rattle.command_stages.specs.Texts.{Commanded}
 use Rattle.opened_folders.specs.Ending.{ended}
-use Rattle.opened_folders.specs.Opening.{Opened, begun}
+use Rattle.opened_folders.specs.Making.{made_begun}
+use Rattle.opened_folders.specs.Opening.{Opened}
 use Rattle.inc_command.specs.Counting.{drop_counted}
 use Rattle.inc_command.specs.DropTaken.{drop_taken, where_of}
+use Rattle.inc_command.specs.declared.counting.DropSize.{DropSize}
+use Rattle.inc_command.specs.declared.intake.Taken.{Taken}
 use Rattle.inc_command.specs.declared.job.IncJob.{IncJob}
 
--- the highest number of a folder, or 0
+-- the greatest number of these runs, or 0
 abbrev pub top_of : List Run → ℕ
 top_of [] = 0
-top_of (run ∷ []) = run.to
-top_of (run ∷ (next ∷ runs)) = top_of (next ∷ runs)
+top_of (run ∷ runs) = max run.to (top_of runs)
 
 -- so many numbers are free above the highest
 abbrev pub if_room : Bool → List ℕ → Commanded Unit
@@ -52,8 +54,14 @@ cur_marks true (n ∷ ns) = Cur (Some n) ∷ []
 cur_marks false ns = []
 
 -- and all of them come to these sequences
+abbrev pub add_mark : List Run → List ℕ → Mark
+add_mark runs name = Add name (set_of runs 0) None
+
+abbrev pub add_marks : List Run → List (List ℕ) → List Mark
+add_marks runs names = map (add_mark runs) names
+
 abbrev pub new_marks : IncJob → List ℕ → List Mark
-new_marks job numbers = cur_marks job.change_cur numbers ++ map (λ name. Add name (set_of (set_among numbers) 0) None) job.unseen
+new_marks job numbers = cur_marks job.change_cur numbers ++ add_marks (set_among numbers) job.unseen
 
 -- the drop is cut at the length that was read, or isn't there any more; where it has grown mail was delivered meanwhile
 abbrev pub cut_by : DropCut → Commanded Unit
@@ -70,20 +78,35 @@ abbrev pub cut_if : Bool → FilePath → ℕ → Commanded Unit
 cut_if true path l = drop_ended path l
 cut_if false path l = Return (Ok tt)
 
--- the work on a folder that was begun
+-- how long the drop is and how many messages it has, where the folder has room for them above its highest number
+unfoldable pub room_counted : List ℕ → FilePath → ℕ → Commanded DropSize
+room_counted folder path top = do
+  size ← drop_counted path
+  room ← if_room (nat_le (top + size.messages) 999999) folder
+  Return (Ok size)
+
+-- the heading is written, and the drop's messages are taken in
+unfoldable pub told_taken : ℕ → IncJob → Opened → DropSize → Commanded Taken
+told_taken run job o size = do
+  told ← heading_told job.silent job.folder
+  drop_taken (where_of run job.folder o.place job.silent) job.drop size.length size.messages (top_of o.listing)
+
+-- the new messages are marked, and the folder becomes the current one
+unfoldable pub new_marked : ℕ → List ℕ → IncJob → Opened → List ℕ → Commanded Unit
+new_marked run path job o numbers = do
+  marked ← lifted (of_plan job.folder) (changed_sequences run o.place (Mail path) o.folder o.sequences (marked_by_all (new_marks job numbers) o.sequences))
+  made_current run path job.folder
+
+-- the work on a folder that was begun; at its end the drop is cut, where it is to be
 unfoldable pub opened_incorporated : ℕ → List ℕ → IncJob → Opened → Commanded Unit
 opened_incorporated run path job o = do
-  size ← drop_counted job.drop
-  room ← if_room (nat_le (top_of o.listing + size.messages) 999999) job.folder
-  told ← heading_told job.silent job.folder
-  taken ← drop_taken (where_of run job.folder o.place job.silent) job.drop size.length size.messages (top_of o.listing)
-  marked ← lifted (of_plan job.folder) (changed_sequences run o.place (Mail path) o.folder o.sequences (marked_by_all (new_marks job taken.numbers) o.sequences))
-  current ← made_current run path job.folder
+  size ← room_counted job.folder job.drop (top_of o.listing)
+  taken ← told_taken run job o size
+  marked ← new_marked run path job o taken.numbers
   cut_if job.truncate job.drop size.length
 
 -- `inc`: the folder is made where it is missing and begun, the drop is taken in, and the folder's lock falls
 unfoldable pub inc : ℕ → List ℕ → IncJob → Commanded Unit
 inc run path job = do
-  made ← lifted of_stop (make_folder (Folder path job.folder))
-  o ← lifted (of_plan job.folder) (begun run (Folder path job.folder) (Mail path) job.folder)
+  o ← lifted (of_plan job.folder) (made_begun run (Folder path job.folder) (Mail path) job.folder)
   bind (opened_incorporated run path job o) (ended (Folder path job.folder))

@@ -2,6 +2,8 @@ pub mod Counting
 pub mod Cutting
 pub mod DropTaken
 pub mod Inc
+pub mod IncOutcome
+pub mod IncPledge
 pub mod Intake
 pub mod Passing
 pub mod Stored

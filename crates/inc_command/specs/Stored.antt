@@ -12,7 +12,9 @@ pub record IsLineOfStored (run : ℕ) (p : Place) (own : List Deed) (piece : Lis
   pub line : piece ≡ line_of number message
   pub stored : HasStoredAt run p number message own
 
--- own steps so stored each of these messages, at some number
-abbrev pub AreStored : ℕ → Place → List (List ℕ) → List Deed → Type 0
-AreStored run p [] own = Unit {0}
-AreStored run p (message ∷ messages) own = ((number : ℕ) × HasStoredAt run p number message own) × AreStored run p messages own
+-- own steps so stored these messages, one at each of these numbers
+abbrev pub AreStoredAt : ℕ → Place → List ℕ → List (List ℕ) → List Deed → Type 0
+AreStoredAt run p [] [] own = Unit {0}
+AreStoredAt run p [] (message ∷ messages) own = ⊥
+AreStoredAt run p (number ∷ numbers) [] own = ⊥
+AreStoredAt run p (number ∷ numbers) (message ∷ messages) own = HasStoredAt run p number message own × AreStoredAt run p numbers messages own

@@ -1,4 +1,4 @@
-//! New mail is taken in: both passes over a drop, and what stands before and behind them. The whole `inc` is a plan so far.
+//! `inc`: new mail is taken in, in two passes over a drop.
 #![tactic(auto)]
 
 mod counting;
@@ -7,8 +7,10 @@ mod cutting;
 mod drop;
 mod head;
 mod heading;
+mod incorporating;
 mod intake;
 mod job;
+mod marks;
 mod piece;
 mod room;
 mod taking;
@@ -17,6 +19,7 @@ pub use counting::{DropSize, count_drop};
 pub use cut::cut_drop;
 pub use drop::take_drop;
 pub use heading::tell_heading;
+pub use incorporating::inc;
 pub use intake::Taken;
 pub use job::IncJob;
 pub use room::ask_room;

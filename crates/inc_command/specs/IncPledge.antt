@@ -1,0 +1,49 @@
+-- The pledge of `inc`.
+use Rattle.std.specs.Prelude.{◌≡◌, ◌⊎◌, ◌<◌, ◌^◌, ℕ, true, false, List, ◌∷◌}
+use Rattle.mbox_drop.specs.Drops.{is_drop, messages}
+use Rattle.mh_sequences.specs.Sequences.{Marked}
+use Rattle.mh_sequences.specs.declared.run.Run.{Run}
+use Rattle.folder_files.specs.Careful.{HasPieces}
+use Rattle.folder_files.specs.Commands.{Incorporating}
+use Rattle.folder_files.specs.Deeds.{Deed, Once}
+use Rattle.folder_files.specs.declared.place.FilePath.{FilePath}
+use Rattle.folder_files.specs.declared.place.Place.{Place}
+use Rattle.folder_files.specs.declared.place.Place.TheVariants.{Folder}
+use Rattle.folder_files.specs.declared.step.Step.{Step}
+use Rattle.folder_files.specs.declared.step.Step.TheVariants as step
+use Rattle.file_plans.specs.Follows.{State}
+use Rattle.step_plans.specs.Pledges.{Pledge}
+use Rattle.step_plans.specs.Promises.{Promises}
+use Rattle.sequence_commits.specs.Marking.{marked_by_all}
+use Rattle.opened_folders.specs.FolderPledge.{folder_pledge}
+use Rattle.inc_command.specs.Inc.{heading, new_marks}
+use Rattle.inc_command.specs.Stored.{AreStoredAt, IsLineOfStored}
+use Rattle.inc_command.specs.declared.job.IncJob.{IncJob}
+
+-- the run read this drop, and stored its messages, one at each of these numbers
+pub record HasTakenIn (run : ℕ) (p : Place) (f : FilePath) (numbers : List ℕ) (own : List Deed) : Type 0 where
+  pub drop : List ℕ
+  pub read : Once (λ d older. HasPieces f drop (d ∷ older)) own
+  pub is_one : is_drop drop ≡ true
+  pub stored : AreStoredAt run p numbers (messages drop) own
+
+-- the sequences have the marks of the messages that the run has taken in
+abbrev pub MarksNew : ℕ → List ℕ → IncJob → List Deed → List Run → Marked → Marked → Type 0
+MarksNew run path job own listing m new =
+    (numbers : List ℕ) × HasTakenIn run (Folder path job.folder) job.drop numbers own × (new ≡ marked_by_all (new_marks job numbers) m)
+
+-- the heading is said, and of messages that are stored their lines; nothing, where nothing is to be written
+abbrev pub TellsNew : ℕ → List ℕ → IncJob → List Deed → List ℕ → Type 0
+TellsNew run path job own piece = (job.silent ≡ false) × ((piece ≡ heading job.folder) ⊎ IsLineOfStored run (Folder path job.folder) own piece)
+
+-- the drop is cut only where it is to be
+abbrev pub CutsIfAsked : IncJob → List Deed → Step → Type 0
+CutsIfAsked job own s = (length_ : ℕ) → s ≡ step.CutDrop job.drop length_ → job.truncate ≡ true
+
+-- `inc` begins the folder, stores messages in it, and keeps its marks
+abbrev pub inc_pledge : ℕ → List ℕ → IncJob → Pledge
+inc_pledge run path job = folder_pledge run path job.folder (MarksNew run path job) (Incorporating path job.folder job.drop) (TellsNew run path job) (CutsIfAsked job)
+
+-- what a call promises of its steps
+abbrev pub PromisesSteps : ℕ → List ℕ → IncJob → State → State → Type 0
+PromisesSteps run path job x y = run < 2 ^ 128 → Promises (inc_pledge run path job) x y
