@@ -6,6 +6,8 @@ mod drops;
 #[cfg(test)]
 mod given;
 #[cfg(test)]
+mod incs;
+#[cfg(test)]
 mod puts;
 #[cfg(test)]
 mod room;

@@ -1,0 +1,151 @@
+// `inc` over the mailbox in memory.
+ghost use Rattle.std.specs.Prelude.{◌≡◌};
+
+use crate::given::{Mailbox, bytes_of, drop_of, drop_path, folder, name};
+use file_plans::{Listing, Reading, ask_list, ask_read};
+use folder_files::{Files, OutsideList, Place, Refusal};
+use folder_room::{PromptList, Room};
+use inc_command::{IncJob, count_drop, inc};
+use mh_base::{Bytes, FolderName, MemSink, NumberList, Sink, Text};
+use mh_sequences::{SeqName, SeqNameList};
+use std::alloc::Global;
+use std::test::Fail;
+use step_plans::{CommandFault, Hand};
+
+const DROP: &[u8] = b"From ann@a.example Tue Jun  2 10:00:00 2026\nFrom: Ann Lee <ann@a.example>\nSubject: One\n\n>From here on\n\nFrom bob@b.example Tue Jun  2 11:00:00 2026\nSubject: Two\n\nend";
+
+fn unseen(alloc: Global) -> Result<SeqNameList, Fail> {
+    let text = Text::from_str(alloc, "unseen")?;
+    let mut names = SeqNameList::new(alloc);
+    match SeqName::read(alloc, &text) {
+        Ok(name) => names.push(name)?,
+        Err(_) => return Err("a name".into()),
+    }
+    Ok(names)
+}
+
+fn job(alloc: Global, into: &str) -> Result<IncJob, Fail> {
+    let text = Text::from_str(alloc, into)?;
+    Ok(IncJob {
+        folder: FolderName::read(alloc, &text)?,
+        drop: drop_path(alloc)?,
+        truncate: true,
+        silent: false,
+        change_cur: true,
+        unseen: unseen(alloc)?,
+    })
+}
+
+/// As `inc -silent -nochangecur -notruncate`, where the profile names no unseen sequence.
+fn quiet_job(alloc: Global, into: &str) -> Result<IncJob, Fail> {
+    let mut quiet = job(alloc, into)?;
+    quiet.truncate = false;
+    quiet.silent = true;
+    quiet.change_cur = false;
+    quiet.unseen = SeqNameList::new(alloc);
+    Ok(quiet)
+}
+
+fn end_of(end: Result<(), CommandFault>) -> &'static [u8] {
+    match end {
+        Ok(()) => b"done",
+        Err(CommandFault::Refused(Refusal::NoMail)) => b"no mail",
+        Err(CommandFault::Refused(Refusal::NotADrop)) => b"no drop",
+        Err(CommandFault::Refused(Refusal::Full(_))) => b"full",
+        Err(_) => b"another",
+    }
+}
+
+/// How it ends.
+fn taken_in<F: Files, O: Sink>(
+    alloc: Global,
+    files: &mut F,
+    out: &mut O,
+    job: &IncJob,
+) -> Result<&'static [u8], Fail> {
+    let mut hand = Hand::new(7, bytes_of(alloc, b"Mail")?);
+    Ok(end_of(inc(alloc, &mut hand, files, out, job)))
+}
+
+/// What stands under the folder's names, each name and a colon before it.
+fn shown<F: Files>(alloc: Global, files: &mut F, place: &Place) -> Result<Bytes, Fail> {
+    let mut told = Bytes::new(alloc);
+    if let Listing::Names(names) = ask_list(alloc, 8, files, place)? {
+        for name in names.as_slice() {
+            told.extend(name.bytes())?;
+            told.extend(b":")?;
+            if let Reading::Content(bytes) = ask_read(alloc, 8, files, place, name, 1000)? {
+                told.extend(bytes.as_slice())?;
+            }
+        }
+    }
+    Ok(told)
+}
+
+fn drop_is_left<F: Files>(alloc: Global, files: &mut F) -> Result<bool, Fail> {
+    let path = drop_path(alloc)?;
+    Ok(count_drop(alloc, 8, files, &path).is_ok())
+}
+
+/// A folder `inbox` with this message.
+fn inbox(alloc: Global, number: &[u8], drops: OutsideList) -> Result<Room, Fail> {
+    let mut mailbox = Mailbox::new(alloc);
+    mailbox.add(alloc, number, bytes_of(alloc, b"old\n")?)?;
+    let world = mailbox.world(alloc, drops)?;
+    Ok(Room::new(alloc, world, PromptList::new(alloc))?)
+}
+
+#[test]
+fn new_mail_is_taken_in(rt: HostRuntime) -> Result<(), Fail> {
+    let alloc = rt.alloc();
+    let mut room = inbox(alloc, b"3", drop_of(alloc, DROP)?)?;
+    let mut out = MemSink::new(alloc, NumberList::new(alloc));
+    let end = taken_in(alloc, &mut room, &mut out, &job(alloc, "inbox")?)?;
+    assert!(rt; end == b"done".as_slice());
+    assert!(rt; out.bytes() == b"Incorporating new mail into inbox...\n\n   4 One\n   5 Two\n".as_slice());
+    let stands = shown(alloc, &mut room, &folder(alloc, "inbox")?)?;
+    assert!(rt; stands.as_slice() == b".mh_sequences:cur: 4\nunseen: 4-5\n3:old\n4:From: Ann Lee <ann@a.example>\nSubject: One\n\n>From here on\n5:Subject: Two\n\nend".as_slice());
+    assert!(rt; !drop_is_left(alloc, &mut room)?);
+    Ok(())
+}
+
+#[test]
+fn a_missing_folder_is_made(rt: HostRuntime) -> Result<(), Fail> {
+    let alloc = rt.alloc();
+    let mut room = inbox(alloc, b"3", drop_of(alloc, b"From \nSubject: x\n")?)?;
+    let mut out = MemSink::new(alloc, NumberList::new(alloc));
+    let end = taken_in(alloc, &mut room, &mut out, &quiet_job(alloc, "new")?)?;
+    assert!(rt; end == b"done".as_slice());
+    assert!(rt; out.bytes().is_empty());
+    let stands = shown(alloc, &mut room, &folder(alloc, "new")?)?;
+    assert!(rt; stands.as_slice() == b"1:Subject: x\n".as_slice());
+    assert!(rt; drop_is_left(alloc, &mut room)?);
+    Ok(())
+}
+
+#[test]
+fn a_full_folder_takes_none(rt: HostRuntime) -> Result<(), Fail> {
+    let alloc = rt.alloc();
+    let mut room = inbox(alloc, b"999999", drop_of(alloc, DROP)?)?;
+    let mut out = MemSink::new(alloc, NumberList::new(alloc));
+    let end = taken_in(alloc, &mut room, &mut out, &job(alloc, "inbox")?)?;
+    assert!(rt; end == b"full".as_slice());
+    assert!(rt; out.bytes().is_empty());
+    assert!(rt; drop_is_left(alloc, &mut room)?);
+    Ok(())
+}
+
+#[test]
+fn what_is_no_mail_is_refused(rt: HostRuntime) -> Result<(), Fail> {
+    let alloc = rt.alloc();
+    let job = job(alloc, "inbox")?;
+    let mut out = MemSink::new(alloc, NumberList::new(alloc));
+    let mut none = inbox(alloc, b"3", OutsideList::new(alloc))?;
+    assert!(rt; taken_in(alloc, &mut none, &mut out, &job)? == b"no mail".as_slice());
+    let mut empty = inbox(alloc, b"3", drop_of(alloc, b"")?)?;
+    assert!(rt; taken_in(alloc, &mut empty, &mut out, &job)? == b"no mail".as_slice());
+    let mut text = inbox(alloc, b"3", drop_of(alloc, b"hello\n")?)?;
+    assert!(rt; taken_in(alloc, &mut text, &mut out, &job)? == b"no drop".as_slice());
+    assert!(rt; out.bytes().is_empty());
+    Ok(())
+}
