@@ -48,14 +48,14 @@ not_less a b never = go (nat_lt a b) (Decides-ltb a b)
         at_least : (a < b → ⊥) → b ≤ a
         at_least off = grind (arith, off)
 
-module _ (w : Pledge) (few : w.run < 2 ^ 128) (path folder : List ℕ) (lets : PutsMessages w (Folder path folder)) (silent : Bool)
+module _ (w : Pledge) (few : w.run < 2 ^ 128) (path folder : List ℕ) (Known : ℕ → List Deed → Type 0) (lets : PutsMessages w (Folder path folder) Known None) (silent : Bool)
     (tells : silent ≡ false → (own : List Deed) (piece : List ℕ) → IsLineOfStored w.run (Folder path folder) own piece → w.may_tell own piece)
     (f : FilePath) (begin : List Deed) (listing : List Run) (text context old : List ℕ) where
   abbrev p : Place
   p = Folder path folder
 
   abbrev pub Takes : List ℕ → List (List ℕ) → List ℕ → List Deed → Type 0
-  Takes d done numbers own = Taking w few path folder lets silent tells f begin listing text context old d done numbers own
+  Takes d done numbers own = Taking w few path folder Known lets silent tells f begin listing text context old d done numbers own
 
   -- no message was taken in yet
   abbrev pub Bare : List Deed → Type 0
@@ -159,6 +159,7 @@ module _ (w : Pledge) (few : w.run < 2 ^ 128) (path folder : List ℕ) (lets : P
     pub record Passing (s : Read) (own : List Deed) : Type 0 where
       pub taken : Takes s.bytes (finished s.bytes) s.taken.numbers own
       pub small : s.taken.highest ≤ 999999
+      pub known : Known s.taken.highest own
       pub found : IsFound s.bytes
       pub within : length s.bytes ≤ l
 
@@ -185,7 +186,7 @@ module _ (w : Pledge) (few : w.run < 2 ^ 128) (path folder : List ℕ) (lets : P
     unfolding piece_taken
     piece_on s own h sound c lt =
         then_soundly w own h (piece_read f (length d) asked) (λ bytes. Return (given_by d bytes) >>= (λ given. into where_ s.taken given >>= (λ taken. Return (Ok (record { bytes = d ++ bytes; taken = taken }))))) Reads Q sound
-        (piece_goes own h (length d) asked Reads (λ bytes k same. (taken_read d bytes s.taken.numbers asked k own c.taken, same)))
+        (piece_goes own h (length d) asked Reads (λ bytes k same. (taken_read d bytes s.taken.numbers asked k own c.taken, lets.kept s.taken.highest own (step.ReadDrop f (length d) asked) (answer.Piece bytes k) tt c.known, same)))
         (λ later j bytes ok q. by_given bytes later j ok q (given_by d bytes) refl)
       where
         d : List ℕ
@@ -195,7 +196,7 @@ module _ (w : Pledge) (few : w.run < 2 ^ 128) (path folder : List ℕ) (lets : P
         asked = min (l - length d) PIECE
 
         Reads : Outcome (List ℕ)
-        Reads later j bytes = Takes (d ++ bytes) (finished d) s.taken.numbers later × (length bytes ≡ asked)
+        Reads later j bytes = Takes (d ++ bytes) (finished d) s.taken.numbers later × Known s.taken.highest later × (length bytes ≡ asked)
 
         Q : Outcome Read
         Q later j new = Passing new later × (length new.bytes ≡ length d + asked)
@@ -205,13 +206,13 @@ module _ (w : Pledge) (few : w.run < 2 ^ 128) (path folder : List ℕ) (lets : P
         by_given bytes later j ok q (Ok given) e =
             let fin = finished_on d bytes given c.found e in
             let long : length (d ++ bytes) ≡ length d + length bytes = length-append d bytes in
-            let same = q.1 in
+            let same = q.2 in
             goes_on w later j given (λ given_. into where_ s.taken given_ >>= (λ taken. Return (Ok (record { bytes = d ++ bytes; taken = taken })))) (okay Q)
-            (goes_then w later j (into where_ s.taken given) (λ taken. Return (Ok (record { bytes = d ++ bytes; taken = taken }))) (λ last i t. (t.highest ≤ 999999) × Takes (d ++ bytes) (finished d ++ given) t.numbers last) Q
-            (all_go w few path folder lets silent tells f begin listing text context old given s.taken c.small (d ++ bytes) (finished d) later j ok q.0)
+            (goes_then w later j (into where_ s.taken given) (λ taken. Return (Ok (record { bytes = d ++ bytes; taken = taken }))) (λ last i t. (t.highest ≤ 999999) × Known t.highest last × Takes (d ++ bytes) (finished d ++ given) t.numbers last) Q
+            (all_go w few path folder Known lets silent tells f begin listing text context old given s.taken c.small (d ++ bytes) (finished d) later j ok q.1 q.0)
             (λ last i t z.
             goes_return w last i (record { bytes = d ++ bytes; taken = t }) (okay Q)
-            (record { taken = subst (λ ms. Takes (d ++ bytes) ms t.numbers last) fin.1 z.1; small = z.0; found = fin.0; within = omega (arith, long, same, lt) }, omega (arith, long, same))))
+            (record { taken = subst (λ ms. Takes (d ++ bytes) ms t.numbers last) fin.1 z.2; small = z.0; known = z.1; found = fin.0; within = omega (arith, long, same, lt) }, omega (arith, long, same))))
         by_given bytes later j ok q (Err e) is = goes_stop w later j e (λ given. into where_ s.taken given >>= (λ taken. Return (Ok (record { bytes = d ++ bytes; taken = taken })))) Q
 
     rest_on : (fuel : ℕ) (s : Read) → l ≤ length s.bytes + fuel → (own : List Deed) (h : Hand) → Sound w own h → Passing s own → Goes w own h (rest_taken where_ f l fuel s) (okay (λ later j new. Passing new later × (length new.bytes ≡ l)))
@@ -250,15 +251,15 @@ module _ (w : Pledge) (few : w.run < 2 ^ 128) (path folder : List ℕ) (lets : P
         by_last (Ok last) e =
             let fin = finished_all s.bytes last e in
             goes_on w own h last (λ last_. into where_ s.taken (listed last_)) (okay Q)
-            (goes_more w own h (into where_ s.taken (listed last)) (okay (λ later j t. (t.highest ≤ 999999) × Takes s.bytes (finished s.bytes ++ listed last) t.numbers later)) (okay Q)
-            (okay_more (λ later j t. (t.highest ≤ 999999) × Takes s.bytes (finished s.bytes ++ listed last) t.numbers later) Q
-            (λ later j t z. record { drop = s.bytes; whole = whole; is_one = fin.0; taken = subst (λ ms. Takes s.bytes ms t.numbers later) fin.1 z.1 }))
-            (all_go w few path folder lets silent tells f begin listing text context old (listed last) s.taken c.small s.bytes (finished s.bytes) own h sound c.taken))
+            (goes_more w own h (into where_ s.taken (listed last)) (okay (λ later j t. (t.highest ≤ 999999) × Known t.highest later × Takes s.bytes (finished s.bytes ++ listed last) t.numbers later)) (okay Q)
+            (okay_more (λ later j t. (t.highest ≤ 999999) × Known t.highest later × Takes s.bytes (finished s.bytes ++ listed last) t.numbers later) Q
+            (λ later j t z. record { drop = s.bytes; whole = whole; is_one = fin.0; taken = subst (λ ms. Takes s.bytes ms t.numbers later) fin.1 z.2 }))
+            (all_go w few path folder Known lets silent tells f begin listing text context old (listed last) s.taken c.small s.bytes (finished s.bytes) own h sound c.known c.taken))
         by_last (Err e) is = goes_stop w own h e (λ last. into where_ s.taken (listed last)) Q
 
-    pub taken_goes : (count top : ℕ) → top ≤ 999999 → (own : List Deed) (h : Hand) → Sound w own h → Bare own → Goes w own h (drop_taken where_ f l count top) (okay (λ later j t. AllTaken t.numbers later))
+    pub taken_goes : (count top : ℕ) → top ≤ 999999 → (own : List Deed) (h : Hand) → Sound w own h → Known top own → Bare own → Goes w own h (drop_taken where_ f l count top) (okay (λ later j t. AllTaken t.numbers later))
     unfolding drop_taken
-    taken_goes count top small own h sound b =
+    taken_goes count top small own h sound known b =
         then_soundly w own h (rest_taken where_ f l l start) (λ s. ended_taken where_ s >>= (λ t. as_counted (length t.numbers == count) t)) (λ later j new. Passing new later × (length new.bytes ≡ l)) Q sound (rest_on l start (omega arith) own h sound begun)
         (λ later j s ok q.
         goes_then w later j (ended_taken where_ s) (λ t. as_counted (length t.numbers == count) t) Q Q (ended_on s later j ok q.0 q.1)
@@ -271,7 +272,7 @@ module _ (w : Pledge) (few : w.run < 2 ^ 128) (path folder : List ℕ) (lets : P
         start = record { bytes = []; taken = record { numbers = []; highest = top } }
 
         begun : Passing start own
-        begun = record { taken = subst (λ ms. Takes [] ms [] own) (sym finished-none) b; small = small; found = none_found; within = omega arith }
+        begun = record { taken = subst (λ ms. Takes [] ms [] own) (sym finished-none) b; small = small; known = known; found = none_found; within = omega arith }
 
         by_count : (v : Bool) (t : Taken) (last : List Deed) (i : Hand) → AllTaken t.numbers last → Goes w last i (as_counted v t) (okay Q)
         by_count true t last i z = goes_return w last i t (okay Q) z

@@ -1,15 +1,19 @@
 -- `inc` goes as it pledges.
-use Rattle.std.proofs.Common.{◌≡◌, ◌⊎◌, inl, inr, ◌<◌, ◌≤◌, ◌+◌, ◌^◌, ◌∷◌, [], ◌==◌, ℕ, Bool, true, false, List, Result, Ok, length, nat_le, refl, sym, ◌∙◌, ap, subst, arith}
-use Rattle.std.specs.Prelude.{reverse}
+use Rattle.std.proofs.Common.{◌≡◌, ◌⊎◌, inl, inr, ◌<◌, ◌≤◌, ◌+◌, ◌^◌, ◌&&◌, ◌||◌, ◌∷◌, [], ◌==◌, ℕ, Bool, true, false, List, None, Result, Ok, length, max, nat_le, refl, sym, ◌∙◌, ap, subst, arith}
+use Rattle.std.specs.Prelude.{decimal, reverse}
+use Rattle.std.proofs.lemmas.Bool.Decides.{nat_tests}
 use Rattle.mbox_drop.specs.Drops.{is_drop, messages}
-use Rattle.mh_base.specs.Entries.{entry_text}
+use Rattle.mh_base.specs.Entries.{entry_text, kind_of}
+use Rattle.mh_base.specs.declared.entry.Entry.{Entry}
 use Rattle.mh_base.specs.declared.entry.Entry.TheVariants.{Sequences}
-use Rattle.mh_sequences.specs.Runs.{AreRuns, AreRunsFrom}
+use Rattle.mh_base.specs.declared.entry.Entry.TheVariants as entry
+use Rattle.mh_sequences.specs.Runs.{AreRuns, AreRunsFrom, has}
 use Rattle.mh_sequences.specs.Sequences.{Marked}
 use Rattle.mh_sequences.specs.declared.run.Run.{Run}
 use Rattle.folder_files.specs.Careful.{Cuts, HasPieces, HasStored, MayCut, all, cuts}
 use Rattle.folder_files.specs.Commands.{Incorporating}
 use Rattle.folder_files.specs.Deeds.{Deed, Once, now, on}
+use Rattle.folder_files.specs.Named.{is_held, is_temp, is_temp_of}
 use Rattle.folder_files.specs.declared.place.FilePath.{FilePath}
 use Rattle.folder_files.specs.declared.place.Place.{Place}
 use Rattle.folder_files.specs.declared.place.Place.TheVariants.{Folder, Mail}
@@ -45,7 +49,7 @@ use Rattle.sequence_commits.proofs.AsksSequences.{asks_sequences}
 use Rattle.sequence_commits.proofs.RunTests.{all_runs}
 use Rattle.held_messages.specs.Settle.{Settled}
 use Rattle.message_puts.proofs.FirstPuts.{AreOnce, none_once, once_asked}
-use Rattle.message_puts.proofs.PutPledged.{PutsMessages}
+use Rattle.message_puts.proofs.PutPledged.{MayReach, PutsMessages}
 use Rattle.command_stages.specs.Current.{current_change, made_current}
 use Rattle.command_stages.specs.Endings.{of_plan}
 use Rattle.opened_folders.specs.Existing.{numbers_settled}
@@ -53,12 +57,12 @@ use Rattle.opened_folders.specs.FolderPledge.{told_within}
 use Rattle.opened_folders.specs.Opening.{Opened}
 use Rattle.opened_folders.specs.Reads.{HaveSeen}
 use Rattle.opened_folders.proofs.EndedKept.{Still}
-use Rattle.opened_folders.proofs.FolderPledged.{Begins, HasBegun}
+use Rattle.opened_folders.proofs.FolderPledged.{Begins, HasBegun, seen_kept}
 use Rattle.opened_folders.proofs.WorkPledged.{LetsBegin, begins, committed_goes, current_goes, made_keeps}
 use Rattle.inc_command.specs.Counting.{drop_counted}
 use Rattle.inc_command.specs.DropTaken.{drop_taken, where_of}
 use Rattle.inc_command.specs.Inc.{cut_by, cut_if, drop_ended, heading, heading_told, if_room, inc, new_marked, new_marks, opened_incorporated, room_counted, told_taken, top_of}
-use Rattle.inc_command.specs.IncPledge.{CutsIfAsked, HasTakenIn, MarksNew, TellsNew, inc_pledge}
+use Rattle.inc_command.specs.IncPledge.{HasSeenNumber, HasTakenIn, MakesSo, MarksNew, TellsNew, inc_pledge}
 use Rattle.inc_command.specs.Stored.{IsLineOfStored}
 use Rattle.inc_command.specs.declared.counting.DropSize.{DropSize}
 use Rattle.inc_command.specs.declared.intake.Taken.{Taken}
@@ -67,10 +71,45 @@ use Rattle.inc_command.proofs.Courses.{Ground, stored_still, then_soundly}
 use Rattle.inc_command.proofs.DropKept.{LeavesDrop, leaves_first, pieces_kept, stored_kept}
 use Rattle.inc_command.proofs.DropPledged.{AllTaken, IsTold, Takes, counted_goes, taken_goes}
 
+or_there : (a b : Bool) → b ≡ true → a || b ≡ true
+or_there true b e = refl
+or_there false b e = e
+
+unheld : (k : Entry) → is_temp k ≡ true → is_held k ≡ true → ⊥
+unheld (entry.Temp r n) e f = cc (f)
+unheld (entry.Number n) e f = cc (e)
+unheld (entry.Backup n) e f = cc (e)
+unheld (entry.Held r n) e f = cc (e)
+unheld entry.Sequences e f = cc (e)
+unheld entry.LockFile e f = cc (e)
+unheld entry.Other e f = cc (e)
+
 -- the greatest number of a set is one of messages
 top_low : (low : ℕ) (runs : List Run) → AreRunsFrom low runs → top_of runs ≤ 999999
 top_low low [] f = omega arith
 top_low low (r ∷ rs) f = let rest = top_low (r.to + 2) rs f.3 in let this = f.2 in omega (arith, rest, this)
+
+-- it is 0, or one of the set's
+top_known : (low : ℕ) (runs : List Run) → AreRunsFrom low runs → (top_of runs ≡ 0) ⊎ (has runs (top_of runs) ≡ true)
+top_known low [] f = inl refl
+top_known low (r ∷ rs) f = go (nat_le (top_of rs) r.to) refl (top_known (r.to + 2) rs f.3)
+  where
+    end : nat_le r.from r.to ≡ true
+    end = let l = f.1 in grind (arith, nat_tests, l)
+
+    self : nat_le r.to r.to ≡ true
+    self = grind (arith, nat_tests)
+
+    go : (v : Bool) → nat_le (top_of rs) r.to ≡ v → (top_of rs ≡ 0) ⊎ (has rs (top_of rs) ≡ true) → (top_of (r ∷ rs) ≡ 0) ⊎ (has (r ∷ rs) (top_of (r ∷ rs)) ≡ true)
+    go true e rest =
+        let le : top_of rs ≤ r.to = grind (arith, nat_tests, e) in
+        let top : max r.to (top_of rs) ≡ r.to = omega (arith, le) in
+        inr (subst (λ n. (nat_le r.from n && nat_le n r.to) || has rs n ≡ true) (sym top) (rw (end, self) refl))
+    go false e (inl none) = let lt : r.to < top_of rs = grind (arith, nat_tests, e) in absurd (omega (arith, lt, none))
+    go false e (inr there) =
+        let lt : r.to < top_of rs = grind (arith, nat_tests, e) in
+        let top : max r.to (top_of rs) ≡ top_of rs = omega (arith, lt) in
+        inr (subst (λ n. (nat_le r.from n && nat_le n r.to) || has rs n ≡ true) (sym top) (or_there (nat_le r.from (top_of rs) && nat_le (top_of rs) r.to) (has rs (top_of rs)) there))
 
 settled_runs : (run : ℕ) (s : Settled) → AreRuns (numbers_settled run s)
 unfolding numbers_settled
@@ -118,15 +157,15 @@ module _ (run : ℕ) (few : run < 2 ^ 128) (path : List ℕ) (job : IncJob) wher
   abbrev mail : Place
   mail = Mail path
 
-  lets : LetsBegin path job.folder (Incorporating path job.folder job.drop) (CutsIfAsked job)
+  lets : LetsBegin path job.folder (Incorporating path job.folder job.drop) (MakesSo run path job)
   lets = record {
     kinds = λ own kind s k. inl k;
-    makes = λ own q l e. absurd (cc (e));
-    creates = λ own q temp bytes l e. absurd (cc (e));
-    clears = λ own q temp is l e. absurd (cc (e));
-    gives = λ own q held number l e. absurd (cc (e));
-    drops = λ own q held is l e. absurd (cc (e));
-    commits = λ own q temp name is l e. absurd (cc (e));
+    makes = λ own q. ((λ l e. absurd (cc (e))), (λ temp number e is. absurd (cc (e))));
+    creates = λ own q temp bytes. ((λ l e. absurd (cc (e))), (λ other number e is. absurd (cc (e))));
+    clears = λ own q temp is. ((λ l e. absurd (cc (e))), (λ other number e is_temp_. absurd (cc (e))));
+    gives = λ own q held number is. ((λ l e. absurd (cc (e))), (λ temp other e is_temp_. absurd (let same : held ≡ temp = cc (e) in unheld (kind_of temp) is_temp_ (subst (λ x. is_held (kind_of x) ≡ true) same is))));
+    drops = λ own q held is. ((λ l e. absurd (cc (e))), (λ temp number e is_temp_. absurd (cc (e))));
+    commits = λ own q temp name is. ((λ l e. absurd (cc (e))), (λ other number e is_temp_. absurd (cc (e))));
   }
 
   taken_in_kept : (numbers : List ℕ) → KeptBy AnyStep (HasTakenIn run p job.drop numbers)
@@ -136,17 +175,39 @@ module _ (run : ℕ) (few : run < 2 ^ 128) (path : List ℕ) (job : IncJob) wher
   lasts listing m new own s a any f = (f.0, taken_in_kept f.0 own s a any f.1, f.2)
 
   may_begin : Begins w path job.folder
-  may_begin = begins run few path job.folder (MarksNew run path job) (Incorporating path job.folder job.drop) (TellsNew run path job) (CutsIfAsked job) lets lasts
+  may_begin = begins run few path job.folder (MarksNew run path job) (Incorporating path job.folder job.drop) (TellsNew run path job) (MakesSo run path job) lets lasts
 
-  puts : PutsMessages w p
-  puts = record { serves = may_begin.serves; puts = λ own temp number. inr (inl (refl, refl)); link = λ own temp number is_own is_number_ l e. absurd (cc (e)) }
+  abbrev Known : ℕ → List Deed → Type 0
+  Known n own = HasSeenNumber run path job.folder n own
+
+  known_kept : (n : ℕ) → KeptBy AnyStep (Known n)
+  known_kept n own s a any (inl e) = inl e
+  known_kept n own s a any (inr (inl f)) = inr (inl (f.0, f.1, f.2, seen_kept run p mail f.0 f.1 f.2 own s a any f.3, f.4))
+  known_kept n own s a any (inr (inr f)) = inr (inr (on f))
+
+  near_none : (own : List Deed) (temp : List ℕ) (n : ℕ) → is_temp_of run (kind_of temp) ≡ true → MayReach Known None n own → MakesSo run path job own (step.Link p temp (decimal n))
+  near_none own temp n is_own (inl e) = absurd (cc (e))
+  near_none own temp n is_own (inr near) = (
+    (λ l e. absurd (cc (e))),
+    (λ other number e is. (n, (let same : step.Link p temp (decimal n) ≡ step.Link p other number = e in cc (same)), near.0, near.1, near.2)),
+  )
+
+  puts : PutsMessages w p Known None
+  puts = record {
+    serves = may_begin.serves;
+    puts = λ own temp number. inr (inl (refl, refl));
+    link = λ own temp n is_own is_number_ reach. near_none own temp n is_own reach;
+    kept = known_kept;
+    linked = λ own temp n. inr (inr (now (temp, inl refl)));
+    met = λ own temp n. inr (inr (now (temp, inr refl)));
+  }
 
   tells : job.silent ≡ false → (own : List Deed) (piece : List ℕ) → IsLineOfStored run p own piece → TellsNew run path job own piece
   tells silent own piece i = (silent, inr i)
 
   module _ (begin : List Deed) (listing : List Run) (text context old : List ℕ) where
     abbrev Takes_ : List ℕ → List (List ℕ) → List ℕ → List Deed → Type 0
-    Takes_ d done numbers own = Takes w few path job.folder puts job.silent tells job.drop begin listing text context old d done numbers own
+    Takes_ d done numbers own = Takes w few path job.folder Known puts job.silent tells job.drop begin listing text context old d done numbers own
 
     abbrev Bare : List Deed → Type 0
     Bare own = Takes_ [] [] [] own
@@ -159,7 +220,7 @@ module _ (run : ℕ) (few : run < 2 ^ 128) (path : List ℕ) (job : IncJob) wher
     unfolding room_counted
     room_goes top own h b =
         goes_then w own h (drop_counted job.drop) (λ size. if_room (nat_le (top + size.messages) 999999) job.folder >>= (λ room. Return (Ok size))) Counted Counted
-        (counted_goes w few path job.folder puts job.silent tells job.drop begin listing text context old own h b) (λ later j size q. by_room (nat_le (top + size.messages) 999999) size later j q)
+        (counted_goes w few path job.folder Known puts job.silent tells job.drop begin listing text context old own h b) (λ later j size q. by_room (nat_le (top + size.messages) 999999) size later j q)
       where
         by_room : (v : Bool) (size : DropSize) (later : List Deed) (j : Hand) → Counted later j size → Goes w later j (if_room v job.folder >>= (λ room. Return (Ok size))) (okay Counted)
         by_room true size later j q = goes_on w later j tt (λ room. Return (Ok size)) (okay Counted) (goes_return w later j size (okay Counted) q)
@@ -167,11 +228,11 @@ module _ (run : ℕ) (few : run < 2 ^ 128) (path : List ℕ) (job : IncJob) wher
 
     -- the heading is told, and the messages are taken in
     abbrev Taken_ : ℕ → Outcome Taken
-    Taken_ l later j t = AllTaken w few path job.folder puts job.silent tells job.drop begin listing text context old l t.numbers later
+    Taken_ l later j t = AllTaken w few path job.folder Known puts job.silent tells job.drop begin listing text context old l t.numbers later
 
-    told_goes : (o : Opened) (size : DropSize) → o.place ≡ p → top_of o.listing ≤ 999999 → (own : List Deed) (h : Hand) → Sound w own h → Bare own → Goes w own h (told_taken run job o size) (okay (Taken_ size.length))
+    told_goes : (o : Opened) (size : DropSize) → o.place ≡ p → top_of o.listing ≤ 999999 → (own : List Deed) (h : Hand) → Sound w own h → Known (top_of o.listing) own → Bare own → Goes w own h (told_taken run job o size) (okay (Taken_ size.length))
     unfolding told_taken
-    told_goes o size place small own h sound b =
+    told_goes o size place small own h sound known b =
         subst (λ q. Goes w own h (heading_told job.silent job.folder >>= (λ told. drop_taken (where_of run job.folder q job.silent) job.drop size.length size.messages (top_of o.listing))) (okay (Taken_ size.length))) (sym place)
         (by_silent job.silent refl)
       where
@@ -179,7 +240,7 @@ module _ (run : ℕ) (few : run < 2 ^ 128) (path : List ℕ) (job : IncJob) wher
         rest told = drop_taken (where_of run job.folder p job.silent) job.drop size.length size.messages (top_of o.listing)
 
         takes : Goes w own h (rest tt) (okay (Taken_ size.length))
-        takes = taken_goes w few path job.folder puts job.silent tells job.drop begin listing text context old size.length size.messages (top_of o.listing) small own h sound b
+        takes = taken_goes w few path job.folder Known puts job.silent tells job.drop begin listing text context old size.length size.messages (top_of o.listing) small own h sound known b
 
         by_silent : (v : Bool) → job.silent ≡ v → Goes w own h (heading_told v job.folder >>= rest) (okay (Taken_ size.length))
         by_silent true is = goes_on w own h tt rest (okay (Taken_ size.length)) takes
@@ -187,7 +248,7 @@ module _ (run : ℕ) (few : run < 2 ^ 128) (path : List ℕ) (job : IncJob) wher
 
     -- the drop was all taken in
     ready_of : (l : ℕ) (numbers : List ℕ) (own : List Deed) → (l == 0) ≡ false → IsTold job.drop l own
-        → (z : AllTaken w few path job.folder puts job.silent tells job.drop begin listing text context old l numbers own) → IsReady run job.drop l own × HasTakenIn run p job.drop numbers own
+        → (z : AllTaken w few path job.folder Known puts job.silent tells job.drop begin listing text context old l numbers own) → IsReady run job.drop l own × HasTakenIn run p job.drop numbers own
     ready_of l numbers own some told z = by_pieces z.taken.pieces
       where
         by_pieces : (z.drop ≡ []) ⊎ HasPieces job.drop z.drop own → IsReady run job.drop l own × HasTakenIn run p job.drop numbers own
@@ -216,7 +277,7 @@ module _ (run : ℕ) (few : run < 2 ^ 128) (path : List ℕ) (job : IncJob) wher
     current_keeps : (l : ℕ) (own : List Deed) (h : Hand) → Ready l own → HaveSeen run p mail listing text context own → Goes w own h (made_current run path job.folder) (okay (λ later j u. Ready l later × (AreSettled own → AreSettled later)))
     current_keeps l own h ready seen =
         keeping w (LeavesDrop job.drop) (Ready l) (ready_kept run job.drop l) own h (made_current run path job.folder) (Of (λ later. AreSettled own → AreSettled later)) asks_current ready
-        (current_goes run few path job.folder (MarksNew run path job) (Incorporating path job.folder job.drop) (TellsNew run path job) (CutsIfAsked job) lets lasts own h listing text context seen)
+        (current_goes run few path job.folder (MarksNew run path job) (Incorporating path job.folder job.drop) (TellsNew run path job) (MakesSo run path job) lets lasts own h listing text context seen)
 
     -- the new messages are marked
     marked_goes : (l : ℕ) (numbers : List ℕ) (own : List Deed) (h : Hand) → HasTakenIn run p job.drop numbers own → Ready l own → Ground run path job.folder job.drop begin listing text context old own
@@ -226,7 +287,7 @@ module _ (run : ℕ) (few : run < 2 ^ 128) (path : List ℕ) (job : IncJob) wher
         (λ later j u. HaveSeen run p mail listing text context later × (AreSettled own → AreSettled later)) (λ later j u. Ready l later × (AreSettled own → AreSettled later))
         (asks_lifted (LeavesDrop job.drop) (of_plan job.folder) (changed_sequences run p mail job.folder told_ (marked_by_all (new_marks job numbers) told_)) (asks_sequences (LeavesDrop job.drop) run p mail (commits_leave job.drop p (entry_text Sequences)) (commits_leave job.drop mail context_name) job.folder told_ (marked_by_all (new_marks job numbers) told_)))
         ready
-        (committed_goes run few path job.folder (MarksNew run path job) (Incorporating path job.folder job.drop) (TellsNew run path job) (CutsIfAsked job) lets lasts own h listing text context (marked_by_all (new_marks job numbers) told_) (inr (numbers, taken, refl)) g.seen g.lock old g.base)
+        (committed_goes run few path job.folder (MarksNew run path job) (Incorporating path job.folder job.drop) (TellsNew run path job) (MakesSo run path job) lets lasts own h listing text context (marked_by_all (new_marks job numbers) told_) (inr (numbers, taken, refl)) g.seen g.lock old g.base)
         (λ later j u r q.
         goes_more w later j (made_current run path job.folder) (okay (λ last i v. Ready l last × (AreSettled later → AreSettled last))) (okay (λ last i v. Ready l last × (AreSettled own → AreSettled last)))
         (okay_more (λ last i v. Ready l last × (AreSettled later → AreSettled last)) (λ last i v. Ready l last × (AreSettled own → AreSettled last)) (λ last i v z. (z.0, λ s. z.1 (q.1 s))))
@@ -251,7 +312,7 @@ module _ (run : ℕ) (few : run < 2 ^ 128) (path : List ℕ) (job : IncJob) wher
               record {
                 is_own = careful s.unfailed Cuts (cuts job.drop l (ready_cut run job.drop l own ready)) (inr (inr (l, refl))) (λ q k c. absurd c);
                 marks = tt;
-                steps = λ no k e. is;
+                steps = λ no. ((λ k e. is), (λ temp number e is_temp_. absurd (cc (e))));
               },
               tt,
             ))
@@ -265,18 +326,25 @@ module _ (run : ℕ) (few : run < 2 ^ 128) (path : List ℕ) (job : IncJob) wher
     abbrev old_ : List ℕ
     old_ = b.base.0
 
-    begun : Takes w few path job.folder puts job.silent tells job.drop own o.listing b.text b.context old_ [] [] [] own
+    begun : Takes w few path job.folder Known puts job.silent tells job.drop own o.listing b.text b.context old_ [] [] [] own
     begun = record { ground = record { settled = λ s. s; lock = b.held.lock; base = b.base.1; seen = b.seen; once = once }; pieces = inl refl; stored = all; at = tt }
 
     small : top_of o.listing ≤ 999999
     small = top_small run p mail o.listing b.text b.context own b.seen
+
+    known_top : (later : List Deed) → HaveSeen run p mail o.listing b.text b.context later → Known (top_of o.listing) later
+    known_top later seen = by_listing (top_known 1 o.listing (subst AreRuns (sym seen.listed.1) (settled_runs run seen.listed.0)))
+      where
+        by_listing : (top_of o.listing ≡ 0) ⊎ (has o.listing (top_of o.listing) ≡ true) → Known (top_of o.listing) later
+        by_listing (inl none) = inl none
+        by_listing (inr there) = inr (inl (o.listing, b.text, b.context, seen, there))
 
     abbrev End : Outcome Unit
     End later j u = AreSettled own → AreSettled later
 
     module _ (size : DropSize) (some : (size.length == 0) ≡ false) where
       abbrev TakenTold : Outcome Taken
-      TakenTold later j t = IsTold job.drop size.length later × AllTaken w few path job.folder puts job.silent tells job.drop own o.listing b.text b.context old_ size.length t.numbers later
+      TakenTold later j t = IsTold job.drop size.length later × AllTaken w few path job.folder Known puts job.silent tells job.drop own o.listing b.text b.context old_ size.length t.numbers later
 
       then_cut : (t : Taken) (later : List Deed) (j : Hand) → TakenTold later j t → Goes w later j (new_marked run path job o t.numbers >>= (λ marked. cut_if job.truncate job.drop size.length)) (okay End)
       unfolding new_marked
@@ -296,14 +364,14 @@ module _ (run : ℕ) (few : run < 2 ^ 128) (path : List ℕ) (job : IncJob) wher
         (room_goes own o.listing b.text b.context old_ (top_of o.listing) own h begun)
         (λ later j size ok q.
         then_soundly w later j (told_taken run job o size) (λ t. new_marked run path job o t.numbers >>= (λ marked. cut_if job.truncate job.drop size.length)) (TakenTold size q.2) End ok
-        (lasting w (IsTold job.drop size.length) (λ k s a any t. on t) later j (told_taken run job o size) (Taken_ own o.listing b.text b.context old_ size.length) q.1 (told_goes own o.listing b.text b.context old_ o size b.place small later j ok q.0))
+        (lasting w (IsTold job.drop size.length) (λ k s a any t. on t) later j (told_taken run job o size) (Taken_ own o.listing b.text b.context old_ size.length) q.1 (told_goes own o.listing b.text b.context old_ o size b.place small later j ok (known_top later q.0.ground.seen) q.0))
         (λ last i t sure z. then_cut size q.2 t last i z))
 
   -- `inc` keeps the rules of its pledge, where its run put no name before that it had not made, and made none twice
   pub inc_keeps : (past : List Done) (h : Hand) → AreOnce run (acts past) → Sound w (acts past) h → Keeps (rules_of w) past h (inc run path job) (IfOkay (Still (acts past)))
   unfolding inc
   inc_keeps past h once sound =
-      made_keeps run few path job.folder (MarksNew run path job) (Incorporating path job.folder job.drop) (TellsNew run path job) (CutsIfAsked job) lets lasts (AreOnce run) (once_asked w) (opened_incorporated run path job) past
+      made_keeps run few path job.folder (MarksNew run path job) (Incorporating path job.folder job.drop) (TellsNew run path job) (MakesSo run path job) lets lasts (AreOnce run) (once_asked w) (opened_incorporated run path job) past
       (λ later o b i s. work_goes (acts past) later o b.0 b.1 i s) h once sound
 
   pub inc_promises : (x y : State) (result : Result Unit CommandFault) → Follows run command_cause (inc run path job) x y result → Promises w x y

@@ -1,21 +1,26 @@
 -- The pledge of `inc`.
-use Rattle.std.specs.Prelude.{◌≡◌, ◌⊎◌, ◌<◌, ◌^◌, ℕ, true, false, List, ◌∷◌}
+use Rattle.std.specs.Prelude.{◌≡◌, ◌⊎◌, ◌<◌, ◌≤◌, ◌+◌, ◌^◌, ℕ, true, false, List, ◌∷◌, decimal}
 use Rattle.mbox_drop.specs.Drops.{is_drop, messages}
+use Rattle.mh_base.specs.Entries.{kind_of}
+use Rattle.mh_sequences.specs.Runs.{has}
 use Rattle.mh_sequences.specs.Sequences.{Marked}
 use Rattle.mh_sequences.specs.declared.run.Run.{Run}
 use Rattle.folder_files.specs.Careful.{HasPieces}
 use Rattle.folder_files.specs.Commands.{Incorporating}
 use Rattle.folder_files.specs.Deeds.{Deed, Once}
+use Rattle.folder_files.specs.Named.{is_temp}
 use Rattle.folder_files.specs.declared.place.FilePath.{FilePath}
 use Rattle.folder_files.specs.declared.place.Place.{Place}
-use Rattle.folder_files.specs.declared.place.Place.TheVariants.{Folder}
+use Rattle.folder_files.specs.declared.place.Place.TheVariants.{Folder, Mail}
 use Rattle.folder_files.specs.declared.step.Step.{Step}
 use Rattle.folder_files.specs.declared.step.Step.TheVariants as step
 use Rattle.file_plans.specs.Follows.{State}
 use Rattle.step_plans.specs.Pledges.{Pledge}
 use Rattle.step_plans.specs.Promises.{Promises}
 use Rattle.sequence_commits.specs.Marking.{marked_by_all}
+use Rattle.message_puts.specs.Stored.{HasMetAt}
 use Rattle.opened_folders.specs.FolderPledge.{folder_pledge}
+use Rattle.opened_folders.specs.Reads.{HaveSeen}
 use Rattle.inc_command.specs.Inc.{heading, new_marks}
 use Rattle.inc_command.specs.Stored.{AreStoredAt, IsLineOfStored}
 use Rattle.inc_command.specs.declared.job.IncJob.{IncJob}
@@ -40,9 +45,25 @@ TellsNew run path job own piece = (job.silent ≡ false) × ((piece ≡ heading 
 abbrev pub CutsIfAsked : IncJob → List Deed → Step → Type 0
 CutsIfAsked job own s = (length_ : ℕ) → s ≡ step.CutDrop job.drop length_ → job.truncate ≡ true
 
+-- the number is 0, or one that the run has listed, or linked a file to, or met a file at
+abbrev pub HasSeenNumber : ℕ → List ℕ → List ℕ → ℕ → List Deed → Type 0
+HasSeenNumber run path folder n own =
+    (n ≡ 0)
+    ⊎ (((listing : List Run) × (text context : List ℕ) × HaveSeen run (Folder path folder) (Mail path) listing text context own × (has listing n ≡ true))
+    ⊎ HasMetAt (Folder path folder) n own)
+
+-- a number to which it links a new file, or tries to, is one above such a number at most
+abbrev pub PutsNear : ℕ → List ℕ → IncJob → List Deed → Step → Type 0
+PutsNear run path job own s =
+    (temp number : List ℕ) → s ≡ step.Link (Folder path job.folder) temp number → is_temp (kind_of temp) ≡ true
+    → (n : ℕ) × (number ≡ decimal n) × (m : ℕ) × (n ≤ m + 1) × HasSeenNumber run path job.folder m own
+
+abbrev pub MakesSo : ℕ → List ℕ → IncJob → List Deed → Step → Type 0
+MakesSo run path job own s = CutsIfAsked job own s × PutsNear run path job own s
+
 -- `inc` begins the folder, stores messages in it, and keeps its marks
 abbrev pub inc_pledge : ℕ → List ℕ → IncJob → Pledge
-inc_pledge run path job = folder_pledge run path job.folder (MarksNew run path job) (Incorporating path job.folder job.drop) (TellsNew run path job) (CutsIfAsked job)
+inc_pledge run path job = folder_pledge run path job.folder (MarksNew run path job) (Incorporating path job.folder job.drop) (TellsNew run path job) (MakesSo run path job)
 
 -- what a call promises of its steps
 abbrev pub PromisesSteps : ℕ → List ℕ → IncJob → State → State → Type 0

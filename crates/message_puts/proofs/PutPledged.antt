@@ -1,6 +1,7 @@
 -- A put goes as its command pledges: a file is made safe under a temporary name before a number leads to it.
-use Rattle.std.proofs.Common.{◌≡◌, ◌<◌, ◌≤◌, ◌^◌, ◌+◌, ◌-◌, ◌∷◌, ℕ, zero, suc, max, true, List, Option, Some, None, Ok, refl, sym, subst, arith}
+use Rattle.std.proofs.Common.{◌≡◌, ◌⊎◌, inl, inr, Bool, false, nat_le, ◌<◌, ◌≤◌, ◌^◌, ◌+◌, ◌-◌, ◌∷◌, ℕ, zero, suc, max, true, List, Option, Some, None, Ok, refl, sym, subst, arith}
 use Rattle.std.specs.Prelude.{decimal}
+use Rattle.std.proofs.lemmas.Bool.Decides.{nat_tests}
 use Rattle.mh_base.specs.Entries.{kind_of}
 use Rattle.mh_base.specs.Numbers.{IsMsgNum}
 use Rattle.mh_base.specs.declared.entry.Entry.{Entry}
@@ -17,6 +18,7 @@ use Rattle.folder_files.specs.declared.step.Answer.TheVariants as answer
 use Rattle.file_plans.specs.Plan.{Hand, Return, ◌>>=◌}
 use Rattle.file_plans.specs.StaysCareful.{careful}
 use Rattle.file_plans.proofs.Showing.{number_kind}
+use Rattle.file_plans.proofs.Framing.{AnyStep}
 use Rattle.held_messages.specs.Settle.{given_at, given_from, given_up}
 use Rattle.step_plans.specs.Locking.{removed}
 use Rattle.step_plans.specs.Pledges.{MayAsk, Pledge}
@@ -34,11 +36,22 @@ use Rattle.step_plans.proofs.Written.{Adds, Serves, Written, goes_at, lock_held,
 use Rattle.message_puts.specs.Putting.{linked_first, message_put, number_got, numbered}
 use Rattle.message_puts.specs.Stored.{HasPutAt}
 
--- the pledge lets messages be put into this folder
-pub record PutsMessages (w : Pledge) (p : Place) : Type 0 where
+-- the number is one above a known one at most
+abbrev pub IsNear : (ℕ → List Deed → Type 0) → ℕ → List Deed → Type 0
+IsNear Known n own = (m : ℕ) × (n ≤ m + 1) × Known m own
+
+-- it is the one that is wished for, or so
+abbrev pub MayReach : (ℕ → List Deed → Type 0) → Option ℕ → ℕ → List Deed → Type 0
+MayReach Known wish n own = (wish ≡ Some n) ⊎ IsNear Known n own
+
+-- the pledge lets messages be put into this folder, at numbers near to known ones; what was linked, or met by a link, is known
+pub record PutsMessages (w : Pledge) (p : Place) (Known : ℕ → List Deed → Type 0) (wish : Option ℕ) : Type 0 where
   pub serves : Serves w p
   pub puts : (own : List Deed) (temp number : List ℕ) → MakesStep w.manner own Puts (step.Link p temp number)
-  pub link : (own : List Deed) (temp number : List ℕ) → is_temp_of w.run (kind_of temp) ≡ true → is_number (kind_of number) ≡ true → w.may_step own (step.Link p temp number)
+  pub link : (own : List Deed) (temp : List ℕ) (n : ℕ) → is_temp_of w.run (kind_of temp) ≡ true → is_number (kind_of (decimal n)) ≡ true → MayReach Known wish n own → w.may_step own (step.Link p temp (decimal n))
+  pub kept : (n : ℕ) → KeptBy AnyStep (Known n)
+  pub linked : (own : List Deed) (temp : List ℕ) (n : ℕ) → Known n (did (step.Link p temp (decimal n)) answer.Done ∷ own)
+  pub met : (own : List Deed) (temp : List ℕ) (n : ℕ) → Known n (did (step.Link p temp (decimal n)) answer.Exists ∷ own)
 
 was_synced : (p : Place) (temp bytes : List ℕ) (own : List Deed) → WasReady p temp bytes own → WasSynced p temp own
 was_synced p temp bytes own w = once_map (λ d older f. (f.0, once_map (λ x old e. (bytes, e)) f.1)) w
@@ -56,6 +69,9 @@ is_temp_any run entry.Other e = cc (e)
 abbrev pub IsEnd : Option ℕ → Type 0
 IsEnd None = Unit {0}
 IsEnd (Some m) = IsMsgNum m
+
+le_or : (a b : ℕ) → (nat_le a b ≡ true → a ≤ b) × (nat_le a b ≡ false → b ≤ a)
+le_or a b = ((λ e. grind (arith, nat_tests, e)), (λ e. grind (arith, nat_tests, e)))
 
 -- after these deeds the file of this name was linked to numbers that were taken
 pub data Tries (p : Place) (temp : List ℕ) (base : List Deed) : List Deed → Type 0 where
@@ -80,7 +96,7 @@ pub record IsPutBy (run : ℕ) (p : Place) (bytes : List ℕ) (own : List Deed) 
   pub link : IsLinked p temp (made_ready p temp bytes own) m linked
   pub deeds : later ≡ did (step.Unlink p temp) answer.Done ∷ linked
 
-module _ (w : Pledge) (few : w.run < 2 ^ 128) (p : Place) (lets : PutsMessages w p) (folder : is_folder p ≡ true) where
+module _ (w : Pledge) (few : w.run < 2 ^ 128) (p : Place) (Known : ℕ → List Deed → Type 0) (wish : Option ℕ) (lets : PutsMessages w p Known wish) (folder : is_folder p ≡ true) where
   further : (own : List Deed) (d : Deed) (later : List Deed) → (AreSettled own → AreSettled (d ∷ own)) → Held (d ∷ own) p later → Held own p later
   further own d later f c = record { settled = λ s. c.settled (f s); lock = c.lock }
 
@@ -92,7 +108,7 @@ module _ (w : Pledge) (few : w.run < 2 ^ 128) (p : Place) (lets : PutsMessages w
     -- the number at which it was put, if at any
     abbrev PutThere : Option ℕ → List Deed → Type 0
     PutThere None own = Unit {0}
-    PutThere (Some m) own = HasPutAt w.run p m bytes own × IsLinked p temp base m own
+    PutThere (Some m) own = HasPutAt w.run p m bytes own × IsLinked p temp base m own × Known m own
 
     abbrev Linked : List Deed → Outcome (Option ℕ)
     Linked own later j end = Held own p later × IsEnd end × PutThere end later
@@ -103,18 +119,18 @@ module _ (w : Pledge) (few : w.run < 2 ^ 128) (p : Place) (lets : PutsMessages w
       pub ready : WasReady p temp bytes own
       pub tries : Tries p temp base own
 
-    may_link : (own : List Deed) (i : Hand) (n : ℕ) → IsMsgNum n → MayLink own → Sound w own i → MayAsk w own (step.Link p temp (decimal n))
-    may_link own i n ok l s = record {
+    may_link : (own : List Deed) (i : Hand) (n : ℕ) → IsMsgNum n → MayReach Known wish n own → MayLink own → Sound w own i → MayAsk w own (step.Link p temp (decimal n))
+    may_link own i n ok near l s = record {
       is_own = careful s.unfailed Puts (puts p temp (decimal n) (folder, is_numbered n ok, (is_own, was_synced p temp bytes own l.ready))) (lets.puts own temp (decimal n)) (lock_held p own l.lock);
       marks = tt;
-      steps = λ no. lets.link own temp (decimal n) is_own (is_numbered n ok);
+      steps = λ no. lets.link own temp n is_own (is_numbered n ok) near;
     }
 
     put_there : (own : List Deed) (n : ℕ) → IsMsgNum n → MayLink own → Linked own (did (step.Link p temp (decimal n)) answer.Done ∷ own) (record { next = 0; context = None }) (Some n)
     put_there own n ok l = (
       record { settled = λ f. settled_kept own (step.Link p temp (decimal n)) answer.Done tt f; lock = still (λ e. cc (e)) l.lock },
       ok,
-      (now (record { temp = temp; linked = refl; is_own = is_own; at_number = is_numbered n ok; ready = l.ready }), record { older = own; tries = l.tries; deeds = refl }),
+      (now (record { temp = temp; linked = refl; is_own = is_own; at_number = is_numbered n ok; ready = l.ready }), record { older = own; tries = l.tries; deeds = refl }, lets.linked own temp n),
     )
 
     met_there : (own : List Deed) (n : ℕ) (later : List Deed) (j : Hand) (end : Option ℕ) → Linked (did (step.Link p temp (decimal n)) answer.Exists ∷ own) later j end → Linked own later j end
@@ -123,42 +139,50 @@ module _ (w : Pledge) (few : w.run < 2 ^ 128) (p : Place) (lets : PutsMessages w
     link_on : (own : List Deed) (n : ℕ) → MayLink own → MayLink (did (step.Link p temp (decimal n)) answer.Exists ∷ own)
     link_on own n l = record { lock = still (λ e. cc (e)) l.lock; ready = on l.ready; tries = tried n l.tries }
 
-    up_goes : (left n : ℕ) (own : List Deed) (i : Hand) → (1 ≤ n) × (n + left ≤ 1000000) → MayLink own → Goes w own i (given_up p temp n left) (okay (Linked own))
+    up_goes : (left n : ℕ) (own : List Deed) (i : Hand) → (1 ≤ n) × (n + left ≤ 1000000) → IsNear Known n own → MayLink own → Goes w own i (given_up p temp n left) (okay (Linked own))
     unfolding given_up
-    up_goes zero n own i range l = goes_return w own i None (okay (Linked own)) (record { settled = λ f. f; lock = l.lock }, tt, tt)
-    up_goes (suc left) n own i range l =
+    up_goes zero n own i range near l = goes_return w own i None (okay (Linked own)) (record { settled = λ f. f; lock = l.lock }, tt, tt)
+    up_goes (suc left) n own i range near l =
         goes_link w own i of_stop (okay (Linked own)) p temp (decimal n) (λ e. given_at p temp n e (given_up p temp (n + 1) left))
-        (λ s. (may_link own i n ok l s, tt))
+        (λ s. (may_link own i n ok (inr near) l s, tt))
         (goes_return w _ i (Some n) (okay (Linked own)) (put_there own n ok l))
         (goes_more w _ i (given_up p temp (n + 1) left) (okay (Linked (did (step.Link p temp (decimal n)) answer.Exists ∷ own))) (okay (Linked own)) (okay_more (Linked (did (step.Link p temp (decimal n)) answer.Exists ∷ own)) (Linked own) (met_there own n))
-        (up_goes left (n + 1) (did (step.Link p temp (decimal n)) answer.Exists ∷ own) i (omega arith, (let r = range.1 in omega (arith, r))) (link_on own n l)))
+        (up_goes left (n + 1) (did (step.Link p temp (decimal n)) answer.Exists ∷ own) i (omega arith, (let r = range.1 in omega (arith, r))) (n, omega arith, lets.met own temp n) (link_on own n l)))
         (goes_end w _ i (fault.Meddled p temp) (Linked own))
       where
         ok : IsMsgNum n
         ok = (range.0, (let r = range.1 in omega (arith, r)))
 
-    from_goes : (n : ℕ) (own : List Deed) (i : Hand) → 1 ≤ n → n ≤ 1000000 → MayLink own → Goes w own i (given_from p temp n) (okay (Linked own))
-    from_goes n own i low high l = up_goes (1000000 - n) n own i (low, omega (arith, high)) l
+    from_goes : (n : ℕ) (own : List Deed) (i : Hand) → 1 ≤ n → n ≤ 1000000 → IsNear Known n own → MayLink own → Goes w own i (given_from p temp n) (okay (Linked own))
+    from_goes n own i low high near l = up_goes (1000000 - n) n own i (low, omega (arith, high)) near l
+
+    -- one above the higher of two known numbers
+    higher : (n top : ℕ) (later : List Deed) → Known n later → Known top later → IsNear Known (max n top + 1) later
+    higher n top later a b = go (nat_le n top) (le_or n top)
+      where
+        go : (v : Bool) → (v ≡ true → n ≤ top) × (v ≡ false → top ≤ n) → IsNear Known (max n top + 1) later
+        go true f = (top, (let l = f.0 refl in omega (arith, l)), b)
+        go false f = (n, (let l = f.1 refl in omega (arith, l)), a)
 
     -- the wish, if any, is a number of messages
-    first_goes : (wish : Option ℕ) → IsEnd wish → (top : ℕ) → top ≤ 999999 → (own : List Deed) (i : Hand) → MayLink own → Goes w own i (linked_first p temp wish top) (okay (Linked own))
+    first_goes : (v : Option ℕ) → wish ≡ v → IsEnd v → (top : ℕ) → top ≤ 999999 → (own : List Deed) (i : Hand) → Known top own → MayLink own → Goes w own i (linked_first p temp v top) (okay (Linked own))
     unfolding linked_first
-    first_goes None ok top small own i l = from_goes (top + 1) own i (omega arith) (omega (arith, small)) l
-    first_goes (Some n) ok top small own i l =
+    first_goes None is ok top small own i known l = from_goes (top + 1) own i (omega arith) (omega (arith, small)) (top, omega arith, known) l
+    first_goes (Some n) is ok top small own i known l =
         goes_link w own i of_stop (okay (Linked own)) p temp (decimal n) (λ e. given_at p temp n e (given_from p temp (max n top + 1)))
-        (λ s. (may_link own i n ok l s, tt))
+        (λ s. (may_link own i n ok (inl is) l s, tt))
         (goes_return w _ i (Some n) (okay (Linked own)) (put_there own n ok l))
         (goes_more w _ i (given_from p temp (max n top + 1)) (okay (Linked (did (step.Link p temp (decimal n)) answer.Exists ∷ own))) (okay (Linked own)) (okay_more (Linked (did (step.Link p temp (decimal n)) answer.Exists ∷ own)) (Linked own) (met_there own n))
-        (from_goes (max n top + 1) (did (step.Link p temp (decimal n)) answer.Exists ∷ own) i (omega arith) (let r = ok.1 in omega (arith, r, small)) (link_on own n l)))
+        (from_goes (max n top + 1) (did (step.Link p temp (decimal n)) answer.Exists ∷ own) i (omega arith) (let r = ok.1 in omega (arith, r, small)) (higher n top (did (step.Link p temp (decimal n)) answer.Exists ∷ own) (lets.met own temp n) (lets.kept top own (step.Link p temp (decimal n)) answer.Exists tt known)) (link_on own n l)))
         (goes_end w _ i (fault.Meddled p temp) (Linked own))
 
     -- at this number it was put
     abbrev Numbered : List Deed → Outcome ℕ
     Numbered own later j m = Held own p later × IsMsgNum m × PutThere (Some m) later
 
-    numbered_goes : (wish : Option ℕ) → IsEnd wish → (top : ℕ) → top ≤ 999999 → (own : List Deed) (i : Hand) → MayLink own → Goes w own i (numbered p temp wish top) (okay (Numbered own))
+    numbered_goes : IsEnd wish → (top : ℕ) → top ≤ 999999 → (own : List Deed) (i : Hand) → Known top own → MayLink own → Goes w own i (numbered p temp wish top) (okay (Numbered own))
     unfolding numbered
-    numbered_goes wish ok top small own i l = goes_then w own i (linked_first p temp wish top) number_got (Linked own) (Numbered own) (first_goes wish ok top small own i l) got
+    numbered_goes ok top small own i known l = goes_then w own i (linked_first p temp wish top) number_got (Linked own) (Numbered own) (first_goes wish refl ok top small own i known l) got
       where
         got : (later : List Deed) (j : Hand) (end : Option ℕ) → Linked own later j end → Goes w later j (number_got end) (okay (Numbered own))
         got later j None f = goes_end w later j fault.Full (Numbered own)
@@ -166,15 +190,18 @@ module _ (w : Pledge) (few : w.run < 2 ^ 128) (p : Place) (lets : PutsMessages w
 
   -- a message with these bytes was put at this number by such deeds, and the lock is had
   abbrev pub HasPut : List ℕ → List Deed → Outcome ℕ
-  HasPut bytes own later j m = Held own p later × IsMsgNum m × HasPutAt w.run p m bytes later × IsPutBy w.run p bytes own m later
+  HasPut bytes own later j m = Held own p later × IsMsgNum m × HasPutAt w.run p m bytes later × IsPutBy w.run p bytes own m later × Known m later
 
   -- under the folder's lock
-  pub put_goes : (bytes : List ℕ) (wish : Option ℕ) → IsEnd wish → (top : ℕ) → top ≤ 999999 → (own : List Deed) (h : Hand) → HasLock p own → Goes w own h (message_put w.run p bytes wish top) (okay (HasPut bytes own))
+  pub put_goes : (bytes : List ℕ) → IsEnd wish → (top : ℕ) → top ≤ 999999 → (own : List Deed) (h : Hand) → Known top own → HasLock p own → Goes w own h (message_put w.run p bytes wish top) (okay (HasPut bytes own))
   unfolding message_put
-  put_goes bytes wish ok top small own h lock =
+  put_goes bytes ok top small own h known lock =
       goes_then w own h (written w.run p bytes) _ (Written w few p lets.serves own bytes) (HasPut bytes own) (written_goes w few p lets.serves own h bytes (λ l. lock))
       (λ later j temp q. goes_at w later (made_ready p temp bytes own) j _ (okay (HasPut bytes own)) q.0 (then_numbered temp q.1 j))
     where
+      known_ready : (temp : List ℕ) → Known top (made_ready p temp bytes own)
+      known_ready temp = lets.kept top (did (step.Create p temp bytes) answer.Done ∷ own) (step.SyncFile p temp) answer.Done tt (lets.kept top own (step.Create p temp bytes) answer.Done tt known)
+
       settled_ready : (temp : List ℕ) → AreSettled own → AreSettled (made_ready p temp bytes own)
       settled_ready temp f =
           settled_kept (did (step.Create p temp bytes) answer.Done ∷ own) (step.SyncFile p temp) answer.Done tt (settled_kept own (step.Create p temp bytes) answer.Done tt f)
@@ -185,12 +212,13 @@ module _ (w : Pledge) (few : w.run < 2 ^ 128) (p : Place) (lets : PutsMessages w
         f.1,
         on f.2.0,
         record { temp = temp; is_own = is_own; linked = later; link = f.2.1; deeds = refl },
+        lets.kept m later (step.Unlink p temp) answer.Done tt f.2.2,
       )
 
       then_numbered : (temp : List ℕ) → is_temp_of w.run (kind_of temp) ≡ true → (j : Hand) → Goes w (made_ready p temp bytes own) j (numbered p temp wish top >>= (λ number. removed p temp >>= (λ gone. Return (Ok number)))) (okay (HasPut bytes own))
       then_numbered temp is_own j =
           goes_then w (made_ready p temp bytes own) j (numbered p temp wish top) _ (Numbered temp bytes is_own (made_ready p temp bytes own) (made_ready p temp bytes own)) (HasPut bytes own)
-          (numbered_goes temp bytes is_own (made_ready p temp bytes own) wish ok top small (made_ready p temp bytes own) j (record { lock = still (λ e. cc (e)) (still (λ e. cc (e)) lock); ready = now (refl, now refl); tries = untried }))
+          (numbered_goes temp bytes is_own (made_ready p temp bytes own) ok top small (made_ready p temp bytes own) j (known_ready temp) (record { lock = still (λ e. cc (e)) (still (λ e. cc (e)) lock); ready = now (refl, now refl); tries = untried }))
           (λ later k m f.
           goes_then w later k (removed p temp) _ (Adds later (did (step.Unlink p temp) answer.Done)) (HasPut bytes own) (removed_goes w p lets.serves later k temp (is_temp_any w.run (kind_of temp) is_own) (λ l. f.0.lock))
           (λ last i u e. goes_at w last (did (step.Unlink p temp) answer.Done ∷ later) i _ (okay (HasPut bytes own)) e (goes_return w _ i m (okay (HasPut bytes own)) (unlinked temp is_own later i m f))))

@@ -121,9 +121,8 @@ module _ (run : ℕ) (few : run < 2 ^ 128) (path folder ns : List ℕ) (c : Cont
     unfolding mailbox_in
     box_messages n = rw (place_is p) (ap (λ o. message_of (option_map (settled_by h) o) n) (there_shown c p (c.there p) there))
 
-    stands_box : (n : ℕ) → has (runs_in (settled_by h old)) n ≡ true → is_some (message_at box p n) ≡ true
-    stands_box n listed =
-        ap is_some (box_messages n) ∙ (sym (listing_is run few path folder ns c s listing holds ends_so homes_so n) ∙ (ap (λ l. has l n) numbers_are ∙ listed))
+    stands_box : (n : ℕ) → is_some (message_at box p n) ≡ has (runs_in (settled_by h old)) n
+    stands_box n = ap is_some (box_messages n) ∙ (sym (listing_is run few path folder ns c s listing holds ends_so homes_so n) ∙ ap (λ l. has l n) numbers_are)
 
     shows_d : mailbox_in d ≡ box
     shows_d = shows run few path folder ns c s listing holds ends_so homes_so
@@ -263,7 +262,7 @@ module _ (run : ℕ) (few : run < 2 ^ 128) (path folder ns : List ℕ) (c : Cont
     pub work : begun_work path folder entries h (mailbox_in c) next ≡ next o.listing o.sequences kept
     pub valid : AreSequences o.sequences.users
     pub runs : AreRuns o.listing
-    pub stands : (n : ℕ) → has o.listing n ≡ true → is_some (message_at kept.mailbox p n) ≡ true
+    pub stands : (n : ℕ) → is_some (message_at kept.mailbox p n) ≡ has o.listing n
 
   -- where each goes that was held aside
   abbrev pub homes_in : Settled → Homes
@@ -318,7 +317,7 @@ module _ (run : ℕ) (few : run < 2 ^ 128) (path folder ns : List ℕ) (c : Cont
           ∙ after_all s (b.there refl) (b.listing refl) b.holds b.ends_so (b.homes_so refl) next ends_.0;
       valid = cut_valid listing_ read_;
       runs = all_runs (λ n. is_some ((settled_by (homes_in s) old).messages n));
-      stands = λ n listed. ap is_some (sequences_messages path folder read_ (cut_to listing_ read_) (kept_of (with_folder_changed (mailbox_in c) p (settled_by (homes_in s))) entries) p n) ∙ stands_box s (b.there refl) (b.listing refl) b.holds b.ends_so (b.homes_so refl) n listed;
+      stands = λ n. ap is_some (sequences_messages path folder read_ (cut_to listing_ read_) (kept_of (with_folder_changed (mailbox_in c) p (settled_by (homes_in s))) entries) p n) ∙ stands_box s (b.there refl) (b.listing refl) b.holds b.ends_so (b.homes_so refl) n;
     })
 
     pub begun_as : (next : List Run → Marked → Kept → Work CommandFault) → AreHomes run old (homes_in s) × IsBegunAs (homes_in s) next o z j

@@ -85,7 +85,7 @@ lifted_gives {A = A} {E = E} v h text from p Q f =
     gives_bind (by_view true) v h text p (λ r. Return (converted from r)) (λ z j left r. (left ≡ text) × Q z j [] r) (λ z j left r. (left ≡ text) × ((q : Result A E) × (r ≡ converted from q) × Q z j [] q))
     (silent (by_view true) v h text p Q f) (λ z j left r g. (g.0, (r, refl, g.1)))
 
--- a folder that was begun: its numbers have messages, its sequences are in order, and these contents are there
+-- a folder that was begun: its numbers are those that have messages, its sequences are in order, and these contents are there
 pub record IsOpen (path folder : List ℕ) (o : Opened) (z : View) (j : Hand) : Type 0 where
   pub place : o.place ≡ Folder path folder
   pub name : o.folder ≡ folder
@@ -96,7 +96,7 @@ pub record IsOpen (path folder : List ℕ) (o : Opened) (z : View) (j : Hand) : 
   pub later : List ℕ
   pub is : Is true later z contents
   pub holds : Holds (λ e. IsClear e (Folder path folder)) path kept contents j
-  pub stands : (n : ℕ) → has o.listing n ≡ true → is_some (message_at kept.mailbox (Folder path folder) n) ≡ true
+  pub stands : (n : ℕ) → is_some (message_at kept.mailbox (Folder path folder) n) ≡ has o.listing n
 
 module _ (run : ℕ) (few : run < 2 ^ 128) (path folder : List ℕ) where
   abbrev p : Place

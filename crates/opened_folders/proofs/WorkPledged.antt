@@ -77,7 +77,7 @@ pub record LetsBegin (path folder : List ℕ) (manner : Manner) (may_step : List
   pub makes : (own : List Deed) (q : Place) → may_step own (step.MakeFolder q)
   pub creates : (own : List Deed) (q : Place) (temp bytes : List ℕ) → may_step own (step.Create q temp bytes)
   pub clears : (own : List Deed) (q : Place) (temp : List ℕ) → is_temp (kind_of temp) ≡ true → may_step own (step.Unlink q temp)
-  pub gives : (own : List Deed) (q : Place) (held number : List ℕ) → may_step own (step.Link q held number)
+  pub gives : (own : List Deed) (q : Place) (held number : List ℕ) → is_held (kind_of held) ≡ true → may_step own (step.Link q held number)
   pub drops : (own : List Deed) (q : Place) (held : List ℕ) → is_held (kind_of held) ≡ true → may_step own (step.Unlink q held)
   pub commits : (own : List Deed) (q : Place) (temp name : List ℕ) → is_committed q name ≡ true → may_step own (step.Rename q temp name)
 
@@ -137,7 +137,7 @@ module _ (run : ℕ) (few : run < 2 ^ 128) (path folder : List ℕ) (Makes_ : Li
   settles = record {
     gives = λ own held number. lets.kinds own Gives (step.Link p held number) (inl (refl, refl));
     drops = λ own held. lets.kinds own Drops (step.Unlink p held) (inl (refl, refl));
-    link = λ own held number is_held_ is_number_. lets.gives own p held number;
+    link = λ own held number is_held_ is_number_. lets.gives own p held number is_held_;
     unlink = λ own held is. lets.drops own p held is;
   }
 

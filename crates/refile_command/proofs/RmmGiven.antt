@@ -156,7 +156,7 @@ module _ (run : ℕ) (few : run < 2 ^ 128) (path : List ℕ) (job : RmmJob) (val
       all = chosen_numbers job o.listing o.sequences numbers is f.runs
 
       stand : (n : ℕ) → lists numbers n ≡ true → is_some (c.texts p (decimal n)) ≡ true
-      stand n e = stands_in c path job.folder n (ap (λ m. is_some (message_at m p n)) f.holds.shows ∙ f.stands n (chosen_listed job o.listing o.sequences numbers is n e))
+      stand n e = stands_in c path job.folder n (ap (λ m. is_some (message_at m p n)) f.holds.shows ∙ (f.stands n ∙ chosen_listed job o.listing o.sequences numbers is n e))
 
       abbrev later_contents : Contents
       later_contents = all_at backup c p numbers
