@@ -4,6 +4,8 @@
 #[cfg(test)]
 mod given;
 #[cfg(test)]
+mod inc;
+#[cfg(test)]
 mod mark;
 #[cfg(test)]
 mod scan;

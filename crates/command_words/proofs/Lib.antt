@@ -1,4 +1,5 @@
 pub mod Items
+pub mod Places
 pub mod Said
 pub mod SaidFolder
 pub mod SaidRmmFolder

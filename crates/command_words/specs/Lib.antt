@@ -1,5 +1,6 @@
 pub mod Ended
 pub mod FolderWords
+pub mod IncWords
 pub mod MarkWords
 pub mod MessageWords
 pub mod Results

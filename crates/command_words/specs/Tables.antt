@@ -23,6 +23,14 @@ mark_table =
     ∷ switch (codes "sequence") Value ∷ switch (codes "public") Flag ∷ switch (codes "nopublic") Flag
     ∷ switch (codes "zero") Flag ∷ switch (codes "nozero") Flag ∷ [])
 
+-- the switches of `inc`
+abbrev pub inc_table : SwitchTable
+inc_table =
+    table_of
+    (switch (codes "file") Value ∷ switch (codes "truncate") Flag ∷ switch (codes "notruncate") Flag
+    ∷ switch (codes "changecur") Flag ∷ switch (codes "nochangecur") Flag
+    ∷ switch (codes "silent") Flag ∷ switch (codes "nosilent") Flag ∷ [])
+
 -- the switches of `rmm`
 abbrev pub rmm_table : SwitchTable
 rmm_table = table_of (switch (codes "unlink") Flag ∷ switch (codes "nounlink") Flag ∷ [])

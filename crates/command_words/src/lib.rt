@@ -3,6 +3,7 @@
 
 mod ended;
 mod folder_word;
+mod inc;
 mod mark;
 mod message_words;
 mod rmm;
@@ -15,6 +16,7 @@ mod wrong_word;
 
 pub use ended::Ended;
 pub use folder_word::read_folder;
+pub use inc::{IncWords, inc_words};
 pub use mark::{MarkWords, mark_words};
 pub use rmm::{RmmWords, rmm_words};
 pub use scan::{ScanWords, scan_words};

@@ -5,6 +5,7 @@ ghost use Rattle.command_words.specs.Tables.{
   switch as switch_of,
   scan_table as scan_table_of,
   mark_table as mark_table_of,
+  inc_table as inc_table_of,
   rmm_table as rmm_table_of,
 };
 
@@ -33,6 +34,21 @@ pub(crate) const NOPUBLIC: u64 = 5;
 pub(crate) const ZERO: u64 = 6;
 
 pub(crate) const NOZERO: u64 = 7;
+
+// The places of the switches of `inc` in its table.
+pub(crate) const FILE: u64 = 0;
+
+pub(crate) const TRUNCATE: u64 = 1;
+
+pub(crate) const NOTRUNCATE: u64 = 2;
+
+pub(crate) const CHANGECUR: u64 = 3;
+
+pub(crate) const NOCHANGECUR: u64 = 4;
+
+pub(crate) const SILENT: u64 = 5;
+
+pub(crate) const NOSILENT: u64 = 6;
 
 // The places of the switches of `rmm` in its table.
 pub(crate) const UNLINK: u64 = 0;
@@ -77,6 +93,24 @@ pub(crate) fn mark_table(alloc: Global) -> Result<SwitchTable, AllocError>
     push_switch(alloc, &mut switches, "nopublic", Kind::Flag)?;
     push_switch(alloc, &mut switches, "zero", Kind::Flag)?;
     push_switch(alloc, &mut switches, "nozero", Kind::Flag)?;
+    Ok(SwitchTable {
+        switches,
+        components: false,
+    })
+}
+
+/// The switches of `inc`.
+pub(crate) fn inc_table(alloc: Global) -> Result<SwitchTable, AllocError>
+    ensures { IfOk result (λ table. table ≡ inc_table_of) }
+{
+    let mut switches = List::new(alloc);
+    push_switch(alloc, &mut switches, "file", Kind::Value)?;
+    push_switch(alloc, &mut switches, "truncate", Kind::Flag)?;
+    push_switch(alloc, &mut switches, "notruncate", Kind::Flag)?;
+    push_switch(alloc, &mut switches, "changecur", Kind::Flag)?;
+    push_switch(alloc, &mut switches, "nochangecur", Kind::Flag)?;
+    push_switch(alloc, &mut switches, "silent", Kind::Flag)?;
+    push_switch(alloc, &mut switches, "nosilent", Kind::Flag)?;
     Ok(SwitchTable {
         switches,
         components: false,

@@ -1,0 +1,81 @@
+-- What the words of `inc` say.
+use Rattle.std.specs.Prelude.{◌++◌, ◌-◌, codes, ℕ, true, false, is_none, length, min, slice_get, unwrap_or, List, [], ◌∷◌, Option, None, Some, Result, Ok, Err}
+use Rattle.std.specs.List.{flat_map}
+use Rattle.mh_base.specs.declared.word.WordWhy.TheVariants.{Extra}
+use Rattle.mh_words.specs.declared.item.Item.{Item}
+use Rattle.mh_words.specs.declared.item.Item.TheVariants.{Folder, Message, Switch, Component}
+use Rattle.mh_words.specs.Whole.{Wrong, read_in}
+use Rattle.mh_profile.specs.declared.named_value.NamedValue.{NamedValue}
+use Rattle.step_plans.specs.declared.command_fault.CommandFault.{CommandFault}
+use Rattle.command_words.specs.Ended.{plain, wrong_at}
+use Rattle.command_words.specs.FolderWords.{folders, one_folder, named_folder}
+use Rattle.command_words.specs.Switches.{last_choice, values}
+use Rattle.command_words.specs.Tables.{inc_table}
+use Rattle.command_words.specs.Words.{profile_words}
+use Rattle.command_words.specs.declared.ended.Ended.{Ended}
+use Rattle.command_words.specs.declared.inc.IncWords.{IncWords}
+use Rattle.command_words.specs.declared.tables.TheConstants.{FILE, TRUNCATE, NOTRUNCATE, CHANGECUR, NOCHANGECUR, SILENT, NOSILENT}
+
+-- the place of the message's name that an item is
+abbrev pub place_in : Item → List ℕ
+place_in (Folder text place) = []
+place_in (Message text place) = place ∷ []
+place_in (Switch index value place) = []
+place_in (Component name value place) = []
+
+-- the places of all of them
+abbrev pub message_places : List Item → List ℕ
+message_places items = flat_map place_in items
+
+abbrev pub first_of : List ℕ → Option ℕ
+first_of [] = None
+first_of (place ∷ places) = Some place
+
+abbrev pub extra : ℕ → Wrong
+extra place = record { place = place; why = Extra }
+
+-- one folder or none, and no message: the earliest word that is too many is refused
+abbrev pub alone : Result (Option (List ℕ)) Wrong → Option ℕ → Result (Option (List ℕ)) Wrong
+alone (Ok word) None = Ok word
+alone (Ok word) (Some place) = Err (extra place)
+alone (Err wrong) None = Err wrong
+alone (Err wrong) (Some place) = Err (extra (min wrong.place place))
+
+abbrev pub folder_alone : List Item → Result (Option (List ℕ)) Wrong
+folder_alone items = alone (one_folder (folders items)) (first_of (message_places items))
+
+-- the last of these
+abbrev pub last_of : List (List ℕ) → Option (List ℕ)
+last_of values = slice_get values (length values - 1)
+
+-- what the items say beside the folder: of two switches that say the same or the contrary the last counts, and a file that is named stays whole
+-- unless words say otherwise
+abbrev pub words_of : Option (List ℕ) → List Item → IncWords
+words_of folder items = record {
+  folder = folder;
+  file = last_of (values FILE items);
+  truncate = unwrap_or (last_choice TRUNCATE NOTRUNCATE items) (is_none (last_of (values FILE items)));
+  silent = unwrap_or (last_choice SILENT NOSILENT items) false;
+  change_cur = unwrap_or (last_choice CHANGECUR NOCHANGECUR items) true;
+}
+
+abbrev pub with_folder : List Item → Result (List ℕ) CommandFault → Result IncWords Ended
+with_folder items (Ok name) = Ok (words_of (Some name) items)
+with_folder items (Err e) = Err (plain e)
+
+abbrev pub said_folder : List Item → Option (List ℕ) → Result IncWords Ended
+said_folder items None = Ok (words_of None items)
+said_folder items (Some word) = with_folder items (named_folder word)
+
+abbrev pub folder_said : List (List ℕ) → List Item → Result (Option (List ℕ)) Wrong → Result IncWords Ended
+folder_said words items (Ok word) = said_folder items word
+folder_said words items (Err wrong) = Err (wrong_at words wrong)
+
+abbrev pub items_said : List (List ℕ) → Result (List Item) Wrong → Result IncWords Ended
+items_said words (Ok items) = folder_said words items (folder_alone items)
+items_said words (Err wrong) = Err (wrong_at words wrong)
+
+-- what the words of `inc` say, those of the profile first, or the refusal: of a switch before that of a word that is too many, and that before a
+-- wrong name
+abbrev pub inc_said : List NamedValue → List (List ℕ) → Result IncWords Ended
+inc_said profile words = items_said (profile_words (codes "inc") profile ++ words) (read_in inc_table 0 (profile_words (codes "inc") profile ++ words))

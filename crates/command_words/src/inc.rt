@@ -1,0 +1,129 @@
+// What the words of `inc` say.
+ghost use Rattle.std.specs.Prelude.{◌≡◌, IfOk, Ok, map};
+ghost use Rattle.std.specs.Str.{chars};
+ghost use Rattle.std.specs.String.{string_bytes};
+ghost use Rattle.command_words.specs.Results.{IsOneFolder, IsSaid};
+ghost use Rattle.command_words.specs.IncWords.{
+  words_of,
+  first_of,
+  folder_alone as folder_alone_of,
+  items_said as items_said_of,
+  inc_said,
+  last_of,
+  message_places,
+  place_in,
+};
+
+use crate::ended::Ended;
+use crate::folder_word::{folder_said, folder_word};
+use crate::switches::{last_choice, values};
+use crate::tables::{
+    CHANGECUR, FILE, NOCHANGECUR, NOSILENT, NOTRUNCATE, SILENT, TRUNCATE, inc_table,
+};
+use crate::words::all_words;
+use crate::wrong_word::{read_items, wrong_at};
+use mh_base::{Duplicate, FolderName, Text, TextList, WordWhy};
+use mh_profile::Entries;
+use mh_words::{Item, ItemList};
+use std::alloc::{AllocError, Global};
+
+/// The words of `inc`: the folder and the drop, where they name them; whether the drop is cut, whether nothing is written, and whether the
+/// first new message becomes the current one.
+#[derive(Drop)]
+pub struct IncWords {
+    pub folder: Option<FolderName>,
+    pub file: Option<Text>,
+    pub truncate: bool,
+    pub silent: bool,
+    pub change_cur: bool,
+}
+
+/// The place of the message's name that an item is.
+fn message_place(item: &Item) -> Option<u64>
+    ensures { result ≡ first_of (place_in item.now) }
+{
+    match item {
+        Item::Message { place, .. } => Some(*place),
+        _ => None,
+    }
+}
+
+/// The place of the first message's name.
+fn first_message(items: &ItemList) -> Option<u64>
+    ensures { result ≡ first_of (message_places items.now) }
+{
+    for item in items.as_slice() {
+        if let Some(place) = message_place(item) {
+            return Some(place);
+        }
+    }
+    None
+}
+
+/// The word of the one folder, or the place of the first word that is too many: a second folder, or a message's name.
+fn folder_alone(items: &ItemList) -> Result<Option<&Text>, u64>
+    ensures { IsOneFolder (folder_alone_of items.now) result }
+{
+    let message = first_message(items);
+    match folder_word(items) {
+        Ok(word) => match message {
+            Some(place) => Err(place),
+            None => Ok(word),
+        },
+        Err(second) => match message {
+            Some(place) => Err(second.min(place)),
+            None => Err(second),
+        },
+    }
+}
+
+/// The last of these words.
+fn last_word(alloc: Global, words: &TextList) -> Result<Option<Text>, AllocError>
+    ensures { IfOk result (λ word. word ≡ last_of words.now) }
+{
+    match words.as_slice().last() {
+        Some(word) => Ok(Some(word.duplicate(alloc)?)),
+        None => Ok(None),
+    }
+}
+
+fn words_said(
+    alloc: Global,
+    items: &ItemList,
+    folder: Option<FolderName>,
+) -> Result<IncWords, AllocError>
+    ensures { IfOk result (λ words. words ≡ words_of folder items.now) }
+{
+    let file = last_word(alloc, &values(alloc, FILE, items)?)?;
+    let truncate = last_choice(TRUNCATE, NOTRUNCATE, items).unwrap_or(file.is_none());
+    Ok(IncWords {
+        folder,
+        file,
+        truncate,
+        silent: last_choice(SILENT, NOSILENT, items).unwrap_or(false),
+        change_cur: last_choice(CHANGECUR, NOCHANGECUR, items).unwrap_or(true),
+    })
+}
+
+/// What the items of the words say.
+fn items_said(alloc: Global, words: &TextList, items: &ItemList) -> Result<IncWords, Ended>
+    ensures { IsSaid (items_said_of words.now (Ok items.now)) result }
+{
+    match folder_alone(items) {
+        Ok(word) => {
+            let folder = folder_said(alloc, word)?;
+            Ok(words_said(alloc, items, folder)?)
+        }
+        Err(place) => Err(wrong_at(alloc, words, place, WordWhy::Extra)?),
+    }
+}
+
+/// What the words of `inc` say, those of the profile first.
+pub fn inc_words(alloc: Global, profile: &Entries, words: &[String]) -> Result<IncWords, Ended>
+    ensures { IsSaid (inc_said profile.now (map chars (map string_bytes words.now))) result }
+{
+    let table = inc_table(alloc)?;
+    let all = all_words(alloc, profile, b"inc", words)?;
+    let items = read_items(alloc, &table, &all)?;
+    items_said(alloc, &all, &items)
+}
