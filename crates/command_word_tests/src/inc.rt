@@ -32,7 +32,11 @@ const ROWS: &[Row] = &[
     ("", "+new -silent -nochangecur", "new - true true false"),
     ("", "-file box", "- box false false true"),
     ("", "-file a -truncate -file b", "- b true false true"),
-    ("inc: -notruncate -silent", "-nosilent", "- - false false true"),
+    (
+        "inc: -notruncate -silent",
+        "-nosilent",
+        "- - false false true",
+    ),
     ("rmm: -unlink", "-tr", "- - true false true"),
     ("", "+a 1 +b", "Extra @1 [1]"),
     ("", "+a +b 1", "Extra @1 [+b]"),

@@ -12,7 +12,8 @@ use std::alloc::Global;
 use std::test::Fail;
 use step_plans::{CommandFault, Hand};
 
-const DROP: &[u8] = b"From ann@a.example Tue Jun  2 10:00:00 2026\nFrom: Ann Lee <ann@a.example>\nSubject: One\n\n>From here on\n\nFrom bob@b.example Tue Jun  2 11:00:00 2026\nSubject: Two\n\nend";
+const DROP: &[u8] =
+    b"From ann@a.example Tue Jun  2 10:00:00 2026\nFrom: Ann Lee <ann@a.example>\nSubject: One\n\n>From here on\n\nFrom bob@b.example Tue Jun  2 11:00:00 2026\nSubject: Two\n\nend";
 
 fn unseen(alloc: Global) -> Result<SeqNameList, Fail> {
     let text = Text::from_str(alloc, "unseen")?;
@@ -102,9 +103,14 @@ fn new_mail_is_taken_in(rt: HostRuntime) -> Result<(), Fail> {
     let mut out = MemSink::new(alloc, NumberList::new(alloc));
     let end = taken_in(alloc, &mut room, &mut out, &job(alloc, "inbox")?)?;
     assert!(rt; end == b"done".as_slice());
-    assert!(rt; out.bytes() == b"Incorporating new mail into inbox...\n\n   4 One\n   5 Two\n".as_slice());
+    assert!(rt;
+        out.bytes() == b"Incorporating new mail into inbox...\n\n   4 One\n   5 Two\n".as_slice()
+    );
     let stands = shown(alloc, &mut room, &folder(alloc, "inbox")?)?;
-    assert!(rt; stands.as_slice() == b".mh_sequences:cur: 4\nunseen: 4-5\n3:old\n4:From: Ann Lee <ann@a.example>\nSubject: One\n\n>From here on\n5:Subject: Two\n\nend".as_slice());
+    assert!(rt;
+        stands.as_slice()
+            == b".mh_sequences:cur: 4\nunseen: 4-5\n3:old\n4:From: Ann Lee <ann@a.example>\nSubject: One\n\n>From here on\n5:Subject: Two\n\nend".as_slice()
+    );
     assert!(rt; !drop_is_left(alloc, &mut room)?);
     Ok(())
 }
