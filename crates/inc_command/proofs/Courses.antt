@@ -1,7 +1,8 @@
 -- What holds while messages of a drop are taken in.
-use Rattle.std.proofs.Common.{◌≡◌, ◌⊎◌, inl, inr, ◌<◌, ◌≤◌, ◌^◌, ◌++◌, ◌∷◌, [], ℕ, false, Bool, List, None, Result, Ok, Err, refl, sym, subst, append-nil, append_assoc}
+use Rattle.std.proofs.Common.{◌≡◌, ◌⊎◌, inl, inr, ◌<◌, ◌≤◌, ◌^◌, ◌++◌, ◌∷◌, [], ℕ, false, Bool, List, None, Result, Ok, Err, length, refl, sym, ◌∙◌, ap, subst, arith, append-nil, append_assoc, length-append}
 use Rattle.std.specs.Prelude.{reverse}
 use Rattle.std.proofs.lemmas.List.{reverse-append}
+use Rattle.mbox_drop.specs.Drops.{finished, messages}
 use Rattle.mh_base.specs.Numbers.{IsMsgNum}
 use Rattle.mh_sequences.specs.declared.run.Run.{Run}
 use Rattle.folder_files.specs.Careful.{HasLock, HasPieces, HasStored, WasMade, WasPutFrom}
@@ -33,6 +34,7 @@ use Rattle.message_puts.proofs.PutPledged.{AsksPut, IsPutBy, PutsMessages, linki
 use Rattle.opened_folders.specs.Reads.{HaveSeen}
 use Rattle.opened_folders.proofs.CleanRuns.{goes_asked}
 use Rattle.opened_folders.proofs.FolderPledged.{seen_kept}
+use Rattle.inc_command.specs.IncPledge.{HoldsOne}
 use Rattle.inc_command.specs.Intake.{all_taken, with_number}
 use Rattle.inc_command.specs.Stored.{AreStoredAt, IsLineOfStored}
 use Rattle.inc_command.specs.Taking.{message_taken}
@@ -150,35 +152,74 @@ module _ (run : ℕ) (path folder : List ℕ) (f : FilePath) (first : List Deed)
           (stored_taken run f p b.temp bytes m (reverse done) b.link.older b.is_own (rw (number_kind m ok) refl) refl (put_ready run p bytes own m t.before b) never stored_older)))
 
 -- messages are taken in, one after another
-module _ (w : Pledge) (few : w.run < 2 ^ 128) (path folder : List ℕ) (Known : ℕ → List Deed → Type 0) (lets : PutsMessages w (Folder path folder) Known None) (silent : Bool)
+module _ (w : Pledge) (few : w.run < 2 ^ 128) (path folder : List ℕ) (Known : ℕ → List Deed → Type 0) (f : FilePath)
+    (lets : PutsMessages w (Folder path folder) Known None (HoldsOne w.run f)) (silent : Bool)
     (tells : silent ≡ false → (own : List Deed) (piece : List ℕ) → IsLineOfStored w.run (Folder path folder) own piece → w.may_tell own piece)
-    (f : FilePath) (first : List Deed) (listing : List Run) (text context old : List ℕ) where
+    (first : List Deed) (listing : List Run) (text context old : List ℕ) where
   abbrev pub Taking : List ℕ → List (List ℕ) → List ℕ → List Deed → Type 0
   Taking d done numbers own = Course w.run path folder f first listing text context old d done numbers own
 
-  one_goes : (message : List ℕ) (top : ℕ) → top ≤ 999999 → (d : List ℕ) (done : List (List ℕ)) (numbers : List ℕ) (own : List Deed) (h : Hand) → Sound w own h → Known top own → Taking d done numbers own
+  one_goes : (message : List ℕ) (top : ℕ) → top ≤ 999999 → (d : List ℕ) (done : List (List ℕ)) (numbers : List ℕ) (own : List Deed) (h : Hand) → Sound w own h → Known top own → HoldsOne w.run f own → Taking d done numbers own
       → Goes w own h (message_taken w.run folder (Folder path folder) silent top message) (okay (λ later j m. IsMsgNum m × Known m later × Taking d (done ++ message ∷ []) (numbers ++ m ∷ []) later))
-  one_goes message top small d done numbers own h s known c =
+  one_goes message top small d done numbers own h s known holds c =
       goes_more w own h (message_taken w.run folder (Folder path folder) silent top message) (λ later j r. AreOnce w.run later × okay Stores later j r) (okay (λ later j m. IsMsgNum m × Known m later × Taking d (done ++ message ∷ []) (numbers ++ m ∷ []) later)) by_end
       (goes_asked w (AreOnce w.run) (once_asked w) own h (message_taken w.run folder (Folder path folder) silent top message) (okay Stores) s c.ground.once
-      (taken_goes w few (Folder path folder) Known lets refl silent tells folder message top small own h known c.ground.lock))
+      (taken_goes w few (Folder path folder) Known (HoldsOne w.run f) lets refl silent tells folder message top small own h known holds c.ground.lock))
     where
       Stores : Outcome ℕ
-      Stores later j m = IsStoredBy w few (Folder path folder) Known lets refl message own later j m
+      Stores later j m = IsStoredBy w few (Folder path folder) Known (HoldsOne w.run f) lets refl message own later j m
 
       by_end : (later : List Deed) (j : Hand) (r : Result ℕ CommandFault) → AreOnce w.run later × okay Stores later j r → okay (λ last i m. IsMsgNum m × Known m last × Taking d (done ++ message ∷ []) (numbers ++ m ∷ []) last) later j r
       by_end later j (Ok m) q = (q.1.1, q.1.4, course_taken w.run path folder f first listing text context old d done numbers message own m later c q.1.0 q.1.1 q.1.2 q.1.3 q.0)
       by_end later j (Err e) q = tt
 
-  pub all_go : (messages : List (List ℕ)) (taken : Taken) → taken.highest ≤ 999999 → (d : List ℕ) (done : List (List ℕ)) (own : List Deed) (h : Hand) → Sound w own h → Known taken.highest own → Taking d done taken.numbers own
-      → Goes w own h (all_taken w.run folder (Folder path folder) silent taken messages) (okay (λ later j t. (t.highest ≤ 999999) × Known t.highest later × Taking d (done ++ messages) t.numbers later))
+  -- what of the drop was read before the newest piece, that piece, and what is known of them where these messages are stored and these are left
+  pub record IsAt (d : List ℕ) (done left : List (List ℕ)) : Type 0 where
+    pub before : List ℕ
+    pub piece : List ℕ
+    pub is : d ≡ before ++ piece
+    pub short : length piece ≤ 65536
+    pub some : d ≡ [] → ⊥
+    pub whole : done ++ left ≡ messages d
+    pub front : length (finished before) ≤ length done
+
+  holds_one : (d : List ℕ) (done left : List (List ℕ)) (numbers : List ℕ) (own : List Deed) → IsAt d done left → Taking d done numbers own → HoldsOne w.run f own
+  holds_one d done left numbers own i c = record {
+    before = i.before;
+    piece = i.piece;
+    read = subst (λ x. HasPieces f x own) i.is (by_pieces c.pieces);
+    short = i.short;
+    done = done;
+    left = left;
+    of_drop = i.whole ∙ ap messages i.is;
+    stored = c.stored;
+    front = i.front;
+  }
+    where
+      by_pieces : (d ≡ []) ⊎ HasPieces f d own → HasPieces f d own
+      by_pieces (inl none) = absurd (i.some none)
+      by_pieces (inr z) = z
+
+  at_next : (d : List ℕ) (done : List (List ℕ)) (message : List ℕ) (left : List (List ℕ)) → IsAt d done (message ∷ left) → IsAt d (done ++ message ∷ []) left
+  at_next d done message left i = record {
+    before = i.before;
+    piece = i.piece;
+    is = i.is;
+    short = i.short;
+    some = i.some;
+    whole = append_assoc done (message ∷ []) left ∙ i.whole;
+    front = (let long = length-append done (message ∷ []) in let le = i.front in omega (arith, long, le));
+  }
+
+  pub all_go : (mail : List (List ℕ)) (taken : Taken) → taken.highest ≤ 999999 → (d : List ℕ) (done tail : List (List ℕ)) → IsAt d done (mail ++ tail) → (own : List Deed) (h : Hand) → Sound w own h → Known taken.highest own → Taking d done taken.numbers own
+      → Goes w own h (all_taken w.run folder (Folder path folder) silent taken mail) (okay (λ later j t. (t.highest ≤ 999999) × Known t.highest later × Taking d (done ++ mail) t.numbers later))
   unfolding all_taken
-  all_go [] taken small d done own h s known c =
+  all_go [] taken small d done tail i own h s known c =
       goes_return w own h taken (okay (λ later j t. (t.highest ≤ 999999) × Known t.highest later × Taking d (done ++ []) t.numbers later)) (small, known, subst (λ ms. Taking d ms taken.numbers own) (sym (append-nil done)) c)
-  all_go (message ∷ messages) taken small d done own h s known c =
-      then_soundly w own h (message_taken w.run folder (Folder path folder) silent taken.highest message) (λ n. all_taken w.run folder (Folder path folder) silent (with_number n taken) messages)
-      (λ later j m. IsMsgNum m × Known m later × Taking d (done ++ message ∷ []) (taken.numbers ++ m ∷ []) later) (λ later j t. (t.highest ≤ 999999) × Known t.highest later × Taking d (done ++ message ∷ messages) t.numbers later) s
-      (one_goes message taken.highest small d done taken.numbers own h s known c)
+  all_go (message ∷ mail) taken small d done tail i own h s known c =
+      then_soundly w own h (message_taken w.run folder (Folder path folder) silent taken.highest message) (λ n. all_taken w.run folder (Folder path folder) silent (with_number n taken) mail)
+      (λ later j m. IsMsgNum m × Known m later × Taking d (done ++ message ∷ []) (taken.numbers ++ m ∷ []) later) (λ later j t. (t.highest ≤ 999999) × Known t.highest later × Taking d (done ++ message ∷ mail) t.numbers later) s
+      (one_goes message taken.highest small d done taken.numbers own h s known (holds_one d done (message ∷ (mail ++ tail)) taken.numbers own i c) c)
       (λ later j m sound q.
-      subst (λ ms. Goes w later j (all_taken w.run folder (Folder path folder) silent (with_number m taken) messages) (okay (λ last i t. (t.highest ≤ 999999) × Known t.highest last × Taking d ms t.numbers last))) (append_assoc done (message ∷ []) messages)
-      (all_go messages (with_number m taken) q.0.1 d (done ++ message ∷ []) later j sound q.1 q.2))
+      subst (λ ms. Goes w later j (all_taken w.run folder (Folder path folder) silent (with_number m taken) mail) (okay (λ last i t. (t.highest ≤ 999999) × Known t.highest last × Taking d ms t.numbers last))) (append_assoc done (message ∷ []) mail)
+      (all_go mail (with_number m taken) q.0.1 d (done ++ message ∷ []) tail (at_next d done message (mail ++ tail) i) later j sound q.1 q.2))

@@ -1,5 +1,5 @@
 -- Both passes over a drop go as their command pledges.
-use Rattle.std.proofs.Common.{◌≡◌, ◌⊎◌, inl, inr, ◌<◌, ◌≤◌, ◌+◌, ◌-◌, ◌^◌, ◌++◌, ◌∷◌, [], ◌==◌, ℕ, zero, suc, Bool, true, false, List, Option, Some, None, Result, Ok, Err, length, min, refl, sym, subst, arith, nat_lt, length-append}
+use Rattle.std.proofs.Common.{◌≡◌, ◌⊎◌, inl, inr, ◌<◌, ◌≤◌, ◌+◌, ◌-◌, ◌^◌, ◌++◌, ◌∷◌, [], ◌==◌, ℕ, zero, suc, Bool, true, false, List, Option, Some, None, Result, Ok, Err, length, drop, min, refl, sym, ◌∙◌, ap, subst, arith, nat_lt, append_assoc, append-nil, length-append}
 use Rattle.std.specs.Prelude.{reverse, if◌then◌else◌}
 use Rattle.std.proofs.lemmas.Bool.Decides.{Decides-eqb, Decides-ltb}
 use Rattle.mbox_drop.specs.Drops.{finished, is_drop, messages}
@@ -26,13 +26,14 @@ use Rattle.message_puts.proofs.PutPledged.{PutsMessages}
 use Rattle.inc_command.specs.Counting.{LONGEST, PIECE, counted_by, drop_counted, drop_read, empty_if, head_by, head_if, head_read, long_if, piece_by, piece_read, rest_read, size_if, whole_if}
 use Rattle.inc_command.specs.Cutting.{changed, given_by, last_by}
 use Rattle.inc_command.specs.DropTaken.{Read, Where, as_counted, drop_taken, ended_taken, into, listed, piece_taken, rest_taken, where_of}
+use Rattle.inc_command.specs.IncPledge.{HoldsOne}
 use Rattle.inc_command.specs.Stored.{IsLineOfStored}
 use Rattle.inc_command.specs.declared.counting.DropSize.{DropSize}
 use Rattle.inc_command.specs.declared.head.Head.{Head}
 use Rattle.inc_command.specs.declared.intake.Taken.{Taken}
-use Rattle.inc_command.proofs.Courses.{Taking, all_go, ground_read, stored_still, then_soundly}
+use Rattle.inc_command.proofs.Courses.{IsAt, Taking, all_go, ground_read, stored_still, then_soundly}
 use Rattle.inc_command.proofs.DropKept.{stored_kept}
-use Rattle.inc_command.proofs.Finishing.{IsFound, finished_all, finished_on, none_found}
+use Rattle.inc_command.proofs.Finishing.{IsFound, finished_all, finished_on, finished_rest, none_found}
 
 -- the length of the drop was told by its first piece
 abbrev pub IsTold : FilePath → ℕ → List Deed → Type 0
@@ -48,14 +49,15 @@ not_less a b never = go (nat_lt a b) (Decides-ltb a b)
         at_least : (a < b → ⊥) → b ≤ a
         at_least off = grind (arith, off)
 
-module _ (w : Pledge) (few : w.run < 2 ^ 128) (path folder : List ℕ) (Known : ℕ → List Deed → Type 0) (lets : PutsMessages w (Folder path folder) Known None) (silent : Bool)
+module _ (w : Pledge) (few : w.run < 2 ^ 128) (path folder : List ℕ) (Known : ℕ → List Deed → Type 0) (f : FilePath)
+    (lets : PutsMessages w (Folder path folder) Known None (HoldsOne w.run f)) (silent : Bool)
     (tells : silent ≡ false → (own : List Deed) (piece : List ℕ) → IsLineOfStored w.run (Folder path folder) own piece → w.may_tell own piece)
-    (f : FilePath) (begin : List Deed) (listing : List Run) (text context old : List ℕ) where
+    (begin : List Deed) (listing : List Run) (text context old : List ℕ) where
   abbrev p : Place
   p = Folder path folder
 
   abbrev pub Takes : List ℕ → List (List ℕ) → List ℕ → List Deed → Type 0
-  Takes d done numbers own = Taking w few path folder Known lets silent tells f begin listing text context old d done numbers own
+  Takes d done numbers own = Taking w few path folder Known f lets silent tells begin listing text context old d done numbers own
 
   -- no message was taken in yet
   abbrev pub Bare : List Deed → Type 0
@@ -162,6 +164,11 @@ module _ (w : Pledge) (few : w.run < 2 ^ 128) (path folder : List ℕ) (Known : 
       pub known : Known s.taken.highest own
       pub found : IsFound s.bytes
       pub within : length s.bytes ≤ l
+      pub before : List ℕ
+      pub piece : List ℕ
+      pub is : s.bytes ≡ before ++ piece
+      pub short : length piece ≤ 65536
+      pub front : length (finished before) ≤ length (finished s.bytes)
 
     -- a piece is read of a drop
     pieces_read : (d bytes : List ℕ) (asked k : ℕ) (own : List Deed) → (d ≡ []) ⊎ HasPieces f d own → HasPieces f (d ++ bytes) (did (step.ReadDrop f (length d) asked) (answer.Piece bytes k) ∷ own)
@@ -201,6 +208,21 @@ module _ (w : Pledge) (few : w.run < 2 ^ 128) (path folder : List ℕ) (Known : 
         Q : Outcome Read
         Q later j new = Passing new later × (length new.bytes ≡ length d + asked)
 
+        none_empty : (bytes : List ℕ) → length bytes ≡ asked → d ++ bytes ≡ [] → ⊥
+        none_empty bytes same e = let long = length-append d bytes in let none = ap length e in omega (arith, long, same, none, lt)
+
+        at_piece : (bytes : List ℕ) (given : List (List ℕ)) → length bytes ≡ asked → finished d ++ given ≡ finished (d ++ bytes)
+            → IsAt w few path folder Known f lets silent tells begin listing text context old (d ++ bytes) (finished d) (given ++ drop (length (finished (d ++ bytes))) (messages (d ++ bytes)))
+        at_piece bytes given same fin = record {
+          before = d;
+          piece = bytes;
+          is = refl;
+          short = omega (arith, same);
+          some = none_empty bytes same;
+          whole = sym (append_assoc (finished d) given (drop (length (finished (d ++ bytes))) (messages (d ++ bytes)))) ∙ (ap (λ x. x ++ drop (length (finished (d ++ bytes))) (messages (d ++ bytes))) fin ∙ finished_rest (d ++ bytes));
+          front = omega arith;
+        }
+
         by_given : (bytes : List ℕ) (later : List Deed) (j : Hand) → Sound w later j → Reads later j bytes → (r : Result (List (List ℕ)) CommandFault) → given_by d bytes ≡ r
             → Goes w later j (Return r >>= (λ given. into where_ s.taken given >>= (λ taken. Return (Ok (record { bytes = d ++ bytes; taken = taken }))))) (okay Q)
         by_given bytes later j ok q (Ok given) e =
@@ -209,10 +231,10 @@ module _ (w : Pledge) (few : w.run < 2 ^ 128) (path folder : List ℕ) (Known : 
             let same = q.2 in
             goes_on w later j given (λ given_. into where_ s.taken given_ >>= (λ taken. Return (Ok (record { bytes = d ++ bytes; taken = taken })))) (okay Q)
             (goes_then w later j (into where_ s.taken given) (λ taken. Return (Ok (record { bytes = d ++ bytes; taken = taken }))) (λ last i t. (t.highest ≤ 999999) × Known t.highest last × Takes (d ++ bytes) (finished d ++ given) t.numbers last) Q
-            (all_go w few path folder Known lets silent tells f begin listing text context old given s.taken c.small (d ++ bytes) (finished d) later j ok q.1 q.0)
+            (all_go w few path folder Known f lets silent tells begin listing text context old given s.taken c.small (d ++ bytes) (finished d) (drop (length (finished (d ++ bytes))) (messages (d ++ bytes))) (at_piece bytes given same fin.1) later j ok q.1 q.0)
             (λ last i t z.
             goes_return w last i (record { bytes = d ++ bytes; taken = t }) (okay Q)
-            (record { taken = subst (λ ms. Takes (d ++ bytes) ms t.numbers last) fin.1 z.2; small = z.0; known = z.1; found = fin.0; within = omega (arith, long, same, lt) }, omega (arith, long, same))))
+            (record { taken = subst (λ ms. Takes (d ++ bytes) ms t.numbers last) fin.1 z.2; small = z.0; known = z.1; found = fin.0; within = omega (arith, long, same, lt); before = d; piece = bytes; is = refl; short = omega (arith, same); front = (let longer = length-append (finished d) given in let all_ = ap length fin.1 in omega (arith, longer, all_)) }, omega (arith, long, same))))
         by_given bytes later j ok q (Err e) is = goes_stop w later j e (λ given. into where_ s.taken given >>= (λ taken. Return (Ok (record { bytes = d ++ bytes; taken = taken })))) Q
 
     rest_on : (fuel : ℕ) (s : Read) → l ≤ length s.bytes + fuel → (own : List Deed) (h : Hand) → Sound w own h → Passing s own → Goes w own h (rest_taken where_ f l fuel s) (okay (λ later j new. Passing new later × (length new.bytes ≡ l)))
@@ -240,12 +262,26 @@ module _ (w : Pledge) (few : w.run < 2 ^ 128) (path folder : List ℕ) (Known : 
       pub is_one : is_drop drop ≡ true
       pub taken : Takes drop (messages drop) numbers own
 
-    ended_on : (s : Read) (own : List Deed) (h : Hand) → Sound w own h → Passing s own → length s.bytes ≡ l → Goes w own h (ended_taken where_ s) (okay (λ later j t. AllTaken t.numbers later))
+    ended_on : (l == 0) ≡ false → (s : Read) (own : List Deed) (h : Hand) → Sound w own h → Passing s own → length s.bytes ≡ l → Goes w own h (ended_taken where_ s) (okay (λ later j t. AllTaken t.numbers later))
     unfolding ended_taken
-    ended_on s own h sound c whole = by_last (last_by s.bytes) refl
+    ended_on some s own h sound c whole = by_last (last_by s.bytes) refl
       where
         Q : Outcome Taken
         Q later j t = AllTaken t.numbers later
+
+        not_empty : s.bytes ≡ [] → ⊥
+        not_empty e = absurd (let no : l ≡ 0 = sym whole ∙ ap length e in let bad : true ≡ false = sym (ap (λ k. k == 0) no) ∙ some in cc (bad))
+
+        at_end : (last : Option (List ℕ)) → finished s.bytes ++ listed last ≡ messages s.bytes → IsAt w few path folder Known f lets silent tells begin listing text context old s.bytes (finished s.bytes) (listed last ++ [])
+        at_end last fin = record {
+          before = c.before;
+          piece = c.piece;
+          is = c.is;
+          short = c.short;
+          some = not_empty;
+          whole = ap (λ x. finished s.bytes ++ x) (append-nil (listed last)) ∙ fin;
+          front = c.front;
+        }
 
         by_last : (r : Result (Option (List ℕ)) CommandFault) → last_by s.bytes ≡ r → Goes w own h (Return r >>= (λ last. into where_ s.taken (listed last))) (okay Q)
         by_last (Ok last) e =
@@ -254,15 +290,15 @@ module _ (w : Pledge) (few : w.run < 2 ^ 128) (path folder : List ℕ) (Known : 
             (goes_more w own h (into where_ s.taken (listed last)) (okay (λ later j t. (t.highest ≤ 999999) × Known t.highest later × Takes s.bytes (finished s.bytes ++ listed last) t.numbers later)) (okay Q)
             (okay_more (λ later j t. (t.highest ≤ 999999) × Known t.highest later × Takes s.bytes (finished s.bytes ++ listed last) t.numbers later) Q
             (λ later j t z. record { drop = s.bytes; whole = whole; is_one = fin.0; taken = subst (λ ms. Takes s.bytes ms t.numbers later) fin.1 z.2 }))
-            (all_go w few path folder Known lets silent tells f begin listing text context old (listed last) s.taken c.small s.bytes (finished s.bytes) own h sound c.known c.taken))
+            (all_go w few path folder Known f lets silent tells begin listing text context old (listed last) s.taken c.small s.bytes (finished s.bytes) [] (at_end last fin.1) own h sound c.known c.taken))
         by_last (Err e) is = goes_stop w own h e (λ last. into where_ s.taken (listed last)) Q
 
-    pub taken_goes : (count top : ℕ) → top ≤ 999999 → (own : List Deed) (h : Hand) → Sound w own h → Known top own → Bare own → Goes w own h (drop_taken where_ f l count top) (okay (λ later j t. AllTaken t.numbers later))
+    pub taken_goes : (l == 0) ≡ false → (count top : ℕ) → top ≤ 999999 → (own : List Deed) (h : Hand) → Sound w own h → Known top own → Bare own → Goes w own h (drop_taken where_ f l count top) (okay (λ later j t. AllTaken t.numbers later))
     unfolding drop_taken
-    taken_goes count top small own h sound known b =
+    taken_goes some count top small own h sound known b =
         then_soundly w own h (rest_taken where_ f l l start) (λ s. ended_taken where_ s >>= (λ t. as_counted (length t.numbers == count) t)) (λ later j new. Passing new later × (length new.bytes ≡ l)) Q sound (rest_on l start (omega arith) own h sound begun)
         (λ later j s ok q.
-        goes_then w later j (ended_taken where_ s) (λ t. as_counted (length t.numbers == count) t) Q Q (ended_on s later j ok q.0 q.1)
+        goes_then w later j (ended_taken where_ s) (λ t. as_counted (length t.numbers == count) t) Q Q (ended_on some s later j ok q.0 q.1)
         (λ last i t z. by_count (length t.numbers == count) t last i z))
       where
         Q : Outcome Taken
@@ -272,7 +308,7 @@ module _ (w : Pledge) (few : w.run < 2 ^ 128) (path folder : List ℕ) (Known : 
         start = record { bytes = []; taken = record { numbers = []; highest = top } }
 
         begun : Passing start own
-        begun = record { taken = subst (λ ms. Takes [] ms [] own) (sym finished-none) b; small = small; known = known; found = none_found; within = omega arith }
+        begun = record { taken = subst (λ ms. Takes [] ms [] own) (sym finished-none) b; small = small; known = known; found = none_found; within = omega arith; before = []; piece = []; is = refl; short = omega arith; front = omega arith }
 
         by_count : (v : Bool) (t : Taken) (last : List Deed) (i : Hand) → AllTaken t.numbers last → Goes w last i (as_counted v t) (okay Q)
         by_count true t last i z = goes_return w last i t (okay Q) z

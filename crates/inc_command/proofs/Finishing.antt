@@ -92,3 +92,14 @@ finished_all d last e = (both.0, ap (λ x. finished d ++ x) (last_listed (drop (
 
     few : length (drop (length (finished d)) all) ≤ 1
     few = let l = length-drop (length (finished d)) all in omega (arith, l, front)
+
+-- the finished messages are the first of the drop's
+pub finished_rest : (d : List ℕ) → finished d ++ drop (length (finished d)) (messages d) ≡ messages d
+unfolding finished
+finished_rest d = ap (λ k. finished d ++ drop k all) front ∙ take-append-drop (length all - 1) all
+  where
+    all : List (List ℕ)
+    all = messages d
+
+    front : length (finished d) ≡ length all - 1
+    front = length-take-le (length all - 1) all (omega arith)

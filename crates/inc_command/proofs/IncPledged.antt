@@ -1,5 +1,5 @@
 -- `inc` goes as it pledges.
-use Rattle.std.proofs.Common.{◌≡◌, ◌⊎◌, inl, inr, ◌<◌, ◌≤◌, ◌+◌, ◌^◌, ◌&&◌, ◌||◌, ◌∷◌, [], ◌==◌, ℕ, Bool, true, false, List, None, Result, Ok, length, max, nat_le, refl, sym, ◌∙◌, ap, subst, arith}
+use Rattle.std.proofs.Common.{◌≡◌, ◌⊎◌, inl, inr, ◌<◌, ◌≤◌, ◌+◌, ◌^◌, ◌&&◌, ◌||◌, ◌++◌, ◌∷◌, [], ◌==◌, ℕ, Bool, true, false, List, None, Result, Ok, length, max, nat_le, refl, sym, ◌∙◌, ap, subst, arith}
 use Rattle.std.specs.Prelude.{decimal, reverse}
 use Rattle.std.proofs.lemmas.Bool.Decides.{nat_tests}
 use Rattle.mbox_drop.specs.Drops.{is_drop, messages}
@@ -12,7 +12,7 @@ use Rattle.mh_sequences.specs.Sequences.{Marked}
 use Rattle.mh_sequences.specs.declared.run.Run.{Run}
 use Rattle.folder_files.specs.Careful.{Cuts, HasPieces, HasStored, MayCut, all, cuts}
 use Rattle.folder_files.specs.Commands.{Incorporating}
-use Rattle.folder_files.specs.Deeds.{Deed, Once, now, on}
+use Rattle.folder_files.specs.Deeds.{Deed, Once, did, now, on}
 use Rattle.folder_files.specs.Named.{is_held, is_temp, is_temp_of}
 use Rattle.folder_files.specs.declared.place.FilePath.{FilePath}
 use Rattle.folder_files.specs.declared.place.Place.{Place}
@@ -62,7 +62,7 @@ use Rattle.opened_folders.proofs.WorkPledged.{LetsBegin, begins, committed_goes,
 use Rattle.inc_command.specs.Counting.{drop_counted}
 use Rattle.inc_command.specs.DropTaken.{drop_taken, where_of}
 use Rattle.inc_command.specs.Inc.{cut_by, cut_if, drop_ended, heading, heading_told, if_room, inc, new_marked, new_marks, opened_incorporated, room_counted, told_taken, top_of}
-use Rattle.inc_command.specs.IncPledge.{HasSeenNumber, HasTakenIn, MakesSo, MarksNew, TellsNew, inc_pledge}
+use Rattle.inc_command.specs.IncPledge.{HasSeenNumber, HasTakenIn, HoldsOne, MakesSo, MarksNew, TellsNew, inc_pledge}
 use Rattle.inc_command.specs.Stored.{IsLineOfStored}
 use Rattle.inc_command.specs.declared.counting.DropSize.{DropSize}
 use Rattle.inc_command.specs.declared.intake.Taken.{Taken}
@@ -160,12 +160,12 @@ module _ (run : ℕ) (few : run < 2 ^ 128) (path : List ℕ) (job : IncJob) wher
   lets : LetsBegin path job.folder (Incorporating path job.folder job.drop) (MakesSo run path job)
   lets = record {
     kinds = λ own kind s k. inl k;
-    makes = λ own q. ((λ l e. absurd (cc (e))), (λ temp number e is. absurd (cc (e))));
-    creates = λ own q temp bytes. ((λ l e. absurd (cc (e))), (λ other number e is. absurd (cc (e))));
-    clears = λ own q temp is. ((λ l e. absurd (cc (e))), (λ other number e is_temp_. absurd (cc (e))));
-    gives = λ own q held number is. ((λ l e. absurd (cc (e))), (λ temp other e is_temp_. absurd (let same : held ≡ temp = cc (e) in unheld (kind_of temp) is_temp_ (subst (λ x. is_held (kind_of x) ≡ true) same is))));
-    drops = λ own q held is. ((λ l e. absurd (cc (e))), (λ temp number e is_temp_. absurd (cc (e))));
-    commits = λ own q temp name is. ((λ l e. absurd (cc (e))), (λ other number e is_temp_. absurd (cc (e))));
+    makes = λ own q. ((λ l e. absurd (cc (e))), (λ temp number e is. absurd (cc (e))), (λ temp number e is. absurd (cc (e))));
+    creates = λ own q temp bytes. ((λ l e. absurd (cc (e))), (λ other number e is. absurd (cc (e))), (λ other number e is. absurd (cc (e))));
+    clears = λ own q temp is. ((λ l e. absurd (cc (e))), (λ other number e is_temp_. absurd (cc (e))), (λ other number e is_temp_. absurd (cc (e))));
+    gives = λ own q held number is. ((λ l e. absurd (cc (e))), (λ temp other e is_temp_. absurd (let same : held ≡ temp = cc (e) in unheld (kind_of temp) is_temp_ (subst (λ x. is_held (kind_of x) ≡ true) same is))), (λ temp other e is_temp_. absurd (let same : held ≡ temp = cc (e) in unheld (kind_of temp) is_temp_ (subst (λ x. is_held (kind_of x) ≡ true) same is))));
+    drops = λ own q held is. ((λ l e. absurd (cc (e))), (λ temp number e is_temp_. absurd (cc (e))), (λ temp number e is_temp_. absurd (cc (e))));
+    commits = λ own q temp name is. ((λ l e. absurd (cc (e))), (λ other number e is_temp_. absurd (cc (e))), (λ other number e is_temp_. absurd (cc (e))));
   }
 
   taken_in_kept : (numbers : List ℕ) → KeptBy AnyStep (HasTakenIn run p job.drop numbers)
@@ -185,21 +185,38 @@ module _ (run : ℕ) (few : run < 2 ^ 128) (path : List ℕ) (job : IncJob) wher
   known_kept n own s a any (inr (inl f)) = inr (inl (f.0, f.1, f.2, seen_kept run p mail f.0 f.1 f.2 own s a any f.3, f.4))
   known_kept n own s a any (inr (inr f)) = inr (inr (on f))
 
-  near_none : (own : List Deed) (temp : List ℕ) (n : ℕ) → is_temp_of run (kind_of temp) ≡ true → MayReach Known None n own → MakesSo run path job own (step.Link p temp (decimal n))
-  near_none own temp n is_own (inl e) = absurd (cc (e))
-  near_none own temp n is_own (inr near) = (
+  -- it holds one message still
+  holds_on : KeptBy (LeavesDrop job.drop) (HoldsOne run job.drop)
+  holds_on own s a leaves z = record {
+    before = z.before;
+    piece = z.piece;
+    read = pieces_kept job.drop (z.before ++ z.piece) own s a leaves z.read;
+    short = z.short;
+    done = z.done;
+    left = z.left;
+    of_drop = z.of_drop;
+    stored = stored_kept run job.drop (reverse z.done) own s a (leaves_first job.drop s leaves) z.stored;
+    front = z.front;
+  }
+
+  near_none : (own : List Deed) (temp : List ℕ) (n : ℕ) → is_temp_of run (kind_of temp) ≡ true → MayReach Known None n own → HoldsOne run job.drop own → MakesSo run path job own (step.Link p temp (decimal n))
+  near_none own temp n is_own (inl e) holds = absurd (cc (e))
+  near_none own temp n is_own (inr near) holds = (
     (λ l e. absurd (cc (e))),
     (λ other number e is. (n, (let same : step.Link p temp (decimal n) ≡ step.Link p other number = e in cc (same)), near.0, near.1, near.2)),
+    (λ other number e is. holds),
   )
 
-  puts : PutsMessages w p Known None
+  puts : PutsMessages w p Known None (HoldsOne run job.drop)
   puts = record {
     serves = may_begin.serves;
     puts = λ own temp number. inr (inl (refl, refl));
-    link = λ own temp n is_own is_number_ reach. near_none own temp n is_own reach;
+    link = λ own temp n is_own is_number_ reach holds. near_none own temp n is_own reach holds;
     kept = known_kept;
     linked = λ own temp n. inr (inr (now (temp, inl refl)));
     met = λ own temp n. inr (inr (now (temp, inr refl)));
+    made_now = λ own temp bytes holds. holds_on (did (step.Create p temp bytes) answer.Done ∷ own) (step.SyncFile p temp) answer.Done tt (holds_on own (step.Create p temp bytes) answer.Done tt holds);
+    met_now = λ own temp n holds. holds_on own (step.Link p temp (decimal n)) answer.Exists tt holds;
   }
 
   tells : job.silent ≡ false → (own : List Deed) (piece : List ℕ) → IsLineOfStored run p own piece → TellsNew run path job own piece
@@ -207,7 +224,7 @@ module _ (run : ℕ) (few : run < 2 ^ 128) (path : List ℕ) (job : IncJob) wher
 
   module _ (begin : List Deed) (listing : List Run) (text context old : List ℕ) where
     abbrev Takes_ : List ℕ → List (List ℕ) → List ℕ → List Deed → Type 0
-    Takes_ d done numbers own = Takes w few path job.folder Known puts job.silent tells job.drop begin listing text context old d done numbers own
+    Takes_ d done numbers own = Takes w few path job.folder Known job.drop puts job.silent tells begin listing text context old d done numbers own
 
     abbrev Bare : List Deed → Type 0
     Bare own = Takes_ [] [] [] own
@@ -220,7 +237,7 @@ module _ (run : ℕ) (few : run < 2 ^ 128) (path : List ℕ) (job : IncJob) wher
     unfolding room_counted
     room_goes top own h b =
         goes_then w own h (drop_counted job.drop) (λ size. if_room (nat_le (top + size.messages) 999999) job.folder >>= (λ room. Return (Ok size))) Counted Counted
-        (counted_goes w few path job.folder Known puts job.silent tells job.drop begin listing text context old own h b) (λ later j size q. by_room (nat_le (top + size.messages) 999999) size later j q)
+        (counted_goes w few path job.folder Known job.drop puts job.silent tells begin listing text context old own h b) (λ later j size q. by_room (nat_le (top + size.messages) 999999) size later j q)
       where
         by_room : (v : Bool) (size : DropSize) (later : List Deed) (j : Hand) → Counted later j size → Goes w later j (if_room v job.folder >>= (λ room. Return (Ok size))) (okay Counted)
         by_room true size later j q = goes_on w later j tt (λ room. Return (Ok size)) (okay Counted) (goes_return w later j size (okay Counted) q)
@@ -228,11 +245,11 @@ module _ (run : ℕ) (few : run < 2 ^ 128) (path : List ℕ) (job : IncJob) wher
 
     -- the heading is told, and the messages are taken in
     abbrev Taken_ : ℕ → Outcome Taken
-    Taken_ l later j t = AllTaken w few path job.folder Known puts job.silent tells job.drop begin listing text context old l t.numbers later
+    Taken_ l later j t = AllTaken w few path job.folder Known job.drop puts job.silent tells begin listing text context old l t.numbers later
 
-    told_goes : (o : Opened) (size : DropSize) → o.place ≡ p → top_of o.listing ≤ 999999 → (own : List Deed) (h : Hand) → Sound w own h → Known (top_of o.listing) own → Bare own → Goes w own h (told_taken run job o size) (okay (Taken_ size.length))
+    told_goes : (o : Opened) (size : DropSize) → (size.length == 0) ≡ false → o.place ≡ p → top_of o.listing ≤ 999999 → (own : List Deed) (h : Hand) → Sound w own h → Known (top_of o.listing) own → Bare own → Goes w own h (told_taken run job o size) (okay (Taken_ size.length))
     unfolding told_taken
-    told_goes o size place small own h sound known b =
+    told_goes o size some place small own h sound known b =
         subst (λ q. Goes w own h (heading_told job.silent job.folder >>= (λ told. drop_taken (where_of run job.folder q job.silent) job.drop size.length size.messages (top_of o.listing))) (okay (Taken_ size.length))) (sym place)
         (by_silent job.silent refl)
       where
@@ -240,7 +257,7 @@ module _ (run : ℕ) (few : run < 2 ^ 128) (path : List ℕ) (job : IncJob) wher
         rest told = drop_taken (where_of run job.folder p job.silent) job.drop size.length size.messages (top_of o.listing)
 
         takes : Goes w own h (rest tt) (okay (Taken_ size.length))
-        takes = taken_goes w few path job.folder Known puts job.silent tells job.drop begin listing text context old size.length size.messages (top_of o.listing) small own h sound known b
+        takes = taken_goes w few path job.folder Known job.drop puts job.silent tells begin listing text context old size.length some size.messages (top_of o.listing) small own h sound known b
 
         by_silent : (v : Bool) → job.silent ≡ v → Goes w own h (heading_told v job.folder >>= rest) (okay (Taken_ size.length))
         by_silent true is = goes_on w own h tt rest (okay (Taken_ size.length)) takes
@@ -248,7 +265,7 @@ module _ (run : ℕ) (few : run < 2 ^ 128) (path : List ℕ) (job : IncJob) wher
 
     -- the drop was all taken in
     ready_of : (l : ℕ) (numbers : List ℕ) (own : List Deed) → (l == 0) ≡ false → IsTold job.drop l own
-        → (z : AllTaken w few path job.folder Known puts job.silent tells job.drop begin listing text context old l numbers own) → IsReady run job.drop l own × HasTakenIn run p job.drop numbers own
+        → (z : AllTaken w few path job.folder Known job.drop puts job.silent tells begin listing text context old l numbers own) → IsReady run job.drop l own × HasTakenIn run p job.drop numbers own
     ready_of l numbers own some told z = by_pieces z.taken.pieces
       where
         by_pieces : (z.drop ≡ []) ⊎ HasPieces job.drop z.drop own → IsReady run job.drop l own × HasTakenIn run p job.drop numbers own
@@ -312,7 +329,7 @@ module _ (run : ℕ) (few : run < 2 ^ 128) (path : List ℕ) (job : IncJob) wher
               record {
                 is_own = careful s.unfailed Cuts (cuts job.drop l (ready_cut run job.drop l own ready)) (inr (inr (l, refl))) (λ q k c. absurd c);
                 marks = tt;
-                steps = λ no. ((λ k e. is), (λ temp number e is_temp_. absurd (cc (e))));
+                steps = λ no. ((λ k e. is), (λ temp number e is_temp_. absurd (cc (e))), (λ temp number e is_temp_. absurd (cc (e))));
               },
               tt,
             ))
@@ -326,7 +343,7 @@ module _ (run : ℕ) (few : run < 2 ^ 128) (path : List ℕ) (job : IncJob) wher
     abbrev old_ : List ℕ
     old_ = b.base.0
 
-    begun : Takes w few path job.folder Known puts job.silent tells job.drop own o.listing b.text b.context old_ [] [] [] own
+    begun : Takes w few path job.folder Known job.drop puts job.silent tells own o.listing b.text b.context old_ [] [] [] own
     begun = record { ground = record { settled = λ s. s; lock = b.held.lock; base = b.base.1; seen = b.seen; once = once }; pieces = inl refl; stored = all; at = tt }
 
     small : top_of o.listing ≤ 999999
@@ -344,7 +361,7 @@ module _ (run : ℕ) (few : run < 2 ^ 128) (path : List ℕ) (job : IncJob) wher
 
     module _ (size : DropSize) (some : (size.length == 0) ≡ false) where
       abbrev TakenTold : Outcome Taken
-      TakenTold later j t = IsTold job.drop size.length later × AllTaken w few path job.folder Known puts job.silent tells job.drop own o.listing b.text b.context old_ size.length t.numbers later
+      TakenTold later j t = IsTold job.drop size.length later × AllTaken w few path job.folder Known job.drop puts job.silent tells own o.listing b.text b.context old_ size.length t.numbers later
 
       then_cut : (t : Taken) (later : List Deed) (j : Hand) → TakenTold later j t → Goes w later j (new_marked run path job o t.numbers >>= (λ marked. cut_if job.truncate job.drop size.length)) (okay End)
       unfolding new_marked
@@ -364,7 +381,7 @@ module _ (run : ℕ) (few : run < 2 ^ 128) (path : List ℕ) (job : IncJob) wher
         (room_goes own o.listing b.text b.context old_ (top_of o.listing) own h begun)
         (λ later j size ok q.
         then_soundly w later j (told_taken run job o size) (λ t. new_marked run path job o t.numbers >>= (λ marked. cut_if job.truncate job.drop size.length)) (TakenTold size q.2) End ok
-        (lasting w (IsTold job.drop size.length) (λ k s a any t. on t) later j (told_taken run job o size) (Taken_ own o.listing b.text b.context old_ size.length) q.1 (told_goes own o.listing b.text b.context old_ o size b.place small later j ok (known_top later q.0.ground.seen) q.0))
+        (lasting w (IsTold job.drop size.length) (λ k s a any t. on t) later j (told_taken run job o size) (Taken_ own o.listing b.text b.context old_ size.length) q.1 (told_goes own o.listing b.text b.context old_ o size q.2 b.place small later j ok (known_top later q.0.ground.seen) q.0))
         (λ last i t sure z. then_cut size q.2 t last i z))
 
   -- `inc` keeps the rules of its pledge, where its run put no name before that it had not made, and made none twice

@@ -30,15 +30,15 @@ pub record IsTakenBy (run : ℕ) (p : Place) (bytes : List ℕ) (own : List Deed
   pub put : IsPutBy run p bytes own m before
   pub deeds : later ≡ did (step.SyncFolder p) answer.Done ∷ before
 
-module _ (w : Pledge) (few : w.run < 2 ^ 128) (p : Place) (Known : ℕ → List Deed → Type 0) (lets : PutsMessages w p Known None) (is_there : is_folder p ≡ true) where
+module _ (w : Pledge) (few : w.run < 2 ^ 128) (p : Place) (Known : ℕ → List Deed → Type 0) (Now : List Deed → Type 0) (lets : PutsMessages w p Known None Now) (is_there : is_folder p ≡ true) where
   -- the message is stored at this number, and the lock is had
   abbrev pub HasStored : List ℕ → List Deed → Outcome ℕ
   HasStored bytes own later j m = Held own p later × IsMsgNum m × HasStoredAt w.run p m bytes later × IsTakenBy w.run p bytes own m later × Known m later
 
-  pub stored_goes : (bytes : List ℕ) (top : ℕ) → top ≤ 999999 → (own : List Deed) (h : Hand) → Known top own → HasLock p own → Goes w own h (message_stored w.run p top bytes) (okay (HasStored bytes own))
+  pub stored_goes : (bytes : List ℕ) (top : ℕ) → top ≤ 999999 → (own : List Deed) (h : Hand) → Known top own → Now own → HasLock p own → Goes w own h (message_stored w.run p top bytes) (okay (HasStored bytes own))
   unfolding message_stored
-  stored_goes bytes top small own h known lock =
-      goes_then w own h (message_put w.run p bytes None top) _ (HasPut w few p Known None lets is_there bytes own) (HasStored bytes own) (put_goes w few p Known None lets is_there bytes tt top small own h known lock)
+  stored_goes bytes top small own h known current lock =
+      goes_then w own h (message_put w.run p bytes None top) _ (HasPut w few p Known None Now lets is_there bytes own) (HasStored bytes own) (put_goes w few p Known None Now lets is_there bytes tt top small own h known current lock)
       (λ later j m f.
       goes_then w later j (synced p (decimal m)) _ (Adds later (did (step.SyncFolder p) answer.Done)) (HasStored bytes own) (synced_goes w later j p (decimal m))
       (λ last i u e. goes_at w last (did (step.SyncFolder p) answer.Done ∷ later) i _ (okay (HasStored bytes own)) e (goes_return w _ i m (okay (HasStored bytes own)) (safe later m f.0 f.1 f.2 f.3 f.4))))
@@ -62,11 +62,11 @@ module _ (w : Pledge) (few : w.run < 2 ^ 128) (p : Place) (Known : ℕ → List 
     told_goes : (m : ℕ) (bytes : List ℕ) (own : List Deed) (h : Hand) → HasStoredAt w.run p m bytes own → Goes w own h (message_told silent m bytes) (okay (λ later j u. later ≡ own))
     told_goes m bytes own h stored = told_by silent refl m bytes own h stored
 
-    pub taken_goes : (folder : List ℕ) (bytes : List ℕ) (top : ℕ) → top ≤ 999999 → (own : List Deed) (h : Hand) → Known top own → HasLock p own → Goes w own h (message_taken w.run folder p silent top bytes) (okay (HasStored bytes own))
+    pub taken_goes : (folder : List ℕ) (bytes : List ℕ) (top : ℕ) → top ≤ 999999 → (own : List Deed) (h : Hand) → Known top own → Now own → HasLock p own → Goes w own h (message_taken w.run folder p silent top bytes) (okay (HasStored bytes own))
     unfolding message_taken
-    taken_goes folder bytes top small own h known lock =
+    taken_goes folder bytes top small own h known current lock =
         goes_then w own h (lifted (of_plan folder) (message_stored w.run p top bytes)) _ (HasStored bytes own) (HasStored bytes own)
-        (goes_lifted w own h (of_plan folder) (message_stored w.run p top bytes) (HasStored bytes own) (stored_goes bytes top small own h known lock))
+        (goes_lifted w own h (of_plan folder) (message_stored w.run p top bytes) (HasStored bytes own) (stored_goes bytes top small own h known current lock))
         (λ later j m f.
         goes_then w later j (message_told silent m bytes) _ (λ last i u. last ≡ later) (HasStored bytes own) (told_goes m bytes later j f.2)
         (λ last i u e. goes_at w last later i _ (okay (HasStored bytes own)) e (goes_return w later i m (okay (HasStored bytes own)) f)))

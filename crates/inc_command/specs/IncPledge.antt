@@ -1,11 +1,11 @@
 -- The pledge of `inc`.
-use Rattle.std.specs.Prelude.{◌≡◌, ◌⊎◌, ◌<◌, ◌≤◌, ◌+◌, ◌^◌, ℕ, true, false, List, ◌∷◌, decimal}
-use Rattle.mbox_drop.specs.Drops.{is_drop, messages}
+use Rattle.std.specs.Prelude.{◌≡◌, ◌⊎◌, ◌<◌, ◌≤◌, ◌+◌, ◌^◌, ◌++◌, ℕ, true, false, List, [], ◌∷◌, decimal, length, reverse}
+use Rattle.mbox_drop.specs.Drops.{finished, is_drop, messages}
 use Rattle.mh_base.specs.Entries.{kind_of}
 use Rattle.mh_sequences.specs.Runs.{has}
 use Rattle.mh_sequences.specs.Sequences.{Marked}
 use Rattle.mh_sequences.specs.declared.run.Run.{Run}
-use Rattle.folder_files.specs.Careful.{HasPieces}
+use Rattle.folder_files.specs.Careful.{HasPieces, HasStored}
 use Rattle.folder_files.specs.Commands.{Incorporating}
 use Rattle.folder_files.specs.Deeds.{Deed, Once}
 use Rattle.folder_files.specs.Named.{is_temp}
@@ -58,8 +58,25 @@ PutsNear run path job own s =
     (temp number : List ℕ) → s ≡ step.Link (Folder path job.folder) temp number → is_temp (kind_of temp) ≡ true
     → (n : ℕ) × (number ≡ decimal n) × (m : ℕ) × (n ≤ m + 1) × HasSeenNumber run path job.folder m own
 
+-- of the drop the run needs no more than the piece that it read last, of 65,536 bytes at most, and the message that this ends: the messages that the
+-- bytes before that piece finish are stored, and with these others of the drop, in their order
+pub record HoldsOne (run : ℕ) (f : FilePath) (own : List Deed) : Type 0 where
+  pub before : List ℕ
+  pub piece : List ℕ
+  pub read : HasPieces f (before ++ piece) own
+  pub short : length piece ≤ 65536
+  pub done : List (List ℕ)
+  pub left : List (List ℕ)
+  pub of_drop : done ++ left ≡ messages (before ++ piece)
+  pub stored : HasStored run f [] (reverse done) own
+  pub front : length (finished before) ≤ length done
+
+-- it is so wherever it links a new file to a number, or tries to
+abbrev pub PutsOneByOne : ℕ → List ℕ → IncJob → List Deed → Step → Type 0
+PutsOneByOne run path job own s = (temp number : List ℕ) → s ≡ step.Link (Folder path job.folder) temp number → is_temp (kind_of temp) ≡ true → HoldsOne run job.drop own
+
 abbrev pub MakesSo : ℕ → List ℕ → IncJob → List Deed → Step → Type 0
-MakesSo run path job own s = CutsIfAsked job own s × PutsNear run path job own s
+MakesSo run path job own s = CutsIfAsked job own s × PutsNear run path job own s × PutsOneByOne run path job own s
 
 -- `inc` begins the folder, stores messages in it, and keeps its marks
 abbrev pub inc_pledge : ℕ → List ℕ → IncJob → Pledge

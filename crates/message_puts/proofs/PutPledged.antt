@@ -36,6 +36,10 @@ use Rattle.step_plans.proofs.Written.{Adds, Serves, Written, goes_at, lock_held,
 use Rattle.message_puts.specs.Putting.{linked_first, message_put, number_got, numbered}
 use Rattle.message_puts.specs.Stored.{HasPutAt}
 
+-- a file with these bytes was made and made safe
+abbrev pub made_ready : Place → List ℕ → List ℕ → List Deed → List Deed
+made_ready p temp bytes own = did (step.SyncFile p temp) answer.Done ∷ (did (step.Create p temp bytes) answer.Done ∷ own)
+
 -- the number is one above a known one at most
 abbrev pub IsNear : (ℕ → List Deed → Type 0) → ℕ → List Deed → Type 0
 IsNear Known n own = (m : ℕ) × (n ≤ m + 1) × Known m own
@@ -44,14 +48,16 @@ IsNear Known n own = (m : ℕ) × (n ≤ m + 1) × Known m own
 abbrev pub MayReach : (ℕ → List Deed → Type 0) → Option ℕ → ℕ → List Deed → Type 0
 MayReach Known wish n own = (wish ≡ Some n) ⊎ IsNear Known n own
 
--- the pledge lets messages be put into this folder, at numbers near to known ones; what was linked, or met by a link, is known
-pub record PutsMessages (w : Pledge) (p : Place) (Known : ℕ → List Deed → Type 0) (wish : Option ℕ) : Type 0 where
+-- the pledge lets messages be put into this folder, at numbers near to known ones, while this is so; what was linked, or met by a link, is known
+pub record PutsMessages (w : Pledge) (p : Place) (Known : ℕ → List Deed → Type 0) (wish : Option ℕ) (Now : List Deed → Type 0) : Type 0 where
   pub serves : Serves w p
   pub puts : (own : List Deed) (temp number : List ℕ) → MakesStep w.manner own Puts (step.Link p temp number)
-  pub link : (own : List Deed) (temp : List ℕ) (n : ℕ) → is_temp_of w.run (kind_of temp) ≡ true → is_number (kind_of (decimal n)) ≡ true → MayReach Known wish n own → w.may_step own (step.Link p temp (decimal n))
+  pub link : (own : List Deed) (temp : List ℕ) (n : ℕ) → is_temp_of w.run (kind_of temp) ≡ true → is_number (kind_of (decimal n)) ≡ true → MayReach Known wish n own → Now own → w.may_step own (step.Link p temp (decimal n))
   pub kept : (n : ℕ) → KeptBy AnyStep (Known n)
   pub linked : (own : List Deed) (temp : List ℕ) (n : ℕ) → Known n (did (step.Link p temp (decimal n)) answer.Done ∷ own)
   pub met : (own : List Deed) (temp : List ℕ) (n : ℕ) → Known n (did (step.Link p temp (decimal n)) answer.Exists ∷ own)
+  pub made_now : (own : List Deed) (temp bytes : List ℕ) → Now own → Now (made_ready p temp bytes own)
+  pub met_now : (own : List Deed) (temp : List ℕ) (n : ℕ) → Now own → Now (did (step.Link p temp (decimal n)) answer.Exists ∷ own)
 
 was_synced : (p : Place) (temp bytes : List ℕ) (own : List Deed) → WasReady p temp bytes own → WasSynced p temp own
 was_synced p temp bytes own w = once_map (λ d older f. (f.0, once_map (λ x old e. (bytes, e)) f.1)) w
@@ -84,10 +90,6 @@ pub record IsLinked (p : Place) (temp : List ℕ) (base : List Deed) (m : ℕ) (
   pub tries : Tries p temp base older
   pub deeds : later ≡ did (step.Link p temp (decimal m)) answer.Done ∷ older
 
--- a file with these bytes was made and made safe
-abbrev pub made_ready : Place → List ℕ → List ℕ → List Deed → List Deed
-made_ready p temp bytes own = did (step.SyncFile p temp) answer.Done ∷ (did (step.Create p temp bytes) answer.Done ∷ own)
-
 -- the deeds of a put: a file of the run was made, linked to this number, and lost its temporary name
 pub record IsPutBy (run : ℕ) (p : Place) (bytes : List ℕ) (own : List Deed) (m : ℕ) (later : List Deed) : Type 0 where
   pub temp : List ℕ
@@ -96,7 +98,7 @@ pub record IsPutBy (run : ℕ) (p : Place) (bytes : List ℕ) (own : List Deed) 
   pub link : IsLinked p temp (made_ready p temp bytes own) m linked
   pub deeds : later ≡ did (step.Unlink p temp) answer.Done ∷ linked
 
-module _ (w : Pledge) (few : w.run < 2 ^ 128) (p : Place) (Known : ℕ → List Deed → Type 0) (wish : Option ℕ) (lets : PutsMessages w p Known wish) (folder : is_folder p ≡ true) where
+module _ (w : Pledge) (few : w.run < 2 ^ 128) (p : Place) (Known : ℕ → List Deed → Type 0) (wish : Option ℕ) (Now : List Deed → Type 0) (lets : PutsMessages w p Known wish Now) (folder : is_folder p ≡ true) where
   further : (own : List Deed) (d : Deed) (later : List Deed) → (AreSettled own → AreSettled (d ∷ own)) → Held (d ∷ own) p later → Held own p later
   further own d later f c = record { settled = λ s. c.settled (f s); lock = c.lock }
 
@@ -118,12 +120,13 @@ module _ (w : Pledge) (few : w.run < 2 ^ 128) (p : Place) (Known : ℕ → List 
       pub lock : HasLock p own
       pub ready : WasReady p temp bytes own
       pub tries : Tries p temp base own
+      pub current : Now own
 
     may_link : (own : List Deed) (i : Hand) (n : ℕ) → IsMsgNum n → MayReach Known wish n own → MayLink own → Sound w own i → MayAsk w own (step.Link p temp (decimal n))
     may_link own i n ok near l s = record {
       is_own = careful s.unfailed Puts (puts p temp (decimal n) (folder, is_numbered n ok, (is_own, was_synced p temp bytes own l.ready))) (lets.puts own temp (decimal n)) (lock_held p own l.lock);
       marks = tt;
-      steps = λ no. lets.link own temp n is_own (is_numbered n ok) near;
+      steps = λ no. lets.link own temp n is_own (is_numbered n ok) near l.current;
     }
 
     put_there : (own : List Deed) (n : ℕ) → IsMsgNum n → MayLink own → Linked own (did (step.Link p temp (decimal n)) answer.Done ∷ own) (record { next = 0; context = None }) (Some n)
@@ -137,7 +140,7 @@ module _ (w : Pledge) (few : w.run < 2 ^ 128) (p : Place) (Known : ℕ → List 
     met_there own n later j end g = (further own (did (step.Link p temp (decimal n)) answer.Exists) later (λ f. settled_kept own (step.Link p temp (decimal n)) answer.Exists tt f) g.0, g.1, g.2)
 
     link_on : (own : List Deed) (n : ℕ) → MayLink own → MayLink (did (step.Link p temp (decimal n)) answer.Exists ∷ own)
-    link_on own n l = record { lock = still (λ e. cc (e)) l.lock; ready = on l.ready; tries = tried n l.tries }
+    link_on own n l = record { lock = still (λ e. cc (e)) l.lock; ready = on l.ready; tries = tried n l.tries; current = lets.met_now own temp n l.current }
 
     up_goes : (left n : ℕ) (own : List Deed) (i : Hand) → (1 ≤ n) × (n + left ≤ 1000000) → IsNear Known n own → MayLink own → Goes w own i (given_up p temp n left) (okay (Linked own))
     unfolding given_up
@@ -193,9 +196,9 @@ module _ (w : Pledge) (few : w.run < 2 ^ 128) (p : Place) (Known : ℕ → List 
   HasPut bytes own later j m = Held own p later × IsMsgNum m × HasPutAt w.run p m bytes later × IsPutBy w.run p bytes own m later × Known m later
 
   -- under the folder's lock
-  pub put_goes : (bytes : List ℕ) → IsEnd wish → (top : ℕ) → top ≤ 999999 → (own : List Deed) (h : Hand) → Known top own → HasLock p own → Goes w own h (message_put w.run p bytes wish top) (okay (HasPut bytes own))
+  pub put_goes : (bytes : List ℕ) → IsEnd wish → (top : ℕ) → top ≤ 999999 → (own : List Deed) (h : Hand) → Known top own → Now own → HasLock p own → Goes w own h (message_put w.run p bytes wish top) (okay (HasPut bytes own))
   unfolding message_put
-  put_goes bytes ok top small own h known lock =
+  put_goes bytes ok top small own h known current lock =
       goes_then w own h (written w.run p bytes) _ (Written w few p lets.serves own bytes) (HasPut bytes own) (written_goes w few p lets.serves own h bytes (λ l. lock))
       (λ later j temp q. goes_at w later (made_ready p temp bytes own) j _ (okay (HasPut bytes own)) q.0 (then_numbered temp q.1 j))
     where
@@ -218,7 +221,7 @@ module _ (w : Pledge) (few : w.run < 2 ^ 128) (p : Place) (Known : ℕ → List 
       then_numbered : (temp : List ℕ) → is_temp_of w.run (kind_of temp) ≡ true → (j : Hand) → Goes w (made_ready p temp bytes own) j (numbered p temp wish top >>= (λ number. removed p temp >>= (λ gone. Return (Ok number)))) (okay (HasPut bytes own))
       then_numbered temp is_own j =
           goes_then w (made_ready p temp bytes own) j (numbered p temp wish top) _ (Numbered temp bytes is_own (made_ready p temp bytes own) (made_ready p temp bytes own)) (HasPut bytes own)
-          (numbered_goes temp bytes is_own (made_ready p temp bytes own) ok top small (made_ready p temp bytes own) j (known_ready temp) (record { lock = still (λ e. cc (e)) (still (λ e. cc (e)) lock); ready = now (refl, now refl); tries = untried }))
+          (numbered_goes temp bytes is_own (made_ready p temp bytes own) ok top small (made_ready p temp bytes own) j (known_ready temp) (record { lock = still (λ e. cc (e)) (still (λ e. cc (e)) lock); ready = now (refl, now refl); tries = untried; current = lets.made_now own temp bytes current }))
           (λ later k m f.
           goes_then w later k (removed p temp) _ (Adds later (did (step.Unlink p temp) answer.Done)) (HasPut bytes own) (removed_goes w p lets.serves later k temp (is_temp_any w.run (kind_of temp) is_own) (λ l. f.0.lock))
           (λ last i u e. goes_at w last (did (step.Unlink p temp) answer.Done ∷ later) i _ (okay (HasPut bytes own)) e (goes_return w _ i m (okay (HasPut bytes own)) (unlinked temp is_own later i m f))))
