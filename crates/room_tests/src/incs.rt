@@ -15,6 +15,11 @@ use step_plans::{CommandFault, Hand};
 const DROP: &[u8] =
     b"From ann@a.example Tue Jun  2 10:00:00 2026\nFrom: Ann Lee <ann@a.example>\nSubject: One\n\n>From here on\n\nFrom bob@b.example Tue Jun  2 11:00:00 2026\nSubject: Two\n\nend";
 
+const TAKEN: &[u8] =
+    b".mh_sequences:cur: 4\nunseen: 4-5\n3:old\n4:From: Ann Lee <ann@a.example>\nSubject: One\n\n>From here on\n5:Subject: Two\n\nend";
+
+const TOLD: &[u8] = b"Incorporating new mail into inbox...\n\n   4 One\n   5 Two\n";
+
 fn unseen(alloc: Global) -> Result<SeqNameList, Fail> {
     let text = Text::from_str(alloc, "unseen")?;
     let mut names = SeqNameList::new(alloc);
@@ -96,23 +101,30 @@ fn inbox(alloc: Global, number: &[u8], drops: OutsideList) -> Result<Room, Fail>
     Ok(Room::new(alloc, world, PromptList::new(alloc))?)
 }
 
+/// Whether two messages come to stand above message 3, are marked, and the drop is cut.
+fn takes_two<F: Files, O: Sink>(alloc: Global, files: &mut F, out: &mut O) -> Result<bool, Fail> {
+    let end = taken_in(alloc, files, out, &job(alloc, "inbox")?)?;
+    let stands = shown(alloc, files, &folder(alloc, "inbox")?)?;
+    let left = drop_is_left(alloc, files)?;
+    Ok(end == b"done".as_slice() && stands.as_slice() == TAKEN && !left)
+}
+
 #[test]
 fn new_mail_is_taken_in(rt: HostRuntime) -> Result<(), Fail> {
     let alloc = rt.alloc();
     let mut room = inbox(alloc, b"3", drop_of(alloc, DROP)?)?;
     let mut out = MemSink::new(alloc, NumberList::new(alloc));
-    let end = taken_in(alloc, &mut room, &mut out, &job(alloc, "inbox")?)?;
-    assert!(rt; end == b"done".as_slice());
-    assert!(rt;
-        out.bytes() == b"Incorporating new mail into inbox...\n\n   4 One\n   5 Two\n".as_slice()
-    );
-    let stands = shown(alloc, &mut room, &folder(alloc, "inbox")?)?;
-    assert!(rt;
-        stands.as_slice()
-            == b".mh_sequences:cur: 4\nunseen: 4-5\n3:old\n4:From: Ann Lee <ann@a.example>\nSubject: One\n\n>From here on\n5:Subject: Two\n\nend".as_slice()
-    );
-    assert!(rt; !drop_is_left(alloc, &mut room)?);
+    assert!(rt; takes_two(alloc, &mut room, &mut out)?);
+    assert!(rt; out.bytes() == TOLD);
     Ok(())
+}
+
+/// Whether a message comes to stand in a folder that wasn't there, unmarked, and the drop is left.
+fn makes_new<F: Files, O: Sink>(alloc: Global, files: &mut F, out: &mut O) -> Result<bool, Fail> {
+    let end = taken_in(alloc, files, out, &quiet_job(alloc, "new")?)?;
+    let stands = shown(alloc, files, &folder(alloc, "new")?)?;
+    let left = drop_is_left(alloc, files)?;
+    Ok(end == b"done".as_slice() && stands.as_slice() == b"1:Subject: x\n".as_slice() && left)
 }
 
 #[test]
@@ -120,38 +132,44 @@ fn a_missing_folder_is_made(rt: HostRuntime) -> Result<(), Fail> {
     let alloc = rt.alloc();
     let mut room = inbox(alloc, b"3", drop_of(alloc, b"From \nSubject: x\n")?)?;
     let mut out = MemSink::new(alloc, NumberList::new(alloc));
-    let end = taken_in(alloc, &mut room, &mut out, &quiet_job(alloc, "new")?)?;
-    assert!(rt; end == b"done".as_slice());
+    assert!(rt; makes_new(alloc, &mut room, &mut out)?);
     assert!(rt; out.bytes().is_empty());
-    let stands = shown(alloc, &mut room, &folder(alloc, "new")?)?;
-    assert!(rt; stands.as_slice() == b"1:Subject: x\n".as_slice());
-    assert!(rt; drop_is_left(alloc, &mut room)?);
     Ok(())
+}
+
+/// Whether it is refused so, and the drop stays as it is.
+fn refuses<F: Files, O: Sink>(
+    alloc: Global,
+    files: &mut F,
+    out: &mut O,
+    want: &[u8],
+) -> Result<bool, Fail> {
+    let before = drop_is_left(alloc, files)?;
+    let end = taken_in(alloc, files, out, &job(alloc, "inbox")?)?;
+    let after = drop_is_left(alloc, files)?;
+    Ok(end == want && before == after)
+}
+
+/// Whether it is refused so over this mailbox, with nothing told.
+fn is_refused(alloc: Global, number: &[u8], drops: OutsideList, want: &[u8]) -> Result<bool, Fail> {
+    let mut room = inbox(alloc, number, drops)?;
+    let mut out = MemSink::new(alloc, NumberList::new(alloc));
+    let refused = refuses(alloc, &mut room, &mut out, want)?;
+    Ok(refused && out.bytes().is_empty())
 }
 
 #[test]
 fn a_full_folder_takes_none(rt: HostRuntime) -> Result<(), Fail> {
     let alloc = rt.alloc();
-    let mut room = inbox(alloc, b"999999", drop_of(alloc, DROP)?)?;
-    let mut out = MemSink::new(alloc, NumberList::new(alloc));
-    let end = taken_in(alloc, &mut room, &mut out, &job(alloc, "inbox")?)?;
-    assert!(rt; end == b"full".as_slice());
-    assert!(rt; out.bytes().is_empty());
-    assert!(rt; drop_is_left(alloc, &mut room)?);
+    assert!(rt; is_refused(alloc, b"999999", drop_of(alloc, DROP)?, b"full")?);
     Ok(())
 }
 
 #[test]
 fn what_is_no_mail_is_refused(rt: HostRuntime) -> Result<(), Fail> {
     let alloc = rt.alloc();
-    let job = job(alloc, "inbox")?;
-    let mut out = MemSink::new(alloc, NumberList::new(alloc));
-    let mut none = inbox(alloc, b"3", OutsideList::new(alloc))?;
-    assert!(rt; taken_in(alloc, &mut none, &mut out, &job)? == b"no mail".as_slice());
-    let mut empty = inbox(alloc, b"3", drop_of(alloc, b"")?)?;
-    assert!(rt; taken_in(alloc, &mut empty, &mut out, &job)? == b"no mail".as_slice());
-    let mut text = inbox(alloc, b"3", drop_of(alloc, b"hello\n")?)?;
-    assert!(rt; taken_in(alloc, &mut text, &mut out, &job)? == b"no drop".as_slice());
-    assert!(rt; out.bytes().is_empty());
+    assert!(rt; is_refused(alloc, b"3", OutsideList::new(alloc), b"no mail")?);
+    assert!(rt; is_refused(alloc, b"3", drop_of(alloc, b"")?, b"no mail")?);
+    assert!(rt; is_refused(alloc, b"3", drop_of(alloc, b"hello\n")?, b"no drop")?);
     Ok(())
 }
