@@ -1,16 +1,13 @@
-// A drop whose messages are counted and taken into a folder of the mailbox in memory.
+// A drop that is counted and cut over the mailbox in memory, and what stands around that.
 ghost use Rattle.std.specs.Prelude.{◌≤◌};
 
-use crate::given::{Mailbox, bytes_of, drop_of, drop_path, folder};
+use crate::given::{Mailbox, bytes_of, drop_of, drop_path};
 use folder_files::Files;
 use folder_room::{PromptList, Room};
-use inc_command::{
-    DropSize, Taken, Target, ask_room, count_drop, cut_drop, take_drop, tell_heading,
-};
-use mh_base::{FolderName, MemSink, NumberList, Sink, Text};
+use inc_command::{DropSize, ask_room, count_drop, cut_drop, tell_heading};
+use mh_base::{FolderName, MemSink, NumberList, Text};
 use std::alloc::Global;
 use std::test::Fail;
-use step_plans::Hand;
 
 const DROP: &[u8] = b"From a\nSubject: One\n\nx\n\nFrom b\nSubject: Two\n\ny\n";
 
@@ -24,35 +21,6 @@ fn counted<F: Files>(alloc: Global, files: &mut F) -> Result<DropSize, Fail> {
 fn inbox(alloc: Global) -> Result<FolderName, Fail> {
     let text = Text::from_str(alloc, "inbox")?;
     Ok(FolderName::read(alloc, &text)?)
-}
-
-fn taken<F: Files, O: Sink>(
-    alloc: Global,
-    files: &mut F,
-    out: &mut O,
-    size: DropSize,
-) -> Result<Taken, Fail> {
-    let mut hand = Hand::new(7, bytes_of(alloc, b"Mail")?);
-    let name = inbox(alloc)?;
-    let place = folder(alloc, "inbox")?;
-    let path = drop_path(alloc)?;
-    let target = Target {
-        folder: &name,
-        place: &place,
-        silent: false,
-    };
-    match take_drop(alloc, &mut hand, files, out, target, &path, size, 2) {
-        Ok(taken) => Ok(taken),
-        Err(_) => Err("two messages".into()),
-    }
-}
-
-/// Whether the drop's two messages come to stand above message 2.
-fn takes<F: Files, O: Sink>(alloc: Global, files: &mut F, out: &mut O) -> Result<bool, Fail> {
-    let size = counted(alloc, files)?;
-    let messages = size.messages;
-    let taken = taken(alloc, files, out, size)?;
-    Ok(messages == 2 && taken.highest == 4 && taken.numbers.len() == 2)
 }
 
 fn cuts<F: Files>(alloc: Global, files: &mut F, length: u64) -> Result<bool, Fail> {
@@ -76,16 +44,6 @@ fn room(alloc: Global) -> Result<Room, Fail> {
     mailbox.add(alloc, b"2", bytes_of(alloc, b"two")?)?;
     let world = mailbox.world(alloc, drop_of(alloc, DROP)?)?;
     Ok(Room::new(alloc, world, PromptList::new(alloc))?)
-}
-
-#[test]
-fn a_drop_is_taken_in(rt: HostRuntime) -> Result<(), Fail> {
-    let alloc = rt.alloc();
-    let mut room = room(alloc)?;
-    let mut out = MemSink::new(alloc, NumberList::new(alloc));
-    assert!(rt; takes(alloc, &mut room, &mut out)?);
-    assert!(rt; out.bytes() == b"   3 One\n   4 Two\n".as_slice());
-    Ok(())
 }
 
 #[test]

@@ -1,16 +1,16 @@
 // `inc` over the mailbox in memory.
 ghost use Rattle.std.specs.Prelude.{◌≡◌};
 
-use crate::given::{Mailbox, bytes_of, drop_of, drop_path, folder, name};
+use crate::given::{Mailbox, bytes_of, drop_of, drop_path, folder};
 use file_plans::{Listing, Reading, ask_list, ask_read};
-use folder_files::{Files, OutsideList, Place, Refusal};
+use folder_files::{Files, OutsideList, Place};
 use folder_room::{PromptList, Room};
 use inc_command::{IncJob, count_drop, inc};
 use mh_base::{Bytes, FolderName, MemSink, NumberList, Sink, Text};
 use mh_sequences::{SeqName, SeqNameList};
 use std::alloc::Global;
 use std::test::Fail;
-use step_plans::{CommandFault, Hand};
+use step_plans::Hand;
 
 const DROP: &[u8] =
     b"From ann@a.example Tue Jun  2 10:00:00 2026\nFrom: Ann Lee <ann@a.example>\nSubject: One\n\n>From here on\n\nFrom bob@b.example Tue Jun  2 11:00:00 2026\nSubject: Two\n\nend";
@@ -42,35 +42,14 @@ fn job(alloc: Global, into: &str) -> Result<IncJob, Fail> {
     })
 }
 
-/// As `inc -silent -nochangecur -notruncate`, where the profile names no unseen sequence.
-fn quiet_job(alloc: Global, into: &str) -> Result<IncJob, Fail> {
-    let mut quiet = job(alloc, into)?;
-    quiet.truncate = false;
-    quiet.silent = true;
-    quiet.change_cur = false;
-    quiet.unseen = SeqNameList::new(alloc);
-    Ok(quiet)
-}
-
-fn end_of(end: Result<(), CommandFault>) -> &'static [u8] {
-    match end {
-        Ok(()) => b"done",
-        Err(CommandFault::Refused(Refusal::NoMail)) => b"no mail",
-        Err(CommandFault::Refused(Refusal::NotADrop)) => b"no drop",
-        Err(CommandFault::Refused(Refusal::Full(_))) => b"full",
-        Err(_) => b"another",
-    }
-}
-
-/// How it ends.
-fn taken_in<F: Files, O: Sink>(
+fn is_done<F: Files, O: Sink>(
     alloc: Global,
     files: &mut F,
     out: &mut O,
     job: &IncJob,
-) -> Result<&'static [u8], Fail> {
+) -> Result<bool, Fail> {
     let mut hand = Hand::new(7, bytes_of(alloc, b"Mail")?);
-    Ok(end_of(inc(alloc, &mut hand, files, out, job)))
+    Ok(inc(alloc, &mut hand, files, out, job).is_ok())
 }
 
 /// What stands under the folder's names, each name and a colon before it.
@@ -103,10 +82,10 @@ fn inbox(alloc: Global, number: &[u8], drops: OutsideList) -> Result<Room, Fail>
 
 /// Whether two messages come to stand above message 3, are marked, and the drop is cut.
 fn takes_two<F: Files, O: Sink>(alloc: Global, files: &mut F, out: &mut O) -> Result<bool, Fail> {
-    let end = taken_in(alloc, files, out, &job(alloc, "inbox")?)?;
+    let done = is_done(alloc, files, out, &job(alloc, "inbox")?)?;
     let stands = shown(alloc, files, &folder(alloc, "inbox")?)?;
     let left = drop_is_left(alloc, files)?;
-    Ok(end == b"done".as_slice() && stands.as_slice() == TAKEN && !left)
+    Ok(done && stands.as_slice() == TAKEN && !left)
 }
 
 #[test]
@@ -116,60 +95,5 @@ fn new_mail_is_taken_in(rt: HostRuntime) -> Result<(), Fail> {
     let mut out = MemSink::new(alloc, NumberList::new(alloc));
     assert!(rt; takes_two(alloc, &mut room, &mut out)?);
     assert!(rt; out.bytes() == TOLD);
-    Ok(())
-}
-
-/// Whether a message comes to stand in a folder that wasn't there, unmarked, and the drop is left.
-fn makes_new<F: Files, O: Sink>(alloc: Global, files: &mut F, out: &mut O) -> Result<bool, Fail> {
-    let end = taken_in(alloc, files, out, &quiet_job(alloc, "new")?)?;
-    let stands = shown(alloc, files, &folder(alloc, "new")?)?;
-    let left = drop_is_left(alloc, files)?;
-    Ok(end == b"done".as_slice() && stands.as_slice() == b"1:Subject: x\n".as_slice() && left)
-}
-
-#[test]
-fn a_missing_folder_is_made(rt: HostRuntime) -> Result<(), Fail> {
-    let alloc = rt.alloc();
-    let mut room = inbox(alloc, b"3", drop_of(alloc, b"From \nSubject: x\n")?)?;
-    let mut out = MemSink::new(alloc, NumberList::new(alloc));
-    assert!(rt; makes_new(alloc, &mut room, &mut out)?);
-    assert!(rt; out.bytes().is_empty());
-    Ok(())
-}
-
-/// Whether it is refused so, and the drop stays as it is.
-fn refuses<F: Files, O: Sink>(
-    alloc: Global,
-    files: &mut F,
-    out: &mut O,
-    want: &[u8],
-) -> Result<bool, Fail> {
-    let before = drop_is_left(alloc, files)?;
-    let end = taken_in(alloc, files, out, &job(alloc, "inbox")?)?;
-    let after = drop_is_left(alloc, files)?;
-    Ok(end == want && before == after)
-}
-
-/// Whether it is refused so over this mailbox, with nothing told.
-fn is_refused(alloc: Global, number: &[u8], drops: OutsideList, want: &[u8]) -> Result<bool, Fail> {
-    let mut room = inbox(alloc, number, drops)?;
-    let mut out = MemSink::new(alloc, NumberList::new(alloc));
-    let refused = refuses(alloc, &mut room, &mut out, want)?;
-    Ok(refused && out.bytes().is_empty())
-}
-
-#[test]
-fn a_full_folder_takes_none(rt: HostRuntime) -> Result<(), Fail> {
-    let alloc = rt.alloc();
-    assert!(rt; is_refused(alloc, b"999999", drop_of(alloc, DROP)?, b"full")?);
-    Ok(())
-}
-
-#[test]
-fn what_is_no_mail_is_refused(rt: HostRuntime) -> Result<(), Fail> {
-    let alloc = rt.alloc();
-    assert!(rt; is_refused(alloc, b"3", OutsideList::new(alloc), b"no mail")?);
-    assert!(rt; is_refused(alloc, b"3", drop_of(alloc, b"")?, b"no mail")?);
-    assert!(rt; is_refused(alloc, b"3", drop_of(alloc, b"hello\n")?, b"no drop")?);
     Ok(())
 }
