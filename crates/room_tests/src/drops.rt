@@ -1,13 +1,16 @@
-// A drop that is counted and cut over the mailbox in memory, and what stands around that.
+// A drop whose messages are counted and taken into a folder of the mailbox in memory.
 ghost use Rattle.std.specs.Prelude.{◌≤◌};
 
-use crate::given::{Mailbox, bytes_of, drop_of, drop_path};
-use folder_files::Files;
+use crate::given::{Mailbox, bytes_of, drop_of, drop_path, folder};
+use folder_files::{Files, Place};
 use folder_room::{PromptList, Room};
-use inc_command::{DropSize, ask_room, count_drop, cut_drop, tell_heading};
-use mh_base::{FolderName, MemSink, NumberList, Text};
+use inc_command::{
+    DropSize, Taken, Target, ask_room, count_drop, cut_drop, take_drop, tell_heading,
+};
+use mh_base::{FolderName, MemSink, NumberList, Sink, Text};
 use std::alloc::Global;
 use std::test::Fail;
+use step_plans::Hand;
 
 const DROP: &[u8] = b"From a\nSubject: One\n\nx\n\nFrom b\nSubject: Two\n\ny\n";
 
@@ -23,20 +26,25 @@ fn inbox(alloc: Global) -> Result<FolderName, Fail> {
     Ok(FolderName::read(alloc, &text)?)
 }
 
-fn cuts<F: Files>(alloc: Global, files: &mut F, length: u64) -> Result<bool, Fail> {
+fn taken<F: Files, O: Sink>(
+    alloc: Global,
+    files: &mut F,
+    out: &mut O,
+    place: &Place,
+    size: DropSize,
+) -> Result<Taken, Fail> {
+    let mut hand = Hand::new(7, bytes_of(alloc, b"Mail")?);
+    let name = inbox(alloc)?;
     let path = drop_path(alloc)?;
-    Ok(cut_drop(alloc, 7, files, true, &path, length).is_ok())
-}
-
-/// Whether the drop is cut at its length alone, and is gone then.
-fn cuts_what_was_read<F: Files>(alloc: Global, files: &mut F) -> Result<bool, Fail> {
-    let path = drop_path(alloc)?;
-    let early = cuts(alloc, files, 46)?;
-    let size = counted(alloc, files)?;
-    let length = size.length;
-    let cut = cuts(alloc, files, length)?;
-    let gone = count_drop(alloc, 7, files, &path).is_err();
-    Ok(!early && length == 47 && cut && gone)
+    let target = Target {
+        folder: &name,
+        place,
+        silent: false,
+    };
+    match take_drop(alloc, &mut hand, files, out, target, &path, size, 2) {
+        Ok(taken) => Ok(taken),
+        Err(_) => Err("two messages".into()),
+    }
 }
 
 fn room(alloc: Global) -> Result<Room, Fail> {
@@ -47,10 +55,37 @@ fn room(alloc: Global) -> Result<Room, Fail> {
 }
 
 #[test]
+fn a_drop_is_taken_in(rt: HostRuntime) -> Result<(), Fail> {
+    let alloc = rt.alloc();
+    let mut room = room(alloc)?;
+    let place = folder(alloc, "inbox")?;
+    let size = counted(alloc, &mut room)?;
+    assert!(rt; size.messages == 2);
+    let mut out = MemSink::new(alloc, NumberList::new(alloc));
+    let taken = taken(alloc, &mut room, &mut out, &place, size)?;
+    assert!(rt; taken.highest == 4 && taken.numbers.len() == 2);
+    assert!(rt; out.bytes() == b"   3 One\n   4 Two\n".as_slice());
+    Ok(())
+}
+
+#[test]
 fn a_drop_is_cut(rt: HostRuntime) -> Result<(), Fail> {
     let alloc = rt.alloc();
     let mut room = room(alloc)?;
-    assert!(rt; cuts_what_was_read(alloc, &mut room)?);
+    let path = drop_path(alloc)?;
+    assert!(rt; cut_drop(alloc, 7, &mut room, true, &path, 47).is_ok());
+    assert!(rt; count_drop(alloc, 7, &mut room, &path).is_err());
+    Ok(())
+}
+
+#[test]
+fn a_grown_drop_is_not_cut(rt: HostRuntime) -> Result<(), Fail> {
+    let alloc = rt.alloc();
+    let mut room = room(alloc)?;
+    let path = drop_path(alloc)?;
+    assert!(rt; cut_drop(alloc, 7, &mut room, true, &path, 46).is_err());
+    let size = counted(alloc, &mut room)?;
+    assert!(rt; size.length == 47);
     Ok(())
 }
 

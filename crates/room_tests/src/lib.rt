@@ -6,8 +6,6 @@ mod drops;
 #[cfg(test)]
 mod given;
 #[cfg(test)]
-mod incs;
-#[cfg(test)]
 mod puts;
 #[cfg(test)]
 mod room;
