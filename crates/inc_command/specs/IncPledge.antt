@@ -58,8 +58,8 @@ PutsNear run path job own s =
     (temp number : List ℕ) → s ≡ step.Link (Folder path job.folder) temp number → is_temp (kind_of temp) ≡ true
     → (n : ℕ) × (number ≡ decimal n) × (m : ℕ) × (n ≤ m + 1) × HasSeenNumber run path job.folder m own
 
--- of the drop the run needs no more than the piece that it read last, of 65,536 bytes at most, and the message that this ends: the messages that the
--- bytes before that piece finish are stored, and with these others of the drop, in their order
+-- of the drop the run needs no more than the last bytes that it read, 65,536 at most, and the message in which these begin: the messages that the
+-- bytes before them finish are stored, as the first of the drop, and perhaps more
 pub record HoldsOne (run : ℕ) (f : FilePath) (own : List Deed) : Type 0 where
   pub before : List ℕ
   pub piece : List ℕ
@@ -75,6 +75,7 @@ pub record HoldsOne (run : ℕ) (f : FilePath) (own : List Deed) : Type 0 where
 abbrev pub PutsOneByOne : ℕ → List ℕ → IncJob → List Deed → Step → Type 0
 PutsOneByOne run path job own s = (temp number : List ℕ) → s ≡ step.Link (Folder path job.folder) temp number → is_temp (kind_of temp) ≡ true → HoldsOne run job.drop own
 
+-- all that is asked of its steps besides
 abbrev pub MakesSo : ℕ → List ℕ → IncJob → List Deed → Step → Type 0
 MakesSo run path job own s = CutsIfAsked job own s × PutsNear run path job own s × PutsOneByOne run path job own s
 

@@ -2,7 +2,6 @@ pub mod Counting
 pub mod Cutting
 pub mod DropTaken
 pub mod Inc
-pub mod IncOutcome
 pub mod IncPledge
 pub mod Intake
 pub mod Passing
