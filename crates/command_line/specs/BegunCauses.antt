@@ -31,7 +31,7 @@ use Rattle.command_line.specs.CommandNames.{named}
 use Rattle.command_line.specs.CommandPledge.{entries_by, path_by}
 use Rattle.command_line.specs.Profile.{folder_of, path_of, profile_name}
 use Rattle.command_line.specs.declared.name.CommandName.{CommandName}
-use Rattle.command_line.specs.declared.name.CommandName.TheVariants.{Mark, Rmm, Scan}
+use Rattle.command_line.specs.declared.name.CommandName.TheVariants.{Inc, Mark, Rmm, Scan}
 
 -- what shows how it ended before it came to a folder
 pub data ShowsEarly : CommandFault → List Deed → Type 0 where
@@ -94,6 +94,7 @@ ShowsRmm run profile context folder r own (Err x) = ⊥
 abbrev pub ShowsNamed : ℕ → List NamedValue → List NamedValue → List ℕ → Result (List ℕ) CommandFault → List Deed
     → List (List ℕ) → Option CommandName → Type 0
 ShowsNamed run profile context folder r own words None = ⊥
+ShowsNamed run profile context folder r own words (Some Inc) = ⊥
 ShowsNamed run profile context folder r own words (Some Scan) = ⊥
 ShowsNamed run profile context folder r own words (Some Mark) =
     ShowsMark run profile context folder r own (mark_said profile (map chars words))

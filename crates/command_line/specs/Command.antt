@@ -14,6 +14,8 @@ use Rattle.mh_looks.specs.Scan.{entries_seen, scan}
 use Rattle.mh_looks.specs.declared.job.ScanJob.{ScanJob}
 use Rattle.mark_command.specs.Mark.{mark}
 use Rattle.mark_command.specs.declared.job.MarkJob.{MarkJob}
+use Rattle.inc_command.specs.Inc.{inc}
+use Rattle.inc_command.specs.declared.job.IncJob.{IncJob}
 use Rattle.refile_command.specs.Rmm.{rmm}
 use Rattle.refile_command.specs.declared.job.RmmJob.{RmmJob}
 use Rattle.command_words.specs.declared.ended.Ended.{Ended}
@@ -21,13 +23,15 @@ use Rattle.command_words.specs.declared.mark.MarkWords.{MarkWords}
 use Rattle.command_words.specs.declared.rmm.RmmWords.{RmmWords}
 use Rattle.command_words.specs.declared.scan.ScanWords.{ScanWords}
 use Rattle.command_words.specs.Ended.{plain, wrong_word, Ending}
+use Rattle.command_words.specs.IncWords.{inc_said}
 use Rattle.command_words.specs.MarkWords.{mark_said}
 use Rattle.command_words.specs.RmmWords.{rmm_said}
 use Rattle.command_words.specs.ScanWords.{scan_said}
 use Rattle.command_line.specs.CommandNames.{named}
+use Rattle.command_line.specs.Incorporating.{job_by}
 use Rattle.command_line.specs.Profile.{folder_of, negation_of, path_of, profile_name}
 use Rattle.command_line.specs.declared.name.CommandName.{CommandName}
-use Rattle.command_line.specs.declared.name.CommandName.TheVariants.{Mark, Rmm, Scan}
+use Rattle.command_line.specs.declared.name.CommandName.TheVariants.{Inc, Mark, Rmm, Scan}
 
 -- the context is read, and the run knows its entries
 unfoldable pub context_seen : List NamedValue → Commanded Unit
@@ -81,23 +85,34 @@ abbrev pub rmm_by : ℕ → List NamedValue → Result RmmWords Ended → Ending
 rmm_by run profile (Ok words) = lifted plain (rmm_begun run profile words)
 rmm_by run profile (Err e) = Return (Err e)
 
+-- the context is read, and new mail is taken in
+unfoldable pub inc_begun : ℕ → List ℕ → IncJob → Commanded Unit
+inc_begun run path job = do
+  entered ← context_entered (Mail path)
+  inc run path job
+
+abbrev pub inc_by : ℕ → List NamedValue → Result IncJob Ended → Ending Unit
+inc_by run profile (Ok job) = lifted plain (inc_begun run (path_of profile) job)
+inc_by run profile (Err e) = Return (Err e)
+
 -- a word that names no command that there is
 abbrev pub no_command : Option (List ℕ) → Ended
 no_command word = wrong_word (record { place = 0; why = NoCommand }) word
 
--- by the command that the first word names
-abbrev pub word_by : ℕ → List NamedValue → List ℕ → List (List ℕ) → Option CommandName → Ending Unit
-word_by run profile word words None = Return (Err (no_command (Some word)))
-word_by run profile word words (Some Scan) = scan_by run profile (scan_said profile (map chars words))
-word_by run profile word words (Some Mark) = mark_by run profile (mark_said profile (map chars words))
-word_by run profile word words (Some Rmm) = rmm_by run profile (rmm_said profile (map chars words))
+-- by the command that the first word names, and the user's name
+abbrev pub word_by : ℕ → List ℕ → List NamedValue → List ℕ → List (List ℕ) → Option CommandName → Ending Unit
+word_by run user profile word words None = Return (Err (no_command (Some word)))
+word_by run user profile word words (Some Inc) = inc_by run profile (job_by user profile (inc_said profile (map chars words)))
+word_by run user profile word words (Some Scan) = scan_by run profile (scan_said profile (map chars words))
+word_by run user profile word words (Some Mark) = mark_by run profile (mark_said profile (map chars words))
+word_by run user profile word words (Some Rmm) = rmm_by run profile (rmm_said profile (map chars words))
 
-abbrev pub command_by : ℕ → List NamedValue → List (List ℕ) → Ending Unit
-command_by run profile [] = Return (Err (no_command None))
-command_by run profile (word ∷ words) = word_by run profile word words (named word)
+abbrev pub command_by : ℕ → List ℕ → List NamedValue → List (List ℕ) → Ending Unit
+command_by run user profile [] = Return (Err (no_command None))
+command_by run user profile (word ∷ words) = word_by run user profile word words (named word)
 
 -- the profile is read, and the command runs that the words name
-unfoldable pub command : ℕ → List (List ℕ) → Ending Unit
-command run words = do
+unfoldable pub command : ℕ → List ℕ → List (List ℕ) → Ending Unit
+command run user words = do
   text ← lifted plain (text_read Home profile_name)
-  command_by run (entries_in text) words
+  command_by run user (entries_in text) words

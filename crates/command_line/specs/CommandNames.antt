@@ -1,12 +1,13 @@
 -- The commands that there are, by name.
 use Rattle.std.specs.Prelude.{ℕ, Bool, true, false, List, [], ◌∷◌, Option, None, Some, bytes_eq, codes, if◌then◌else◌}
 use Rattle.command_line.specs.declared.name.CommandName.{CommandName}
-use Rattle.command_line.specs.declared.name.CommandName.TheVariants.{Mark, Rmm, Scan}
+use Rattle.command_line.specs.declared.name.CommandName.TheVariants.{Inc, Mark, Rmm, Scan}
 
 -- the command of this name
 abbrev pub named : List ℕ → Option CommandName
 named word =
-    if bytes_eq word (codes "scan") then Some Scan else (if bytes_eq word (codes "mark") then Some Mark else (if bytes_eq word (codes "rmm") then Some Rmm else None))
+    if bytes_eq word (codes "inc") then Some Inc
+    else (if bytes_eq word (codes "scan") then Some Scan else (if bytes_eq word (codes "mark") then Some Mark else (if bytes_eq word (codes "rmm") then Some Rmm else None)))
 
 -- the command that the words of a call name
 abbrev pub command_of : List (List ℕ) → Option CommandName
@@ -16,6 +17,23 @@ command_of (word ∷ words) = named word
 -- it begins a folder, by its words at least
 abbrev pub begins_folders : Option CommandName → Bool
 begins_folders None = false
+begins_folders (Some Inc) = true
 begins_folders (Some Scan) = false
 begins_folders (Some Mark) = true
 begins_folders (Some Rmm) = true
+
+-- of a command that begins a folder: what shows how it ended is told below; of `inc` it isn't
+abbrev pub tells_ends : Option CommandName → Bool
+tells_ends None = false
+tells_ends (Some Inc) = false
+tells_ends (Some Scan) = false
+tells_ends (Some Mark) = true
+tells_ends (Some Rmm) = true
+
+-- what it comes to alone is claimed; of `inc` it isn't
+abbrev pub tells_work : Option CommandName → Bool
+tells_work None = true
+tells_work (Some Inc) = false
+tells_work (Some Scan) = true
+tells_work (Some Mark) = true
+tells_work (Some Rmm) = true

@@ -11,8 +11,11 @@ use Rattle.mh_looks.specs.Outcomes.{scan_work}
 use Rattle.opened_folders.specs.BegunWork.{Homes}
 use Rattle.opened_folders.specs.HomesOf.{homes_at}
 use Rattle.mark_command.specs.Outcomes.{mark_work}
+use Rattle.command_line.specs.IncOutcome.{inc_work}
+use Rattle.inc_command.specs.declared.job.IncJob.{IncJob}
 use Rattle.refile_command.specs.RmmOutcome.{rmm_work}
 use Rattle.command_words.specs.Ended.{plain}
+use Rattle.command_words.specs.IncWords.{inc_said}
 use Rattle.command_words.specs.MarkWords.{mark_said}
 use Rattle.command_words.specs.RmmWords.{rmm_said}
 use Rattle.command_words.specs.ScanWords.{scan_said}
@@ -22,9 +25,10 @@ use Rattle.command_words.specs.declared.rmm.RmmWords.{RmmWords}
 use Rattle.command_words.specs.declared.scan.ScanWords.{ScanWords}
 use Rattle.command_line.specs.Command.{job_of, mark_job, no_command, rmm_job}
 use Rattle.command_line.specs.CommandNames.{named}
+use Rattle.command_line.specs.Incorporating.{job_by}
 use Rattle.command_line.specs.Profile.{folder_of, path_of, profile_name}
 use Rattle.command_line.specs.declared.name.CommandName.{CommandName}
-use Rattle.command_line.specs.declared.name.CommandName.TheVariants.{Mark, Rmm, Scan}
+use Rattle.command_line.specs.declared.name.CommandName.TheVariants.{Inc, Mark, Rmm, Scan}
 
 abbrev pub plainly : Result Unit CommandFault → Result Unit Ended
 plainly (Ok u) = Ok u
@@ -88,26 +92,37 @@ abbrev pub rmm_words_work : Meeting → Mailbox → List NamedValue → Result R
 rmm_words_work g m profile (Ok words) = of_stage (on_folder m profile words.folder (rmms g m profile words))
 rmm_words_work g m profile (Err e) = refused_at m e
 
--- the command of this name
-abbrev pub word_work : Meeting → Mailbox → List NamedValue → List ℕ → List (List ℕ) → Option CommandName → Work Ended
-word_work g m profile word words None = refused_at m (no_command (Some word))
-word_work g m profile word words (Some Scan) = scan_words_work m profile (scan_said profile (map chars words))
-word_work g m profile word words (Some Mark) = mark_words_work g m profile (mark_said profile (map chars words))
-word_work g m profile word words (Some Rmm) = rmm_words_work g m profile (rmm_said profile (map chars words))
+-- `inc`, once the context is read: so too, in the folder of its job
+abbrev pub incs : Meeting → Mailbox → List NamedValue → IncJob → Result (List ℕ) CommandFault → Work CommandFault
+incs g m profile job (Ok text) =
+    inc_work (path_of profile) (g.entries (entries_in text)) (g.homes (m.folders (Folder (path_of profile) job.folder))) job m
+incs g m profile job (Err e) = refused_at m e
 
-abbrev pub named_work : Meeting → Mailbox → List NamedValue → List (List ℕ) → Work Ended
-named_work g m profile [] = refused_at m (no_command None)
-named_work g m profile (word ∷ words) = word_work g m profile word words (named word)
+abbrev pub inc_job_work : Meeting → Mailbox → List NamedValue → Result IncJob Ended → Work Ended
+inc_job_work g m profile (Ok job) = of_stage (incs g m profile job (readable (m.context (Mail (path_of profile)))))
+inc_job_work g m profile (Err e) = refused_at m e
+
+-- the command of this name
+abbrev pub word_work : Meeting → Mailbox → List ℕ → List NamedValue → List ℕ → List (List ℕ) → Option CommandName → Work Ended
+word_work g m user profile word words None = refused_at m (no_command (Some word))
+word_work g m user profile word words (Some Inc) = inc_job_work g m profile (job_by user profile (inc_said profile (map chars words)))
+word_work g m user profile word words (Some Scan) = scan_words_work m profile (scan_said profile (map chars words))
+word_work g m user profile word words (Some Mark) = mark_words_work g m profile (mark_said profile (map chars words))
+word_work g m user profile word words (Some Rmm) = rmm_words_work g m profile (rmm_said profile (map chars words))
+
+abbrev pub named_work : Meeting → Mailbox → List ℕ → List NamedValue → List (List ℕ) → Work Ended
+named_work g m user profile [] = refused_at m (no_command None)
+named_work g m user profile (word ∷ words) = word_work g m user profile word words (named word)
 
 -- the profile that is read
-abbrev pub with_profile : Meeting → Mailbox → List (List ℕ) → Result (List ℕ) CommandFault → Work Ended
-with_profile g m words (Ok text) = named_work g m (entries_in text) words
-with_profile g m words (Err e) = refused_at m (plain e)
+abbrev pub with_profile : Meeting → Mailbox → List ℕ → List (List ℕ) → Result (List ℕ) CommandFault → Work Ended
+with_profile g m user words (Ok text) = named_work g m user (entries_in text) words
+with_profile g m user words (Err e) = refused_at m (plain e)
 
 -- what a command comes to, in its stages: the profile, the words, the context, the folder, the work
-unfoldable pub work_by : Meeting → List (List ℕ) → Mailbox → Work Ended
-work_by g words m = with_profile g m words (readable (m.home profile_name))
+unfoldable pub work_by : Meeting → List ℕ → List (List ℕ) → Mailbox → Work Ended
+work_by g user words m = with_profile g m user words (readable (m.home profile_name))
 
 -- what it comes to alone
-abbrev pub work_of : ℕ → List (List ℕ) → Mailbox → Work Ended
-work_of run words m = work_by (alone_meeting run) words m
+abbrev pub work_of : ℕ → List ℕ → List (List ℕ) → Mailbox → Work Ended
+work_of run user words m = work_by (alone_meeting run) user words m

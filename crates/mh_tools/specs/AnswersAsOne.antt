@@ -7,7 +7,7 @@ use Rattle.file_plans.specs.Agreeing.{FitPast}
 use Rattle.file_plans.specs.Contents.{Contents, by_contents, mailbox_in}
 use Rattle.file_plans.specs.Mailboxes.{Mailbox}
 use Rattle.mh_tools.specs.AnswersAlone.{HasOutcome}
-use Rattle.mh_tools.specs.Calls.{Call, MadeBy}
+use Rattle.mh_tools.specs.Calls.{Call, MadeBy, TellsWork}
 use Rattle.mh_tools.specs.Status.{IsVerdict}
 use Rattle.mh_tools.specs.TellsWhatItSaw.{outcome_on}
 use Rattle.mh_tools.specs.declared.status.Status.TheVariants.{Locked, Meddled}
@@ -31,3 +31,7 @@ pub record AnswersAsOne (c : Call) : Type 0 where
   pub verdict : (m n : Mailbox) → AreAnsweredBy m n deeds → IsVerdict c.status → HasOutcome (outcome_on c m) n c
   pub unlocked : (m n : Mailbox) → AreAnsweredBy m n deeds → (place : Place) → c.status ≢ Locked place
   pub unmeddled : (m n : Mailbox) → AreAnsweredBy m n deeds → (place : Place) (name : List ℕ) → c.status ≢ Meddled place name
+
+-- so does a call of each command but `inc`
+abbrev pub AsOneIfTold : Call → Type 0
+AsOneIfTold c = TellsWork c → AnswersAsOne c

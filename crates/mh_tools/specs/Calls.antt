@@ -1,12 +1,12 @@
 -- A call of `mh`.
-use Rattle.std.specs.Prelude.{◌≡◌, ℕ, false, List}
+use Rattle.std.specs.Prelude.{◌≡◌, ℕ, true, false, List}
 use Rattle.mh_base.specs.Streams.{SourceState, SinkState}
 use Rattle.folder_files.specs.Deeds.{Deed}
 use Rattle.folder_files.specs.Story.{FilesState}
 use Rattle.file_plans.specs.Follows.{State, all}
 use Rattle.file_plans.specs.Plan.{Hand}
 use Rattle.file_plans.specs.Sightings.{AreMade}
-use Rattle.command_line.specs.CommandNames.{begins_folders, command_of}
+use Rattle.command_line.specs.CommandNames.{begins_folders, command_of, tells_work}
 use Rattle.mh_tools.specs.Setting.{SettingParts}
 use Rattle.mh_tools.specs.declared.status.Status.{Status}
 
@@ -45,3 +45,7 @@ MadeBy c own = AreMade c.setting.run c.before.files.story c.after.files.story ow
 -- the words name no command that begins a folder
 abbrev pub LooksOnly : Call → Type 0
 LooksOnly c = begins_folders (command_of c.words) ≡ false
+
+-- what the call comes to alone is claimed
+abbrev pub TellsWork : Call → Type 0
+TellsWork c = tells_work (command_of c.words) ≡ true

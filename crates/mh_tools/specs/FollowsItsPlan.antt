@@ -34,7 +34,7 @@ told_status (Err sink.Memory) status = NoMemory
 pub record FollowsItsPlan (c : Call) : Type 0 where
   pub outcome : Result Unit Ended
   pub left : Hand
-  pub follows : Follows c.setting.run ended_cause (command c.setting.run c.words) (begins c fresh) (ends c left) outcome
+  pub follows : Follows c.setting.run ended_cause (command c.setting.run c.setting.user c.words) (begins c fresh) (ends c left) outcome
   pub source : ended_status outcome ≢ Faulted Source
   pub ends_so : (c.status ≡ ended_status outcome) ⊎ (c.status ≡ NoMemory)
   pub told : TellsStatus (ended_word outcome) c.before.err c.after.err c.status

@@ -26,6 +26,6 @@ abbrev pub answered : Work Ended → Outcome
 answered w = record { status = ended_status w.end; output = w.text; error = error_of w.end; mailbox = w.mailbox }
 
 -- what a call answers alone; no command that there is looks at the input, nor at its setting but for its own run's number, which tells what other
--- runs hold aside
+-- runs hold aside, and the user's name, which tells where mail is delivered
 unfoldable pub outcome_of : List (List ℕ) → Mailbox → SettingParts → Option (List ℕ) → Outcome
-outcome_of words m setting input = answered (work_of setting.run words m)
+outcome_of words m setting input = answered (work_of setting.run setting.user words m)
