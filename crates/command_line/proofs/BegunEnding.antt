@@ -76,11 +76,11 @@ use Rattle.command_words.specs.declared.rmm.RmmWords.{RmmWords}
 use Rattle.command_line.specs.BegunCauses.{ShowsEarly, ShowsFault, TellsOnFolder, ShowsMark, ShowsMarking, ShowsNamed, ShowsOnFolder, ShowsRemoving, ShowsRmm, long_context, long_profile, wrong_folder, wrong_name, wrong_stored, wrong_word}
 use Rattle.command_line.specs.Causes.{ShowsCommandFault}
 use Rattle.command_line.specs.Command.{command, command_by, context_entered, context_seen, folder_found, mark_begun, mark_by, mark_job, rmm_begun, rmm_by, rmm_job, word_by}
-use Rattle.command_line.specs.CommandNames.{begins_folders, command_of, named}
+use Rattle.command_line.specs.CommandNames.{tells_ends, command_of, named}
 use Rattle.command_line.specs.CommandPledge.{entries_by, text_of}
 use Rattle.command_line.specs.Profile.{folder_of, path_of, profile_name, stored_of}
 use Rattle.command_line.specs.declared.name.CommandName.{CommandName}
-use Rattle.command_line.specs.declared.name.CommandName.TheVariants.{Mark, Rmm, Scan}
+use Rattle.command_line.specs.declared.name.CommandName.TheVariants.{Inc, Mark, Rmm, Scan}
 use Rattle.command_line.proofs.Ending.{scan_shows}
 
 -- where less is asked of what shows an end
@@ -158,7 +158,7 @@ found_silent past h profile said =
     go later j (Ok entered) u = (tt, tt)
     go later j (Err e) u = (tt, tt)
 
-module _ (run : ℕ) (few : run < 2 ^ 128) (words_ : List (List ℕ)) where
+module _ (run : ℕ) (few : run < 2 ^ 128) (user : List ℕ) (words_ : List (List ℕ)) where
   abbrev Shows : CommandFault → List Deed → Type 0
   Shows e own = ShowsFault run words_ e own
 
@@ -533,8 +533,9 @@ module _ (run : ℕ) (few : run < 2 ^ 128) (words_ : List (List ℕ)) where
       rmm_refused : (words : List (List ℕ)) (x : Ended) → rmm_said profile words ≡ Err x → IsEndedBy Shows x.fault (acts past)
       rmm_refused words x e = subst RmmShown e (rmm_items_shown (profile_words (codes "rmm") profile ++ words) (read_in rmm_table 0 (profile_words (codes "rmm") profile ++ words)))
 
-      by_word : (word : List ℕ) (rest : List (List ℕ)) → words_ ≡ word ∷ rest → (n : Option CommandName) → named word ≡ n → begins_folders n ≡ true → Keeps Speech past fresh (word_by run profile word rest n) EndsBy
+      by_word : (word : List ℕ) (rest : List (List ℕ)) → words_ ≡ word ∷ rest → (n : Option CommandName) → named word ≡ n → tells_ends n ≡ true → Keeps Speech past fresh (word_by run user profile word rest n) EndsBy
       by_word word rest is_words None name begins = cc (begins)
+      by_word word rest is_words (Some Inc) name begins = cc (begins)
       by_word word rest is_words (Some Scan) name begins = cc (begins)
       by_word word rest is_words (Some Mark) name begins = go (mark_said profile (map chars rest)) refl
         where
@@ -547,7 +548,7 @@ module _ (run : ℕ) (few : run < 2 ^ 128) (words_ : List (List ℕ)) where
           go (Ok words) said = plain_keeps past fresh (rmm_begun run profile words) (rmm_begun_keeps word rest is_words name words said past is clean silent)
           go (Err x) said = stops past fresh x silent (rmm_refused (map chars rest) x said)
 
-      by_words : (words : List (List ℕ)) → words_ ≡ words → begins_folders (command_of words) ≡ true → Keeps Speech past fresh (command_by run profile words) EndsBy
+      by_words : (words : List (List ℕ)) → words_ ≡ words → tells_ends (command_of words) ≡ true → Keeps Speech past fresh (command_by run user profile words) EndsBy
       by_words [] is_words begins = cc (begins)
       by_words (word ∷ rest) is_words begins = by_word word rest is_words (named word) refl begins
 
@@ -561,10 +562,10 @@ module _ (run : ℕ) (few : run < 2 ^ 128) (words_ : List (List ℕ)) where
       comes_lifted [] fresh plain (text_read Home profile_name) (Tells Home profile_name [] fresh) Profile (told_comes Home profile_name [] fresh) (λ later j text q. q) (λ later j e q. long_first later q.0 e q.1 q.2)
 
   -- a command whose words name one that begins folders: how it ends, and what shows it
-  pub begun_ends_by : begins_folders (command_of words_) ≡ true → Keeps Speech [] fresh (command run words_) EndsBy
+  pub begun_ends_by : tells_ends (command_of words_) ≡ true → Keeps Speech [] fresh (command run user words_) EndsBy
   unfolding command ◌>>=◌
   begun_ends_by begins =
-      keeps_bind Speech [] fresh (lifted plain (text_read Home profile_name)) (after (λ text. command_by run (entries_in text) words_)) _ EndsBy
+      keeps_bind Speech [] fresh (lifted plain (text_read Home profile_name)) (after (λ text. command_by run user (entries_in text) words_)) _ EndsBy
       (in_silence [] fresh (lifted plain (text_read Home profile_name)) (OfActs Reads) refl (profile_silent [] fresh)
       (comes_keeps [] [] fresh (lifted plain (text_read Home profile_name)) Reads refl (comes_clean [] fresh (lifted plain (text_read Home profile_name)) Profile (λ m. m) profile_comes)))
       go
@@ -572,17 +573,17 @@ module _ (run : ℕ) (few : run < 2 ^ 128) (words_ : List (List ℕ)) where
       Reads : Outcome (Result (List ℕ) Ended)
       Reads later j r = NoneFailed later × Profile later j r
 
-      go : (later : List runs.Deed) (j : Hand) (r : Result (List ℕ) Ended) → (said_of later ≡ []) × OfActs Reads later j r → Keeps Speech later j (after (λ text. command_by run (entries_in text) words_) r) EndsBy
+      go : (later : List runs.Deed) (j : Hand) (r : Result (List ℕ) Ended) → (said_of later ≡ []) × OfActs Reads later j r → Keeps Speech later j (after (λ text. command_by run user (entries_in text) words_) r) EndsBy
       go later j (Ok text) q =
-          subst (λ i. Keeps Speech later i (command_by run (entries_in text) words_) EndsBy) (sym q.1.1.2)
-          (subst (λ t. Keeps Speech later fresh (command_by run (entries_in t) words_) EndsBy) (sym q.1.1.3) (by_words q.1.1.0 later q.1.1.1 q.1.0 q.0 words_ refl begins))
+          subst (λ i. Keeps Speech later i (command_by run user (entries_in text) words_) EndsBy) (sym q.1.1.2)
+          (subst (λ t. Keeps Speech later fresh (command_by run user (entries_in t) words_) EndsBy) (sym q.1.1.3) (by_words q.1.1.0 later q.1.1.1 q.1.0 q.0 words_ refl begins))
       go later j (Err x) q = stops later j x q.0 (early x.fault (acts later) q.1.1 q.1.0)
 
   -- so does each run of it
-  pub run_ends_by : begins_folders (command_of words_) ≡ true → (ds : List runs.Deed) (j : Hand) (r : Result Unit Ended) → Runs (command run words_) fresh ds j (Returned r) → EndsBy ds j r
-  run_ends_by begins ds j r f = (run_keeps Speech [] fresh (command run words_) ds j (Returned r) EndsBy (begun_ends_by begins) f).gave
+  pub run_ends_by : tells_ends (command_of words_) ≡ true → (ds : List runs.Deed) (j : Hand) (r : Result Unit Ended) → Runs (command run user words_) fresh ds j (Returned r) → EndsBy ds j r
+  run_ends_by begins ds j r f = (run_keeps Speech [] fresh (command run user words_) ds j (Returned r) EndsBy (begun_ends_by begins) f).gave
 
   -- and what it says however it ends
-  pub run_tells : begins_folders (command_of words_) ≡ true → (ds : List runs.Deed) (j : Hand) (x : Exit (Result Unit Ended)) → Runs (command run words_) fresh ds j x
+  pub run_tells : tells_ends (command_of words_) ≡ true → (ds : List runs.Deed) (j : Hand) (x : Exit (Result Unit Ended)) → Runs (command run user words_) fresh ds j x
       → IsToldBy Spoken (said_of ds) (acts ds) × (x ≡ OutFailed → (text : List ℕ) × Spoken text (acts ds) × (text ≢ []))
-  run_tells begins ds j x f = run_speaks Spoken (command run words_) fresh ds j x EndsBy (begun_ends_by begins) f
+  run_tells begins ds j x f = run_speaks Spoken (command run user words_) fresh ds j x EndsBy (begun_ends_by begins) f

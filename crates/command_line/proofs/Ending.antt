@@ -38,7 +38,7 @@ use Rattle.command_line.specs.Command.{command, command_by, context_entered, con
 use Rattle.command_line.specs.CommandNames.{begins_folders, command_of, named}
 use Rattle.command_line.specs.Profile.{folder_of, path_of, profile_name, stored_of}
 use Rattle.command_line.specs.declared.name.CommandName.{CommandName}
-use Rattle.command_line.specs.declared.name.CommandName.TheVariants.{Mark, Rmm, Scan}
+use Rattle.command_line.specs.declared.name.CommandName.TheVariants.{Inc, Mark, Rmm, Scan}
 use Rattle.command_words.specs.Ended.{plain, wrong_word}
 use Rattle.command_words.specs.FolderWords.{one_folder, folders}
 use Rattle.command_words.specs.ScanWords.{with_folder, folder_said, words_of, items_said}
@@ -186,15 +186,16 @@ module _ (run : ℕ) where
     with_items words (Ok items) = with_one words items (one_folder (folders items))
     with_items words (Err wrong) = refused wrong _
 
-    by_word : (word : List ℕ) (words : List (List ℕ)) (name : Option CommandName) → (begins_folders name ≡ false) → Comes own fresh (word_by run profile word words name) CommandEnds
-    by_word word words None other = refused _ (Some word)
-    by_word word words (Some Scan) other = with_items (profile_words (codes "scan") profile ++ map chars words) (read_in scan_table 0 (profile_words (codes "scan") profile ++ map chars words))
-    by_word word words (Some Mark) other = cc (other)
-    by_word word words (Some Rmm) other = cc (other)
+    by_word : (user : List ℕ) (word : List ℕ) (words : List (List ℕ)) (name : Option CommandName) → (begins_folders name ≡ false) → Comes own fresh (word_by run user profile word words name) CommandEnds
+    by_word user word words None other = refused _ (Some word)
+    by_word user word words (Some Inc) other = cc (other)
+    by_word user word words (Some Scan) other = with_items (profile_words (codes "scan") profile ++ map chars words) (read_in scan_table 0 (profile_words (codes "scan") profile ++ map chars words))
+    by_word user word words (Some Mark) other = cc (other)
+    by_word user word words (Some Rmm) other = cc (other)
 
-    by_words : (words : List (List ℕ)) → (begins_folders (command_of words) ≡ false) → Comes own fresh (command_by run profile words) CommandEnds
-    by_words [] other = refused _ None
-    by_words (word ∷ words) other = by_word word words (named word) other
+    by_words : (user : List ℕ) (words : List (List ℕ)) → (begins_folders (command_of words) ≡ false) → Comes own fresh (command_by run user profile words) CommandEnds
+    by_words user [] other = refused _ None
+    by_words user (word ∷ words) other = by_word user word words (named word) other
 
   -- the profile
   abbrev ProfileEnds : Outcome (Result (List ℕ) Ended)
@@ -206,20 +207,20 @@ module _ (run : ℕ) where
       comes_lifted [] fresh plain (text_read Home profile_name) (TextEnds Home profile_name [] fresh) ProfileEnds (text_comes Home profile_name [] fresh) (λ later j text q. q)
       (λ later j e q. long_shows Home profile_name [] later q.0 e q.1 q.2)
 
-  command_comes : (words : List (List ℕ)) → (begins_folders (command_of words) ≡ false) → Comes [] fresh (command run words) CommandEnds
+  command_comes : (user : List ℕ) (words : List (List ℕ)) → (begins_folders (command_of words) ≡ false) → Comes [] fresh (command run user words) CommandEnds
   unfolding command
-  command_comes words other =
-      comes_then [] fresh (lifted plain (text_read Home profile_name)) (λ text. command_by run (entries_in text) words) ProfileEnds CommandEnds profile_comes
-      (λ later j text q. comes_at later (after_profile q.0) j fresh (command_by run (entries_in text) words) CommandEnds q.1 q.2 (by_words (entries_in text) q.0 words other)) (λ later j e q. q)
+  command_comes user words other =
+      comes_then [] fresh (lifted plain (text_read Home profile_name)) (λ text. command_by run user (entries_in text) words) ProfileEnds CommandEnds profile_comes
+      (λ later j text q. comes_at later (after_profile q.0) j fresh (command_by run user (entries_in text) words) CommandEnds q.1 q.2 (by_words (entries_in text) q.0 user words other)) (λ later j e q. q)
 
   -- where the plan of a command that looks returns, no step of the call has failed, and its deeds show the fault, if there is one
   abbrev pub EndsAs : List runs.Deed → Hand → Result Unit Ended → Type 0
   EndsAs past h (Ok u) = NoneFailed (acts past)
   EndsAs past h (Err e) = ShowsCommandFault run e.fault (acts past) × NoneFailed (acts past)
 
-  pub command_ends : (words : List (List ℕ)) → (begins_folders (command_of words) ≡ false) → Keeps anything [] fresh (command run words) EndsAs
-  command_ends words other =
-      comes_keeps [] [] fresh (command run words) Ends refl (comes_more [] fresh (command run words) (λ later j r. NoneFailed later × CommandEnds later j r) Ends both (comes_clean [] fresh (command run words) CommandEnds (λ m. m) (command_comes words other)))
+  pub command_ends : (user : List ℕ) (words : List (List ℕ)) → (begins_folders (command_of words) ≡ false) → Keeps anything [] fresh (command run user words) EndsAs
+  command_ends user words other =
+      comes_keeps [] [] fresh (command run user words) Ends refl (comes_more [] fresh (command run user words) (λ later j r. NoneFailed later × CommandEnds later j r) Ends both (comes_clean [] fresh (command run user words) CommandEnds (λ m. m) (command_comes user words other)))
     where
       Ends : Outcome (Result Unit Ended)
       Ends later j (Ok u) = NoneFailed later
@@ -230,5 +231,5 @@ module _ (run : ℕ) where
       both later j (Err e) q = (q.1, q.0)
 
   -- so does each run of it
-  pub run_ends : (words : List (List ℕ)) → (begins_folders (command_of words) ≡ false) → (ds : List runs.Deed) (j : Hand) (r : Result Unit Ended) → Runs (command run words) fresh ds j (Returned r) → EndsAs ds j r
-  run_ends words other ds j r f = (run_keeps anything [] fresh (command run words) ds j (Returned r) EndsAs (command_ends words other) f).gave
+  pub run_ends : (user : List ℕ) (words : List (List ℕ)) → (begins_folders (command_of words) ≡ false) → (ds : List runs.Deed) (j : Hand) (r : Result Unit Ended) → Runs (command run user words) fresh ds j (Returned r) → EndsAs ds j r
+  run_ends user words other ds j r f = (run_keeps anything [] fresh (command run user words) ds j (Returned r) EndsAs (command_ends user words other) f).gave

@@ -45,11 +45,11 @@ use Rattle.command_words.specs.declared.rmm.RmmWords.{RmmWords}
 use Rattle.command_words.specs.declared.scan.ScanWords.{ScanWords}
 use Rattle.command_words.proofs.SaidFolder.{IsValid}
 use Rattle.command_line.specs.Command.{context_seen, context_entered, folder_found, job_of, mark_job, scan_begun, scan_by, mark_begun, mark_by, rmm_begun, rmm_by, rmm_job, word_by, command_by, command}
-use Rattle.command_line.specs.CommandNames.{begins_folders, command_of, named}
+use Rattle.command_line.specs.CommandNames.{begins_folders, command_of, named, tells_work}
 use Rattle.command_line.specs.Outcomes.{FolderWork, plainly, of_stage, in_folder, with_context, scans, scan_words_work, marks, mark_words_work, rmms, rmm_words_work, word_work, named_work, with_profile, work_by, work_of, alone_meeting}
 use Rattle.command_line.specs.Profile.{folder_of, path_of, profile_name}
 use Rattle.command_line.specs.declared.name.CommandName.{CommandName}
-use Rattle.command_line.specs.declared.name.CommandName.TheVariants.{Mark, Rmm, Scan}
+use Rattle.command_line.specs.declared.name.CommandName.TheVariants.{Inc, Mark, Rmm, Scan}
 use Rattle.command_line.proofs.Refusals.{IsRefusal, folder_refuses, mark_refuses, rmm_refuses, scan_refuses}
 use Rattle.command_line.proofs.SaidFolder.{acted_valid, mark_valid, rmm_words_valid}
 
@@ -333,45 +333,46 @@ module _ (alone : Bool) (run : ℕ) (c : Contents) (few : run < 2 ^ 128) (homes 
         subst (λ b. Gives (by_view b) z fresh (rmm_words_work (alone_meeting run) box profile (rmm_said profile words)).text (rmm_by run profile (rmm_said profile words)) (CommandEnds b (rmm_words_work (alone_meeting run) box profile (rmm_said profile words)))) (sym only)
         (rmm_words_true (homes only) (rmm_said profile words) (λ said e. rmm_words_valid profile words said e) (λ e is. rmm_refuses profile words e is))
 
-    by_word : (word : List ℕ) (words : List (List ℕ)) (name : Option CommandName) → (begins_folders name ≡ true → alone ≡ true) → Gives (by_view alone) z fresh (word_work (alone_meeting run) box profile word words name).text (word_by run profile word words name) (CommandEnds alone (word_work (alone_meeting run) box profile word words name))
+    by_word : (user : List ℕ) (word : List ℕ) (words : List (List ℕ)) (name : Option CommandName) → (begins_folders name ≡ true → alone ≡ true) → tells_work name ≡ true → Gives (by_view alone) z fresh (word_work (alone_meeting run) box user profile word words name).text (word_by run user profile word words name) (CommandEnds alone (word_work (alone_meeting run) box user profile word words name))
     unfolding Gives
-    by_word word words None only = (refl, inl (refl, λ a. ap mailbox_in same))
-    by_word word words (Some Scan) only = scan_words_give (scan_said profile (map chars words)) (λ e is. scan_refuses profile (map chars words) e is)
-    by_word word words (Some Mark) only = mark_words_give (only refl) (map chars words)
-    by_word word words (Some Rmm) only = rmm_words_give (only refl) (map chars words)
+    by_word user word words None only told = (refl, inl (refl, λ a. ap mailbox_in same))
+    by_word user word words (Some Inc) only told = cc (told)
+    by_word user word words (Some Scan) only told = scan_words_give (scan_said profile (map chars words)) (λ e is. scan_refuses profile (map chars words) e is)
+    by_word user word words (Some Mark) only told = mark_words_give (only refl) (map chars words)
+    by_word user word words (Some Rmm) only told = rmm_words_give (only refl) (map chars words)
 
-    by_name : (words : List (List ℕ)) → (begins_folders (command_of words) ≡ true → alone ≡ true) → Gives (by_view alone) z fresh (named_work (alone_meeting run) box profile words).text (command_by run profile words) (CommandEnds alone (named_work (alone_meeting run) box profile words))
+    by_name : (user : List ℕ) (words : List (List ℕ)) → (begins_folders (command_of words) ≡ true → alone ≡ true) → tells_work (command_of words) ≡ true → Gives (by_view alone) z fresh (named_work (alone_meeting run) box user profile words).text (command_by run user profile words) (CommandEnds alone (named_work (alone_meeting run) box user profile words))
     unfolding Gives
-    by_name [] only = (refl, inl (refl, λ a. ap mailbox_in same))
-    by_name (word ∷ words) only = by_word word words (named word) only
+    by_name user [] only told = (refl, inl (refl, λ a. ap mailbox_in same))
+    by_name user (word ∷ words) only told = by_word user word words (named word) only told
 
   -- the whole; beside others, of commands that look
-  module _ (words : List (List ℕ)) (only : begins_folders (command_of words) ≡ true → alone ≡ true) where
+  module _ (user : List ℕ) (words : List (List ℕ)) (only : begins_folders (command_of words) ≡ true → alone ≡ true) (told : tells_work (command_of words) ≡ true) where
     abbrev pub whole_work : Work Ended
-    whole_work = work_of run words box
+    whole_work = work_of run user words box
 
     module _ (v : View) (same : v.contents ≡ c) (first : IsFirst v) where
       profile_at : (o : Result (List ℕ) CommandFault) → o ≡ readable (v.contents.texts Home profile_name) → readable (c.texts Home profile_name) ≡ o
       profile_at o is = ap (λ d. readable (d.texts Home profile_name)) (sym same) ∙ sym is
 
-      works_by : (o : Result (List ℕ) CommandFault) → readable (c.texts Home profile_name) ≡ o → whole_work ≡ with_profile (alone_meeting run) box words o
+      works_by : (o : Result (List ℕ) CommandFault) → readable (c.texts Home profile_name) ≡ o → whole_work ≡ with_profile (alone_meeting run) box user words o
       unfolding work_by mailbox_in
-      works_by o is = ap (with_profile (alone_meeting run) box words) is
+      works_by o is = ap (with_profile (alone_meeting run) box user words) is
 
-      after_profile : (z : View) (j : Hand) (left : List ℕ) (r : Result (List ℕ) CommandFault) → TextRead v Home profile_name fresh whole_work.text z j left r → Gives (by_view alone) z j left (after (λ text. command_by run (entries_in text) words) (converted plain r)) (CommandEnds alone whole_work)
+      after_profile : (z : View) (j : Hand) (left : List ℕ) (r : Result (List ℕ) CommandFault) → TextRead v Home profile_name fresh whole_work.text z j left r → Gives (by_view alone) z j left (after (λ text. command_by run user (entries_in text) words) (converted plain r)) (CommandEnds alone whole_work)
       unfolding Gives
       after_profile z j left (Ok text) t =
           let w = works_by (Ok text) (profile_at (Ok text) t.value) in
-          rw (t.view, t.hand, t.rest) (subst (λ x. Gives (by_view alone) (after_read v Home profile_name) fresh x.text (command_by run (entries_in text) words) (CommandEnds alone x)) (sym w)
-          (by_name (entries_in text) (after_read v Home profile_name) same (λ p x. first.unmet p x) (begun_first v first) words only))
+          rw (t.view, t.hand, t.rest) (subst (λ x. Gives (by_view alone) (after_read v Home profile_name) fresh x.text (command_by run user (entries_in text) words) (CommandEnds alone x)) (sym w)
+          (by_name (entries_in text) (after_read v Home profile_name) same (λ p x. first.unmet p x) (begun_first v first) user words only told))
       after_profile z j left (Err e) t =
           let is = profile_at (Err e) t.value in
           let w = works_by (Err e) is in
           let l = unreadable (c.texts Home profile_name) e is in
           subst (λ x. CommandEnds alone x z j left (Err (plain e))) (sym w) (plain_refused alone c (plain e) (refusal.TooLarge l.0 LIMIT_BYTES) z j left l.1 (t.rest ∙ ap (λ x. x.text) w) (ap (λ y. y.contents) t.view ∙ same))
 
-      pub command_gives : Gives (by_view alone) v fresh whole_work.text (command run words) (CommandEnds alone whole_work)
+      pub command_gives : Gives (by_view alone) v fresh whole_work.text (command run user words) (CommandEnds alone whole_work)
       unfolding command
       command_gives =
-          gives_then (by_view alone) v fresh whole_work.text plain (text_read Home profile_name) (λ text. command_by run (entries_in text) words) (TextRead v Home profile_name fresh whole_work.text) (CommandEnds alone whole_work)
+          gives_then (by_view alone) v fresh whole_work.text plain (text_read Home profile_name) (λ text. command_by run user (entries_in text) words) (TextRead v Home profile_name fresh whole_work.text) (CommandEnds alone whole_work)
           (text_gives alone v Home profile_name fresh whole_work.text (λ beside. ap (λ s. s.names Home profile_name) first.seen)) after_profile

@@ -70,7 +70,7 @@ use Rattle.command_line.specs.CommandNames.{begins_folders, command_of, named}
 use Rattle.command_line.specs.CommandPledge.{entries_by, marks_pledge, on_named, rmm_on_named, rmms_pledge}
 use Rattle.command_line.specs.Profile.{folder_of, path_of, profile_name}
 use Rattle.command_line.specs.declared.name.CommandName.{CommandName}
-use Rattle.command_line.specs.declared.name.CommandName.TheVariants.{Mark, Rmm, Scan}
+use Rattle.command_line.specs.declared.name.CommandName.TheVariants.{Inc, Mark, Rmm, Scan}
 use Rattle.command_line.proofs.MindsMarks.{command_keeps_sequences, keeps_may, minds_sequences}
 use Rattle.command_line.proofs.Pledging.{Answered, answers, context_keeps, context_step, known_sound, mark_acts, mark_onward, mark_words_keep, named_onward, on_context, onward_by, plan_by, profile_step, rmm_acts, rmm_onward, rmm_words_keep, two_readings, word_onward}
 use Rattle.command_line.proofs.FolderChars.{AreUtf8, HasChars, acted_chars, chars_texts, mark_chars, rmm_chars}
@@ -337,11 +337,11 @@ unheld_kept w minds None (Some new) same may = absurd may
 unheld_kept w minds (Some old) None same may = absurd may
 
 -- after a profile that is too long a command does nothing
-module _ (run : ℕ) (few : run < 2 ^ 128) (word : List ℕ) (words : List (List ℕ)) (texts : AreUtf8 words) (h : Hand) (b : Answer) where
+module _ (run : ℕ) (few : run < 2 ^ 128) (user : List ℕ) (word : List ℕ) (words : List (List ℕ)) (texts : AreUtf8 words) (h : Hand) (b : Answer) where
   abbrev all : List (List ℕ)
   all = word ∷ words
 
-  long_minding : (B : List Deed → Step → Type 0) (l : ℕ) → Minding run B h (plan_by run few all (reading.Long l) b)
+  long_minding : (B : List Deed → Step → Type 0) (l : ℕ) → Minding run B h (plan_by run few user all (reading.Long l) b)
   unfolding onward_by lifted bind ◌>>=◌
   long_minding B l = record {
     pledge = scan_pledge run (path_of (entries_in []));
@@ -351,33 +351,33 @@ module _ (run : ℕ) (few : run < 2 ^ 128) (word : List ℕ) (words : List (List
     keeps = keeps_ended (scan_pledge run (path_of (entries_in []))) Home profile_name LIMIT_BYTES h (Err (plain (too_large l))) (IfOkay Any) (λ c. tt);
   }
 
-  mark_named : (profile : List NamedValue) (name : Option CommandName) → name ≡ Some Mark → Minding run NothingMore h (Ask profile_step (λ c. rest_by (context_step profile) (word_by run profile word words name) (word_onward run profile word words name) b))
+  mark_named : (profile : List NamedValue) (name : Option CommandName) → name ≡ Some Mark → Minding run NothingMore h (Ask profile_step (λ c. rest_by (context_step profile) (word_by run user profile word words name) (word_onward run profile user word words name) b))
   unfolding word_onward
   mark_named profile name is =
-      subst (λ z. Minding run NothingMore h (Ask profile_step (λ c. rest_by (context_step profile) (word_by run profile word words z) (word_onward run profile word words z) b))) (sym is)
+      subst (λ z. Minding run NothingMore h (Ask profile_step (λ c. rest_by (context_step profile) (word_by run user profile word words z) (word_onward run profile user word words z) b))) (sym is)
       (mark_minding run few profile h b (mark_said profile (map chars words)) (λ said e. (mark_valid profile (map chars words) said e, mark_chars profile (map chars words) said (chars_texts words texts) e)))
 
-  rmm_named : (profile : List NamedValue) (name : Option CommandName) → name ≡ Some Rmm → Minding run RemovesSo h (Ask profile_step (λ c. rest_by (context_step profile) (word_by run profile word words name) (word_onward run profile word words name) b))
+  rmm_named : (profile : List NamedValue) (name : Option CommandName) → name ≡ Some Rmm → Minding run RemovesSo h (Ask profile_step (λ c. rest_by (context_step profile) (word_by run user profile word words name) (word_onward run profile user word words name) b))
   unfolding word_onward
   rmm_named profile name is =
-      subst (λ z. Minding run RemovesSo h (Ask profile_step (λ c. rest_by (context_step profile) (word_by run profile word words z) (word_onward run profile word words z) b))) (sym is)
+      subst (λ z. Minding run RemovesSo h (Ask profile_step (λ c. rest_by (context_step profile) (word_by run user profile word words z) (word_onward run profile user word words z) b))) (sym is)
       (rmm_minding run few profile h b (rmm_said profile (map chars words)) (λ said e. (rmm_words_valid profile (map chars words) said e, rmm_chars profile (map chars words) said (chars_texts words texts) e)))
 
-  mark_read : (r : Reading) → named word ≡ Some Mark → Minding run NothingMore h (plan_by run few all r b)
+  mark_read : (r : Reading) → named word ≡ Some Mark → Minding run NothingMore h (plan_by run few user all r b)
   unfolding onward_by named_onward lifted bind ◌>>=◌
   mark_read (reading.Content bytes) is = mark_named (entries_in bytes) (named word) is
   mark_read (reading.Long l) is = long_minding NothingMore l
   mark_read reading.Gone is = mark_named (entries_in []) (named word) is
 
-  rmm_read : (r : Reading) → named word ≡ Some Rmm → Minding run RemovesSo h (plan_by run few all r b)
+  rmm_read : (r : Reading) → named word ≡ Some Rmm → Minding run RemovesSo h (plan_by run few user all r b)
   unfolding onward_by named_onward lifted bind ◌>>=◌
   rmm_read (reading.Content bytes) is = rmm_named (entries_in bytes) (named word) is
   rmm_read (reading.Long l) is = long_minding RemovesSo l
   rmm_read reading.Gone is = rmm_named (entries_in []) (named word) is
 
 -- a call that follows a command keeps the marks of messages
-module _ (run : ℕ) (few : run < 2 ^ 128) (x y : State) (result : Result Unit Ended) where
-  start_same : (words : List (List ℕ)) → Follows run ended_cause (command run words) x y result → SameStart x.files.story y.files.story
+module _ (run : ℕ) (few : run < 2 ^ 128) (user : List ℕ) (x y : State) (result : Result Unit Ended) where
+  start_same : (words : List (List ℕ)) → Follows run ended_cause (command run user words) x y result → SameStart x.files.story y.files.story
   start_same words f = go x.files.story y.files.story f.went.grows
     where
       go : (old new : Option Story) → GrowsBy run old new (filed_in f.went.log) → SameStart old new
@@ -386,35 +386,36 @@ module _ (run : ℕ) (few : run < 2 ^ 128) (x y : State) (result : Result Unit E
       go None (Some new) g = absurd g
       go (Some old) None g = absurd g
 
-  minding_may : (words : List (List ℕ)) (f : Follows run ended_cause (command run words) x y result) (t : Answered run few words x.hand y.hand (deeds_in f.went.log) (exit_of ended_cause result)) {B : List Deed → Step → Type 0}
-      → (m : Minding run B x.hand (plan_by run few words (reading_of t.first) t.second)) → StoryMay m.pledge x.files.story y.files.story
+  minding_may : (words : List (List ℕ)) (f : Follows run ended_cause (command run user words) x y result) (t : Answered run few user words x.hand y.hand (deeds_in f.went.log) (exit_of ended_cause result)) {B : List Deed → Step → Type 0}
+      → (m : Minding run B x.hand (plan_by run few user words (reading_of t.first) t.second)) → StoryMay m.pledge x.files.story y.files.story
   minding_may words f t m =
-      keeps_may m.pledge ended_cause (plan_by run few words (reading_of t.first) t.second) x y result m.Q m.keeps
-      (subst (λ n. Follows n ended_cause (plan_by run few words (reading_of t.first) t.second) x y result) (sym m.run_is) (follows_so run ended_cause (command run words) (plan_by run few words (reading_of t.first) t.second) x y result f t.runs))
+      keeps_may m.pledge ended_cause (plan_by run few user words (reading_of t.first) t.second) x y result m.Q m.keeps
+      (subst (λ n. Follows n ended_cause (plan_by run few user words (reading_of t.first) t.second) x y result) (sym m.run_is) (follows_so run ended_cause (command run user words) (plan_by run few user words (reading_of t.first) t.second) x y result f t.runs))
 
-  mark_kept : (word : List ℕ) (words : List (List ℕ)) → AreUtf8 words → named word ≡ Some Mark → Follows run ended_cause (command run (word ∷ words)) x y result → KeepsSequencesOf IsTextName run x.files.story y.files.story
-  mark_kept word words texts is f = go (answers run few (word ∷ words) x y result f)
+  mark_kept : (word : List ℕ) (words : List (List ℕ)) → AreUtf8 words → named word ≡ Some Mark → Follows run ended_cause (command run user (word ∷ words)) x y result → KeepsSequencesOf IsTextName run x.files.story y.files.story
+  mark_kept word words texts is f = go (answers run few user (word ∷ words) x y result f)
     where
-      go : Answered run few (word ∷ words) x.hand y.hand (deeds_in f.went.log) (exit_of ended_cause result) → KeepsSequencesOf IsTextName run x.files.story y.files.story
+      go : Answered run few user (word ∷ words) x.hand y.hand (deeds_in f.went.log) (exit_of ended_cause result) → KeepsSequencesOf IsTextName run x.files.story y.files.story
       go t =
-          let m = mark_read run few word words texts x.hand t.second (reading_of t.first) is in
+          let m = mark_read run few user word words texts x.hand t.second (reading_of t.first) is in
           subst (λ n. KeepsSequencesOf IsTextName n x.files.story y.files.story) m.run_is
           (sequences_kept_of IsTextName (with_step m.pledge NothingMore) m.minds x.files.story y.files.story (start_same (word ∷ words) f) (may_more m.pledge x.files.story y.files.story (minding_may (word ∷ words) f t m)))
 
-  rmm_kept : (word : List ℕ) (words : List (List ℕ)) → AreUtf8 words → named word ≡ Some Rmm → Follows run ended_cause (command run (word ∷ words)) x y result → KeepsUnheld run x.files.story y.files.story
-  rmm_kept word words texts is f = go (answers run few (word ∷ words) x y result f)
+  rmm_kept : (word : List ℕ) (words : List (List ℕ)) → AreUtf8 words → named word ≡ Some Rmm → Follows run ended_cause (command run user (word ∷ words)) x y result → KeepsUnheld run x.files.story y.files.story
+  rmm_kept word words texts is f = go (answers run few user (word ∷ words) x y result f)
     where
-      go : Answered run few (word ∷ words) x.hand y.hand (deeds_in f.went.log) (exit_of ended_cause result) → KeepsUnheld run x.files.story y.files.story
+      go : Answered run few user (word ∷ words) x.hand y.hand (deeds_in f.went.log) (exit_of ended_cause result) → KeepsUnheld run x.files.story y.files.story
       go t =
-          let m = rmm_read run few word words texts x.hand t.second (reading_of t.first) is in
+          let m = rmm_read run few user word words texts x.hand t.second (reading_of t.first) is in
           subst (λ n. KeepsUnheld n x.files.story y.files.story) m.run_is (unheld_kept m.pledge m.minds x.files.story y.files.story (start_same (word ∷ words) f) (minding_may (word ∷ words) f t m))
 
-  by_name : (word : List ℕ) (words : List (List ℕ)) → AreUtf8 words → Follows run ended_cause (command run (word ∷ words)) x y result → (name : Option CommandName) → named word ≡ name → KeepsCommandMarks name run x.files.story y.files.story
-  by_name word words texts f None is = command_keeps_sequences run few (word ∷ words) (ap begins_folders is) x y result f
-  by_name word words texts f (Some Scan) is = command_keeps_sequences run few (word ∷ words) (ap begins_folders is) x y result f
+  by_name : (word : List ℕ) (words : List (List ℕ)) → AreUtf8 words → Follows run ended_cause (command run user (word ∷ words)) x y result → (name : Option CommandName) → named word ≡ name → KeepsCommandMarks name run x.files.story y.files.story
+  by_name word words texts f None is = command_keeps_sequences run few user (word ∷ words) (ap begins_folders is) x y result f
+  by_name word words texts f (Some Inc) is = tt
+  by_name word words texts f (Some Scan) is = command_keeps_sequences run few user (word ∷ words) (ap begins_folders is) x y result f
   by_name word words texts f (Some Mark) is = mark_kept word words texts is f
   by_name word words texts f (Some Rmm) is = rmm_kept word words texts is f
 
-  pub command_keeps_marks : (words : List (List ℕ)) → AreUtf8 words → Follows run ended_cause (command run words) x y result → KeepsCommandMarks (command_of words) run x.files.story y.files.story
-  command_keeps_marks [] texts f = command_keeps_sequences run few [] refl x y result f
+  pub command_keeps_marks : (words : List (List ℕ)) → AreUtf8 words → Follows run ended_cause (command run user words) x y result → KeepsCommandMarks (command_of words) run x.files.story y.files.story
+  command_keeps_marks [] texts f = command_keeps_sequences run few user [] refl x y result f
   command_keeps_marks (word ∷ words) texts f = by_name word words texts.1 f (named word) refl

@@ -32,12 +32,18 @@ use Rattle.command_stages.specs.Texts.{Commanded, text_by, text_read, too_large}
 use Rattle.mh_looks.specs.Scan.{entries_seen, scan}
 use Rattle.mh_looks.specs.ScanPledge.{scan_pledge}
 use Rattle.mh_looks.proofs.Pledging.{Noted, scan_goes}
+use Rattle.message_puts.proofs.FirstPuts.{AreOnce, none_once, once_asked}
 use Rattle.opened_folders.proofs.EndedKept.{Still, keeps_more}
+use Rattle.inc_command.specs.Inc.{inc}
+use Rattle.inc_command.specs.IncPledge.{inc_pledge}
+use Rattle.inc_command.specs.declared.job.IncJob.{IncJob}
+use Rattle.inc_command.proofs.IncPledged.{inc_keeps}
 use Rattle.mark_command.specs.Mark.{mark}
 use Rattle.mark_command.specs.MarkPledge.{pledge_by}
 use Rattle.mark_command.specs.declared.job.MarkAct.{MarkAct}
 use Rattle.mark_command.proofs.MarkPledged.{mark_keeps}
 use Rattle.command_words.specs.Ended.{Ending, ended_cause, plain}
+use Rattle.command_words.specs.IncWords.{inc_said}
 use Rattle.command_words.specs.MarkWords.{mark_said}
 use Rattle.command_words.specs.RmmWords.{rmm_said}
 use Rattle.command_words.specs.ScanWords.{scan_said}
@@ -48,14 +54,15 @@ use Rattle.command_words.specs.declared.scan.ScanWords.{ScanWords}
 use Rattle.command_words.proofs.SaidFolder.{IsValid}
 use Rattle.refile_command.specs.Rmm.{rmm}
 use Rattle.refile_command.proofs.RmmPledged.{rmm_keeps}
-use Rattle.command_line.specs.Command.{command, command_by, context_entered, context_seen, folder_found, job_of, mark_begun, mark_by, mark_job, no_command, rmm_begun, rmm_by, rmm_job, scan_begun, scan_by, word_by}
+use Rattle.command_line.specs.Command.{command, command_by, context_entered, context_seen, folder_found, inc_begun, inc_by, job_of, mark_begun, mark_by, mark_job, no_command, rmm_begun, rmm_by, rmm_job, scan_begun, scan_by, word_by}
 use Rattle.command_line.specs.CommandNames.{command_of, named}
-use Rattle.command_line.specs.CommandPledge.{IsDone, KeepsPledge, command_pledge, entries_by, marks_pledge, on_named, path_by, rmm_on_named, rmms_pledge, text_of, word_pledge}
+use Rattle.command_line.specs.CommandPledge.{IsDone, KeepsPledge, command_pledge, entries_by, incs_pledge, marks_pledge, on_named, path_by, rmm_on_named, rmms_pledge, text_of, word_pledge}
+use Rattle.command_line.specs.Incorporating.{job_by}
 use Rattle.command_line.specs.Profile.{folder_of, path_of, profile_name}
 use Rattle.command_line.specs.declared.name.CommandName.{CommandName}
-use Rattle.command_line.specs.declared.name.CommandName.TheVariants.{Mark, Rmm, Scan}
+use Rattle.command_line.specs.declared.name.CommandName.TheVariants.{Inc, Mark, Rmm, Scan}
 use Rattle.command_line.proofs.SaidFolder.{acted_valid, scan_valid}
-use Rattle.command_line.proofs.TwoAnswers.{Onward, TwoAnswers, acts_begin_with, follows_so, keeps_after, keeps_ended, rest_by, two_answers}
+use Rattle.command_line.proofs.TwoAnswers.{Onward, TwoAnswers, acts_begin_with, follows_so, keeps_after, keeps_ended, may_read, rest_by, two_answers}
 
 abbrev pub profile_step : Step
 profile_step = Read Home profile_name LIMIT_BYTES
@@ -73,6 +80,17 @@ on_context profile said act r = lifted plain (on_context_plainly profile said ac
 pub context_asked : (profile : List NamedValue) (said : Option (List ℕ)) (act : List ℕ → Commanded Unit) → lifted plain (folder_found profile said >>= act) ≡ Ask (context_step profile) (λ b. on_context profile said act (reading_of b))
 unfolding folder_found context_entered text_read read ask lifted bind ◌>>=◌
 context_asked profile said act = refl
+
+-- the same of `inc`, whose folder is known before
+abbrev pub on_entries_plainly : Commanded Unit → Reading → Commanded Unit
+on_entries_plainly act r = (text_by r >>= (λ text. context_seen (entries_in text))) >>= (λ entered. act)
+
+abbrev pub on_entries : Commanded Unit → Reading → Ending Unit
+on_entries act r = lifted plain (on_entries_plainly act r)
+
+pub entries_asked : (profile : List NamedValue) (act : Commanded Unit) → lifted plain (context_entered (Mail (path_of profile)) >>= (λ entered. act)) ≡ Ask (context_step profile) (λ b. on_entries act (reading_of b))
+unfolding context_entered text_read read ask lifted bind ◌>>=◌
+entries_asked profile act = refl
 
 -- what is done next, by the words: the context is read, or the command ends
 module _ (run : ℕ) (profile : List NamedValue) where
@@ -100,15 +118,21 @@ module _ (run : ℕ) (profile : List NamedValue) where
   rmm_onward (Ok words) = inr (λ b. on_context profile words.folder (rmm_acts words) (reading_of b), context_asked profile words.folder (rmm_acts words))
   rmm_onward (Err e) = inl (Err e, refl)
 
-  unfoldable pub word_onward : (word : List ℕ) (words : List (List ℕ)) (name : Option CommandName) → Onward (context_step profile) (word_by run profile word words name)
-  word_onward word words None = inl (Err (no_command (Some word)), refl)
-  word_onward word words (Some Scan) = scan_onward (scan_said profile (map chars words))
-  word_onward word words (Some Mark) = mark_onward (mark_said profile (map chars words))
-  word_onward word words (Some Rmm) = rmm_onward (rmm_said profile (map chars words))
+  unfoldable pub inc_onward : (value : Result IncJob Ended) → Onward (context_step profile) (inc_by run profile value)
+  unfolding inc_begun
+  inc_onward (Ok job) = inr (λ b. on_entries (inc run (path_of profile) job) (reading_of b), entries_asked profile (inc run (path_of profile) job))
+  inc_onward (Err e) = inl (Err e, refl)
 
-  unfoldable pub named_onward : (words : List (List ℕ)) → Onward (context_step profile) (command_by run profile words)
-  named_onward [] = inl (Err (no_command None), refl)
-  named_onward (word ∷ words) = word_onward word words (named word)
+  unfoldable pub word_onward : (user : List ℕ) (word : List ℕ) (words : List (List ℕ)) (name : Option CommandName) → Onward (context_step profile) (word_by run user profile word words name)
+  word_onward user word words None = inl (Err (no_command (Some word)), refl)
+  word_onward user word words (Some Inc) = inc_onward (job_by user profile (inc_said profile (map chars words)))
+  word_onward user word words (Some Scan) = scan_onward (scan_said profile (map chars words))
+  word_onward user word words (Some Mark) = mark_onward (mark_said profile (map chars words))
+  word_onward user word words (Some Rmm) = rmm_onward (rmm_said profile (map chars words))
+
+  unfoldable pub named_onward : (user : List ℕ) (words : List (List ℕ)) → Onward (context_step profile) (command_by run user profile words)
+  named_onward user [] = inl (Err (no_command None), refl)
+  named_onward user (word ∷ words) = word_onward user word words (named word)
 
 -- a command is done so
 pub record Finished (name : Option CommandName) (path : List ℕ) (past : List Done) (h : Hand) (u : Unit {0}) : Type 0 where
@@ -134,12 +158,29 @@ module _ (w : Pledge) (past : List Done) (h : Hand) (sound : Sound w (acts past)
       → Keeps (rules_of w) past h (on_context profile said act r) (IfOkay P)
   context_keeps r f = keeps_lifted (rules_of w) past h plain (on_context_plainly profile said act r) P (plainly_keeps r f)
 
+-- the context was read so, and the work keeps the rules whatever its entries are
+module _ (w : Pledge) (past : List Done) (h : Hand) (sound : Sound w (acts past) h) (act : Commanded Unit) (P : List Done → Hand → Unit → Type 0) (f : (es : List NamedValue) → Keeps (rules_of w) past (knowing es h) act (IfOkay P)) where
+  entries_plainly : (r : Reading) → Keeps (rules_of w) past h (on_entries_plainly act r) (IfOkay P)
+  unfolding Keeps context_seen bind ◌>>=◌
+  entries_plainly (reading.Content bytes) = (sound.numbered, f (entries_in bytes))
+  entries_plainly (reading.Long l) = (sound.numbered, tt)
+  entries_plainly reading.Gone = (sound.numbered, f (entries_in []))
+
+  pub entries_keep : (r : Reading) → Keeps (rules_of w) past h (on_entries act r) (IfOkay P)
+  entries_keep r = keeps_lifted (rules_of w) past h plain (on_entries_plainly act r) P (entries_plainly r)
+
 -- the deeds of two readings
 abbrev pub two_readings : List NamedValue → Answer → Answer → List Done
 two_readings profile a b = Did profile_step a ∷ (Did (context_step profile) b ∷ [])
 
 two_settled : (profile : List NamedValue) (a b : Answer) → AreSettled (acts (two_readings profile a b))
 two_settled profile a b = settled_kept _ (context_step profile) b tt (settled_kept [] profile_step a tt none_settled)
+
+-- they put nothing
+two_once : (w : Pledge) (profile : List NamedValue) (a b : Answer) → AreOnce w.run (acts (two_readings profile a b))
+two_once w profile a b =
+    once_asked w (acts (Did profile_step a ∷ [])) (context_step profile) b (may_read w (acts (Did profile_step a ∷ [])) (Mail (path_of profile)) context_name LIMIT_BYTES)
+    (once_asked w [] profile_step a (may_read w [] Home profile_name LIMIT_BYTES) (none_once w.run))
 
 pub known_sound : (w : Pledge) (own : List Deed) (h : Hand) (es : List NamedValue) → Sound w own h → Sound w own (knowing es h)
 known_sound w own h es s = record { numbered = s.numbered; unfailed = s.unfailed }
@@ -246,25 +287,47 @@ module _ (run : ℕ) (few : run < 2 ^ 128) (profile : List NamedValue) (h : Hand
       w = rmm_on_named run profile words (folder_of words.folder (entries_by b) profile)
   rmm_words_keep b (Err e) = keeps_ended look Home profile_name LIMIT_BYTES h (Err e) (IfOkay (Finished (Some Rmm) path)) (λ c. tt)
 
-  -- the command that the words name
-  word_keeps : (b : Answer) (word : List ℕ) (words : List (List ℕ)) (name : Option CommandName)
-      → Keeps (rules_of (word_pledge run profile (entries_by b) words name)) [] h (Ask profile_step (λ c. rest_by (context_step profile) (word_by run profile word words name) (word_onward run profile word words name) b)) (IfOkay (Finished name path))
-  unfolding word_onward
-  word_keeps b word words None = keeps_ended look Home profile_name LIMIT_BYTES h (Err (no_command (Some word))) (IfOkay (Finished None path)) (λ c. tt)
-  word_keeps b word words (Some Scan) = scan_words_keep b (scan_said profile (map chars words)) (λ said e. scan_valid profile (map chars words) said e)
-  word_keeps b word words (Some Mark) = mark_words_keep b (mark_said profile (map chars words))
-  word_keeps b word words (Some Rmm) = rmm_words_keep b (rmm_said profile (map chars words))
+  -- `inc`
+  inc_done : (a b : Answer) (later : List Done) (j : Hand) (r : Result Unit CommandFault) → IfOkay (Still (acts (two_readings profile a b))) later j r → IfOkay (Finished (Some Inc) path) later j r
+  inc_done a b later j (Ok u) f = record { is_done = f.settled (two_settled profile a b); unfailed = f.unfailed }
+  inc_done a b later j (Err e) f = tt
 
-  named_keeps : (b : Answer) (words : List (List ℕ))
-      → Keeps (rules_of (command_pledge run words profile (entries_by b))) [] h (Ask profile_step (λ c. rest_by (context_step profile) (command_by run profile words) (named_onward run profile words) b)) (IfOkay (Finished (command_of words) path))
+  pub inc_job_keeps : (b : Answer) (value : Result IncJob Ended)
+      → Keeps (rules_of (incs_pledge run profile value)) [] h (Ask profile_step (λ c. rest_by (context_step profile) (inc_by run profile value) (inc_onward run profile value) b)) (IfOkay (Finished (Some Inc) path))
+  unfolding inc_onward
+  inc_job_keeps b (Ok job) =
+      keeps_after w Home (Mail path) profile_name context_name LIMIT_BYTES h (on_entries (inc run path job) (reading_of b)) (IfOkay (Finished (Some Inc) path))
+      (λ c d sound. entries_keep w (two_readings profile c d) h sound (inc run path job) (Finished (Some Inc) path) (λ es. taken_so c d es sound) (reading_of b))
+    where
+      w : Pledge
+      w = inc_pledge run path job
+
+      taken_so : (c d : Answer) (es : List NamedValue) → Sound w (acts (two_readings profile c d)) h → Keeps (rules_of w) (two_readings profile c d) (knowing es h) (inc run path job) (IfOkay (Finished (Some Inc) path))
+      taken_so c d es sound =
+          keeps_more (rules_of w) (two_readings profile c d) (knowing es h) (inc run path job) (IfOkay (Still (acts (two_readings profile c d)))) (IfOkay (Finished (Some Inc) path)) (inc_done c d)
+          (inc_keeps run few path job (two_readings profile c d) (knowing es h) (two_once w profile c d) (known_sound w (acts (two_readings profile c d)) h es sound))
+  inc_job_keeps b (Err e) = keeps_ended look Home profile_name LIMIT_BYTES h (Err e) (IfOkay (Finished (Some Inc) path)) (λ c. tt)
+
+  -- the command that the words name
+  word_keeps : (user : List ℕ) (b : Answer) (word : List ℕ) (words : List (List ℕ)) (name : Option CommandName)
+      → Keeps (rules_of (word_pledge run user profile (entries_by b) words name)) [] h (Ask profile_step (λ c. rest_by (context_step profile) (word_by run user profile word words name) (word_onward run profile user word words name) b)) (IfOkay (Finished name path))
+  unfolding word_onward
+  word_keeps user b word words None = keeps_ended look Home profile_name LIMIT_BYTES h (Err (no_command (Some word))) (IfOkay (Finished None path)) (λ c. tt)
+  word_keeps user b word words (Some Inc) = inc_job_keeps b (job_by user profile (inc_said profile (map chars words)))
+  word_keeps user b word words (Some Scan) = scan_words_keep b (scan_said profile (map chars words)) (λ said e. scan_valid profile (map chars words) said e)
+  word_keeps user b word words (Some Mark) = mark_words_keep b (mark_said profile (map chars words))
+  word_keeps user b word words (Some Rmm) = rmm_words_keep b (rmm_said profile (map chars words))
+
+  named_keeps : (user : List ℕ) (b : Answer) (words : List (List ℕ))
+      → Keeps (rules_of (command_pledge run user words profile (entries_by b))) [] h (Ask profile_step (λ c. rest_by (context_step profile) (command_by run user profile words) (named_onward run profile user words) b)) (IfOkay (Finished (command_of words) path))
   unfolding named_onward
-  named_keeps b [] = keeps_ended look Home profile_name LIMIT_BYTES h (Err (no_command None)) (IfOkay (Finished None path)) (λ c. tt)
-  named_keeps b (word ∷ words) = word_keeps b word words (named word)
+  named_keeps user b [] = keeps_ended look Home profile_name LIMIT_BYTES h (Err (no_command None)) (IfOkay (Finished None path)) (λ c. tt)
+  named_keeps user b (word ∷ words) = word_keeps user b word words (named word)
 
 -- whose pledge it is
-pub pledge_run : (run : ℕ) (words : List (List ℕ)) (profile context : List NamedValue) → (command_pledge run words profile context).run ≡ run
-pledge_run run [] profile context = refl
-pledge_run run (word ∷ words) profile context = go (named word)
+pub pledge_run : (run : ℕ) (user : List ℕ) (words : List (List ℕ)) (profile context : List NamedValue) → (command_pledge run user words profile context).run ≡ run
+pledge_run run user [] profile context = refl
+pledge_run run user (word ∷ words) profile context = go (named word)
   where
     on : (said : MarkWords) (value : Result (List ℕ) CommandFault) → (on_named run profile said value).run ≡ run
     on said (Err e) = refl
@@ -286,18 +349,23 @@ pledge_run run (word ∷ words) profile context = go (named word)
         by (Err e) = refl
     removes_by (Err e) = refl
 
-    go : (name : Option CommandName) → (word_pledge run profile context words name).run ≡ run
+    takes_by : (value : Result IncJob Ended) → (incs_pledge run profile value).run ≡ run
+    takes_by (Ok job) = refl
+    takes_by (Err e) = refl
+
+    go : (name : Option CommandName) → (word_pledge run user profile context words name).run ≡ run
     go None = refl
+    go (Some Inc) = takes_by (job_by user profile (inc_said profile (map chars words)))
     go (Some Scan) = refl
     go (Some Mark) = marks_by (mark_said profile (map chars words))
     go (Some Rmm) = removes_by (rmm_said profile (map chars words))
 
-module _ (run : ℕ) (few : run < 2 ^ 128) (words : List (List ℕ)) where
+module _ (run : ℕ) (few : run < 2 ^ 128) (user : List ℕ) (words : List (List ℕ)) where
   -- the command, by what reading the profile gave
   abbrev pub next_by : Reading → Ending Unit
-  next_by r = lifted plain (text_by r) >>= (λ text. command_by run (entries_in text) words)
+  next_by r = lifted plain (text_by r) >>= (λ text. command_by run user (entries_in text) words)
 
-  command_is : command run words ≡ Ask profile_step (λ a. next_by (reading_of a))
+  command_is : command run user words ≡ Ask profile_step (λ a. next_by (reading_of a))
   unfolding command text_read read ask lifted bind ◌>>=◌
   command_is = refl
 
@@ -306,25 +374,25 @@ module _ (run : ℕ) (few : run < 2 ^ 128) (words : List (List ℕ)) where
 
   unfoldable pub onward_by : (r : Reading) → Onward (step_by r) (next_by r)
   unfolding lifted bind ◌>>=◌
-  onward_by (reading.Content bytes) = named_onward run (entries_in bytes) words
+  onward_by (reading.Content bytes) = named_onward run (entries_in bytes) user words
   onward_by (reading.Long l) = inl (Err (plain (too_large l)), refl)
-  onward_by reading.Gone = named_onward run (entries_in []) words
+  onward_by reading.Gone = named_onward run (entries_in []) user words
 
   abbrev pub plan_by : Reading → Answer → Ending Unit
   plan_by r b = Ask profile_step (λ c. rest_by (step_by r) (next_by r) (onward_by r) b)
 
   -- whatever the profile and the context were, the call keeps the rules of its pledge
-  pub read_keeps : (h : Hand) (r : Reading) (b : Answer) → Keeps (rules_of (command_pledge run words (entries_in (text_of r)) (entries_by b))) [] h (plan_by r b) (IfOkay (Finished (command_of words) (path_of (entries_in (text_of r)))))
+  pub read_keeps : (h : Hand) (r : Reading) (b : Answer) → Keeps (rules_of (command_pledge run user words (entries_in (text_of r)) (entries_by b))) [] h (plan_by r b) (IfOkay (Finished (command_of words) (path_of (entries_in (text_of r)))))
   unfolding onward_by lifted bind ◌>>=◌
-  read_keeps h (reading.Content bytes) b = named_keeps run few (entries_in bytes) h b words
-  read_keeps h (reading.Long l) b = keeps_ended (command_pledge run words (entries_in []) (entries_by b)) Home profile_name LIMIT_BYTES h (Err (plain (too_large l))) (IfOkay (Finished (command_of words) (path_of (entries_in [])))) (λ c. tt)
-  read_keeps h reading.Gone b = named_keeps run few (entries_in []) h b words
+  read_keeps h (reading.Content bytes) b = named_keeps run few (entries_in bytes) h user b words
+  read_keeps h (reading.Long l) b = keeps_ended (command_pledge run user words (entries_in []) (entries_by b)) Home profile_name LIMIT_BYTES h (Err (plain (too_large l))) (IfOkay (Finished (command_of words) (path_of (entries_in [])))) (λ c. tt)
+  read_keeps h reading.Gone b = named_keeps run few (entries_in []) h user b words
 
   -- the answers to the first two steps of a run of the command
   abbrev pub Answered : Hand → Hand → List Done → Exit (Result Unit Ended) → Type 0
   Answered h j ds exit = TwoAnswers profile_step (λ a. step_by (reading_of a)) (λ a. next_by (reading_of a)) (λ a. onward_by (reading_of a)) h j ds exit
 
-  pub answers_of : (h j : Hand) (ds : List Done) (exit : Exit (Result Unit Ended)) → Runs (command run words) h ds j exit → Answered h j ds exit
+  pub answers_of : (h j : Hand) (ds : List Done) (exit : Exit (Result Unit Ended)) → Runs (command run user words) h ds j exit → Answered h j ds exit
   answers_of h j ds exit f =
       two_answers profile_step (λ a. step_by (reading_of a)) (λ a. next_by (reading_of a)) h j ds exit (λ a. onward_by (reading_of a)) (subst (λ p. Runs p h ds j exit) command_is f)
 
@@ -332,7 +400,7 @@ module _ (run : ℕ) (few : run < 2 ^ 128) (words : List (List ℕ)) where
   End a = Finished (command_of words) (path_by a)
 
   abbrev pub pledge_at : Answer → Answer → Pledge
-  pledge_at a b = command_pledge run words (entries_by a) (entries_by b)
+  pledge_at a b = command_pledge run user words (entries_by a) (entries_by b)
 
   -- where the command is Done, no step has failed, and it is done as it pledged
   ended_so : (h j : Hand) (ds : List Done) (result : Result Unit Ended) → (t : Answered h j ds (exit_of ended_cause result)) → result ≡ Ok tt → Finished (command_of words) (path_by t.first) ds j tt
@@ -340,7 +408,7 @@ module _ (run : ℕ) (few : run < 2 ^ 128) (words : List (List ℕ)) where
       let kept = run_keeps (rules_of (pledge_at t.first t.second)) [] h (plan_by (reading_of t.first) t.second) ds j (exit_of ended_cause result) (IfOkay (End t.first)) (read_keeps h (reading_of t.first) t.second) t.runs in
       subst (λ r. Gave (rules_of (pledge_at t.first t.second)) (IfOkay (End t.first)) ds j (exit_of ended_cause r)) e kept.gave
 
-  module _ (x y : State) (result : Result Unit Ended) (f : Follows run ended_cause (command run words) x y result) where
+  module _ (x y : State) (result : Result Unit Ended) (f : Follows run ended_cause (command run user words) x y result) where
     abbrev pub deeds : List Done
     deeds = deeds_in f.went.log
 
@@ -350,17 +418,17 @@ module _ (run : ℕ) (few : run < 2 ^ 128) (words : List (List ℕ)) where
     -- it follows the plan with the answers that it got
     pub follows_pledged : (t : Answered x.hand y.hand deeds (exit_of ended_cause result)) → Follows (pledge_at t.first t.second).run ended_cause (plan_by (reading_of t.first) t.second) x y result
     follows_pledged t =
-        subst (λ n. Follows n ended_cause (plan_by (reading_of t.first) t.second) x y result) (sym (pledge_run run words (entries_by t.first) (entries_by t.second)))
-        (follows_so run ended_cause (command run words) (plan_by (reading_of t.first) t.second) x y result f t.runs)
+        subst (λ n. Follows n ended_cause (plan_by (reading_of t.first) t.second) x y result) (sym (pledge_run run user words (entries_by t.first) (entries_by t.second)))
+        (follows_so run ended_cause (command run user words) (plan_by (reading_of t.first) t.second) x y result f t.runs)
 
     pub command_clean : result ≡ Ok tt → HasFailed (acts deeds) → ⊥
     command_clean e = (ended_so x.hand y.hand deeds result answers e).unfailed
 
     -- a call that follows a command keeps the pledge that its profile, its words and the context make
-    pub command_keeps : KeepsPledge run words x y result
+    pub command_keeps : KeepsPledge run user words x y result
     command_keeps = kept_by answers
       where
-        kept_by : Answered x.hand y.hand deeds (exit_of ended_cause result) → KeepsPledge run words x y result
+        kept_by : Answered x.hand y.hand deeds (exit_of ended_cause result) → KeepsPledge run user words x y result
         kept_by t = record {
           profile = t.first;
           context = t.second;

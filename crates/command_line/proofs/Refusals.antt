@@ -12,16 +12,20 @@ use Rattle.step_plans.specs.declared.command_fault.CommandFault.{CommandFault}
 use Rattle.step_plans.specs.declared.command_fault.CommandFault.TheVariants as fault
 use Rattle.command_words.specs.Ended.{wrong_at}
 use Rattle.command_words.specs.FolderWords.{folder_named, folders, named_folder, one_folder, some_named}
+use Rattle.inc_command.specs.declared.job.IncJob.{IncJob}
+use Rattle.command_words.specs.IncWords.{folder_alone, folder_said as inc_words_said, inc_said, items_said as inc_items, with_folder as inc_folder}
 use Rattle.command_words.specs.MarkWords.{folder_said as mark_words_said, items_said as mark_items, lacks_sequence, mark_said, with_folder as mark_folder, with_names, word_said}
 use Rattle.command_words.specs.RmmWords.{folder_said as rmm_words_said, items_said as rmm_items, rmm_said, with_folder as rmm_folder}
 use Rattle.command_words.specs.ScanWords.{folder_said, items_said, scan_said, with_folder}
-use Rattle.command_words.specs.SequenceNames.{unless_wrong}
-use Rattle.command_words.specs.Tables.{mark_table, rmm_table, scan_table}
+use Rattle.command_words.specs.SequenceNames.{unless_wrong, wrong_names}
+use Rattle.command_words.specs.Tables.{inc_table, mark_table, rmm_table, scan_table}
 use Rattle.command_words.specs.Words.{profile_words}
 use Rattle.command_words.specs.declared.ended.Ended.{Ended}
+use Rattle.command_words.specs.declared.inc.IncWords.{IncWords}
 use Rattle.command_words.specs.declared.mark.MarkWords.{MarkWords}
 use Rattle.command_words.specs.declared.rmm.RmmWords.{RmmWords}
 use Rattle.command_words.specs.declared.scan.ScanWords.{ScanWords}
+use Rattle.command_line.specs.Incorporating.{job_by, job_on, job_with, plain_job}
 use Rattle.command_line.specs.Profile.{folder_of, stored_of}
 
 abbrev pub IsRefusal : CommandFault → Type 0
@@ -118,3 +122,48 @@ folder_refuses None context profile e is = go (stored_of context profile) (is_fo
     go : (word : List ℕ) (b : Bool) → (if b then Ok (without_plus word) else Err (fault.Refused (refusal.BadFolder word))) ≡ Err e → IsRefusal e
     go word true is = cc
     go word false is = (refusal.BadFolder word, cc (is))
+
+-- the words of `inc`
+abbrev IncRefuses : Result IncWords Ended → Type 0
+IncRefuses (Ok w) = Unit {0}
+IncRefuses (Err e) = IsRefusal e.fault
+
+inc_named_refuses : (items : List Item) (word : List ℕ) → IncRefuses (inc_folder items (named_folder word))
+inc_named_refuses items word = go (is_folder_name (without_plus word))
+  where
+    go : (b : Bool) → IncRefuses (inc_folder items (if b then Ok (without_plus word) else Err (fault.Refused (refusal.BadFolder word))))
+    go true = tt
+    go false = (refusal.BadFolder word, refl)
+
+inc_one_refuses : (words : List (List ℕ)) (items : List Item) (r : Result (Option (List ℕ)) Wrong) → IncRefuses (inc_words_said words items r)
+inc_one_refuses words items (Ok None) = tt
+inc_one_refuses words items (Ok (Some word)) = inc_named_refuses items word
+inc_one_refuses words items (Err wrong) = (refusal.BadSwitch wrong.place wrong.why, refl)
+
+inc_items_refuse : (words : List (List ℕ)) (r : Result (List Item) Wrong) → IncRefuses (inc_items words r)
+inc_items_refuse words (Ok items) = inc_one_refuses words items (folder_alone items)
+inc_items_refuse words (Err wrong) = (refusal.BadSwitch wrong.place wrong.why, refl)
+
+inc_refuse : (profile : List NamedValue) (words : List (List ℕ)) → IncRefuses (inc_said profile words)
+inc_refuse profile words = inc_items_refuse (profile_words (codes "inc") profile ++ words) (read_in inc_table 0 (profile_words (codes "inc") profile ++ words))
+
+-- and its job
+abbrev JobRefuses : Result IncJob Ended → Type 0
+JobRefuses (Ok job) = Unit {0}
+JobRefuses (Err e) = IsRefusal e.fault
+
+module _ (user : List ℕ) (profile : List NamedValue) where
+  folder_on : (words : IncWords) (names : List (List ℕ)) (r : Result (List ℕ) CommandFault) → folder_of words.folder [] profile ≡ r → JobRefuses (plain_job (job_on user profile words names r))
+  folder_on words names (Ok folder) is = tt
+  folder_on words names (Err e) is = folder_refuses words.folder [] profile e is
+
+  names_on : (words : IncWords) (names wrong : List (List ℕ)) → JobRefuses (plain_job (job_with user profile words (unless_wrong names wrong)))
+  names_on words names [] = folder_on words names (folder_of words.folder [] profile) refl
+  names_on words names (word ∷ wrong) = (refusal.BadSequenceName word, refl)
+
+  job_refuses_by : (r : Result IncWords Ended) → IncRefuses r → JobRefuses (job_by user profile r)
+  job_refuses_by (Ok words) f = let names = profile_words (codes "Unseen-Sequence") profile in names_on words names (wrong_names names)
+  job_refuses_by (Err e) f = f
+
+  pub job_refuses : (words : List (List ℕ)) (e : Ended) → job_by user profile (inc_said profile words) ≡ Err e → IsRefusal e.fault
+  job_refuses words e is = subst JobRefuses is (job_refuses_by (inc_said profile words) (inc_refuse profile words))

@@ -142,7 +142,7 @@ acts_begin_with s a t b ds (inr (inl one)) = inr (inl (ap acts one))
 acts_begin_with s a t b ds (inr (inr more)) = inr (inr (acts more.0, ap acts more.1 ∙ over_these (did t b ∷ (did s a ∷ [])) more.0))
 
 -- a reading is free to a run
-may_read : (w : Pledge) (own : List deeds.Deed) (p : Place) (n : List ℕ) (limit : ℕ) → MayAsk w own (Read p n limit)
+pub may_read : (w : Pledge) (own : List deeds.Deed) (p : Place) (n : List ℕ) (limit : ℕ) → MayAsk w own (Read p n limit)
 may_read w own p n limit = record { is_own = only_looks tt; marks = tt; steps = λ no. absurd (no tt) }
 
 -- two readings first, and the rest after them

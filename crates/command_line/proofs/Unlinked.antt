@@ -39,7 +39,7 @@ use Rattle.command_line.specs.Command.{command, command_by, context_entered, con
 use Rattle.command_line.specs.CommandNames.{begins_folders, command_of, named}
 use Rattle.command_line.specs.Profile.{folder_of, path_of, profile_name}
 use Rattle.command_line.specs.declared.name.CommandName.{CommandName}
-use Rattle.command_line.specs.declared.name.CommandName.TheVariants.{Mark, Rmm, Scan}
+use Rattle.command_line.specs.declared.name.CommandName.TheVariants.{Inc, Mark, Rmm, Scan}
 use Rattle.command_words.specs.Ended.{plain}
 use Rattle.command_words.specs.ScanWords.{scan_said}
 use Rattle.command_words.specs.declared.ended.Ended.{Ended}
@@ -150,20 +150,21 @@ by_nothing : (run : ℕ) (profile : List NamedValue) (value : Result ScanWords E
 by_nothing run profile (Ok words) = asks_lifted IsUnlinked plain (scan_begun run profile words) (begun_nothing run profile words)
 by_nothing run profile (Err e) = asks_none IsUnlinked (Err e)
 
-word_nothing : (run : ℕ) (profile : List NamedValue) (word : List ℕ) (words : List (List ℕ)) (name : Option CommandName) → (begins_folders name ≡ false) → LinksNothing (word_by run profile word words name)
-word_nothing run profile word words None other = asks_none IsUnlinked (Err (no_command (Some word)))
-word_nothing run profile word words (Some Scan) other = by_nothing run profile (scan_said profile (map chars words))
-word_nothing run profile word words (Some Mark) other = cc (other)
-word_nothing run profile word words (Some Rmm) other = cc (other)
+word_nothing : (run : ℕ) (user : List ℕ) (profile : List NamedValue) (word : List ℕ) (words : List (List ℕ)) (name : Option CommandName) → (begins_folders name ≡ false) → LinksNothing (word_by run user profile word words name)
+word_nothing run user profile word words None other = asks_none IsUnlinked (Err (no_command (Some word)))
+word_nothing run user profile word words (Some Inc) other = cc (other)
+word_nothing run user profile word words (Some Scan) other = by_nothing run profile (scan_said profile (map chars words))
+word_nothing run user profile word words (Some Mark) other = cc (other)
+word_nothing run user profile word words (Some Rmm) other = cc (other)
 
-named_nothing : (run : ℕ) (profile : List NamedValue) (words : List (List ℕ)) → (begins_folders (command_of words) ≡ false) → LinksNothing (command_by run profile words)
-named_nothing run profile [] other = asks_none IsUnlinked (Err (no_command None))
-named_nothing run profile (word ∷ words) other = word_nothing run profile word words (named word) other
+named_nothing : (run : ℕ) (user : List ℕ) (profile : List NamedValue) (words : List (List ℕ)) → (begins_folders (command_of words) ≡ false) → LinksNothing (command_by run user profile words)
+named_nothing run user profile [] other = asks_none IsUnlinked (Err (no_command None))
+named_nothing run user profile (word ∷ words) other = word_nothing run user profile word words (named word) other
 
-pub command_nothing : (run : ℕ) (words : List (List ℕ)) → (begins_folders (command_of words) ≡ false) → LinksNothing (command run words)
+pub command_nothing : (run : ℕ) (user : List ℕ) (words : List (List ℕ)) → (begins_folders (command_of words) ≡ false) → LinksNothing (command run user words)
 unfolding command
-command_nothing run words other =
-    asks_then IsUnlinked (lifted plain (text_read Home profile_name)) (λ text. command_by run (entries_in text) words) (asks_lifted IsUnlinked plain (text_read Home profile_name) (text_nothing Home profile_name)) (λ text. named_nothing run (entries_in text) words other)
+command_nothing run user words other =
+    asks_then IsUnlinked (lifted plain (text_read Home profile_name)) (λ text. command_by run user (entries_in text) words) (asks_lifted IsUnlinked plain (text_read Home profile_name) (text_nothing Home profile_name)) (λ text. named_nothing run user (entries_in text) words other)
 
 -- so is each step of each run of it
 abbrev AreUnlinked : List Deed → Type 0
@@ -226,5 +227,5 @@ unmet_over past (Said piece ∷ ds) p x none f = unmet_over past ds p x none f
 unmet_over past (Heard piece ∷ ds) p x none f = unmet_over past ds p x none f
 
 -- a call that follows a command meets its contents as they are
-pub command_first : (run : ℕ) (words : List (List ℕ)) → (begins_folders (command_of words) ≡ false) → (c : Contents) (ns : List ℕ) (h j : Hand) (ds : List Deed) (exit : Exit (Result Unit Ended)) → Runs (command run words) h ds j exit → IsFirst (first_view c ns (is_first_met (acts ds)))
-command_first run words other c ns h j ds exit runs = record { seen = refl; unmet = λ p x. unmet_over [] ds p x refl (run_unlinked (command run words) h j ds exit (command_nothing run words other) runs) }
+pub command_first : (run : ℕ) (user : List ℕ) (words : List (List ℕ)) → (begins_folders (command_of words) ≡ false) → (c : Contents) (ns : List ℕ) (h j : Hand) (ds : List Deed) (exit : Exit (Result Unit Ended)) → Runs (command run user words) h ds j exit → IsFirst (first_view c ns (is_first_met (acts ds)))
+command_first run user words other c ns h j ds exit runs = record { seen = refl; unmet = λ p x. unmet_over [] ds p x refl (run_unlinked (command run user words) h j ds exit (command_nothing run user words other) runs) }

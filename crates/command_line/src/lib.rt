@@ -3,6 +3,7 @@
 
 mod command;
 mod current;
+mod incorporating;
 mod marking;
 mod name;
 mod profile;

@@ -5,6 +5,7 @@ ghost use Rattle.command_line.specs.CommandNames.{named};
 /// A command.
 #[derive(Clone, Copy, Debug, PartialEq, Eq)]
 pub enum CommandName {
+    Inc,
     Scan,
     Mark,
     Rmm,
@@ -15,7 +16,9 @@ impl CommandName {
     pub(crate) fn read(word: &str) -> Option<CommandName>
         ensures { result ≡ named word.now }
     {
-        if word == "scan" {
+        if word == "inc" {
+            Some(CommandName::Inc)
+        } else if word == "scan" {
             Some(CommandName::Scan)
         } else if word == "mark" {
             Some(CommandName::Mark)

@@ -20,3 +20,4 @@ pub use inc::{IncWords, inc_words};
 pub use mark::{MarkWords, mark_words};
 pub use rmm::{RmmWords, rmm_words};
 pub use scan::{ScanWords, scan_words};
+pub use sequence_names::profile_sequences;

@@ -1,9 +1,12 @@
 // The sequences that words name.
 ghost use Rattle.command_words.specs.Results.{IsNamed};
 ghost use Rattle.command_words.specs.SequenceNames.{named_sequence, named_sequences};
+ghost use Rattle.command_words.specs.Words.{profile_words as profile_words_of};
 
+use crate::words::profile_words;
 use folder_files::Refusal;
 use mh_base::{Duplicate, List, Text, TextList};
+use mh_profile::Entries;
 use mh_sequences::{SeqFault, SeqName, SeqNameList};
 use std::alloc::Global;
 use step_plans::CommandFault;
@@ -31,4 +34,15 @@ pub(crate) fn sequence_names(alloc: Global, words: &TextList) -> Result<SeqNameL
         names.push(read_name(alloc, word)?)?;
     }
     Ok(names)
+}
+
+/// The sequences that the profile's entry of this name gives, cut at spaces and tabs; none where there is no such entry.
+pub fn profile_sequences(
+    alloc: Global,
+    profile: &Entries,
+    name: &[u8],
+) -> Result<SeqNameList, CommandFault>
+    ensures { IsNamed (named_sequences (profile_words_of name.now profile.now)) result }
+{
+    sequence_names(alloc, &profile_words(alloc, profile, name)?)
 }

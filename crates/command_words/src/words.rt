@@ -40,7 +40,11 @@ fn words_in(alloc: Global, value: &[u8]) -> Result<TextList, AllocError>
 }
 
 /// The words that the profile's entry of this name adds.
-fn profile_words(alloc: Global, profile: &Entries, name: &[u8]) -> Result<TextList, AllocError>
+pub(crate) fn profile_words(
+    alloc: Global,
+    profile: &Entries,
+    name: &[u8],
+) -> Result<TextList, AllocError>
     ensures { IfOk result (λ words. words ≡ profile_words_of name.now profile.now) }
 {
     match profile.get(name)? {

@@ -1,9 +1,10 @@
 // Commands over a mailbox in memory. What calls `mh` is generic over its files, so that its contract is looked at once.
 use crate::counted::show_counted;
 use crate::given::Given;
-use crate::places::place;
-use crate::shown::{show_lock, show_place};
-use folder_files::{Files, Place, Refusal};
+use crate::places::{path, place};
+use crate::shown::{show_drop, show_lock, show_place};
+use crate::weaving::OTHER;
+use folder_files::{Event, Files, Place, Refusal, Step};
 use folder_room::{PromptList, Room};
 use mh_base::{Bytes, Duplicate, MemSink, NumberList, PlainSink, PlainSource, Text};
 use mh_tools::{Setting, Status, mh};
@@ -105,6 +106,24 @@ impl Scene {
         })
     }
 
+    /// The steps for which this command asks, where a run of its own makes it alone on what is given.
+    pub(crate) fn steps_alone(
+        alloc: Global,
+        given: &Given,
+        words: &[Bytes],
+    ) -> Result<Vec<Step>, Fail> {
+        let mut scene = Scene::new(alloc, given, PromptList::new(alloc))?;
+        scene.run = OTHER;
+        scene.call(words, &mut Bytes::new(alloc))?;
+        let mut steps = Vec::new(alloc);
+        for event in scene.room.history().as_slice() {
+            if let Event::Act { step, .. } = event {
+                steps.push(step.duplicate(alloc)?)?;
+            }
+        }
+        Ok(steps)
+    }
+
     /// Whether a step has failed.
     pub(crate) fn has_failed(&self) -> bool {
         self.room.faults() > 0
@@ -129,7 +148,7 @@ impl Scene {
     }
 
     /// `$` or `>` and a command's words, which it runs; `out` and the number of a piece of its output that is to fail; `show` and a directory, of
-    /// which it shows each name with its bytes; `lock` and a directory, of which it tells whether a run gets its lock; or `count`, which
+    /// which it shows each name with its bytes; `drop` and a file outside, of which it shows the bytes; `lock` and a directory, of which it tells whether a run gets its lock; or `count`, which
     /// tells how many steps the run before asked for, and how many of them were locks.
     pub(crate) fn line(&mut self, line: &[u8], told: &mut Bytes) -> Result<(), Fail> {
         let words = words(self.alloc, line)?;
@@ -147,6 +166,11 @@ impl Scene {
                 let place = self.place(&words)?;
                 told.extend(word(&words, 1)?)?;
                 show_place(self.alloc, &mut self.room, self.run, &place, told)
+            }
+            b"drop" => {
+                let path = path(self.alloc, word(&words, 1)?)?;
+                told.extend(word(&words, 1)?)?;
+                show_drop(self.alloc, &mut self.room, self.run, &path, told)
             }
             b"lock" => {
                 let place = self.place(&words)?;

@@ -41,16 +41,23 @@ pub(crate) struct Given {
     locks: LockList,
 }
 
-/// What a word says: `zeros:` and a number are so many zero bytes, and `same:` and another name that name's file.
-fn led_by(alloc: Global, word: &[u8]) -> Result<Led, Fail> {
-    if let Some(count) = word.strip_prefix(b"zeros:") {
-        let count = usize::try_from(number(count)?).ok().ok_or("a count")?;
-        return Ok(Led::Own(Bytes::from_vec(vec![in alloc; 0u8; count]?)));
+/// The bytes of a word: `zeros:` and a number are so many zero bytes.
+fn text_by(alloc: Global, word: &[u8]) -> Result<Bytes, Fail> {
+    match word.strip_prefix(b"zeros:") {
+        Some(count) => {
+            let count = usize::try_from(number(count)?).ok().ok_or("a count")?;
+            Ok(Bytes::from_vec(vec![in alloc; 0u8; count]?))
+        }
+        None => Ok(Bytes::from_slice(alloc, word)?),
     }
+}
+
+/// What a word says: `same:` and another name are that name's file.
+fn led_by(alloc: Global, word: &[u8]) -> Result<Led, Fail> {
     if let Some(name) = word.strip_prefix(b"same:") {
         return Ok(Led::Same(Bytes::from_slice(alloc, name)?));
     }
-    Ok(Led::Own(Bytes::from_slice(alloc, word)?))
+    Ok(Led::Own(text_by(alloc, word)?))
 }
 
 /// The file to which this name leads.
@@ -131,8 +138,12 @@ impl Given {
         Ok(())
     }
 
-    pub(crate) fn outside(&mut self, path: FilePath, text: &[u8]) -> Result<(), Fail> {
-        let bytes = Bytes::from_slice(self.alloc, text)?;
+    /// A file outside, whose bytes are those of these words together.
+    pub(crate) fn outside(&mut self, path: FilePath, words: &[Bytes]) -> Result<(), Fail> {
+        let mut bytes = Bytes::new(self.alloc);
+        for word in words {
+            bytes.extend(text_by(self.alloc, word.as_slice())?.as_slice())?;
+        }
         self.drops.push(Outside { path, bytes })?;
         Ok(())
     }

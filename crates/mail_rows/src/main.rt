@@ -11,6 +11,7 @@ mod prompts;
 mod shown;
 mod steps;
 mod sweep;
+mod weaving;
 
 use play::Play;
 use std::io::{self, Write};

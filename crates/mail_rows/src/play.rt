@@ -98,7 +98,8 @@ impl Play {
 
     fn outside(&mut self, words: &[Bytes]) -> Result<(), Fail> {
         let path = path(self.alloc, word(words, 1)?)?;
-        self.given.outside(path, word(words, 2)?)
+        let text = words.get(2..).unwrap_or(&[]);
+        self.given.outside(path, text)
     }
 
     /// Whether there is a setting of this moment and offset.
@@ -127,9 +128,9 @@ impl Play {
         Ok(())
     }
 
-    fn begin_sweep(&mut self, line: &[u8], words: Vec<Bytes>) -> Result<(), Fail> {
+    fn begin_sweep(&mut self, line: &[u8], words: &[Bytes]) -> Result<(), Fail> {
         self.echo(line)?;
-        self.sweep = Some(Sweep::new(self.alloc, words));
+        self.sweep = Some(Sweep::new(self.alloc, words)?);
         Ok(())
     }
 
@@ -146,13 +147,13 @@ impl Play {
             }
             b"$" => self.command(line),
             b">" => self.alone(line),
-            b"show" | b"lock" | b"count" | b"out" => self.play(line),
+            b"show" | b"drop" | b"lock" | b"count" | b"out" => self.play(line),
             b"at" => self.prompt(&words),
             b"locked" => self.lock(&words),
             b"setting" => self.setting(line, &words),
             b"mail" => self.given.set_mail(word(&words, 1)?),
             b"outside" => self.outside(&words),
-            b"sweep" => self.begin_sweep(line, words),
+            b"sweep" => self.begin_sweep(line, &words),
             _ => self.place(&words),
         }
     }

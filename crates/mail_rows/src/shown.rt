@@ -1,6 +1,8 @@
-// What a directory has, as a run sees it.
-use file_plans::{Listing, Locking, Reading, ask_list, ask_lock, ask_read};
-use folder_files::{Files, Place};
+// What a directory has, or a file outside, as a run sees it.
+use file_plans::{
+    DropPiece, Listing, Locking, Reading, ask_list, ask_lock, ask_read, ask_read_drop,
+};
+use folder_files::{FilePath, Files, Place};
 use mh_base::{Bytes, Name};
 use row_text::show_quoted;
 use std::alloc::Global;
@@ -38,6 +40,25 @@ pub(crate) fn show_place<F: Files>(
             }
         }
         _ => told.extend(b" is not there")?,
+    }
+    told.extend(b"\n")?;
+    Ok(())
+}
+
+/// The bytes of a file outside, behind a space; ` is not there` where it isn't.
+pub(crate) fn show_drop<F: Files>(
+    alloc: Global,
+    files: &mut F,
+    run: u128,
+    path: &FilePath,
+    told: &mut Bytes,
+) -> Result<(), Fail> {
+    match ask_read_drop(alloc, run, files, path, 0, u64::MAX)? {
+        DropPiece::Piece { bytes, .. } => {
+            told.extend(b" ")?;
+            show_quoted(told, bytes.as_slice())?;
+        }
+        DropPiece::Gone => told.extend(b" is not there")?,
     }
     told.extend(b"\n")?;
     Ok(())

@@ -1,8 +1,8 @@
 // Steps of other runs, by words.
-use crate::places::{name, place};
+use crate::places::{name, path, place};
 use folder_files::{Place, Step};
 use mh_base::{Bytes, Name};
-use row_text::word;
+use row_text::{number, word};
 use std::alloc::Global;
 use std::test::Fail;
 
@@ -90,6 +90,20 @@ impl OnNames {
     }
 }
 
+fn read_drop(alloc: Global, words: &[Bytes]) -> Result<Step, Fail> {
+    let path = path(alloc, word(words, 1)?)?;
+    Ok(Step::ReadDrop {
+        path,
+        from: number(word(words, 2)?)?,
+        most: number(word(words, 3)?)?,
+    })
+}
+
+fn cut_drop(alloc: Global, words: &[Bytes]) -> Result<Step, Fail> {
+    let path = path(alloc, word(words, 1)?)?;
+    Ok(Step::CutDrop(path, number(word(words, 2)?)?))
+}
+
 fn create(alloc: Global, at: Place, words: &[Bytes]) -> Result<Step, Fail> {
     let first = name(alloc, word(words, 2)?)?;
     let bytes = Bytes::from_slice(alloc, word(words, 3)?)?;
@@ -120,13 +134,21 @@ fn named(alloc: Global, kind: &[u8], at: Place, words: &[Bytes]) -> Result<Step,
     create(alloc, at, words)
 }
 
-/// `lock`, `unlock`, `sync`, `list` and `make` have a directory; `unlink`, `read` and `sync-file` a name in it; `link` and `rename` two; and
-/// `create` a name and its bytes.
-pub(crate) fn step(alloc: Global, mail: &Bytes, words: &[Bytes]) -> Result<Step, Fail> {
-    let kind = word(words, 0)?;
+fn on_mailbox(alloc: Global, mail: &Bytes, kind: &[u8], words: &[Bytes]) -> Result<Step, Fail> {
     let at = place(alloc, mail, word(words, 1)?)?;
     match OnPlace::read(kind) {
         Some(kind) => Ok(kind.step(at)),
         None => named(alloc, kind, at, words),
+    }
+}
+
+/// `lock`, `unlock`, `sync`, `list` and `make` have a directory; `unlink`, `read` and `sync-file` a name in it; `link` and `rename` two; and
+/// `create` a name and its bytes. `read-drop` has a file outside, from where it is read and how many bytes at most; and `cut-drop` one and a
+/// length.
+pub(crate) fn step(alloc: Global, mail: &Bytes, words: &[Bytes]) -> Result<Step, Fail> {
+    match word(words, 0)? {
+        b"read-drop" => read_drop(alloc, words),
+        b"cut-drop" => cut_drop(alloc, words),
+        kind => on_mailbox(alloc, mail, kind, words),
     }
 }

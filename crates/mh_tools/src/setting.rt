@@ -47,4 +47,10 @@ impl Setting {
     {
         self.run
     }
+
+    pub fn user(&self) -> &Text
+        ensures { result.now ≡ self.now.user }
+    {
+        &self.user
+    }
 }

@@ -1,0 +1,11 @@
+use Rattle.file_plans.proofs.Following.{go, stop, whole}
+use Rattle.command_line.specs.Command.{inc_begun}
+use Rattle.command_line.proofs.incorporating.begin_inc.Goals as goal
+
+pub returns-in_err-enter_context : goal.returns-in_err-enter_context
+unfolding inc_begun
+returns-in_err-enter_context g c = stop _ (whole c.in_err-enter_context.ensures.plan) c.from_residual.ensures
+
+pub returns : goal.returns
+unfolding inc_begun
+returns g c = go _ (whole c.in_ok-enter_context.ensures.plan) (rw (c.in_ok-enter_context.ensures.run, c.in_ok-enter_context.ensures.mail) at c.inc.ensures.plan)

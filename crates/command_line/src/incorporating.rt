@@ -1,0 +1,148 @@
+// The run of `inc`.
+ghost use Rattle.std.specs.Prelude.{◌≡◌, ◌++◌, [], codes, IfOk, None, map};
+ghost use Rattle.std.specs.Str.{chars, encode_utf8_all};
+ghost use Rattle.std.specs.String.{string_bytes};
+ghost use Rattle.file_plans.specs.Plan.{Hand as Kept, fresh};
+ghost use Rattle.file_plans.specs.Follows.{Follows, by_out};
+ghost use Rattle.step_plans.specs.CommandFaults.{command_cause};
+ghost use Rattle.command_words.specs.Ended.{ended_cause};
+ghost use Rattle.command_words.specs.IncWords.{inc_said};
+ghost use Rattle.command_words.specs.Results.{IsNamed, IsSaid};
+ghost use Rattle.command_line.specs.Command.{inc_begun, inc_by};
+ghost use Rattle.command_line.specs.Incorporating.{below_work as below_work_of, delivered as delivered_of, drop_of, inc_job as inc_job_of, job_by};
+ghost use Rattle.command_line.specs.Profile.{folder_of};
+
+use crate::current::enter_context;
+use crate::profile::{inbox, path};
+use command_words::{Ended, IncWords, inc_words, profile_sequences, read_folder};
+use folder_files::{FilePath, Files};
+use inc_command::{IncJob, inc};
+use mh_base::{Bytes, Duplicate, FolderName, Sink, Text};
+use mh_profile::Entries;
+use std::alloc::{AllocError, Global};
+use step_plans::{CommandFault, Hand};
+
+/// A file below the current directory.
+fn below_work(alloc: Global, file: &Text) -> Result<FilePath, AllocError>
+    ensures { IfOk result (λ path. path ≡ below_work_of (encode_utf8_all file.now)) }
+{
+    Ok(FilePath {
+        home: false,
+        text: Bytes::from_slice(alloc, file.as_str().as_bytes())?,
+    })
+}
+
+/// The file in which the system delivers this user's mail.
+fn mail_file(alloc: Global, user: &Text) -> Result<Bytes, AllocError>
+    ensures { IfOk result (λ path. path ≡ codes "/var/mail/" ++ encode_utf8_all user.now) }
+{
+    let mut path = Bytes::from_slice(alloc, b"/var/mail/")?;
+    path.extend(user.as_str().as_bytes())?;
+    Ok(path)
+}
+
+/// The drop of which words say nothing: the profile's, or the one in which the system delivers.
+fn delivered(alloc: Global, profile: &Entries, user: &Text) -> Result<FilePath, AllocError>
+    ensures { IfOk result (λ path. path ≡ drop_of user.now profile.now None) }
+{
+    let text = match profile.get(b"MailDrop")? {
+        Some(path) => path.duplicate(alloc)?,
+        None => mail_file(alloc, user)?,
+    };
+    Ok(FilePath { home: true, text })
+}
+
+/// The drop.
+fn drop_path(
+    alloc: Global,
+    profile: &Entries,
+    user: &Text,
+    file: Option<Text>,
+) -> Result<FilePath, AllocError>
+    ensures { IfOk result (λ path. path ≡ drop_of user.now profile.now file) }
+{
+    match file {
+        Some(file) => below_work(alloc, &file),
+        None => delivered(alloc, profile, user),
+    }
+}
+
+/// The folder of the words, or else the profile's.
+fn folder(
+    alloc: Global,
+    profile: &Entries,
+    said: Option<FolderName>,
+) -> Result<FolderName, CommandFault>
+    ensures { IsNamed (folder_of said [] profile.now) result }
+{
+    match said {
+        Some(name) => Ok(name),
+        None => read_folder(alloc, &inbox(alloc, profile)?),
+    }
+}
+
+/// What is to be done.
+fn inc_job(
+    alloc: Global,
+    profile: &Entries,
+    user: &Text,
+    words: IncWords,
+) -> Result<IncJob, CommandFault>
+    ensures { IsNamed (inc_job_of user.now profile.now words) result }
+{
+    let unseen = profile_sequences(alloc, profile, b"Unseen-Sequence")?;
+    let folder = folder(alloc, profile, words.folder)?;
+    Ok(IncJob {
+        folder,
+        drop: drop_path(alloc, profile, user, words.file)?,
+        truncate: words.truncate,
+        silent: words.silent,
+        change_cur: words.change_cur,
+        unseen,
+    })
+}
+
+/// The job that the words make, which are not read yet.
+fn job_said(
+    alloc: Global,
+    profile: &Entries,
+    user: &Text,
+    words: &[String],
+) -> Result<IncJob, Ended>
+    ensures { IsSaid (job_by user.now profile.now (inc_said profile.now (map chars (map string_bytes words.now)))) result }
+{
+    let words = inc_words(alloc, profile, words)?;
+    Ok(inc_job(alloc, profile, user, words)?)
+}
+
+/// Runs `inc`, from the context on.
+fn begin_inc<F: Files, O: Sink>(
+    alloc: Global,
+    hand: &mut Hand,
+    files: &mut F,
+    out: &mut O,
+    job: &IncJob,
+) -> Result<(), CommandFault>
+    ensures { Follows hand.old.run command_cause (inc_begun hand.old.run hand.old.mail job.now) (by_out hand.old.kept (F.state files.old) (O.state out.old)) (by_out hand.new.kept (F.state files.new) (O.state out.new)) result }
+{
+    enter_context(alloc, hand, files)?;
+    inc(alloc, hand, files, out, job)
+}
+
+/// Runs `inc` by its words, which are not read yet.
+pub(crate) fn run_inc<F: Files, O: Sink>(
+    alloc: Global,
+    run: u128,
+    files: &mut F,
+    out: &mut O,
+    profile: &Entries,
+    user: &Text,
+    words: &[String],
+) -> Result<(), Ended>
+    ensures { (left : Kept) × Follows run ended_cause (inc_by run profile.now (job_by user.now profile.now (inc_said profile.now (map chars (map string_bytes words.now))))) (by_out fresh (F.state files.old) (O.state out.old)) (by_out left (F.state files.new) (O.state out.new)) result }
+{
+    let job = job_said(alloc, profile, user, words)?;
+    let mut hand = Hand::new(run, path(alloc, profile)?);
+    begin_inc(alloc, &mut hand, files, out, &job)?;
+    Ok(())
+}
