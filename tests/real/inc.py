@@ -72,7 +72,7 @@ def calls():
     with open(trace) as f:
         lines = [it for it in f if "= -1" not in it and "+++" not in it]
     at = lambda words: [k for k, it in enumerate(lines) if all(word in it for word in words)]
-    links = [at(["link", f"\"{n}\""]) for n in (1, 2, 3)]
+    links = [at(["link(", f"/{n}\")"]) for n in (1, 2, 3)]
     syncs = [k for k in at(["sync("]) if f"<{os.path.realpath(INBOX)}>" in lines[k]]
     writes = [k for k in at(["write(1<"]) if "message " in lines[k]]
     cuts = at(["truncate"])
@@ -87,7 +87,8 @@ def calls():
         check(f"message {n + 1} was synced before it was linked", len(file_syncs) >= n + 1)
     drop_cuts = [k for k in cuts if "drop" in lines[k]]
     check("the drop is cut once", len(drop_cuts) == 1)
-    check("after the last sync of folders", bool(drop_cuts) and all(k < drop_cuts[0] for k in syncs) and all(k < drop_cuts[0] for k in writes))
+    others = [k for k in every_sync if "drop" not in lines[k]]
+    check("after all other syncs and all lines", bool(drop_cuts) and all(k < drop_cuts[0] for k in others + writes))
 
 
 def deaths(times=50, count=50):
