@@ -34,7 +34,7 @@ struct Stretch {
 fn show_times(alloc: Global, told: &mut Bytes, times: &[u64]) -> Result<(), Fail> {
     let first = times.first().copied().unwrap_or(0);
     let last = times.last().copied().unwrap_or(0);
-    if last - first + 1 == times.len() as u64 {
+    if last.saturating_sub(first).saturating_add(1) == times.len() as u64 {
         told.extend(format!(in alloc; "@ {first}-{last}\n")?.as_bytes())?;
         return Ok(());
     }
