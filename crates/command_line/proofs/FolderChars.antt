@@ -26,11 +26,14 @@ use Rattle.step_plans.specs.declared.command_fault.CommandFault.TheVariants as f
 use Rattle.command_stages.specs.Current.{current_name}
 use Rattle.command_words.specs.Ended.{wrong_at}
 use Rattle.command_words.specs.FolderWords.{FolderWord, folder_named, folders, named_folder, one_folder, some_named}
+use Rattle.command_words.specs.IncWords as inc_words
+use Rattle.command_words.specs.IncWords.{inc_said}
 use Rattle.command_words.specs.MarkWords.{folder_said as mark_words_said, items_said as mark_items, lacks_sequence, mark_said, with_folder as mark_folder, with_names, word_said}
 use Rattle.command_words.specs.RmmWords.{folder_said as rmm_words_said, items_said as rmm_items, rmm_said, said_folder as rmm_said_folder, with_folder as rmm_folder}
-use Rattle.command_words.specs.Tables.{mark_table, rmm_table}
+use Rattle.command_words.specs.Tables.{inc_table, mark_table, rmm_table}
 use Rattle.command_words.specs.Words.{profile_words, words_in}
 use Rattle.command_words.specs.declared.ended.Ended.{Ended}
+use Rattle.command_words.specs.declared.inc.IncWords.{IncWords}
 use Rattle.command_words.specs.declared.mark.MarkWords.{MarkWords}
 use Rattle.command_words.specs.declared.rmm.RmmWords.{RmmWords}
 use Rattle.command_line.specs.Profile.{folder_of, inbox_of, stored_of, value_or}
@@ -249,6 +252,39 @@ pub rmm_chars : (profile : List NamedValue) (words : List (List ℕ)) (said : Rm
 rmm_chars profile words said f e =
     subst RmmChars e (rmm_items_chars (profile_words (codes "rmm") profile ++ words) (read_in rmm_table 0 (profile_words (codes "rmm") profile ++ words))
     (read_textual rmm_table 0 (profile_words (codes "rmm") profile ++ words) (texts_both (profile_words (codes "rmm") profile) words (shown_texts (words_in (unwrap_or (value_of (codes "rmm") profile) []))) f)))
+
+-- `inc`
+abbrev IncChars : Result IncWords Ended → Type 0
+IncChars (Ok w) = HasChars w.folder
+IncChars (Err e) = Unit {0}
+
+inc_folder_chars : (items : List Item) (word : Option (List ℕ)) → HasChars word → IncChars (inc_words.said_folder items word)
+inc_folder_chars items None f = tt
+inc_folder_chars items (Some word) f = go (is_folder_name (without_plus word))
+  where
+    go : (b : Bool) → IncChars (inc_words.with_folder items (if b then Ok (without_plus word) else Err (fault.Refused (refusal.BadFolder word))))
+    go true = plus_chars word f
+    go false = tt
+
+alone_chars : (r : Result (Option (List ℕ)) Wrong) (place : Option ℕ) → OneChars r → OneChars (inc_words.alone r place)
+alone_chars (Ok word) None f = f
+alone_chars (Ok word) (Some place) f = tt
+alone_chars (Err wrong) None f = tt
+alone_chars (Err wrong) (Some place) f = tt
+
+inc_one_chars : (words : List (List ℕ)) (items : List Item) (r : Result (Option (List ℕ)) Wrong) → OneChars r → IncChars (inc_words.folder_said words items r)
+inc_one_chars words items (Ok word) f = inc_folder_chars items word f
+inc_one_chars words items (Err wrong) f = tt
+
+inc_items_chars : (words : List (List ℕ)) (r : Result (List Item) Wrong) → Textual r → IncChars (inc_words.items_said words r)
+inc_items_chars words (Ok items) f =
+    inc_one_chars words items (inc_words.folder_alone items) (alone_chars (one_folder (folders items)) (inc_words.first_of (inc_words.message_places items)) (one_chars (folders items) (folder_texts items f)))
+inc_items_chars words (Err wrong) f = tt
+
+pub inc_chars : (profile : List NamedValue) (words : List (List ℕ)) (said : IncWords) → AreTexts words → inc_said profile words ≡ Ok said → HasChars said.folder
+inc_chars profile words said f e =
+    subst IncChars e (inc_items_chars (profile_words (codes "inc") profile ++ words) (read_in inc_table 0 (profile_words (codes "inc") profile ++ words))
+    (read_textual inc_table 0 (profile_words (codes "inc") profile ++ words) (texts_both (profile_words (codes "inc") profile) words (shown_texts (words_in (unwrap_or (value_of (codes "inc") profile) []))) f)))
 
 -- the stored folder
 value_chars : (o : Option (List ℕ)) (default : List ℕ) → scalars default ≡ true → scalars (value_or o default) ≡ true

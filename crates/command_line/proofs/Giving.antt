@@ -3,6 +3,7 @@ use Rattle.std.proofs.Common.{◌≡◌, ◌⊎◌, inl, inr, ◌<◌, ◌^◌, 
 use Rattle.std.specs.Prelude.{nat_lt, map, if◌then◌else◌}
 use Rattle.std.specs.Str.{chars}
 use Rattle.mh_base.specs.Entries.{entry_text}
+use Rattle.mh_base.specs.Folders.{is_folder_name}
 use Rattle.mh_base.specs.declared.entry.Entry.TheVariants.{Sequences}
 use Rattle.mh_profile.specs.Reading.{entries_in}
 use Rattle.mh_profile.specs.declared.named_value.NamedValue.{NamedValue}
@@ -11,7 +12,7 @@ use Rattle.folder_files.specs.declared.place.Place.{Place}
 use Rattle.folder_files.specs.declared.place.Place.TheVariants.{Home, Mail, Folder}
 use Rattle.folder_files.specs.declared.refusal.Refusal.{Refusal}
 use Rattle.folder_files.specs.declared.refusal.Refusal.TheVariants as refusal
-use Rattle.file_plans.specs.Contents.{Contents, filled, mailbox_in}
+use Rattle.file_plans.specs.Contents.{Contents, filled, mailbox_in, with_folder}
 use Rattle.file_plans.specs.Giving.{Gives}
 use Rattle.file_plans.specs.Mailboxes.{Mailbox}
 use Rattle.file_plans.specs.Plan.{Hand, Plan, Return, Recall, after, ◌>>=◌, converted, lifted, fresh}
@@ -28,14 +29,21 @@ use Rattle.mh_looks.specs.Scan.{entries_seen, scan}
 use Rattle.mh_looks.proofs.Folders.{IsFresh}
 use Rattle.mh_looks.proofs.Reading.{after_read, TextRead, text_gives}
 use Rattle.mh_looks.proofs.Scanning.{IsLate, Decides, ScanEnds, scan_gives}
-use Rattle.opened_folders.specs.BegunWork.{AreHomesAt}
+use Rattle.opened_folders.specs.BegunWork.{AreHomesAt, Homes}
 use Rattle.opened_folders.specs.HomesOf.{homes_at}
+use Rattle.opened_folders.specs.Making.{IsBare}
+use Rattle.opened_folders.proofs.HomesFound.{homes_there}
+use Rattle.inc_command.specs.Inc.{inc}
+use Rattle.inc_command.specs.IncOutcome.{inc_work, with_folder_made}
+use Rattle.inc_command.specs.declared.job.IncJob.{IncJob}
+use Rattle.inc_command.proofs.IncGiven.{inc_gives, shows_folder_made}
 use Rattle.mark_command.specs.Mark.{mark}
 use Rattle.opened_folders.proofs.WorkGiven.{WorkEnds}
 use Rattle.mark_command.proofs.MarkGiven.{mark_gives}
 use Rattle.refile_command.specs.Rmm.{rmm}
 use Rattle.refile_command.proofs.RmmGiven.{rmm_gives}
 use Rattle.command_words.specs.Ended.{plain}
+use Rattle.command_words.specs.IncWords.{inc_said}
 use Rattle.command_words.specs.MarkWords.{mark_said}
 use Rattle.command_words.specs.RmmWords.{rmm_said}
 use Rattle.command_words.specs.ScanWords.{scan_said}
@@ -44,13 +52,15 @@ use Rattle.command_words.specs.declared.mark.MarkWords.{MarkWords}
 use Rattle.command_words.specs.declared.rmm.RmmWords.{RmmWords}
 use Rattle.command_words.specs.declared.scan.ScanWords.{ScanWords}
 use Rattle.command_words.proofs.SaidFolder.{IsValid}
-use Rattle.command_line.specs.Command.{context_seen, context_entered, folder_found, job_of, mark_job, scan_begun, scan_by, mark_begun, mark_by, rmm_begun, rmm_by, rmm_job, word_by, command_by, command}
-use Rattle.command_line.specs.CommandNames.{begins_folders, command_of, named, tells_work}
-use Rattle.command_line.specs.Outcomes.{FolderWork, plainly, of_stage, in_folder, with_context, scans, scan_words_work, marks, mark_words_work, rmms, rmm_words_work, word_work, named_work, with_profile, work_by, work_of, alone_meeting}
+use Rattle.command_line.specs.Command.{context_seen, context_entered, folder_found, inc_begun, inc_by, job_of, mark_job, scan_begun, scan_by, mark_begun, mark_by, rmm_begun, rmm_by, rmm_job, word_by, command_by, command}
+use Rattle.command_line.specs.CommandNames.{begins_folders, command_of, makes_folders, named}
+use Rattle.command_line.specs.Incorporating.{job_by}
+use Rattle.command_line.specs.Outcomes.{FolderWork, inc_job_work, incs, plainly, of_stage, in_folder, with_context, scans, scan_words_work, marks, mark_words_work, rmms, rmm_words_work, word_work, named_work, with_profile, work_by, work_of, alone_meeting}
 use Rattle.command_line.specs.Profile.{folder_of, path_of, profile_name}
 use Rattle.command_line.specs.declared.name.CommandName.{CommandName}
 use Rattle.command_line.specs.declared.name.CommandName.TheVariants.{Inc, Mark, Rmm, Scan}
-use Rattle.command_line.proofs.Refusals.{IsRefusal, folder_refuses, mark_refuses, rmm_refuses, scan_refuses}
+use Rattle.command_line.proofs.Refusals.{IsRefusal, folder_refuses, job_refuses, mark_refuses, rmm_refuses, scan_refuses}
+use Rattle.command_line.proofs.SaidInc.{job_valid}
 use Rattle.command_line.proofs.SaidFolder.{acted_valid, mark_valid, rmm_words_valid}
 
 -- an end that the last commit alone decides
@@ -288,6 +298,83 @@ rmm_stage run c few homes profile words valid v h same unmet begun =
     (homes_at run ((mailbox_in c).folders (Folder (path_of profile) folder))) (homes (Folder (path_of profile) folder)) v.numbers (after_read v (Mail (path_of profile)) context_name) (knowing (entries_in text) h)
     (record { has = (same, refl); fresh = λ x. begun.names (path_of profile) folder x; unmet = λ x is_held. unmet (Folder (path_of profile) folder) x; hand = refl }))
 
+-- the context is read, and the run knows its entries
+module _ (c : Contents) (mail : Place) (v : View) (h : Hand) (same : v.contents ≡ c) (begun : IsBegun v) (out : List ℕ) (path : List ℕ) (at : mail ≡ Mail path) where
+  record Enters (z : View) (j : Hand) (left text : List ℕ) : Type 0 where
+    value : readable (c.texts mail context_name) ≡ Ok text
+    view : z ≡ after_read v mail context_name
+    hand : j ≡ knowing (entries_in text) h
+    rest : left ≡ out
+
+  record EntersNot (z : View) (left : List ℕ) (e : CommandFault) : Type 0 where
+    value : readable (c.texts mail context_name) ≡ Err e
+    contents : z.contents ≡ c
+    rest : left ≡ out
+
+  abbrev EntersBy : View → Hand → List ℕ → Result Unit CommandFault → Type 0
+  EntersBy z j left (Ok u) = (text : List ℕ) × Enters z j left text
+  EntersBy z j left (Err e) = EntersNot z left e
+
+  text_there : readable (v.contents.texts mail context_name) ≡ readable (c.texts mail context_name)
+  text_there = ap (λ d. readable (d.texts mail context_name)) same
+
+  enters_give : Gives (by_view true) v h out (context_entered mail) EntersBy
+  unfolding context_entered context_seen Gives
+  enters_give =
+      gives_on (by_view true) v h out (text_read mail context_name) (λ text. context_seen (entries_in text)) (TextRead v mail context_name h out) EntersBy
+      (text_gives true v mail context_name h out (λ beside. subst (λ p. v.seen.names p context_name ≡ Unseen) (sym at) (begun.context path)))
+      (λ z j left text r. (text, record { value = sym text_there ∙ sym r.value; view = r.view; hand = ap (knowing (entries_in text)) r.hand; rest = r.rest }))
+      (λ z j left e r. record { value = sym text_there ∙ sym r.value; contents = ap (λ y. y.contents) r.view ∙ same; rest = r.rest })
+
+-- `inc` alone, from the context on
+module _ (run : ℕ) (c : Contents) (few : run < 2 ^ 128) (bare : IsBare c) (profile : List NamedValue) (job : IncJob) (valid : is_folder_name job.folder ≡ true)
+    (v : View) (h : Hand) (same : v.contents ≡ c) (unmet : (p : Place) (x : List ℕ) → v.met p x ≡ false) (begun : IsBegun v) where
+  abbrev inc_path : List ℕ
+  inc_path = path_of profile
+
+  abbrev inc_mail : Place
+  inc_mail = Mail inc_path
+
+  abbrev into : Place
+  into = Folder inc_path job.folder
+
+  abbrev inc_homes : Homes
+  inc_homes = homes_at run ((with_folder_made (mailbox_in c) into).folders into)
+
+  abbrev taken_in : List ℕ → Work CommandFault
+  taken_in text = inc_work inc_path (entries_in text) inc_homes job (mailbox_in c)
+
+  abbrev pub inc_stage : Work CommandFault
+  inc_stage = incs (alone_meeting run) (mailbox_in c) profile job (readable (c.texts inc_mail context_name))
+
+  taken_gives : (text : List ℕ) → readable (c.texts inc_mail context_name) ≡ Ok text
+      → Gives (by_view true) (after_read v inc_mail context_name) (knowing (entries_in text) h) (taken_in text).text (inc run inc_path job) (WorkEnds (taken_in text))
+  taken_gives text reads =
+      let short = read_short (c.texts inc_mail context_name) text reads in
+      inc_gives run few inc_path job valid (suffix_clean job.folder) c bare (entries_in text) (ap entries_in short.1) short.0 inc_homes
+      (subst (λ m. AreHomesAt run ((mailbox_in (with_folder c into)).folders into) (homes_at run (m.folders into))) (shows_folder_made c into bare) (homes_there run (with_folder c into) into)) v.numbers
+      (after_read v inc_mail context_name) (knowing (entries_in text) h)
+      (record { has = (same, refl); fresh = λ x. begun.names inc_path job.folder x; unmet = λ x is_held. unmet into x; hand = refl })
+
+  pub inc_stage_gives : Gives (by_view true) v h inc_stage.text (inc_begun run inc_path job) (WorkEnds inc_stage)
+  unfolding inc_begun
+  inc_stage_gives =
+      gives_on (by_view true) v h inc_stage.text (context_entered inc_mail) (λ entered. inc run inc_path job) (EntersBy c inc_mail v h same begun inc_stage.text inc_path refl) (WorkEnds inc_stage)
+      (enters_give c inc_mail v h same begun inc_stage.text inc_path refl)
+      (λ z j left u r. on z j left r.0 r.1)
+      (λ z j left e r. off z j left e r)
+    where
+      on : (z : View) (j : Hand) (left text : List ℕ) → Enters c inc_mail v h same begun inc_stage.text inc_path refl z j left text → Gives (by_view true) z j left (inc run inc_path job) (WorkEnds inc_stage)
+      on z j left text r =
+          let w : inc_stage ≡ taken_in text = ap (incs (alone_meeting run) (mailbox_in c) profile job) r.value in
+          rw (r.view, r.hand, r.rest) (subst (λ x. Gives (by_view true) (after_read v inc_mail context_name) (knowing (entries_in text) h) x.text (inc run inc_path job) (WorkEnds x)) (sym w) (taken_gives text r.value))
+
+      off : (z : View) (j : Hand) (left : List ℕ) (e : CommandFault) → EntersNot c inc_mail v h same begun inc_stage.text inc_path refl z left e → WorkEnds inc_stage z j left (Err e)
+      off z j left e r =
+          let w : inc_stage ≡ refused_at (mailbox_in c) e = ap (incs (alone_meeting run) (mailbox_in c) profile job) r.value in
+          let l = unreadable (c.texts inc_mail context_name) e r.value in
+          subst (λ x. WorkEnds x z j left (Err e)) (sym w) (mark_refused c e (refusal.TooLarge l.0 LIMIT_BYTES) z j left l.1 (r.rest ∙ ap (λ x. x.text) w) r.contents)
+
 module _ (alone : Bool) (run : ℕ) (c : Contents) (few : run < 2 ^ 128) (homes : alone ≡ true → AreAllHomes run c) where
   abbrev box : Mailbox
   box = mailbox_in c
@@ -333,21 +420,37 @@ module _ (alone : Bool) (run : ℕ) (c : Contents) (few : run < 2 ^ 128) (homes 
         subst (λ b. Gives (by_view b) z fresh (rmm_words_work (alone_meeting run) box profile (rmm_said profile words)).text (rmm_by run profile (rmm_said profile words)) (CommandEnds b (rmm_words_work (alone_meeting run) box profile (rmm_said profile words)))) (sym only)
         (rmm_words_true (homes only) (rmm_said profile words) (λ said e. rmm_words_valid profile words said e) (λ e is. rmm_refuses profile words e is))
 
-    by_word : (user : List ℕ) (word : List ℕ) (words : List (List ℕ)) (name : Option CommandName) → (begins_folders name ≡ true → alone ≡ true) → tells_work name ≡ true → Gives (by_view alone) z fresh (word_work (alone_meeting run) box user profile word words name).text (word_by run user profile word words name) (CommandEnds alone (word_work (alone_meeting run) box user profile word words name))
-    unfolding Gives
-    by_word user word words None only told = (refl, inl (refl, λ a. ap mailbox_in same))
-    by_word user word words (Some Inc) only told = cc (told)
-    by_word user word words (Some Scan) only told = scan_words_give (scan_said profile (map chars words)) (λ e is. scan_refuses profile (map chars words) e is)
-    by_word user word words (Some Mark) only told = mark_words_give (only refl) (map chars words)
-    by_word user word words (Some Rmm) only told = rmm_words_give (only refl) (map chars words)
+    inc_words_true : IsBare c → (value : Result IncJob Ended) → ((job : IncJob) → value ≡ Ok job → is_folder_name job.folder ≡ true) → ((e : Ended) → value ≡ Err e → IsRefusal e.fault)
+        → Gives (by_view true) z fresh (inc_job_work (alone_meeting run) box profile value).text (inc_by run profile value) (CommandEnds true (inc_job_work (alone_meeting run) box profile value))
+    unfolding Gives lifted mailbox_in
+    inc_words_true bare (Ok job) valid r =
+        gives_bind (by_view true) z fresh (inc_job_work (alone_meeting run) box profile (Ok job)).text (inc_begun run (path_of profile) job) (λ q. Return (converted plain q)) (WorkEnds (inc_stage run c few bare profile job (valid job refl) z fresh same unmet begun))
+        (CommandEnds true (inc_job_work (alone_meeting run) box profile (Ok job)))
+        (inc_stage_gives run c few bare profile job (valid job refl) z fresh same unmet begun)
+        (λ y j left q e. mark_ends (inc_stage run c few bare profile job (valid job refl) z fresh same unmet begun) y j left q e)
+    inc_words_true bare (Err e) valid r = let is = r e refl in plain_refused true c e is.0 z fresh [] is.1 refl same
 
-    by_name : (user : List ℕ) (words : List (List ℕ)) → (begins_folders (command_of words) ≡ true → alone ≡ true) → tells_work (command_of words) ≡ true → Gives (by_view alone) z fresh (named_work (alone_meeting run) box user profile words).text (command_by run user profile words) (CommandEnds alone (named_work (alone_meeting run) box user profile words))
+    inc_words_give : alone ≡ true → IsBare c → (user : List ℕ) (words : List (List ℕ))
+        → Gives (by_view alone) z fresh (inc_job_work (alone_meeting run) box profile (job_by user profile (inc_said profile words))).text (inc_by run profile (job_by user profile (inc_said profile words))) (CommandEnds alone (inc_job_work (alone_meeting run) box profile (job_by user profile (inc_said profile words))))
+    inc_words_give only bare user words =
+        subst (λ b. Gives (by_view b) z fresh (inc_job_work (alone_meeting run) box profile (job_by user profile (inc_said profile words))).text (inc_by run profile (job_by user profile (inc_said profile words))) (CommandEnds b (inc_job_work (alone_meeting run) box profile (job_by user profile (inc_said profile words))))) (sym only)
+        (inc_words_true bare (job_by user profile (inc_said profile words)) (λ job e. job_valid user profile words job e) (λ e is. job_refuses user profile words e is))
+
+    by_word : (user : List ℕ) (word : List ℕ) (words : List (List ℕ)) (name : Option CommandName) → (begins_folders name ≡ true → alone ≡ true) → (makes_folders name ≡ true → IsBare c) → Gives (by_view alone) z fresh (word_work (alone_meeting run) box user profile word words name).text (word_by run user profile word words name) (CommandEnds alone (word_work (alone_meeting run) box user profile word words name))
     unfolding Gives
-    by_name user [] only told = (refl, inl (refl, λ a. ap mailbox_in same))
-    by_name user (word ∷ words) only told = by_word user word words (named word) only told
+    by_word user word words None only bare = (refl, inl (refl, λ a. ap mailbox_in same))
+    by_word user word words (Some Inc) only bare = inc_words_give (only refl) (bare refl) user (map chars words)
+    by_word user word words (Some Scan) only bare = scan_words_give (scan_said profile (map chars words)) (λ e is. scan_refuses profile (map chars words) e is)
+    by_word user word words (Some Mark) only bare = mark_words_give (only refl) (map chars words)
+    by_word user word words (Some Rmm) only bare = rmm_words_give (only refl) (map chars words)
+
+    by_name : (user : List ℕ) (words : List (List ℕ)) → (begins_folders (command_of words) ≡ true → alone ≡ true) → (makes_folders (command_of words) ≡ true → IsBare c) → Gives (by_view alone) z fresh (named_work (alone_meeting run) box user profile words).text (command_by run user profile words) (CommandEnds alone (named_work (alone_meeting run) box user profile words))
+    unfolding Gives
+    by_name user [] only bare = (refl, inl (refl, λ a. ap mailbox_in same))
+    by_name user (word ∷ words) only bare = by_word user word words (named word) only bare
 
   -- the whole; beside others, of commands that look
-  module _ (user : List ℕ) (words : List (List ℕ)) (only : begins_folders (command_of words) ≡ true → alone ≡ true) (told : tells_work (command_of words) ≡ true) where
+  module _ (user : List ℕ) (words : List (List ℕ)) (only : begins_folders (command_of words) ≡ true → alone ≡ true) (bare : makes_folders (command_of words) ≡ true → IsBare c) where
     abbrev pub whole_work : Work Ended
     whole_work = work_of run user words box
 
@@ -364,7 +467,7 @@ module _ (alone : Bool) (run : ℕ) (c : Contents) (few : run < 2 ^ 128) (homes 
       after_profile z j left (Ok text) t =
           let w = works_by (Ok text) (profile_at (Ok text) t.value) in
           rw (t.view, t.hand, t.rest) (subst (λ x. Gives (by_view alone) (after_read v Home profile_name) fresh x.text (command_by run user (entries_in text) words) (CommandEnds alone x)) (sym w)
-          (by_name (entries_in text) (after_read v Home profile_name) same (λ p x. first.unmet p x) (begun_first v first) user words only told))
+          (by_name (entries_in text) (after_read v Home profile_name) same (λ p x. first.unmet p x) (begun_first v first) user words only bare))
       after_profile z j left (Err e) t =
           let is = profile_at (Err e) t.value in
           let w = works_by (Err e) is in

@@ -1,22 +1,20 @@
 -- A command keeps the marks of messages.
-use Rattle.std.proofs.Common.{◌≡◌, inl, inr, ◌<◌, ◌^◌, ◌∷◌, [], ℕ, Bool, true, false, List, Option, Some, None, Result, Ok, Err, map, refl, sym, ◌∙◌, ap, subst, bytes_eq}
+use Rattle.std.proofs.Common.{◌≡◌, ◌<◌, ◌^◌, ◌∷◌, [], ℕ, true, List, Option, Some, None, Result, Ok, Err, map, refl, sym, ◌∙◌, ap, subst}
 use Rattle.std.specs.Str.{chars}
 use Rattle.mh_base.specs.Folders.{is_folder_name}
 use Rattle.mh_profile.specs.declared.named_value.NamedValue.{NamedValue}
 use Rattle.mh_profile.specs.Reading.{entries_in}
-use Rattle.mh_sequences.specs.Reading.{suffix}
-use Rattle.folder_files.specs.Deeds.{Deed, now, on}
+use Rattle.folder_files.specs.Deeds.{Deed}
 use Rattle.folder_files.specs.Histories.{past_of}
-use Rattle.folder_files.specs.Story.{GrowsBy, Story}
+use Rattle.folder_files.specs.Story.{Story}
 use Rattle.folder_files.specs.declared.event.Event.{Event}
 use Rattle.folder_files.specs.declared.event.Event.TheVariants.{Act, Crash, Deliver, End}
-use Rattle.folder_files.specs.declared.place.Place.TheVariants.{Folder, Home, Mail}
+use Rattle.folder_files.specs.declared.place.Place.TheVariants.{Home, Mail}
 use Rattle.folder_files.specs.declared.step.Answer.{Answer}
 use Rattle.folder_files.specs.declared.step.Step.{Step}
 use Rattle.folder_files.specs.declared.step.Step.TheVariants as step
-use Rattle.folder_files.proofs.Names.{bytes_true}
 use Rattle.file_plans.specs.Asking.{reading_of}
-use Rattle.file_plans.specs.Follows.{Follows, State, deeds_in, filed_in}
+use Rattle.file_plans.specs.Follows.{Follows, State, deeds_in}
 use Rattle.file_plans.specs.Plan.{Ask, Hand, Plan, bind, lifted, ◌>>=◌}
 use Rattle.file_plans.specs.Rules.{IfOkay, Keeps}
 use Rattle.file_plans.specs.Runs.{Deed as Done, exit_of}
@@ -29,8 +27,6 @@ use Rattle.step_plans.specs.Pledges.{Marks, MayAsk, Pledge}
 use Rattle.step_plans.specs.Safety.{AtSteps}
 use Rattle.step_plans.specs.declared.command_fault.CommandFault.{CommandFault}
 use Rattle.step_plans.proofs.Going.{Sound}
-use Rattle.step_plans.proofs.KeptPledges.{OwnMay}
-use Rattle.step_plans.proofs.Past.{did_step}
 use Rattle.step_plans.proofs.Ruling.{rules_of}
 use Rattle.step_plans.proofs.StoryMay.{StoryMay}
 use Rattle.sequence_marks.specs.KeepsSequencesOf.{KeepsSequencesOf}
@@ -40,10 +36,9 @@ use Rattle.command_stages.specs.Texts.{too_large}
 use Rattle.command_stages.proofs.FolderLines.{current_valid}
 use Rattle.mh_looks.specs.ScanPledge.{scan_pledge}
 use Rattle.opened_folders.proofs.AllMarks.{MindsAll, pledge_minds}
-use Rattle.opened_folders.proofs.BegunSeen.{NoneUnlinked}
 use Rattle.opened_folders.proofs.CommitMinds.{IsTold}
 use Rattle.opened_folders.proofs.EndedKept.{Still, keeps_more}
-use Rattle.opened_folders.proofs.Meeting.{keeps_met, may_with, with_step}
+use Rattle.opened_folders.proofs.Meeting.{keeps_met, with_step}
 use Rattle.opened_folders.proofs.WorkMinds.{Anyhow}
 use Rattle.mark_command.specs.Mark.{mark, mark_by_act}
 use Rattle.mark_command.specs.MarkPledge.{looks_pledge, mark_pledge, pledge_by}
@@ -71,58 +66,25 @@ use Rattle.command_line.specs.CommandPledge.{entries_by, marks_pledge, on_named,
 use Rattle.command_line.specs.Profile.{folder_of, path_of, profile_name}
 use Rattle.command_line.specs.declared.name.CommandName.{CommandName}
 use Rattle.command_line.specs.declared.name.CommandName.TheVariants.{Inc, Mark, Rmm, Scan}
+use Rattle.command_line.proofs.IncKept.{inc_kept}
 use Rattle.command_line.proofs.MindsMarks.{command_keeps_sequences, keeps_may, minds_sequences}
 use Rattle.command_line.proofs.Pledging.{Answered, answers, context_keeps, context_step, known_sound, mark_acts, mark_onward, mark_words_keep, named_onward, on_context, onward_by, plan_by, profile_step, rmm_acts, rmm_onward, rmm_words_keep, two_readings, word_onward}
 use Rattle.command_line.proofs.FolderChars.{AreUtf8, HasChars, acted_chars, chars_texts, mark_chars, rmm_chars}
-use Rattle.command_line.proofs.SuffixesApart.{suffix_same}
 use Rattle.command_line.proofs.SaidFolder.{acted_valid, mark_valid, rmm_words_valid}
+use Rattle.command_line.proofs.Begun.{Any, any_so, none_read, start_same}
+use Rattle.command_line.proofs.StepsWith.{may_without, own_with}
+use Rattle.command_line.proofs.ToldApart.{told_by}
 use Rattle.command_line.proofs.TwoAnswers.{follows_so, keeps_after, keeps_ended, rest_by}
-
--- a folder whose name is a text is the one that is acted on, or has other entries
-told_by : (acted other : List ℕ) → IsTextName acted → IsTextName other → IsTold acted other
-told_by acted other real text = go (bytes_eq (suffix other) (suffix acted)) refl
-  where
-    go : (b : Bool) → bytes_eq (suffix other) (suffix acted) ≡ b → IsTold acted other
-    go true e = inl (suffix_same other acted text real (bytes_true (suffix other) (suffix acted) e))
-    go false e = inr e
 
 minds_own : (acted : List ℕ) (w : Pledge) → IsTextName acted → MindsSequencesOf (λ other. IsTold acted other) w → MindsSequencesOf IsTextName w
 minds_own acted w real m = record { public = m.public; private = λ mail folder sequence is. m.private mail folder sequence (told_by acted folder real is) }
 
--- what may be asked with more may be asked with less
-module _ (w : Pledge) (A : List Deed → Step → Type 0) where
-  marked_without : (own : List Deed) (s : Step) → Marks (with_step w A) own s → Marks w own s
-  marked_without own (step.List p) m = tt
-  marked_without own (step.Read p n limit) m = tt
-  marked_without own (step.MakeFolder p) m = tt
-  marked_without own (step.Create p n b) m = tt
-  marked_without own (step.SyncFile p n) m = tt
-  marked_without own (step.SyncFolder p) m = tt
-  marked_without own (step.Link p a b) m = tt
-  marked_without own (step.Rename p temp name) m = λ is. let k = m is in record { old = k.old; new = k.new; is_base = k.is_base; created = k.created; made = k.made }
-  marked_without own (step.Unlink p a) m = tt
-  marked_without own (step.Lock p) m = tt
-  marked_without own (step.Unlock p) m = tt
-  marked_without own (step.ReadFile f limit) m = tt
-  marked_without own (step.ReadDrop f from most) m = tt
-  marked_without own (step.CutDrop f length_) m = tt
-
-  may_without : (own : List Deed) (s : Step) → MayAsk (with_step w A) own s → MayAsk w own s
-  may_without own s m = record { is_own = m.is_own; marks = marked_without own s m.marks; steps = λ no. (m.steps no).0 }
-
-  minds_with : MindsSequences w → MindsSequencesOf IsTextName (with_step w A)
-  minds_with m = record {
-    public = λ mail folder sequence own s may. m.public mail folder sequence own s (may_without own s may);
-    private = λ mail folder sequence is own s may. m.private mail folder sequence own s (may_without own s may);
-  }
-
-  -- where each own step meets this besides
-  own_with : (past : List Event) → AtSteps (λ r. r ≡ w.run) (λ r own s. A own s) past → OwnMay w past → OwnMay (with_step w A) past
-  own_with [] f g = tt
-  own_with (Act r s a m ∷ past) f g = ((λ is. may_with w A _ s (g.0 is) (f.0 is)), own_with past f.1 g.1)
-  own_with (Deliver path piece ∷ past) f g = own_with past f g
-  own_with (Crash v ∷ past) f g = own_with past f g
-  own_with (End r ∷ past) f g = own_with past f g
+-- a pledge that minds all marks minds them where more is asked of its steps
+minds_with : (w : Pledge) (A : List Deed → Step → Type 0) → MindsSequences w → MindsSequencesOf IsTextName (with_step w A)
+minds_with w A m = record {
+  public = λ mail folder sequence own s may. m.public mail folder sequence own s (may_without w A own s may);
+  private = λ mail folder sequence is own s may. m.private mail folder sequence own s (may_without w A own s may);
+}
 
 -- a `mark` that only lists may ask for what a command may that looks
 module _ (run : ℕ) (path : List ℕ) (job : MarkJob) (valid : is_folder_name job.folder ≡ true) where
@@ -159,21 +121,9 @@ record Minding {R : Type 0} (run : ℕ) (B : List Deed → Step → Type 0) (h :
   Q : List Done → Hand → R → Type 0
   keeps : Keeps (rules_of pledge) [] h plan Q
 
-abbrev Any : List Done → Hand → Unit {0} → Type 0
-Any past h u = Unit {0}
-
-any_so : (P : List Done → Hand → Unit {0} → Type 0) {E : Type 0} (past : List Done) (h : Hand) (r : Result Unit E) → IfOkay P past h r → IfOkay Any past h r
-any_so P past h (Ok u) f = tt
-any_so P past h (Err e) f = tt
-
 module _ (run : ℕ) (few : run < 2 ^ 128) (profile : List NamedValue) (h : Hand) where
   abbrev path : List ℕ
   path = path_of profile
-
-  none_read : (folder : List ℕ) (c d : Answer) → NoneUnlinked (Folder path folder) (acts (two_readings profile c d))
-  none_read folder c d x (now e) = let same = did_step e in cc (same)
-  none_read folder c d x (on (now e)) = let same = did_step e in cc (same)
-  none_read folder c d x (on (on z)) = elim z [ ]
 
   -- no more than that is asked of a `mark`
   abbrev NoMore : List Deed → Step → Type 0
@@ -201,7 +151,7 @@ module _ (run : ℕ) (few : run < 2 ^ 128) (profile : List NamedValue) (h : Hand
         keeps_more (rules_of changes_pledge) (two_readings profile c d) (knowing es h) (mark_by_act run path job (Some a)) (IfOkay (Still (acts (two_readings profile c d)))) (IfOkay Any) (λ later i r q. any_so (Still (acts (two_readings profile c d))) later i r q)
         (keeps_met (mark_pledge run path job a) (λ own s. MindsAll (λ other. IsTold folder other) run own s) (two_readings profile c d) (acts (two_readings profile c d)) (knowing es h) (mark_by_act run path job (Some a)) (IfOkay (Still (acts (two_readings profile c d)))) Anyhow refl
         (mark_keeps run few path job (Some a) (two_readings profile c d) (knowing es h) (sound_so (mark_pledge run path job a) (λ own s. MindsAll (λ other. IsTold folder other) run own s) (acts (two_readings profile c d)) (knowing es h) sound))
-        (changes_meet run path job a (current_valid folder valid) (acts (two_readings profile c d)) (knowing es h) (none_read folder c d)))
+        (changes_meet run path job a (current_valid folder valid) (acts (two_readings profile c d)) (knowing es h) (none_read profile folder c d)))
 
     acts_keep : words.act ≡ Some a → (c d : Answer) → Sound changes_pledge (acts (two_readings profile c d)) (knowing es h) → Keeps (rules_of changes_pledge) (two_readings profile c d) (knowing es h) (mark_acts run profile words folder) (IfOkay Any)
     unfolding mark
@@ -271,7 +221,7 @@ module _ (run : ℕ) (few : run < 2 ^ 128) (profile : List NamedValue) (h : Hand
         keeps_more (rules_of removes_pledge) (two_readings profile c d) (knowing es h) (rmm run path rmm_job_) (IfOkay (Still (acts (two_readings profile c d)))) (IfOkay Any) (λ later i r q. any_so (Still (acts (two_readings profile c d))) later i r q)
         (keeps_met (rmm_pledge run path rmm_job_) (λ own s. MindsUnheld (λ other. IsTold folder other) run own s) (two_readings profile c d) (acts (two_readings profile c d)) (knowing es h) (rmm run path rmm_job_) (IfOkay (Still (acts (two_readings profile c d)))) Anyhow refl
         (rmm_keeps run few path rmm_job_ (two_readings profile c d) (knowing es h) (sound_so (rmm_pledge run path rmm_job_) (λ own s. MindsUnheld (λ other. IsTold folder other) run own s) (acts (two_readings profile c d)) (knowing es h) sound))
-        (rmm_meets run path rmm_job_ (current_valid folder valid) (acts (two_readings profile c d)) (knowing es h) (none_read folder c d)))
+        (rmm_meets run path rmm_job_ (current_valid folder valid) (acts (two_readings profile c d)) (knowing es h) (none_read profile folder c d)))
 
   abbrev rmm_plan : Answer → RmmWords → Plan (Result Unit Ended)
   rmm_plan b words = Ask profile_step (λ c. rest_by (context_step profile) (rmm_by run profile (Ok words)) (rmm_onward run profile (Ok words)) b)
@@ -377,15 +327,6 @@ module _ (run : ℕ) (few : run < 2 ^ 128) (user : List ℕ) (word : List ℕ) (
 
 -- a call that follows a command keeps the marks of messages
 module _ (run : ℕ) (few : run < 2 ^ 128) (user : List ℕ) (x y : State) (result : Result Unit Ended) where
-  start_same : (words : List (List ℕ)) → Follows run ended_cause (command run user words) x y result → SameStart x.files.story y.files.story
-  start_same words f = go x.files.story y.files.story f.went.grows
-    where
-      go : (old new : Option Story) → GrowsBy run old new (filed_in f.went.log) → SameStart old new
-      go None None g = tt
-      go (Some old) (Some new) g = g.start
-      go None (Some new) g = absurd g
-      go (Some old) None g = absurd g
-
   minding_may : (words : List (List ℕ)) (f : Follows run ended_cause (command run user words) x y result) (t : Answered run few user words x.hand y.hand (deeds_in f.went.log) (exit_of ended_cause result)) {B : List Deed → Step → Type 0}
       → (m : Minding run B x.hand (plan_by run few user words (reading_of t.first) t.second)) → StoryMay m.pledge x.files.story y.files.story
   minding_may words f t m =
@@ -399,7 +340,7 @@ module _ (run : ℕ) (few : run < 2 ^ 128) (user : List ℕ) (x y : State) (resu
       go t =
           let m = mark_read run few user word words texts x.hand t.second (reading_of t.first) is in
           subst (λ n. KeepsSequencesOf IsTextName n x.files.story y.files.story) m.run_is
-          (sequences_kept_of IsTextName (with_step m.pledge NothingMore) m.minds x.files.story y.files.story (start_same (word ∷ words) f) (may_more m.pledge x.files.story y.files.story (minding_may (word ∷ words) f t m)))
+          (sequences_kept_of IsTextName (with_step m.pledge NothingMore) m.minds x.files.story y.files.story (start_same run ended_cause (command run user (word ∷ words)) x y result f) (may_more m.pledge x.files.story y.files.story (minding_may (word ∷ words) f t m)))
 
   rmm_kept : (word : List ℕ) (words : List (List ℕ)) → AreUtf8 words → named word ≡ Some Rmm → Follows run ended_cause (command run user (word ∷ words)) x y result → KeepsUnheld run x.files.story y.files.story
   rmm_kept word words texts is f = go (answers run few user (word ∷ words) x y result f)
@@ -407,11 +348,11 @@ module _ (run : ℕ) (few : run < 2 ^ 128) (user : List ℕ) (x y : State) (resu
       go : Answered run few user (word ∷ words) x.hand y.hand (deeds_in f.went.log) (exit_of ended_cause result) → KeepsUnheld run x.files.story y.files.story
       go t =
           let m = rmm_read run few user word words texts x.hand t.second (reading_of t.first) is in
-          subst (λ n. KeepsUnheld n x.files.story y.files.story) m.run_is (unheld_kept m.pledge m.minds x.files.story y.files.story (start_same (word ∷ words) f) (minding_may (word ∷ words) f t m))
+          subst (λ n. KeepsUnheld n x.files.story y.files.story) m.run_is (unheld_kept m.pledge m.minds x.files.story y.files.story (start_same run ended_cause (command run user (word ∷ words)) x y result f) (minding_may (word ∷ words) f t m))
 
   by_name : (word : List ℕ) (words : List (List ℕ)) → AreUtf8 words → Follows run ended_cause (command run user (word ∷ words)) x y result → (name : Option CommandName) → named word ≡ name → KeepsCommandMarks name run x.files.story y.files.story
   by_name word words texts f None is = command_keeps_sequences run few user (word ∷ words) (ap begins_folders is) x y result f
-  by_name word words texts f (Some Inc) is = tt
+  by_name word words texts f (Some Inc) is = inc_kept run few user x y result word words texts is f
   by_name word words texts f (Some Scan) is = command_keeps_sequences run few user (word ∷ words) (ap begins_folders is) x y result f
   by_name word words texts f (Some Mark) is = mark_kept word words texts is f
   by_name word words texts f (Some Rmm) is = rmm_kept word words texts is f

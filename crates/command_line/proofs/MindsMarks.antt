@@ -30,7 +30,7 @@ use Rattle.marks_law.proofs.Pledging.{pledged_minds}
 use Rattle.sequence_marks.specs.KeepsSequences.{KeepsSequences}
 use Rattle.sequence_marks.specs.SequenceMarks.{private_marks, says_private}
 use Rattle.sequence_marks.proofs.OtherEntries.{marks_same}
-use Rattle.sequence_marks.proofs.Sequences.{MindsSequences, SameStart, sequences_kept}
+use Rattle.sequence_marks.proofs.Sequences.{MindsSequences, sequences_kept}
 use Rattle.sequence_marks.proofs.Silence.{private_committed}
 use Rattle.command_stages.specs.Current.{current_name}
 use Rattle.mh_looks.specs.ScanPledge.{MarksCurrent, scan_pledge}
@@ -43,6 +43,7 @@ use Rattle.command_line.specs.declared.name.CommandName.{CommandName}
 use Rattle.command_line.specs.declared.name.CommandName.TheVariants.{Inc, Mark, Rmm, Scan}
 use Rattle.command_words.specs.Ended.{ended_cause}
 use Rattle.command_words.specs.declared.ended.Ended.{Ended}
+use Rattle.command_line.proofs.Begun.{start_same}
 use Rattle.command_line.proofs.Pledging.{Answered, End, answers, follows_pledged, plan_by, pledge_at, read_keeps}
 
 -- a step in the mail directory changes no folder
@@ -136,7 +137,7 @@ keeps_may w cause plan x y result Q k f = told x.files.story y.files.story f.wen
 pub command_keeps_sequences : (run : ℕ) → run < 2 ^ 128 → (user : List ℕ) (words : List (List ℕ)) → (begins_folders (command_of words) ≡ false) → (x y : State) (result : Result Unit Ended) → Follows run ended_cause (command run user words) x y result
     → KeepsSequences run x.files.story y.files.story
 command_keeps_sequences run few user words other x y result f =
-    sequences_kept (scan_pledge run path) (minds_sequences run path) x.files.story y.files.story (start_same x.files.story y.files.story f.went.grows)
+    sequences_kept (scan_pledge run path) (minds_sequences run path) x.files.story y.files.story (start_same run ended_cause (command run user words) x y result f)
     (may_by (answers run few user words x y result f))
   where
     path : List ℕ
@@ -147,9 +148,3 @@ command_keeps_sequences run few user words other x y result f =
         subst (λ w. StoryMay w x.files.story y.files.story) (pledge_looks run user words (entries_by t.first) (entries_by t.second) other)
         (keeps_may (pledge_at run few user words t.first t.second) ended_cause (plan_by run few user words (reading_of t.first) t.second) x y result (IfOkay (End run few user words t.first)) (read_keeps run few user words x.hand (reading_of t.first) t.second)
         (follows_pledged run few user words x y result f t))
-
-    start_same : (old new : Option Story) → GrowsBy run old new (filed_in f.went.log) → SameStart old new
-    start_same None None g = tt
-    start_same (Some old) (Some new) g = g.start
-    start_same None (Some new) g = absurd g
-    start_same (Some old) None g = absurd g

@@ -177,7 +177,7 @@ two_settled : (profile : List NamedValue) (a b : Answer) → AreSettled (acts (t
 two_settled profile a b = settled_kept _ (context_step profile) b tt (settled_kept [] profile_step a tt none_settled)
 
 -- they put nothing
-two_once : (w : Pledge) (profile : List NamedValue) (a b : Answer) → AreOnce w.run (acts (two_readings profile a b))
+pub two_once : (w : Pledge) (profile : List NamedValue) (a b : Answer) → AreOnce w.run (acts (two_readings profile a b))
 two_once w profile a b =
     once_asked w (acts (Did profile_step a ∷ [])) (context_step profile) b (may_read w (acts (Did profile_step a ∷ [])) (Mail (path_of profile)) context_name LIMIT_BYTES)
     (once_asked w [] profile_step a (may_read w [] Home profile_name LIMIT_BYTES) (none_once w.run))

@@ -18,8 +18,11 @@ use Rattle.opened_folders.specs.Endings.{ShowsEnd}
 use Rattle.mark_command.specs.MarkAnswers.{HasMarked, ShowsListing, TellsMarks, mark_answers}
 use Rattle.mark_command.specs.declared.job.MarkAct.{MarkAct}
 use Rattle.mark_command.specs.declared.job.MarkJob.{MarkJob}
+use Rattle.inc_command.specs.IncAnswers.{IsTextOfNew, ShowsIncorporating}
+use Rattle.inc_command.specs.declared.job.IncJob.{IncJob}
 use Rattle.refile_command.specs.RmmAnswers.{HasRemovedChosen, rmm_answers}
 use Rattle.refile_command.specs.declared.job.RmmJob.{RmmJob}
+use Rattle.command_words.specs.IncWords.{inc_said}
 use Rattle.command_words.specs.MarkWords.{mark_said}
 use Rattle.command_words.specs.RmmWords.{rmm_said}
 use Rattle.command_words.specs.declared.ended.Ended.{Ended}
@@ -29,13 +32,14 @@ use Rattle.command_line.specs.Causes.{ReadsContext, ReadsProfile, ShowsCommandFa
 use Rattle.command_line.specs.Command.{mark_job, rmm_job}
 use Rattle.command_line.specs.CommandNames.{named}
 use Rattle.command_line.specs.CommandPledge.{entries_by, path_by}
+use Rattle.command_line.specs.Incorporating.{job_by}
 use Rattle.command_line.specs.Profile.{folder_of, path_of, profile_name}
 use Rattle.command_line.specs.declared.name.CommandName.{CommandName}
 use Rattle.command_line.specs.declared.name.CommandName.TheVariants.{Inc, Mark, Rmm, Scan}
 
 -- what shows how it ended before it came to a folder
 pub data ShowsEarly : CommandFault → List Deed → Type 0 where
-  -- a word is wrong, or is the name of no folder or no sequence; the profile was read, and that is all
+  -- a word, of the profile perhaps, is wrong, or is the name of no folder or no sequence; the profile was read, and that is all
   wrong_word : {place : ℕ} {why : WordWhy} {own : List Deed} → ReadsProfile own
       → ShowsEarly (fault.Refused (refusal.BadSwitch place why)) own
   wrong_folder : {word : List ℕ} {own : List Deed} → ReadsProfile own
@@ -90,27 +94,35 @@ ShowsRmm run profile context folder r own (Ok words) =
     × ShowsRemoving run (path_of profile) (rmm_job folder words profile) r own
 ShowsRmm run profile context folder r own (Err x) = ⊥
 
+-- the job of `inc` is to take new mail into this folder, and this shows how it ended there
+abbrev pub ShowsIncJob : ℕ → List NamedValue → List ℕ → Result (List ℕ) CommandFault → List Deed → Result IncJob Ended → Type 0
+ShowsIncJob run profile folder r own (Ok job) = (folder ≡ job.folder) × ShowsIncorporating run (path_of profile) job r own
+ShowsIncJob run profile folder r own (Err x) = ⊥
+
 -- by the command's name
-abbrev pub ShowsNamed : ℕ → List NamedValue → List NamedValue → List ℕ → Result (List ℕ) CommandFault → List Deed
+abbrev pub ShowsNamed : ℕ → List ℕ → List NamedValue → List NamedValue → List ℕ → Result (List ℕ) CommandFault → List Deed
     → List (List ℕ) → Option CommandName → Type 0
-ShowsNamed run profile context folder r own words None = ⊥
-ShowsNamed run profile context folder r own words (Some Inc) = ⊥
-ShowsNamed run profile context folder r own words (Some Scan) = ⊥
-ShowsNamed run profile context folder r own words (Some Mark) =
+ShowsNamed run user profile context folder r own words None = ⊥
+ShowsNamed run user profile context folder r own words (Some Inc) =
+    ShowsIncJob run profile folder r own (job_by user profile (inc_said profile (map chars words)))
+ShowsNamed run user profile context folder r own words (Some Scan) = ⊥
+ShowsNamed run user profile context folder r own words (Some Mark) =
     ShowsMark run profile context folder r own (mark_said profile (map chars words))
-ShowsNamed run profile context folder r own words (Some Rmm) =
+ShowsNamed run user profile context folder r own words (Some Rmm) =
     ShowsRmm run profile context folder r own (rmm_said profile (map chars words))
 
 -- by the command that the first word names
-abbrev pub ShowsWords : ℕ → List NamedValue → List NamedValue → List ℕ → Result (List ℕ) CommandFault → List Deed
+abbrev pub ShowsWords : ℕ → List ℕ → List NamedValue → List NamedValue → List ℕ → Result (List ℕ) CommandFault → List Deed
     → List (List ℕ) → Type 0
-ShowsWords run profile context folder r own [] = ⊥
-ShowsWords run profile context folder r own (word ∷ words) =
-    ShowsNamed run profile context folder r own words (named word)
+ShowsWords run user profile context folder r own [] = ⊥
+ShowsWords run user profile context folder r own (word ∷ words) =
+    ShowsNamed run user profile context folder r own words (named word)
 
--- the call read the profile and then the context of the mail directory that it names; by these and by the words the
--- command was on this folder, and the later deeds show how it ended there: done, with this output, or by this fault
-pub record ShowsOnFolder (run : ℕ) (words : List (List ℕ)) (r : Result (List ℕ) CommandFault) (own : List Deed) : Type 0 where
+-- the call read the profile and then the context of the mail directory that it names; by these, the words and the user's
+-- name the command was on this folder, and the later deeds show how it ended there: done, with this output, or by this
+-- fault
+pub record ShowsOnFolder (run : ℕ) (user : List ℕ) (words : List (List ℕ)) (r : Result (List ℕ) CommandFault)
+    (own : List Deed) : Type 0 where
   pub profile : Answer
   pub context : Answer
   pub folder : List ℕ
@@ -120,13 +132,34 @@ pub record ShowsOnFolder (run : ℕ) (words : List (List ℕ)) (r : Result (List
       ≡ newer
       ++ did (Read (Mail (path_by profile)) context_name LIMIT_BYTES) context
       ∷ did (Read Home profile_name LIMIT_BYTES) profile ∷ []
-  pub shows : ShowsWords run (entries_by profile) (entries_by context) folder r own words
+  pub shows : ShowsWords run user (entries_by profile) (entries_by context) folder r own words
 
 -- what shows each fault of a command that may begin a folder
-abbrev pub ShowsFault : ℕ → List (List ℕ) → CommandFault → List Deed → Type 0
-ShowsFault run words e own = ShowsEarly e own ⊎ ShowsOnFolder run words (Err e) own
+abbrev pub ShowsFault : ℕ → List ℕ → List (List ℕ) → CommandFault → List Deed → Type 0
+ShowsFault run user words e own = ShowsEarly e own ⊎ ShowsOnFolder run user words (Err e) own
+
+-- the words name `inc`, and this is its job by them
+abbrev pub TakesInBy : List ℕ → List NamedValue → List (List ℕ) → IncJob → Type 0
+TakesInBy user profile [] job = ⊥
+TakesInBy user profile (word ∷ words) job =
+    (named word ≡ Some Inc) × (job_by user profile (inc_said profile (map chars words)) ≡ Ok job)
+
+-- `inc` tells while it goes on: the call read the profile and the context, and this is a text of the heading and of lines
+-- of messages that it has stored
+pub record TellsNewMail (run : ℕ) (user : List ℕ) (words : List (List ℕ)) (text : List ℕ) (own : List Deed) : Type 0 where
+  pub profile : Answer
+  pub context : Answer
+  pub newer : List Deed
+  pub begun :
+      own
+      ≡ newer
+      ++ did (Read (Mail (path_by profile)) context_name LIMIT_BYTES) context
+      ∷ did (Read Home profile_name LIMIT_BYTES) profile ∷ []
+  pub job : IncJob
+  pub by_words : TakesInBy user (entries_by profile) words job
+  pub told : IsTextOfNew run (path_by profile) job own text
 
 -- by what these deeds show, this is the text of the command on its folder: that of the sequences that `mark` made or read,
--- where it lists
-abbrev pub TellsOnFolder : ℕ → List (List ℕ) → List ℕ → List Deed → Type 0
-TellsOnFolder run words text own = ShowsOnFolder run words (Ok text) own
+-- where it lists; or what `inc` has told so far
+abbrev pub TellsOnFolder : ℕ → List ℕ → List (List ℕ) → List ℕ → List Deed → Type 0
+TellsOnFolder run user words text own = ShowsOnFolder run user words (Ok text) own ⊎ TellsNewMail run user words text own

@@ -22,18 +22,10 @@ begins_folders (Some Scan) = false
 begins_folders (Some Mark) = true
 begins_folders (Some Rmm) = true
 
--- of a command that begins a folder: what shows how it ended is told below; of `inc` it isn't
-abbrev pub tells_ends : Option CommandName → Bool
-tells_ends None = false
-tells_ends (Some Inc) = false
-tells_ends (Some Scan) = false
-tells_ends (Some Mark) = true
-tells_ends (Some Rmm) = true
-
--- what it comes to alone is claimed; of `inc` it isn't
-abbrev pub tells_work : Option CommandName → Bool
-tells_work None = true
-tells_work (Some Inc) = false
-tells_work (Some Scan) = true
-tells_work (Some Mark) = true
-tells_work (Some Rmm) = true
+-- it makes its folder where that is missing
+abbrev pub makes_folders : Option CommandName → Bool
+makes_folders None = false
+makes_folders (Some Inc) = true
+makes_folders (Some Scan) = false
+makes_folders (Some Mark) = false
+makes_folders (Some Rmm) = false

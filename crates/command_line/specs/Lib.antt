@@ -4,7 +4,6 @@ pub mod Command
 pub mod CommandMarks
 pub mod CommandNames
 pub mod CommandPledge
-pub mod IncOutcome
 pub mod Incorporating
 pub mod Outcomes
 pub mod Profile

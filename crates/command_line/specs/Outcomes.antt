@@ -11,7 +11,7 @@ use Rattle.mh_looks.specs.Outcomes.{scan_work}
 use Rattle.opened_folders.specs.BegunWork.{Homes}
 use Rattle.opened_folders.specs.HomesOf.{homes_at}
 use Rattle.mark_command.specs.Outcomes.{mark_work}
-use Rattle.command_line.specs.IncOutcome.{inc_work}
+use Rattle.inc_command.specs.IncOutcome.{inc_work, with_folder_made}
 use Rattle.inc_command.specs.declared.job.IncJob.{IncJob}
 use Rattle.refile_command.specs.RmmOutcome.{rmm_work}
 use Rattle.command_words.specs.Ended.{plain}
@@ -92,10 +92,10 @@ abbrev pub rmm_words_work : Meeting → Mailbox → List NamedValue → Result R
 rmm_words_work g m profile (Ok words) = of_stage (on_folder m profile words.folder (rmms g m profile words))
 rmm_words_work g m profile (Err e) = refused_at m e
 
--- `inc`, once the context is read: so too, in the folder of its job
+-- `inc`, once the context is read: so too, in the folder of its job once that is there
 abbrev pub incs : Meeting → Mailbox → List NamedValue → IncJob → Result (List ℕ) CommandFault → Work CommandFault
 incs g m profile job (Ok text) =
-    inc_work (path_of profile) (g.entries (entries_in text)) (g.homes (m.folders (Folder (path_of profile) job.folder))) job m
+    inc_work (path_of profile) (g.entries (entries_in text)) (g.homes ((with_folder_made m (Folder (path_of profile) job.folder)).folders (Folder (path_of profile) job.folder))) job m
 incs g m profile job (Err e) = refused_at m e
 
 abbrev pub inc_job_work : Meeting → Mailbox → List NamedValue → Result IncJob Ended → Work Ended

@@ -85,7 +85,7 @@ unheld entry.LockFile e f = cc (e)
 unheld entry.Other e f = cc (e)
 
 -- the greatest number of a set is one of messages
-top_low : (low : ℕ) (runs : List Run) → AreRunsFrom low runs → top_of runs ≤ 999999
+pub top_low : (low : ℕ) (runs : List Run) → AreRunsFrom low runs → top_of runs ≤ 999999
 top_low low [] f = omega arith
 top_low low (r ∷ rs) f = let rest = top_low (r.to + 2) rs f.3 in let this = f.2 in omega (arith, rest, this)
 
@@ -157,7 +157,7 @@ module _ (run : ℕ) (few : run < 2 ^ 128) (path : List ℕ) (job : IncJob) wher
   abbrev mail : Place
   mail = Mail path
 
-  lets : LetsBegin path job.folder (Incorporating path job.folder job.drop) (MakesSo run path job)
+  pub lets : LetsBegin path job.folder (Incorporating path job.folder job.drop) (MakesSo run path job)
   lets = record {
     kinds = λ own kind s k. inl k;
     makes = λ own q. ((λ l e. absurd (cc (e))), (λ temp number e is. absurd (cc (e))), (λ temp number e is. absurd (cc (e))));
@@ -171,7 +171,7 @@ module _ (run : ℕ) (few : run < 2 ^ 128) (path : List ℕ) (job : IncJob) wher
   taken_in_kept : (numbers : List ℕ) → KeptBy AnyStep (HasTakenIn run p job.drop numbers)
   taken_in_kept numbers own s a any t = record { drop = t.drop; read = on t.read; is_one = t.is_one; stored = stored_still run p numbers (messages t.drop) own s a any t.stored }
 
-  lasts : (listing : List Run) (m new : Marked) → KeptBy AnyStep (λ own. MarksNew run path job own listing m new)
+  pub lasts : (listing : List Run) (m new : Marked) → KeptBy AnyStep (λ own. MarksNew run path job own listing m new)
   lasts listing m new own s a any f = (f.0, taken_in_kept f.0 own s a any f.1, f.2)
 
   may_begin : Begins w path job.folder

@@ -2,8 +2,11 @@ pub mod Counting
 pub mod Cutting
 pub mod DropTaken
 pub mod Inc
+pub mod IncAnswers
+pub mod IncOutcome
 pub mod IncPledge
 pub mod Intake
+pub mod NewPuts
 pub mod Passing
 pub mod Stored
 pub mod Taking

@@ -36,13 +36,14 @@ use Rattle.step_plans.specs.Promises.{Promises}
 use Rattle.step_plans.specs.declared.command_fault.CommandFault.{CommandFault}
 use Rattle.step_plans.specs.declared.command_fault.CommandFault.TheVariants as fault
 use Rattle.command_stages.specs.Works.{Work}
+use Rattle.opened_folders.specs.Making.{IsBare}
 use Rattle.opened_folders.proofs.HomesFound.{homes_there}
 use Rattle.opened_folders.specs.Endings.{IsEndedBy}
 use Rattle.command_line.specs.BegunCauses.{ShowsFault, ShowsOnFolder}
 use Rattle.command_line.specs.Causes.{ShowsCommandFault}
 use Rattle.command_line.specs.Command.{command}
 use Rattle.command_words.specs.Ended.{ended_cause}
-use Rattle.command_line.specs.CommandNames.{begins_folders, command_of, tells_work}
+use Rattle.command_line.specs.CommandNames.{begins_folders, command_of, makes_folders}
 use Rattle.command_line.specs.Outcomes.{work_of}
 use Rattle.command_line.specs.declared.name.CommandName.{CommandName}
 use Rattle.command_line.specs.declared.name.CommandName.TheVariants.{Inc, Mark, Rmm, Scan}
@@ -55,9 +56,10 @@ use Rattle.command_line.proofs.MarksKept.{command_keeps_marks}
 use Rattle.command_line.proofs.Pledging.{command_clean, command_keeps}
 use Rattle.command_line.proofs.Unlinked.{command_first}
 use Rattle.mh_tools.proofs.Told.{adds_none, fault_undone}
-use Rattle.mh_tools.specs.AnswersAlone.{HasOutcome, IsUnfaulted, HasOutcomeAlone, AloneIfTold, AnswersIfTold}
-use Rattle.mh_tools.specs.AnswersAsOne.{AsOneIfTold}
-use Rattle.mh_tools.specs.Calls.{Call, LooksOnly, TellsWork, begins, ends, MadeBy}
+use Rattle.mh_tools.proofs.BareWorlds.{story_bare}
+use Rattle.mh_tools.specs.AnswersAlone.{HasOutcome, IsUnfaulted, HasOutcomeAlone, AloneIfTold, AnswersAlone}
+use Rattle.mh_tools.specs.AnswersAsOne.{AnswersAsOne}
+use Rattle.mh_tools.specs.Calls.{Call, LooksOnly, MakesFolder, begins, ends, MadeBy}
 use Rattle.mh_tools.specs.FollowsItsPlan.{TellsStatus, FollowsItsPlan}
 use Rattle.mh_tools.specs.IsCaused.{IsCaused, IsShown, IsShownBegun, MayBegin}
 use Rattle.mh_tools.specs.KeepsMail.{KeepsMail, KeepsMarks}
@@ -97,13 +99,13 @@ fault_meddled (fault.Locked p) q y e = cc
 fault_meddled (fault.Meddled p x) q y e = cc
 fault_meddled fault.Memory q y e = cc
 
--- what a command comes to that looks is told
-looks_told : (name : Option CommandName) → begins_folders name ≡ false → tells_work name ≡ true
-looks_told None looks = refl
-looks_told (Some Inc) looks = cc (looks)
-looks_told (Some Scan) looks = refl
-looks_told (Some Mark) looks = refl
-looks_told (Some Rmm) looks = refl
+-- a command that looks makes no folder
+looks_made : (name : Option CommandName) → begins_folders name ≡ false → makes_folders name ≡ true → ⊥
+looks_made None looks made = cc (made)
+looks_made (Some Inc) looks made = cc (looks)
+looks_made (Some Scan) looks made = cc (made)
+looks_made (Some Mark) looks made = cc (made)
+looks_made (Some Rmm) looks made = cc (made)
 
 verdict_at : (s t : Status) → s ≡ t → IsVerdict t → IsVerdict s
 verdict_at s t e v = rw e v
@@ -205,15 +207,15 @@ module _ (c : Call) (plan : FollowsItsPlan c) where
 
   -- and of one that may begin a folder
   module _ (few : run < 2 ^ 128) (may : MayBegin c) where
-    begun_shown : (r : Result Unit Ended) (s : Status) (k : CommandFault) → outcome ≡ r → ended_status r ≡ s → (s ≡ Done → ⊥) → ((f : CommandFault) → fault_status f ≡ s → f ≡ k) → command_cause k ≡ OfPlan → IsEndedBy (ShowsFault run c.words) k steps
+    begun_shown : (r : Result Unit Ended) (s : Status) (k : CommandFault) → outcome ≡ r → ended_status r ≡ s → (s ≡ Done → ⊥) → ((f : CommandFault) → fault_status f ≡ s → f ≡ k) → command_cause k ≡ OfPlan → IsEndedBy (ShowsFault run c.setting.user c.words) k steps
     begun_shown (Ok tt) s k is e never only cause = absurd (never (sym e))
     begun_shown (Err x) s k is e never only cause =
         let f : x.fault ≡ k = only x.fault e in
         let at : exit ≡ Returned (Err x) = ap (exit_of ended_cause) is ∙ (exit_fault x k f ∙ ap (exit_by {T = Unit {0}} x) cause) in
-        subst (λ j. IsEndedBy (ShowsFault run c.words) j steps) f
+        subst (λ j. IsEndedBy (ShowsFault run c.setting.user c.words) j steps) f
         (run_ends_by run few c.setting.user c.words may (deeds_in went.log) plan.left (Err x) (subst (λ z. Runs (command run c.setting.user c.words) fresh (deeds_in went.log) plan.left z) at went.runs))
 
-    begun_done : (r : Result Unit Ended) → outcome ≡ r → ended_status r ≡ Done → ShowsOnFolder run c.words (Ok (said_of (deeds_in went.log))) steps
+    begun_done : (r : Result Unit Ended) → outcome ≡ r → ended_status r ≡ Done → ShowsOnFolder run c.setting.user c.words (Ok (said_of (deeds_in went.log))) steps
     begun_done (Ok tt) is e =
         run_ends_by run few c.setting.user c.words may (deeds_in went.log) plan.left (Ok tt) (subst (λ z. Runs (command run c.setting.user c.words) fresh (deeds_in went.log) plan.left z) (ap (exit_of ended_cause) is) went.runs)
     begun_done (Err x) is e = absurd (fault_undone x.fault e)
@@ -241,7 +243,7 @@ module _ (c : Call) (plan : FollowsItsPlan c) where
     seen : LooksOnly c → (d : Contents) → AgreesWith d steps → GaveSeen plan.left (work (mailbox_in d)).text (said_of (deeds_in went.log)) exit (CommandEnds false (work (mailbox_in d)))
     seen looks d agrees =
         seen_gave (command run c.setting.user c.words) fresh plan.left (deeds_in went.log) exit (work (mailbox_in d)).text (CommandEnds false (work (mailbox_in d))) d agrees went.runs
-        (command_gives false run d few (λ e. absurd (cc (e))) c.setting.user c.words (λ is. sym looks ∙ is) (looks_told (command_of c.words) looks) (first_view d (numbers_put steps []) (is_first_met steps)) refl (command_first run c.setting.user c.words looks d (numbers_put steps []) fresh plan.left (deeds_in went.log) exit went.runs))
+        (command_gives false run d few (λ e. absurd (cc (e))) c.setting.user c.words (λ is. sym looks ∙ is) (λ made. absurd (looks_made (command_of c.words) looks made)) (first_view d (numbers_put steps []) (is_first_met steps)) refl (command_first run c.setting.user c.words looks d (numbers_put steps []) fresh plan.left (deeds_in went.log) exit went.runs))
 
     -- what an end says of the work
     ends_verdict : (alone : Bool) (w : Work Ended) (z : View) (j : Hand) (left : List ℕ) (r : Result Unit Ended) → IsVerdict (ended_status r) → CommandEnds alone w z j left r → (left ≡ []) × DecidesEnd alone w z r
@@ -411,30 +413,30 @@ module _ (c : Call) (plan : FollowsItsPlan c) where
           go (fault.Meddled p y) e = absurd (ended_at (fault.Meddled p y) e refl refl)
           go fault.Memory e = inl (is ∙ (ap ended_status same ∙ ap fault_status e))
 
-      alone_told : TellsWork c → (old new : Story) → Grows run old new (filed_in went.log) → AreMade run (Some old) (Some new) steps → HasOutcomeAlone c old new
+      alone_told : (old new : Story) → Grows run old new (filed_in went.log) → AreMade run (Some old) (Some new) steps → HasOutcomeAlone c old new
       unfolding outcome_of
-      alone_told told old new grows made_ = λ added asked start possible alone.
+      alone_told old new grows made_ = λ added asked start possible alone.
           let never : Made IsFailed (own run (past_of (events_since old new))) → ⊥ = λ failed. unfaulted.files (went.failed_cause (made_failed (deeds_in went.log) (rw (← made_) at failed))) in
           let first = first_of (length old.history) added in
           let d = contents_of (world_at new first) in
           let w = work (mailbox_in d) in
           let g = alone_gave (λ p x. false) run old new added (command run c.setting.user c.words) fresh plan.left (deeds_in went.log) exit w.text (CommandEnds true w) (lone_changes run old new (filed_in went.log) added grows asked start possible alone never) (sym made_) went.runs
-          (command_gives true run d few (λ e p. homes_there run d p) c.setting.user c.words (λ is. refl) told (first_view d (puts_in (deeds_in went.log)) (λ p x. false)) refl (record { seen = refl; unmet = λ p x. refl })) in
+          (command_gives true run d few (λ e p. homes_there run d p) c.setting.user c.words (λ is. refl) (λ makes. story_bare new first) (first_view d (puts_in (deeds_in went.log)) (λ p x. false)) refl (record { seen = refl; unmet = λ p x. refl })) in
           subst (λ m. (c.status ≡ NoMemory) ⊎ HasOutcome (answered (work m)) (mailbox_at new (first + length added)) c) (sym (mailbox_is (world_at new first)))
           (by_end w g.view plan.left (mailbox_at new (first + length added)) (ap mailbox_in g.contents ∙ sym (mailbox_is (world_at new (first + length added)))) g.gave outcome refl)
 
-    pub answers_alone : AnswersIfTold c
-    answers_alone told = record { answers = λ unfaulted. by_story c.before.files.story c.after.files.story went.grows made unfaulted plan.ends_so }
+    pub answers_alone : AnswersAlone c
+    answers_alone = record { answers = λ unfaulted. by_story c.before.files.story c.after.files.story went.grows made unfaulted plan.ends_so }
       where
         by_story : (old new : Option Story) → GrowsBy run old new (filed_in went.log) → AreMade run old new steps → IsUnfaulted c → (c.status ≡ ended_status outcome) ⊎ (c.status ≡ NoMemory) → AloneIfTold c old new
         by_story None None grows made_ unfaulted e = tt
         by_story None (Some new) grows made_ unfaulted e = absurd grows
         by_story (Some old) None grows made_ unfaulted e = absurd grows
-        by_story (Some old) (Some new) grows made_ unfaulted (inl is) = alone_told unfaulted is told old new grows made_
+        by_story (Some old) (Some new) grows made_ unfaulted (inl is) = alone_told unfaulted is old new grows made_
         by_story (Some old) (Some new) grows made_ unfaulted (inr is) = λ added asked start possible alone. inl is
 
     -- where one mailbox answers all steps
-    module _ (told : TellsWork c) (d z : Contents) (fits : FitPast by_contents d steps z) where
+    module _ (d z : Contents) (bare : MakesFolder c → IsBare d) (fits : FitPast by_contents d steps z) where
       abbrev first : View
       first = first_view d (puts_in (deeds_in went.log)) (λ p x. false)
 
@@ -444,7 +446,7 @@ module _ (c : Call) (plan : FollowsItsPlan c) where
       gave : giving.Gave fitted.0 plan.left (work (mailbox_in d)).text (said_of (deeds_in went.log)) exit (CommandEnds true (work (mailbox_in d)))
       gave =
           run_gives (by_view true) first fitted.0 fresh plan.left (work (mailbox_in d)).text (command run c.setting.user c.words) (deeds_in went.log) exit (CommandEnds true (work (mailbox_in d)))
-          (command_gives true run d few (λ e p. homes_there run d p) c.setting.user c.words (λ is. refl) told first refl (record { seen = refl; unmet = λ p x. refl })) fitted.2 went.runs
+          (command_gives true run d few (λ e p. homes_there run d p) c.setting.user c.words (λ is. refl) bare first refl (record { seen = refl; unmet = λ p x. refl })) fitted.2 went.runs
 
       -- another run's lock and a name that was changed meanwhile are not answered
       never : (r : Result Unit Ended) (k : CommandFault) (s : Status) → outcome ≡ r → ended_status r ≡ s → (s ≡ Done → ⊥) → ((f : CommandFault) → fault_status f ≡ s → f ≡ k) → command_cause k ≡ OfPlan
@@ -460,15 +462,15 @@ module _ (c : Call) (plan : FollowsItsPlan c) where
           let so = verdict_so v in
           answers_by so.1 (work (mailbox_in d)) fitted.0 plan.left gave.left n (ap mailbox_in fitted.1 ∙ at) gave.prefix so.0 (gave.returned outcome (exit_verdict outcome so.0))
 
-    pub answers_as_one : AsOneIfTold c
+    pub answers_as_one : AnswersAsOne c
     unfolding outcome_of
-    answers_as_one told =
+    answers_as_one =
         record {
           deeds = steps;
           made = made;
           prefix = λ m n a. subst (λ k. AddsPart c.before.out.told c.after.out.told (work k).text) a.shown
-              (let g = gave told a.contents a.left a.answers in (said_of (deeds_in went.log), g.left, g.prefix, said_adds));
-          verdict = λ m n a v. subst (λ k. HasOutcome (answered (work k)) n c) a.shown (verdict_on told a.contents a.left a.answers n a.made v);
-          unlocked = λ m n a place q. never told a.contents a.left a.answers outcome (fault.Locked place) (Locked place) refl (settle (Locked place) q (λ e. cc (e))) (λ e. cc (e)) (λ f e. fault_locked f place e) refl (λ left x e. e refl);
-          unmeddled = λ m n a place name q. never told a.contents a.left a.answers outcome (fault.Meddled place name) (Meddled place name) refl (settle (Meddled place name) q (λ e. cc (e))) (λ e. cc (e)) (λ f e. fault_meddled f place name e) refl (λ left x e. e refl);
+              (let g = gave a.contents a.left a.bare a.answers in (said_of (deeds_in went.log), g.left, g.prefix, said_adds));
+          verdict = λ m n a v. subst (λ k. HasOutcome (answered (work k)) n c) a.shown (verdict_on a.contents a.left a.bare a.answers n a.made v);
+          unlocked = λ m n a place q. never a.contents a.left a.bare a.answers outcome (fault.Locked place) (Locked place) refl (settle (Locked place) q (λ e. cc (e))) (λ e. cc (e)) (λ f e. fault_locked f place e) refl (λ left x e. e refl);
+          unmeddled = λ m n a place name q. never a.contents a.left a.bare a.answers outcome (fault.Meddled place name) (Meddled place name) refl (settle (Meddled place name) q (λ e. cc (e))) (λ e. cc (e)) (λ f e. fault_meddled f place name e) refl (λ left x e. e refl);
         }

@@ -1,3 +1,4 @@
+pub mod BareWorlds
 pub mod Clauses
 pub mod Texts
 pub mod Told

@@ -7,7 +7,7 @@ use Rattle.folder_files.specs.Story.{Story, IsPossible}
 use Rattle.folder_files.specs.Worlds.{IsStart}
 use Rattle.file_plans.specs.Alone.{first_of, mailbox_at}
 use Rattle.file_plans.specs.Mailboxes.{Mailbox}
-use Rattle.mh_tools.specs.Calls.{Call, TellsWork}
+use Rattle.mh_tools.specs.Calls.{Call}
 use Rattle.mh_tools.specs.Outcome.{Outcome, outcome_of}
 use Rattle.mh_tools.specs.Status.{IsVerdict}
 use Rattle.mh_tools.specs.declared.status.Status.TheVariants.{NoMemory}
@@ -45,7 +45,3 @@ AloneIfTold c (Some old) None = ⊥
 -- a call that runs alone, and in which no count rose, has the outcome of its words and the mailbox, or wants memory
 pub record AnswersAlone (c : Call) : Type 0 where
   pub answers : IsUnfaulted c → AloneIfTold c c.before.files.story c.after.files.story
-
--- so does a call of each command but `inc`
-abbrev pub AnswersIfTold : Call → Type 0
-AnswersIfTold c = TellsWork c → AnswersAlone c

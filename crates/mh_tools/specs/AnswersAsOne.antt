@@ -6,20 +6,22 @@ use Rattle.folder_files.specs.declared.place.Place.{Place}
 use Rattle.file_plans.specs.Agreeing.{FitPast}
 use Rattle.file_plans.specs.Contents.{Contents, by_contents, mailbox_in}
 use Rattle.file_plans.specs.Mailboxes.{Mailbox}
+use Rattle.opened_folders.specs.Making.{IsBare}
 use Rattle.mh_tools.specs.AnswersAlone.{HasOutcome}
-use Rattle.mh_tools.specs.Calls.{Call, MadeBy, TellsWork}
+use Rattle.mh_tools.specs.Calls.{Call, MadeBy, MakesFolder}
 use Rattle.mh_tools.specs.Status.{IsVerdict}
 use Rattle.mh_tools.specs.TellsWhatItSaw.{outcome_on}
 use Rattle.mh_tools.specs.declared.status.Status.TheVariants.{Locked, Meddled}
 
 -- Each of these steps that did not fail was answered as this mailbox answers it to a call that runs alone, after what the steps before it
--- made of it; all of them made it the second one.
-pub record AreAnsweredBy (before after : Mailbox) (deeds : List Deed) : Type 0 where
+-- made of it; all of them made it the second one. Where the call makes its folder, one that is missing there is empty once it is made.
+pub record AreAnsweredBy (c : Call) (before after : Mailbox) (deeds : List Deed) : Type 0 where
   pub contents : Contents
   pub shown : mailbox_in contents ≡ before
   pub left : Contents
   pub made : mailbox_in left ≡ after
   pub answers : FitPast by_contents contents deeds left
+  pub bare : MakesFolder c → IsBare contents
 
 -- Where one mailbox answers all own steps of the call so: the output gained a prefix of what the call answers on it alone. Done and a refusal
 -- are the ones that it answers there, with the whole output, the error line, and the mailbox that its own steps made. Neither is another run's
@@ -27,11 +29,7 @@ pub record AreAnsweredBy (before after : Mailbox) (deeds : List Deed) : Type 0 w
 pub record AnswersAsOne (c : Call) : Type 0 where
   pub deeds : List Deed
   pub made : MadeBy c deeds
-  pub prefix : (m n : Mailbox) → AreAnsweredBy m n deeds → AddsPart c.before.out.told c.after.out.told (outcome_on c m).output
-  pub verdict : (m n : Mailbox) → AreAnsweredBy m n deeds → IsVerdict c.status → HasOutcome (outcome_on c m) n c
-  pub unlocked : (m n : Mailbox) → AreAnsweredBy m n deeds → (place : Place) → c.status ≢ Locked place
-  pub unmeddled : (m n : Mailbox) → AreAnsweredBy m n deeds → (place : Place) (name : List ℕ) → c.status ≢ Meddled place name
-
--- so does a call of each command but `inc`
-abbrev pub AsOneIfTold : Call → Type 0
-AsOneIfTold c = TellsWork c → AnswersAsOne c
+  pub prefix : (m n : Mailbox) → AreAnsweredBy c m n deeds → AddsPart c.before.out.told c.after.out.told (outcome_on c m).output
+  pub verdict : (m n : Mailbox) → AreAnsweredBy c m n deeds → IsVerdict c.status → HasOutcome (outcome_on c m) n c
+  pub unlocked : (m n : Mailbox) → AreAnsweredBy c m n deeds → (place : Place) → c.status ≢ Locked place
+  pub unmeddled : (m n : Mailbox) → AreAnsweredBy c m n deeds → (place : Place) (name : List ℕ) → c.status ≢ Meddled place name

@@ -6,7 +6,7 @@ use Rattle.folder_files.specs.Story.{FilesState}
 use Rattle.file_plans.specs.Follows.{State, all}
 use Rattle.file_plans.specs.Plan.{Hand}
 use Rattle.file_plans.specs.Sightings.{AreMade}
-use Rattle.command_line.specs.CommandNames.{begins_folders, command_of, tells_work}
+use Rattle.command_line.specs.CommandNames.{begins_folders, command_of, makes_folders}
 use Rattle.mh_tools.specs.Setting.{SettingParts}
 use Rattle.mh_tools.specs.declared.status.Status.{Status}
 
@@ -46,6 +46,6 @@ MadeBy c own = AreMade c.setting.run c.before.files.story c.after.files.story ow
 abbrev pub LooksOnly : Call → Type 0
 LooksOnly c = begins_folders (command_of c.words) ≡ false
 
--- what the call comes to alone is claimed
-abbrev pub TellsWork : Call → Type 0
-TellsWork c = tells_work (command_of c.words) ≡ true
+-- they name one that makes its folder
+abbrev pub MakesFolder : Call → Type 0
+MakesFolder c = makes_folders (command_of c.words) ≡ true

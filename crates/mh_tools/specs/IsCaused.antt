@@ -16,7 +16,7 @@ use Rattle.step_plans.specs.declared.command_fault.CommandFault.TheVariants as f
 use Rattle.opened_folders.specs.Endings.{IsShownBy, IsToldBy}
 use Rattle.command_line.specs.BegunCauses.{ShowsFault, ShowsOnFolder, TellsOnFolder}
 use Rattle.command_line.specs.Causes.{ShowsRefusal}
-use Rattle.command_line.specs.CommandNames.{command_of, tells_ends}
+use Rattle.command_line.specs.CommandNames.{begins_folders, command_of}
 use Rattle.mh_tools.specs.Calls.{Call, LooksOnly, MadeBy}
 use Rattle.mh_tools.specs.TellsWhatItSaw.{outcome_on}
 use Rattle.mh_tools.specs.declared.status.Status.TheVariants.{Done, Refused, Faulted, Locked, Meddled}
@@ -30,9 +30,9 @@ pub record IsShown (c : Call) (deeds : List Deed) : Type 0 where
   pub locked : (place : Place) → c.status ≡ Locked place → ((mail : List ℕ) × (place ≡ Mail mail) × IsHeld place TRIES deeds) × (Made IsFailed deeds → ⊥)
   pub meddled : (place : Place) (name : List ℕ) → c.status ≡ Meddled place name → IsMeddled c.setting.run place name deeds × (Made IsFailed deeds → ⊥)
 
--- the words name a command that begins a folder, by its name at least, and isn't `inc`
+-- the words name a command that begins a folder, by its name at least
 abbrev pub MayBegin : Call → Type 0
-MayBegin c = tells_ends (command_of c.words) ≡ true
+MayBegin c = begins_folders (command_of c.words) ≡ true
 
 -- Of a command that may begin a folder: Done, a refusal, Locked and Meddled come only where what shows them was
 -- answered; at Done this shows the output too. After a refusal and after Locked it may have let the folder go that it had
@@ -42,16 +42,16 @@ MayBegin c = tells_ends (command_of c.words) ≡ true
 pub record IsShownBegun (c : Call) (deeds : List Deed) : Type 0 where
   pub done : c.status ≡ Done
       → (said : List ℕ) × Adds c.before.out.told c.after.out.told said
-      × ShowsOnFolder c.setting.run c.words (Ok said) deeds
+      × ShowsOnFolder c.setting.run c.setting.user c.words (Ok said) deeds
   pub refused : (r : Refusal) → c.status ≡ Refused r
-      → IsShownBy (ShowsFault c.setting.run c.words (fault.Refused r)) deeds
+      → IsShownBy (ShowsFault c.setting.run c.setting.user c.words (fault.Refused r)) deeds
   pub locked : (place : Place) → c.status ≡ Locked place
-      → IsShownBy (ShowsFault c.setting.run c.words (fault.Locked place)) deeds
+      → IsShownBy (ShowsFault c.setting.run c.setting.user c.words (fault.Locked place)) deeds
   pub meddled : (place : Place) (name : List ℕ) → c.status ≡ Meddled place name
-      → ShowsFault c.setting.run c.words (fault.Meddled place name) deeds × (Made IsFailed deeds → ⊥)
+      → ShowsFault c.setting.run c.setting.user c.words (fault.Meddled place name) deeds × (Made IsFailed deeds → ⊥)
   pub told : (said : List ℕ) × Adds c.before.out.told c.after.out.told said
-      × IsToldBy (TellsOnFolder c.setting.run c.words) said deeds
-  pub out : c.status ≡ Faulted Out → (text : List ℕ) × TellsOnFolder c.setting.run c.words text deeds × (text ≢ [])
+      × IsToldBy (TellsOnFolder c.setting.run c.setting.user c.words) said deeds
+  pub out : c.status ≡ Faulted Out → (text : List ℕ) × TellsOnFolder c.setting.run c.setting.user c.words text deeds × (text ≢ [])
 
 -- Where each answer comes from, by the answers to the call's own steps. Done comes only where no step failed. A fault
 -- comes only where the count of that which failed rose: of the files where a step failed; the input never fails,

@@ -1,8 +1,8 @@
 // The top call.
 ghost use Rattle.std.specs.Prelude.{◌≡◌, ◌⊎◌, map, option_map};
 ghost use Rattle.std.specs.String.{string_bytes};
-ghost use Rattle.mh_tools.specs.AnswersAlone.{AnswersIfTold};
-ghost use Rattle.mh_tools.specs.AnswersAsOne.{AsOneIfTold};
+ghost use Rattle.mh_tools.specs.AnswersAlone.{AnswersAlone};
+ghost use Rattle.mh_tools.specs.AnswersAsOne.{AnswersAsOne};
 ghost use Rattle.mh_tools.specs.Calls.{around, called};
 ghost use Rattle.mh_tools.specs.FollowsItsPlan.{FollowsItsPlan, TellsStatus, told_status};
 ghost use Rattle.mh_tools.specs.IsCaused.{IsCaused};
@@ -74,8 +74,8 @@ pub fn mh<F: Files, I: Source, O: Sink, E: Sink>(
     ensures plan { FollowsItsPlan (called (map string_bytes words.now.items) setting.now (around (F.state files.old) (I.state input.old) (O.state out.old) (E.state err.old)) (around (F.state files.new) (I.state input.new) (O.state out.new) (E.state err.new)) result) }
     ensures caused { IsCaused (called (map string_bytes words.now.items) setting.now (around (F.state files.old) (I.state input.old) (O.state out.old) (E.state err.old)) (around (F.state files.new) (I.state input.new) (O.state out.new) (E.state err.new)) result) }
     ensures seen { TellsIfItLooks (called (map string_bytes words.now.items) setting.now (around (F.state files.old) (I.state input.old) (O.state out.old) (E.state err.old)) (around (F.state files.new) (I.state input.new) (O.state out.new) (E.state err.new)) result) }
-    ensures alone { AnswersIfTold (called (map string_bytes words.now.items) setting.now (around (F.state files.old) (I.state input.old) (O.state out.old) (E.state err.old)) (around (F.state files.new) (I.state input.new) (O.state out.new) (E.state err.new)) result) }
-    ensures as_one { AsOneIfTold (called (map string_bytes words.now.items) setting.now (around (F.state files.old) (I.state input.old) (O.state out.old) (E.state err.old)) (around (F.state files.new) (I.state input.new) (O.state out.new) (E.state err.new)) result) }
+    ensures alone { AnswersAlone (called (map string_bytes words.now.items) setting.now (around (F.state files.old) (I.state input.old) (O.state out.old) (E.state err.old)) (around (F.state files.new) (I.state input.new) (O.state out.new) (E.state err.new)) result) }
+    ensures as_one { AnswersAsOne (called (map string_bytes words.now.items) setting.now (around (F.state files.old) (I.state input.old) (O.state out.old) (E.state err.old)) (around (F.state files.new) (I.state input.new) (O.state out.new) (E.state err.new)) result) }
     ensures keeps { KeepsMail (called (map string_bytes words.now.items) setting.now (around (F.state files.old) (I.state input.old) (O.state out.old) (E.state err.old)) (around (F.state files.new) (I.state input.new) (O.state out.new) (E.state err.new)) result) }
     ensures marks { KeepsMarks (called (map string_bytes words.now.items) setting.now (around (F.state files.old) (I.state input.old) (O.state out.old) (E.state err.old)) (around (F.state files.new) (I.state input.new) (O.state out.new) (E.state err.new)) result) }
     ensures input { I.state input.new ≡ I.state input.old }

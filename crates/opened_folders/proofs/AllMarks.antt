@@ -25,7 +25,7 @@ pub record MindsAll (Of : List ℕ → Type 0) (run : ℕ) (own : List Deed) (s 
   pub private : (mail folder sequence : List ℕ) → Of folder → MindfulApart (private_marks mail folder sequence) run own s
   pub considerate : (mail folder sequence : List ℕ) → Of folder → Considerate (private_marks mail folder sequence) run own s
 
-no_look : (k : Marking) (s : Step) → Changes k.folder s ⊎ CommitsText k s → IsLook s → ⊥
+pub no_look : (k : Marking) (s : Step) → Changes k.folder s ⊎ CommitsText k s → IsLook s → ⊥
 no_look k s (inl c) l = look_changes k.folder s l c
 no_look k s (inr c) l = subst (λ z. IsLook z) c.1 l
 

@@ -79,7 +79,7 @@ module _ (run : ℕ) (few : run < 2 ^ 128) (path folder : List ℕ) (Answers : A
   unfolding folder_locked
   lock_comes own h =
       comes_lock own h of_stop (So Next) p (locked_by p) (comes_to _ h (Ok tt) (So Next) (refl, refl)) (comes_to _ h (Err (fault.Locked p)) (So Next) (inl (refl, record { older = own; is = refl })))
-      (comes_to _ h (Err (fault.Absent p)) (So Next) (own, inl refl))
+      (comes_to _ h (Err (fault.Absent p)) (So Next) (refl, (own, inl refl)))
     where
       Next : Outcome Unit
       Next later j u = (later ≡ locked_deeds own) × (j ≡ h)

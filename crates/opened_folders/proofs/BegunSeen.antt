@@ -81,7 +81,7 @@ number_or : (o : Option (List ℕ)) (later : Option ℕ) → IfSome later IsMsgN
 number_or None later f = f
 number_or (Some item) later f = ranged (decimal_of item)
 
-cur_valid : (fields : List FieldText) → IfSome (cur_in fields) IsMsgNum
+pub cur_valid : (fields : List FieldText) → IfSome (cur_in fields) IsMsgNum
 cur_valid [] = tt
 cur_valid (f ∷ fs) = go (bytes_eq f.name (codes "cur")) (cur_valid fs)
   where
@@ -112,7 +112,7 @@ told_in listing text context folder z n sequence kind e = (n, kind, told_listed 
 abbrev pub NoneUnlinked : Place → List Deed → Type 0
 NoneUnlinked q own = (x : List ℕ) → WasDone (step.Unlink q x) own → ⊥
 
-still_none : (q : Place) (own : List Deed) (s : Step) (a : Answer) → ((x : List ℕ) → s ≡ step.Unlink q x → ⊥) → NoneUnlinked q own → NoneUnlinked q (did s a ∷ own)
+pub still_none : (q : Place) (own : List Deed) (s : Step) (a : Answer) → ((x : List ℕ) → s ≡ step.Unlink q x → ⊥) → NoneUnlinked q own → NoneUnlinked q (did s a ∷ own)
 still_none q own s a other f x (now e) = other x (did_step e)
 still_none q own s a other f x (on g) = f x g
 

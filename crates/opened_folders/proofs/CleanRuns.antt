@@ -88,7 +88,7 @@ failed_more s a own live f (on z) = f z
 pub clean_more : (run : ℕ) (own : List Deed) (h : Hand) (s : Step) (a : Answer) → a ≢ answer.Failed → IsNumbered run h.next s → Clean run own h → Clean run (did s a ∷ own) h
 clean_more run own h s a live n c = record { numbered = (n, c.numbered); unfailed = failed_more s a own live c.unfailed; few = c.few }
 
-sound_more : (w : Pledge) (own : List Deed) (h : Hand) (s : Step) (a : Answer) → a ≢ answer.Failed → IsNumbered w.run h.next s → Sound w own h → Sound w (did s a ∷ own) h
+pub sound_more : (w : Pledge) (own : List Deed) (h : Hand) (s : Step) (a : Answer) → a ≢ answer.Failed → IsNumbered w.run h.next s → Sound w own h → Sound w (did s a ∷ own) h
 sound_more w own h s a live n f = record { numbered = (n, f.numbered); unfailed = failed_more s a own live f.unfailed }
 
 -- a plan that comes so and goes as pledged

@@ -55,17 +55,17 @@ IsTold folder other = (other ≡ folder) ⊎ (bytes_eq (suffix other) (suffix fo
 abbrev pub sequences_name : List ℕ
 sequences_name = entry_text Sequences
 
-text_name : sequences_name ≡ codes ".mh_sequences"
+pub text_name : sequences_name ≡ codes ".mh_sequences"
 unfolding entry_text
 text_name = refl
 
 folder_commits : (path folder : List ℕ) → is_committed (Folder path folder) sequences_name ≡ true
 folder_commits path folder = rw (kind_of-entry_text Sequences tt) refl
 
-one_mail : (a b c d : List ℕ) → Folder a b ≡ Folder c d → a ≡ c
+pub one_mail : (a b c d : List ℕ) → Folder a b ≡ Folder c d → a ≡ c
 one_mail a b c d e = cc (e)
 
-one_folder : (a b c d : List ℕ) → Folder a b ≡ Folder c d → b ≡ d
+pub one_folder : (a b c d : List ℕ) → Folder a b ≡ Folder c d → b ≡ d
 one_folder a b c d e = cc (e)
 
 mail_of : (a b : List ℕ) (s t x y : List ℕ) → step.Rename (Mail a) s x ≡ step.Rename (Mail b) t y → a ≡ b

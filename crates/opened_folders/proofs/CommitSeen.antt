@@ -34,12 +34,16 @@ use Rattle.marks_law.specs.Apart.{IsSynced, IsText}
 use Rattle.marks_law.specs.Apart as apart
 use Rattle.sequence_marks.specs.SequenceMarks.{private_marks}
 use Rattle.opened_folders.proofs.AllMarks.{MindsAll, clear_minds, create_minds, look_minds, make_minds}
-use Rattle.opened_folders.proofs.FolderSeen.{Quiet}
+use Rattle.opened_folders.proofs.FolderSeen.{Quiet, created_temp}
 use Rattle.opened_folders.proofs.Meeting.{Meets, meets_create, meets_end, meets_lock, meets_make, meets_quietly, meets_read, meets_rename, meets_return, meets_sync_file, meets_sync_folder, meets_then, meets_unlock}
 
 -- the run synced the mail directory under the folder's lock, after its last commit of the context
 abbrev pub Synced : List ℕ → List ℕ → List Deed → Type 0
 Synced path folder own = (sequence : List ℕ) → IsSynced (private_marks path folder sequence) own
+
+-- the run made a file with these bytes under this name, which is a temporary one
+abbrev pub MadeTemp : Place → List ℕ → List ℕ → List Deed → Type 0
+MadeTemp q temp bytes own = WasDone (step.Create q temp bytes) own × (is_temp (kind_of temp) ≡ true)
 
 -- a step that commits no context of the mail directory
 abbrev pub NoCommit : List ℕ → Step → Type 0
@@ -72,38 +76,38 @@ module _ (Of : List ℕ → Type 0) (w : Pledge) (path folder : List ℕ) where
     abbrev IsNone : Step → Type 0
     IsNone s = ⊥
 
-    created_meets : (own : List Deed) (h : Hand) (temp bytes : List ℕ) → F own → M own h (created q temp bytes) (okay (λ later j u. F later × WasDone (step.Create q temp bytes) later))
+    created_meets : (own : List Deed) (h : Hand) (temp bytes : List ℕ) → F own → M own h (created q temp bytes) (okay (λ later j u. F later × MadeTemp q temp bytes later))
     unfolding created
     created_meets own h temp bytes f =
-        meets_create (MayAsk w) (MindsAll Of w.run) own h of_stop (okay (λ later j u. F later × WasDone (step.Create q temp bytes) later)) q temp bytes (entered_once q temp)
+        meets_create (MayAsk w) (MindsAll Of w.run) own h of_stop (okay (λ later j u. F later × MadeTemp q temp bytes later)) q temp bytes (entered_once q temp)
         (λ may. (
           create_minds Of w.run own q temp bytes,
-          meets_return (MayAsk w) (MindsAll Of w.run) (did (step.Create q temp bytes) answer.Done ∷ own) h tt (okay (λ later j u. F later × WasDone (step.Create q temp bytes) later)) (creates own temp bytes answer.Done may f, now refl),
-          meets_end (MayAsk w) (MindsAll Of w.run) (did (step.Create q temp bytes) answer.Exists ∷ own) h (fault.Meddled q temp) (λ later j u. F later × WasDone (step.Create q temp bytes) later),
-          meets_end (MayAsk w) (MindsAll Of w.run) (did (step.Create q temp bytes) answer.Gone ∷ own) h (fault.Meddled q temp) (λ later j u. F later × WasDone (step.Create q temp bytes) later),
+          meets_return (MayAsk w) (MindsAll Of w.run) (did (step.Create q temp bytes) answer.Done ∷ own) h tt (okay (λ later j u. F later × MadeTemp q temp bytes later)) (creates own temp bytes answer.Done may f, (now refl, created_temp w own q temp bytes may)),
+          meets_end (MayAsk w) (MindsAll Of w.run) (did (step.Create q temp bytes) answer.Exists ∷ own) h (fault.Meddled q temp) (λ later j u. F later × MadeTemp q temp bytes later),
+          meets_end (MayAsk w) (MindsAll Of w.run) (did (step.Create q temp bytes) answer.Gone ∷ own) h (fault.Meddled q temp) (λ later j u. F later × MadeTemp q temp bytes later),
         ))
 
-    safe_meets : (own : List Deed) (h : Hand) (temp bytes : List ℕ) → F own → WasDone (step.Create q temp bytes) own → M own h (made_safe q temp) (okay (λ later j u. F later × WasDone (step.Create q temp bytes) later))
+    safe_meets : (own : List Deed) (h : Hand) (temp bytes : List ℕ) → F own → MadeTemp q temp bytes own → M own h (made_safe q temp) (okay (λ later j u. F later × MadeTemp q temp bytes later))
     unfolding made_safe
     safe_meets own h temp bytes f made =
-        meets_sync_file (MayAsk w) (MindsAll Of w.run) own h of_stop (okay (λ later j u. F later × WasDone (step.Create q temp bytes) later)) q temp (held_to q temp)
+        meets_sync_file (MayAsk w) (MindsAll Of w.run) own h of_stop (okay (λ later j u. F later × MadeTemp q temp bytes later)) q temp (held_to q temp)
         (λ may. (
           look_minds Of w.run own (step.SyncFile q temp) tt,
-          meets_return (MayAsk w) (MindsAll Of w.run) (did (step.SyncFile q temp) answer.Done ∷ own) h tt (okay (λ later j u. F later × WasDone (step.Create q temp bytes) later)) (syncs own temp answer.Done may f, on made),
-          meets_end (MayAsk w) (MindsAll Of w.run) (did (step.SyncFile q temp) answer.Gone ∷ own) h (fault.Meddled q temp) (λ later j u. F later × WasDone (step.Create q temp bytes) later),
+          meets_return (MayAsk w) (MindsAll Of w.run) (did (step.SyncFile q temp) answer.Done ∷ own) h tt (okay (λ later j u. F later × MadeTemp q temp bytes later)) (syncs own temp answer.Done may f, (on made.0, made.1)),
+          meets_end (MayAsk w) (MindsAll Of w.run) (did (step.SyncFile q temp) answer.Gone ∷ own) h (fault.Meddled q temp) (λ later j u. F later × MadeTemp q temp bytes later),
         ))
 
-    written_meets : (own : List Deed) (h : Hand) (bytes : List ℕ) → F own → M own h (written w.run q bytes) (okay (λ later j temp. F later × WasDone (step.Create q temp bytes) later))
+    pub written_meets : (own : List Deed) (h : Hand) (bytes : List ℕ) → F own → M own h (written w.run q bytes) (okay (λ later j temp. F later × MadeTemp q temp bytes later))
     unfolding written
     written_meets own h bytes f =
-        meets_then (MayAsk w) (MindsAll Of w.run) own h (named w.run) (λ temp. created q temp bytes >>= (λ made. made_safe q temp >>= (λ safe. Return (Ok temp)))) (λ later j temp. F later) (λ later j temp. F later × WasDone (step.Create q temp bytes) later)
+        meets_then (MayAsk w) (MindsAll Of w.run) own h (named w.run) (λ temp. created q temp bytes >>= (λ made. made_safe q temp >>= (λ safe. Return (Ok temp)))) (λ later j temp. F later) (λ later j temp. F later × MadeTemp q temp bytes later)
         (meets_quietly (MayAsk w) (MindsAll Of w.run) IsNone F (λ own s a may none g. absurd none) (λ own s may none g. absurd none) own h (named w.run) (asks_named IsNone w.run) f)
         (λ later j temp g.
-        meets_then (MayAsk w) (MindsAll Of w.run) later j (created q temp bytes) (λ made. made_safe q temp >>= (λ safe. Return (Ok temp))) (λ last i u. F last × WasDone (step.Create q temp bytes) last) (λ last i t. F last × WasDone (step.Create q t bytes) last)
+        meets_then (MayAsk w) (MindsAll Of w.run) later j (created q temp bytes) (λ made. made_safe q temp >>= (λ safe. Return (Ok temp))) (λ last i u. F last × MadeTemp q temp bytes last) (λ last i t. F last × MadeTemp q t bytes last)
         (created_meets later j temp bytes g)
         (λ last i u k.
-        meets_then (MayAsk w) (MindsAll Of w.run) last i (made_safe q temp) (λ safe. Return (Ok temp)) (λ end l u. F end × WasDone (step.Create q temp bytes) end) (λ end l t. F end × WasDone (step.Create q t bytes) end) (safe_meets last i temp bytes k.0 k.1)
-        (λ end l u z. meets_return (MayAsk w) (MindsAll Of w.run) end l temp (okay (λ end l t. F end × WasDone (step.Create q t bytes) end)) z)))
+        meets_then (MayAsk w) (MindsAll Of w.run) last i (made_safe q temp) (λ safe. Return (Ok temp)) (λ end l u. F end × MadeTemp q temp bytes end) (λ end l t. F end × MadeTemp q t bytes end) (safe_meets last i temp bytes k.0 k.1)
+        (λ end l u z. meets_return (MayAsk w) (MindsAll Of w.run) end l temp (okay (λ end l t. F end × MadeTemp q t bytes end)) z)))
 
     pub replaced_meets : (own : List Deed) (h : Hand) (name bytes : List ℕ) (E : List Deed → Type 0) → F own
         → ((later : List Deed) (temp : List ℕ) → MayAsk w later (step.Rename q temp name) → F later → WasDone (step.Create q temp bytes) later → MindsAll Of w.run later (step.Rename q temp name))
@@ -112,14 +116,14 @@ module _ (Of : List ℕ → Type 0) (w : Pledge) (path folder : List ℕ) where
         → M own h (replaced w.run q name bytes) (okay (λ later j u. E later))
     unfolding replaced renamed synced
     replaced_meets own h name bytes E f minds ends =
-        meets_then (MayAsk w) (MindsAll Of w.run) own h (written w.run q bytes) (λ temp. renamed q temp name >>= (λ moved. synced q name)) (λ later j temp. F later × WasDone (step.Create q temp bytes) later) (λ later j u. E later) (written_meets own h bytes f) moves
+        meets_then (MayAsk w) (MindsAll Of w.run) own h (written w.run q bytes) (λ temp. renamed q temp name >>= (λ moved. synced q name)) (λ later j temp. F later × MadeTemp q temp bytes later) (λ later j u. E later) (written_meets own h bytes f) moves
       where
-        moves : (later : List Deed) (j : Hand) (temp : List ℕ) → F later × WasDone (step.Create q temp bytes) later → M later j (renamed q temp name >>= (λ moved. synced q name)) (okay (λ last i u. E last))
+        moves : (later : List Deed) (j : Hand) (temp : List ℕ) → F later × MadeTemp q temp bytes later → M later j (renamed q temp name >>= (λ moved. synced q name)) (okay (λ last i u. E last))
         moves later j temp g =
             meets_then (MayAsk w) (MindsAll Of w.run) later j (renamed q temp name) (λ moved. synced q name) (λ last i u. MayAsk w later (step.Rename q temp name) × (last ≡ did (step.Rename q temp name) answer.Done ∷ later)) (λ last i u. E last)
             (meets_rename (MayAsk w) (MindsAll Of w.run) later j of_stop (okay (λ last i u. MayAsk w later (step.Rename q temp name) × (last ≡ did (step.Rename q temp name) answer.Done ∷ later))) q temp name (held_to q temp)
             (λ may. (
-              minds later temp may g.0 g.1,
+              minds later temp may g.0 g.1.0,
               meets_return (MayAsk w) (MindsAll Of w.run) (did (step.Rename q temp name) answer.Done ∷ later) j tt (okay (λ last i u. MayAsk w later (step.Rename q temp name) × (last ≡ did (step.Rename q temp name) answer.Done ∷ later))) (may, refl),
               meets_end (MayAsk w) (MindsAll Of w.run) (did (step.Rename q temp name) answer.Gone ∷ later) j (fault.Meddled q temp) (λ last i u. MayAsk w later (step.Rename q temp name) × (last ≡ did (step.Rename q temp name) answer.Done ∷ later)),
             )))
@@ -127,7 +131,7 @@ module _ (Of : List ℕ → Type 0) (w : Pledge) (path folder : List ℕ) where
             (meets_sync_folder (MayAsk w) (MindsAll Of w.run) (did (step.Rename q temp name) answer.Done ∷ later) i of_stop (okay (λ end l v. E end)) q (held_to q name)
             (λ may. (
               look_minds Of w.run (did (step.Rename q temp name) answer.Done ∷ later) (step.SyncFolder q) tt,
-              meets_return (MayAsk w) (MindsAll Of w.run) (did (step.SyncFolder q) answer.Done ∷ (did (step.Rename q temp name) answer.Done ∷ later)) i tt (okay (λ end l v. E end)) (ends later temp k.0 g.0 g.1 may),
+              meets_return (MayAsk w) (MindsAll Of w.run) (did (step.SyncFolder q) answer.Done ∷ (did (step.Rename q temp name) answer.Done ∷ later)) i tt (okay (λ end l v. E end)) (ends later temp k.0 g.0 g.1.0 may),
               meets_end (MayAsk w) (MindsAll Of w.run) (did (step.SyncFolder q) answer.Gone ∷ (did (step.Rename q temp name) answer.Done ∷ later)) i (fault.Meddled q name) (λ end l v. E end),
             ))))
 

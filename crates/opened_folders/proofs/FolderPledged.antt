@@ -1,11 +1,12 @@
 -- A folder is begun as its command pledges.
-use Rattle.std.proofs.Common.{◌≡◌, inl, inr, ◌<◌, ◌^◌, ◌∷◌, [], ℕ, List, Ok, refl, sym, ap, subst, arith}
+use Rattle.std.proofs.Common.{◌≡◌, inl, inr, ◌<◌, ◌^◌, ◌∷◌, [], ℕ, true, List, Ok, refl, sym, ap, subst, arith}
 use Rattle.mh_base.specs.declared.entry.Entry.TheVariants.{Sequences}
 use Rattle.mh_base.proofs.EntryKinds.{kind_of-entry_text}
 use Rattle.mh_profile.specs.Reading.{entries_in}
 use Rattle.mh_profile.specs.declared.named_value.NamedValue.{NamedValue}
 use Rattle.mh_sequences.specs.Printing.{private_entries, text_of}
 use Rattle.mh_sequences.specs.Reading.{suffix}
+use Rattle.mh_sequences.specs.Runs.{has}
 use Rattle.mh_sequences.specs.Sequences.{Marked}
 use Rattle.mh_sequences.specs.declared.run.Run.{Run}
 use Rattle.folder_files.specs.Careful.{HasLock, Makes, makes}
@@ -40,6 +41,7 @@ use Rattle.held_messages.specs.Settle.{Settled, names_by, put_back, settle, sett
 use Rattle.held_messages.proofs.GivingBack.{Settles, settle_goes}
 use Rattle.held_messages.proofs.PairLemmas.{are_pairs, pairs_listed}
 use Rattle.held_messages.proofs.Telling.{highest_small}
+use Rattle.sequence_marks.specs.SequenceMarks.{says_public}
 use Rattle.sequence_commits.specs.Committing.{cut_committed}
 use Rattle.sequence_commits.specs.Cutting.{cut_to}
 use Rattle.sequence_commits.specs.PrivateChanges.{changes_to}
@@ -49,6 +51,7 @@ use Rattle.opened_folders.specs.Existing.{numbers_settled}
 use Rattle.opened_folders.specs.Opening.{Opened, begun, folder_locked, locked_begun, locked_by, mail_made, marks_cut, marks_read, opened_of, sequences_read, settled_read, text_by}
 use Rattle.opened_folders.specs.FolderPledge.{told_within}
 use Rattle.opened_folders.specs.Reads.{HaveRead, HaveSeen, TellsText}
+use Rattle.opened_folders.proofs.BaseMarks.{cut_marks, same_marks}
 
 -- what was seen once stays so
 pub seen_kept : (run : ℕ) (p mail : Place) (listing : List Run) (text context : List ℕ) → KeptBy AnyStep (HaveSeen run p mail listing text context)
@@ -66,7 +69,7 @@ pub record Begins (w : Pledge) (path folder : List ℕ) : Type 0 where
       → IsPledged w (Mail path) (changes_to (suffix folder) (private_entries (suffix folder) (told_within listing text context folder).users) seen) AnyStep (HaveSeen w.run (Folder path folder) (Mail path) listing text context)
 
 -- after it: what was settled of commits stays so, and the folder's lock is had; its sequences are those that were read, cut, and some text is
--- the base of the next commit
+-- the base of the next commit, which marks only numbers of messages
 pub record HasBegun (w : Pledge) (own : List Deed) (path folder : List ℕ) (later : List Deed) (o : Opened) : Type 0 where
   pub held : Held own (Folder path folder) later
   pub place : o.place ≡ Folder path folder
@@ -76,6 +79,7 @@ pub record HasBegun (w : Pledge) (own : List Deed) (path folder : List ℕ) (lat
   pub seen : HaveSeen w.run (Folder path folder) (Mail path) o.listing text context later
   pub sequences : o.sequences ≡ told_within o.listing text context folder
   pub base : (old : List ℕ) × IsBase w.run (Folder path folder) sequences_name old later
+  pub marks : (sequence : List ℕ) (n : ℕ) → says_public sequence base.0 n ≡ true → has o.listing n ≡ true
 
 module _ (w : Pledge) (few : w.run < 2 ^ 128) (path folder : List ℕ) (lets : Begins w path folder) where
   abbrev p : Place
@@ -222,6 +226,7 @@ module _ (w : Pledge) (few : w.run < 2 ^ 128) (path folder : List ℕ) (lets : B
     seen = b.seen;
     sequences = b.sequences;
     base = b.base;
+    marks = b.marks;
   }
 
   cut_goes : (own : List Deed) (h : Hand) (s : Settled) (text context : List ℕ) → HaveSeen w.run p (Mail path) (numbers_settled w.run s) text context own → HasLock p own → IsBase w.run p sequences_name text own
@@ -239,6 +244,7 @@ module _ (w : Pledge) (few : w.run < 2 ^ 128) (path folder : List ℕ) (lets : B
         seen = still_seen;
         sequences = refl;
         base = base_by later c;
+        marks = marks_by later c;
       }))
     where
       listing : List Run
@@ -278,6 +284,10 @@ module _ (w : Pledge) (few : w.run < 2 ^ 128) (path folder : List ℕ) (lets : B
       base_by : (later : List Deed) → Cut own later → (old : List ℕ) × IsBase w.run p sequences_name old later
       base_by later (inl same) = (text, subst (λ z. IsBase w.run p sequences_name text z) (sym same.1) base)
       base_by later (inr c) = (text_of new, c.base)
+
+      marks_by : (later : List Deed) (c : Cut own later) (sequence : List ℕ) (n : ℕ) → says_public sequence (base_by later c).0 n ≡ true → has listing n ≡ true
+      marks_by later (inl same) sequence n e = same_marks listing text context folder sequence n same.0 e
+      marks_by later (inr c) sequence n e = cut_marks listing text context folder sequence n e
 
   -- what was settled is cleared and read
   read_goes : (own : List Deed) (h : Hand) (s : Settled) → HasLock p own → Once (IsListing s) own → Goes w own h (settled_read w.run p (Mail path) folder s) (okay (Ends own))

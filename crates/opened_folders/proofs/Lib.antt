@@ -1,4 +1,5 @@
 pub mod AllMarks
+pub mod BaseMarks
 pub mod BeginState
 pub mod BegunEnds
 pub mod BegunSeen
@@ -20,6 +21,9 @@ pub mod FolderSeen
 pub mod HomesFound
 pub mod KeptGiven
 pub mod KeptMessages
+pub mod MadeEnds
+pub mod MadeGiven
+pub mod MadeMinds
 pub mod MarksWritten
 pub mod Meeting
 pub mod NamesKept

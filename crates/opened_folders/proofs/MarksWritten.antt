@@ -29,7 +29,7 @@ by_bool : {X : Type 0} (b : Bool) → (b ≡ true → X) → (b ≡ false → X)
 by_bool true f g = f refl
 by_bool false f g = g refl
 
-and_both : (a b : Bool) → a ≡ true → b ≡ true → (a && b) ≡ true
+pub and_both : (a b : Bool) → a ≡ true → b ≡ true → (a && b) ≡ true
 and_both a b e f = rw (e, f) refl
 
 -- what a text of sequences marks is a member of them

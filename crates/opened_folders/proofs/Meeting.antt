@@ -1,5 +1,5 @@
 -- What each step of a plan meets, whatever is answered, where it may be asked for at all.
-use Rattle.std.proofs.Common.{◌≡◌, ◌≢◌, ◌++◌, ◌∷◌, [], ℕ, List, Result, Ok, Err, ◌∙◌, ap}
+use Rattle.std.proofs.Common.{◌≡◌, ◌≢◌, ◌≤◌, ◌++◌, ◌∷◌, [], ℕ, List, Result, Ok, Err, length, ◌∙◌, ap}
 use Rattle.mh_base.specs.declared.streams.SinkFault.{SinkFault}
 use Rattle.folder_files.specs.Deeds.{Deed, did}
 use Rattle.folder_files.specs.Rows.{IsAnswerOf}
@@ -39,7 +39,7 @@ Meets May A own h (Return r) Q = Q own h r
 Meets May A own h (Ask s next) Q = May own s → A own s × ((a : Answer) → IsAnswerOf s a → a ≢ answer.Failed → Meets May A (did s a ∷ own) h (next a) Q)
 Meets May A own h (Try s next) Q = May own s → A own s × ((a : Answer) → IsAnswerOf s a → Meets May A (did s a ∷ own) h (next a) Q)
 Meets May A own h (Say piece next) Q = Meets May A own h next Q
-Meets May A own h (Hear most next) Q = (piece : List ℕ) → Meets May A own h (next piece) Q
+Meets May A own h (Hear most next) Q = (piece : List ℕ) → length piece ≤ most → Meets May A own h (next piece) Q
 Meets May A own h (Recall next) Q = Meets May A own h (next h) Q
 Meets May A own h (Note j next) Q = Meets May A own j next Q
 
@@ -51,7 +51,7 @@ module _ (May A : List Deed → Step → Type 0) where
   meets_bind own h (Ask s next) k P Q f g = λ m. ((f m).0, λ a row live. meets_bind (did s a ∷ own) h (next a) k P Q ((f m).1 a row live) g)
   meets_bind own h (Try s next) k P Q f g = λ m. ((f m).0, λ a row. meets_bind (did s a ∷ own) h (next a) k P Q ((f m).1 a row) g)
   meets_bind own h (Say piece next) k P Q f g = meets_bind own h next k P Q f g
-  meets_bind own h (Hear most next) k P Q f g = λ piece. meets_bind own h (next piece) k P Q (f piece) g
+  meets_bind own h (Hear most next) k P Q f g = λ piece short. meets_bind own h (next piece) k P Q (f piece short) g
   meets_bind own h (Recall next) k P Q f g = meets_bind own h (next h) k P Q f g
   meets_bind own h (Note j next) k P Q f g = meets_bind own j next k P Q f g
 
@@ -84,7 +84,7 @@ module _ (May A : List Deed → Step → Type 0) where
   meets_more own h (Ask s next) P Q f g = λ m. ((g m).0, λ a row live. meets_more (did s a ∷ own) h (next a) P Q f ((g m).1 a row live))
   meets_more own h (Try s next) P Q f g = λ m. ((g m).0, λ a row. meets_more (did s a ∷ own) h (next a) P Q f ((g m).1 a row))
   meets_more own h (Say piece next) P Q f g = meets_more own h next P Q f g
-  meets_more own h (Hear most next) P Q f g = λ piece. meets_more own h (next piece) P Q f (g piece)
+  meets_more own h (Hear most next) P Q f g = λ piece short. meets_more own h (next piece) P Q f (g piece short)
   meets_more own h (Recall next) P Q f g = meets_more own h (next h) P Q f g
   meets_more own h (Note j next) P Q f g = meets_more own j next P Q f g
 
@@ -108,7 +108,7 @@ module _ (May A : List Deed → Step → Type 0) where
   meets_framed P F keeps own h (Ask s next) Q g i f = λ m. ((f m).0, λ a row live. meets_framed P F keeps (did s a ∷ own) h (next a) Q (g.1 a) (keeps own s a m g.0 i) ((f m).1 a row live))
   meets_framed P F keeps own h (Try s next) Q g i f = λ m. ((f m).0, λ a row. meets_framed P F keeps (did s a ∷ own) h (next a) Q (g.1 a) (keeps own s a m g.0 i) ((f m).1 a row))
   meets_framed P F keeps own h (Say piece next) Q g i f = meets_framed P F keeps own h next Q g i f
-  meets_framed P F keeps own h (Hear most next) Q g i f = λ piece. meets_framed P F keeps own h (next piece) Q (g piece) i (f piece)
+  meets_framed P F keeps own h (Hear most next) Q g i f = λ piece short. meets_framed P F keeps own h (next piece) Q (g piece) i (f piece short)
   meets_framed P F keeps own h (Recall next) Q g i f = meets_framed P F keeps own h (next h) Q (g h) i f
   meets_framed P F keeps own h (Note j next) Q g i f = meets_framed P F keeps own j next Q g i f
 
@@ -129,7 +129,7 @@ module _ (May A : List Deed → Step → Type 0) where
   meets_all P F keeps so own h (Ask s next) g i = λ m. (so own s m g.0 i, λ a row live. meets_all P F keeps so (did s a ∷ own) h (next a) (g.1 a) (keeps own s a m g.0 i))
   meets_all P F keeps so own h (Try s next) g i = λ m. (so own s m g.0 i, λ a row. meets_all P F keeps so (did s a ∷ own) h (next a) (g.1 a) (keeps own s a m g.0 i))
   meets_all P F keeps so own h (Say piece next) g i = meets_all P F keeps so own h next g i
-  meets_all P F keeps so own h (Hear most next) g i = λ piece. meets_all P F keeps so own h (next piece) (g piece) i
+  meets_all P F keeps so own h (Hear most next) g i = λ piece short. meets_all P F keeps so own h (next piece) (g piece) i
   meets_all P F keeps so own h (Recall next) g i = meets_all P F keeps so own h (next h) (g h) i
   meets_all P F keeps so own h (Note j next) g i = meets_all P F keeps so own j next g i
 
@@ -281,7 +281,7 @@ module _ (w : Pledge) (A : List Deed → Step → Type 0) where
     λ a row. keeps_met (past ++ Did s a ∷ []) (did s a ∷ own) h (next a) Q P (did_more past own s a e) (f.2 a row) (met.1 a row),
   )
   keeps_met past own h (Say piece next) Q P e f g = (f.0, f.1, f.2, keeps_met (past ++ Said piece ∷ []) own h next Q P (acts_append [] past (Said piece ∷ []) ∙ e) f.3 g)
-  keeps_met past own h (Hear most next) Q P e f g = (f.0, f.1, λ piece short. keeps_met (past ++ Heard piece ∷ []) own h (next piece) Q P (acts_append [] past (Heard piece ∷ []) ∙ e) (f.2 piece short) (g piece))
+  keeps_met past own h (Hear most next) Q P e f g = (f.0, f.1, λ piece short. keeps_met (past ++ Heard piece ∷ []) own h (next piece) Q P (acts_append [] past (Heard piece ∷ []) ∙ e) (f.2 piece short) (g piece short))
   keeps_met past own h (Recall next) Q P e f g = keeps_met past own h (next h) Q P e f g
   keeps_met past own h (Note j next) Q P e f g = (f.0, keeps_met past own j next Q P e f.1 g)
 
@@ -292,6 +292,6 @@ meets_weaker May A B f own h (Return r) Q g = g
 meets_weaker May A B f own h (Ask s next) Q g = λ m. (f own s (g m).0, λ a row live. meets_weaker May A B f (did s a ∷ own) h (next a) Q ((g m).1 a row live))
 meets_weaker May A B f own h (Try s next) Q g = λ m. (f own s (g m).0, λ a row. meets_weaker May A B f (did s a ∷ own) h (next a) Q ((g m).1 a row))
 meets_weaker May A B f own h (Say piece next) Q g = meets_weaker May A B f own h next Q g
-meets_weaker May A B f own h (Hear most next) Q g = λ piece. meets_weaker May A B f own h (next piece) Q (g piece)
+meets_weaker May A B f own h (Hear most next) Q g = λ piece short. meets_weaker May A B f own h (next piece) Q (g piece short)
 meets_weaker May A B f own h (Recall next) Q g = meets_weaker May A B f own h (next h) Q g
 meets_weaker May A B f own h (Note j next) Q g = meets_weaker May A B f own j next Q g

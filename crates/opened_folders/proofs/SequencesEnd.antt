@@ -102,10 +102,10 @@ module _ (run : ℕ) (few : run < 2 ^ 128) (path folder : List ℕ) (Answers : A
       Next : Outcome Unit
       Next later i u = (later ≡ after_written p temp bytes own) × (i ≡ j)
 
-  abbrev Writes : List ℕ → List Deed → Hand → Outcome (List ℕ)
+  abbrev pub Writes : List ℕ → List Deed → Hand → Outcome (List ℕ)
   Writes bytes own h later j temp = (later ≡ after_written p temp bytes own) × (j ≡ used h) × (temp ≡ temp_name run h.next) × (h.next < 2 ^ 64)
 
-  written_comes : (own : List Deed) (h : Hand) (bytes : List ℕ) → Clean run own h → WasDone (step.Lock p) own → Comes own h (written run p bytes) (So (Writes bytes own h))
+  pub written_comes : (own : List Deed) (h : Hand) (bytes : List ℕ) → Clean run own h → WasDone (step.Lock p) own → Comes own h (written run p bytes) (So (Writes bytes own h))
   unfolding written
   written_comes own h bytes clean lock =
       comes_then own h (named run) (λ temp. created p temp bytes >>= (λ made. made_safe p temp >>= (λ safe. Return (Ok temp)))) (So (Names own h)) (So (Writes bytes own h)) (named_comes own h)
@@ -157,15 +157,18 @@ module _ (run : ℕ) (few : run < 2 ^ 128) (path folder : List ℕ) (Answers : A
       closing j temp hand is lt end k (Err e) s = s
 
   -- the run is clean after it
-  replaced_clean : (own : List Deed) (h : Hand) (name bytes : List ℕ) → h.next < 2 ^ 64 → Clean run own h → Clean run (after_replaced p (temp_name run h.next) name bytes own) (used h)
-  replaced_clean own h name bytes lt c =
-      clean_more run _ (used h) (step.SyncFolder p) answer.Done (λ e. cc (e)) tt
-      (clean_more run _ (used h) (step.Rename p (temp_name run h.next) name) answer.Done (λ e. cc (e)) tt
-      (clean_more run _ (used h) (step.SyncFile p (temp_name run h.next)) answer.Done (λ e. cc (e)) tt
-      (clean_more run own (used h) (step.Create p (temp_name run h.next) bytes) answer.Done (λ e. cc (e)) (h.next, kind_of-entry_text (Temp run h.next) (few, lt), omega arith) raised)))
+  pub written_clean : (own : List Deed) (h : Hand) (bytes : List ℕ) → h.next < 2 ^ 64 → Clean run own h → Clean run (after_written p (temp_name run h.next) bytes own) (used h)
+  written_clean own h bytes lt c =
+      clean_more run _ (used h) (step.SyncFile p (temp_name run h.next)) answer.Done (λ e. cc (e)) tt
+      (clean_more run own (used h) (step.Create p (temp_name run h.next) bytes) answer.Done (λ e. cc (e)) (h.next, kind_of-entry_text (Temp run h.next) (few, lt), omega arith) raised)
     where
       raised : Clean run own (used h)
       raised = record { numbered = all_numbered run h.next (used h).next own (omega arith) c.numbered; unfailed = c.unfailed; few = omega (arith, lt) }
+
+  replaced_clean : (own : List Deed) (h : Hand) (name bytes : List ℕ) → h.next < 2 ^ 64 → Clean run own h → Clean run (after_replaced p (temp_name run h.next) name bytes own) (used h)
+  replaced_clean own h name bytes lt c =
+      clean_more run _ (used h) (step.SyncFolder p) answer.Done (λ e. cc (e)) tt
+      (clean_more run _ (used h) (step.Rename p (temp_name run h.next) name) answer.Done (λ e. cc (e)) tt (written_clean own h bytes lt c))
 
   -- what shows the fault of a commit of the context shows it here
   fault_shows : (cs : List ChangeEntry) (h : Hand) (later : List Deed) → ((l : ℕ) → IsLongText mail cs l later → Shows (fault.TooLarge l) later) → (e : PlanFault) → ShowsPlanFault run mail cs h e later → Shows e later

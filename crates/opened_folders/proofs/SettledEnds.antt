@@ -296,7 +296,7 @@ module _ (run : ℕ) (path folder : List ℕ) (Answers : Answering) where
   put_back_comes own h clean lock safe =
       comes_list own h of_stop (Shown PutsBack) p (λ listing. names_by p listing >>= (λ names. settle p (held_pairs run names) (highest names) >>= (λ ends. Return (Ok (settled_of names ends)))))
       (λ names. comes_on _ h names (λ names. settle p (held_pairs run names) (highest names) >>= (λ ends. Return (Ok (settled_of names ends)))) (Shown PutsBack) (settles names))
-      (comes_stop _ h (fault.Absent p) (λ names. settle p (held_pairs run names) (highest names) >>= (λ ends. Return (Ok (settled_of names ends)))) (Shown PutsBack) (own, inr refl))
+      (comes_stop _ h (fault.Absent p) (λ names. settle p (held_pairs run names) (highest names) >>= (λ ends. Return (Ok (settled_of names ends)))) (Shown PutsBack) (refl, (own, inr refl)))
     where
       begins : (names : List (List ℕ)) → Homing names None (did (step.List p) (answer.Names names) ∷ own) h
       begins names = record {

@@ -99,7 +99,7 @@ module _ (Of : List ℕ → Type 0) (w : Pledge) (p : Place) where
   }
 
   -- a link of a held name to a number that is there then
-  grows_link : (own : List Deed) (held number : List ℕ) (a : Answer) → is_number (kind_of number) ≡ true → HasLock p own → Sees p number true (did (step.Link p held number) a ∷ own)
+  pub grows_link : (own : List Deed) (held number : List ℕ) (a : Answer) → is_number (kind_of number) ≡ true → HasLock p own → Sees p number true (did (step.Link p held number) a ∷ own)
       → Grows own (did (step.Link p held number) a ∷ own)
   grows_link own held number a numbered lock sees = record {
     lock = still (λ e. cc (e)) lock;

@@ -226,7 +226,7 @@ module _ (run : ℕ) (few : run < 2 ^ 128) (path folder : List ℕ) (clean : lis
     refused_as : (z : View) (j : Hand) (left : List ℕ) (r : Refusal) → left ≡ work.text → work ≡ refused_at (mailbox_in z.contents) (fault.Refused r) → WorkEnds work z j left (Err (fault.Refused r))
     refused_as z j left r same w = (same ∙ ap (λ x. x.text) w, ap (λ x. x.end) w, sym (ap (λ x. x.mailbox) w))
 
-    not_begun : (z : View) (j : Hand) (left : List ℕ) (e : PlanFault) → left ≡ work.text → BeginErrs true ns run few path folder c z e → WorkEnds work z j left (Err (of_plan folder e))
+    pub not_begun : (z : View) (j : Hand) (left : List ℕ) (e : PlanFault) → left ≡ work.text → BeginErrs true ns run few path folder c z e → WorkEnds work z j left (Err (of_plan folder e))
     not_begun z j left plan.Faulted same f = f
     not_begun z j left (plan.Locked q) same f = f refl
     not_begun z j left (plan.Meddled q x) same f = f refl
@@ -243,7 +243,7 @@ module _ (run : ℕ) (few : run < 2 ^ 128) (path folder : List ℕ) (clean : lis
     not_begun z j left plan.Memory same f = tt
 
     -- the folder was begun, and the work goes on
-    begun_gives_on : (z : View) (j : Hand) (left : List ℕ) (o : Opened) → left ≡ work.text → IsBegunIn true ns run few path folder c z j [] o
+    pub begun_gives_on : (z : View) (j : Hand) (left : List ℕ) (o : Opened) → left ≡ work.text → IsBegunIn true ns run few path folder c z j [] o
         → Gives (by_view true) z j left (bind (act o) (ended at)) (WorkEnds work)
     begun_gives_on z j left o same b =
         subst (λ t. Gives (by_view true) z j t (bind (act o) (ended at)) (WorkEnds work)) (sym same)

@@ -70,18 +70,23 @@ module _ (w : Pledge) (path folder : List ℕ) where
   ended_meets own h (Err (fault.Meddled q x)) = tt
   ended_meets own h (Err fault.Memory) = tt
 
-  -- a command that begins the folder, works on it and ends: where its work meets this besides, so does all of it
-  module _ (A : List Deed → Step → Type 0) (minds : (own : List Deed) (s : Step) → MindsAll Of w.run own s → A own s) (act : Opened → Plan (Result Unit CommandFault))
-      (works : (own : List Deed) (h : Hand) (o : Opened) → HasSeenBegun path folder own o → Meets (MayAsk w) A own h (act o) Anyhow) where
-    after_begun : (own : List Deed) (h : Hand) (r : Result Opened CommandFault) → okay (λ later j o. HasSeenBegun path folder later o) own h r → Meets (MayAsk w) A own h (after (λ o. bind (act o) (ended p)) r) Anyhow
+  -- a command that begins the folder so, works on it and ends: where its work meets this besides, so does all of it
+  module _ (A : List Deed → Step → Type 0) (minds : (own : List Deed) (s : Step) → MindsAll Of w.run own s → A own s) (act : Opened → Plan (Result Unit CommandFault)) (Begun : Outcome Opened)
+      (works : (own : List Deed) (h : Hand) (o : Opened) → Begun own h o → Meets (MayAsk w) A own h (act o) Anyhow) where
+    after_begun : (own : List Deed) (h : Hand) (r : Result Opened CommandFault) → okay Begun own h r → Meets (MayAsk w) A own h (after (λ o. bind (act o) (ended p)) r) Anyhow
     unfolding Meets
     after_begun own h (Ok o) f = meets_bind (MayAsk w) A own h (act o) (ended p) Anyhow Anyhow (works own h o f) (λ later j r q. meets_weaker (MayAsk w) (MindsAll Of w.run) A minds later j (ended p r) Anyhow (ended_meets later j r))
     after_begun own h (Err e) f = tt
 
-    pub whole_meets : (own : List Deed) (h : Hand) → NoneUnlinked p own → Meets (MayAsk w) A own h (lifted (of_plan folder) (begun w.run p mail folder) >>= (λ o. bind (act o) (ended p))) Anyhow
+    pub opened_meets : (opening : Plan (Result Opened CommandFault)) (own : List Deed) (h : Hand) → M own h opening (okay Begun) → Meets (MayAsk w) A own h (opening >>= (λ o. bind (act o) (ended p))) Anyhow
     unfolding ◌>>=◌
-    whole_meets own h none =
-        meets_bind (MayAsk w) A own h (lifted (of_plan folder) (begun w.run p mail folder)) (after (λ o. bind (act o) (ended p))) (okay (λ later j o. HasSeenBegun path folder later o)) Anyhow
-        (meets_weaker (MayAsk w) (MindsAll Of w.run) A minds own h (lifted (of_plan folder) (begun w.run p mail folder)) (okay (λ later j o. HasSeenBegun path folder later o))
-        (meets_lifted (MayAsk w) (MindsAll Of w.run) own h (of_plan folder) (begun w.run p mail folder) (λ later j o. HasSeenBegun path folder later o) (begun_meets w path folder own h none)))
-        (λ later j r q. after_begun later j r q)
+    opened_meets opening own h opens =
+        meets_bind (MayAsk w) A own h opening (after (λ o. bind (act o) (ended p))) (okay Begun) Anyhow
+        (meets_weaker (MayAsk w) (MindsAll Of w.run) A minds own h opening (okay Begun) opens) (λ later j r q. after_begun later j r q)
+
+  pub whole_meets : (A : List Deed → Step → Type 0) (minds : (own : List Deed) (s : Step) → MindsAll Of w.run own s → A own s) (act : Opened → Plan (Result Unit CommandFault))
+      (works : (own : List Deed) (h : Hand) (o : Opened) → HasSeenBegun path folder own o → Meets (MayAsk w) A own h (act o) Anyhow)
+      (own : List Deed) (h : Hand) → NoneUnlinked p own → Meets (MayAsk w) A own h (lifted (of_plan folder) (begun w.run p mail folder) >>= (λ o. bind (act o) (ended p))) Anyhow
+  whole_meets A minds act works own h none =
+      opened_meets A minds act (λ later j o. HasSeenBegun path folder later o) works (lifted (of_plan folder) (begun w.run p mail folder)) own h
+      (meets_lifted (MayAsk w) (MindsAll Of w.run) own h (of_plan folder) (begun w.run p mail folder) (λ later j o. HasSeenBegun path folder later o) (begun_meets w path folder own h none))

@@ -239,7 +239,7 @@ module _ (run : ℕ) (few : run < 2 ^ 128) (path folder : List ℕ) (Makes_ : Li
     committed_goes = goes_lifted w own h (of_plan folder) (changed_sequences run p mail folder m new) Committed_ sequences_goes
 
   -- a folder that the run has made is begun
-  made_goes : (own : List Deed) (h : Hand) → Goes w own h (made_begun run p mail folder) (okay (λ later j o. HasBegun w own path folder later o))
+  pub made_goes : (own : List Deed) (h : Hand) → Goes w own h (made_begun run p mail folder) (okay (λ later j o. HasBegun w own path folder later o))
   unfolding made_begun
   made_goes own h =
       goes_make w own h of_stop (okay (λ later j o. HasBegun w own path folder later o)) p (λ made. lifted once_made (begun run p mail folder))
@@ -256,6 +256,7 @@ module _ (run : ℕ) (few : run < 2 ^ 128) (path folder : List ℕ) (Makes_ : Li
         seen = b.seen;
         sequences = b.sequences;
         base = b.base;
+        marks = b.marks;
       }
 
       then_begun : (a : Answer) → Goes w (did (step.MakeFolder p) a ∷ own) h (lifted once_made (begun run p mail folder)) (okay (λ later j o. HasBegun w own path folder later o))

@@ -82,6 +82,12 @@ abbrev pub IsNotThere : Place → List Deed → Type 0
 IsNotThere p own =
     (older : List Deed) × ((own ≡ did (step.Lock p) Gone ∷ older) ⊎ (own ≡ did (step.List p) Gone ∷ older))
 
+-- the folder isn't there that the run had made or found made, as it locks or lists it
+pub record IsGoneOnceMade (p : Place) (e : CommandFault) (own : List Deed) : Type 0 where
+  pub is : e ≡ command.Meddled p lock_name
+  pub gone : IsNotThere p own
+  pub made : Once (λ d older. d.step ≡ step.MakeFolder p) own
+
 -- what a command answers by the numbers of a folder's messages and the sequences as they are told: what it makes of
 -- these sequences, and how it refuses its words
 pub record Answering : Type 1 where
@@ -133,7 +139,7 @@ ShowsInFolder run path folder Answers fault.Faulted own = ⊥
 ShowsInFolder run path folder Answers (fault.Locked q) own = IsHeldIn path folder q own
 ShowsInFolder run path folder Answers (fault.Meddled q x) own = IsMeddledIn run q x own
 ShowsInFolder run path folder Answers fault.Full own = ⊥
-ShowsInFolder run path folder Answers (fault.Absent q) own = IsNotThere (Folder path folder) own
+ShowsInFolder run path folder Answers (fault.Absent q) own = (q ≡ Folder path folder) × IsNotThere (Folder path folder) own
 ShowsInFolder run path folder Answers (fault.TooLarge l) own = IsTooLong run path folder Answers l own
 ShowsInFolder run path folder Answers fault.Memory own = Unit {0}
 

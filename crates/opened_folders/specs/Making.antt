@@ -1,7 +1,8 @@
 -- The plan that begins a folder which is made where it is missing.
-use Rattle.std.specs.Prelude.{ℕ, List}
+use Rattle.std.specs.Prelude.{◌≡◌, ℕ, false, List, None}
 use Rattle.folder_files.specs.declared.place.Place.{Place}
 use Rattle.file_plans.specs.Asking.{make_folder}
+use Rattle.file_plans.specs.Contents.{Contents}
 use Rattle.file_plans.specs.Plan.{lifted, ◌>>=◌}
 use Rattle.step_plans.specs.Locking.{lock_name}
 use Rattle.step_plans.specs.PlanFaults.{Planned, of_stop}
@@ -24,3 +25,7 @@ unfoldable pub made_begun : ℕ → Place → Place → List ℕ → Planned Ope
 made_begun run p mail folder = do
   made ← lifted of_stop (make_folder p)
   lifted once_made (begun run p mail folder)
+
+-- no name of a directory that isn't there leads anywhere: so one that is made is empty
+abbrev pub IsBare : Contents → Type 0
+IsBare c = (p : Place) → c.there p ≡ false → (x : List ℕ) → c.texts p x ≡ None
