@@ -109,7 +109,7 @@ pub record IsOpen (run : ℕ) (p : Place) (held bytes : List ℕ) (G : List Deed
   pub number : List ℕ
   pub limit : ℕ
   pub deeds : own ≡ part ++ did (step.Read p held limit) (answer.Content bytes) ∷ (did (step.Rename p number held) answer.Done ∷ old)
-  pub taking_ : is_taking run (kind_of number) (kind_of held) ≡ true
+  pub took : is_taking run (kind_of number) (kind_of held) ≡ true
   pub unnamed : AreSpared p held old
   pub spared : AreSpared p held part
   pub synced : Walks (PutSynced run) [] part
@@ -127,7 +127,7 @@ HasCopy run bytes part = Once (IsCopyPut run bytes) part
 pub opened : (run : ℕ) → run < 2 ^ 128 → (p : Place) (n : ℕ) → IsMsgNum n → (bytes : List ℕ) (own : List Deed) → AreSpared p (entry_text (Held run n)) own
     → IsOpen run p (entry_text (Held run n)) bytes Anything (after_content p (entry_text (Held run n)) bytes (after_take run p n own))
 unfolding Walks
-opened run few p n ok bytes own spared = record { part = []; old = own; number = _; limit = _; deeds = refl; taking_ = is_taken_so run few n ok; unnamed = spared; spared = tt; synced = tt; also = tt }
+opened run few p n ok bytes own spared = record { part = []; old = own; number = _; limit = _; deeds = refl; took = is_taken_so run few n ok; unnamed = spared; spared = tt; synced = tt; also = tt }
 
 -- one more deed, which puts nothing
 pub open_more : (run : ℕ) (p : Place) (held bytes : List ℕ) (G H : List Deed → Type 0) (own : List Deed) (s : Step) (a : Answer) → SparesHeld p held s → ((q : Place) (temp : List ℕ) → IsPutLink run q temp (did s a) → ⊥) → ((part : List Deed) → G part → H (did s a ∷ part))
@@ -139,7 +139,7 @@ open_more run p held bytes G H own s a spares no_put more o = record {
   number = o.number;
   limit = o.limit;
   deeds = ap (λ z. did s a ∷ z) o.deeds;
-  taking_ = o.taking_;
+  took = o.took;
   unnamed = o.unnamed;
   spared = (spares, o.spared);
   synced = ((λ q temp l. absurd (no_put q temp l)), walks_behind run (did s a ∷ []) o.part o.synced);
@@ -155,7 +155,7 @@ was_copied q temp bytes copy a (d ∷ part) (on w) = on (was_copied q temp bytes
 module _ (run : ℕ) (p : Place) (held bytes : List ℕ) (q : Place) (folder : is_folder q ≡ true) (copy : List ℕ) (copies : Annotates bytes copy) where
   -- a temporary name is no held name
   temp_apart : (own : List Deed) (G : List Deed → Type 0) → IsOpen run p held bytes G own → (temp : List ℕ) → is_temp_of run (kind_of temp) ≡ true → temp ≡ held → ⊥
-  temp_apart own G o temp is e = not_both (is_held (kind_of held)) (is_held_any run held (is_taking_held run o.number held o.taking_)) (subst (λ z. is_held (kind_of z) ≡ false) e (is_temp_unheld temp (is_temp_any run temp is)))
+  temp_apart own G o temp is e = not_both (is_held (kind_of held)) (is_held_any run held (is_taking_held run o.number held o.took)) (subst (λ z. is_held (kind_of z) ≡ false) e (is_temp_unheld temp (is_temp_any run temp is)))
 
   abbrev Ready : List ℕ → List Deed → Type 0
   Ready temp part = WasReady q temp copy part
@@ -180,7 +180,7 @@ module _ (run : ℕ) (p : Place) (held bytes : List ℕ) (q : Place) (folder : i
     number = o.number;
     limit = o.limit;
     deeds = ap after o.deeds;
-    taking_ = o.taking_;
+    took = o.took;
     unnamed = o.unnamed;
     spared = (tt, (tt, ((λ e same. temp_apart own (Ready temp) o temp is same), o.spared)));
     synced = (
@@ -249,7 +249,7 @@ module _ (run : ℕ) (p : Place) (held bytes : List ℕ) (own : List Deed) where
   pub may_discard : IsOpen run p held bytes (HasCopy run bytes) own → MayDiscard run p held own
   may_discard o = record {
     not_given_away = λ w. not_given o (given_away own w);
-    taken_and_read = subst (λ z. WasTakenAndRead run p held z) (sym o.deeds) (once_later o.part _ (now ((bytes, (o.limit, refl)), now (o.number, refl, o.taking_))));
+    taken_and_read = subst (λ z. WasTakenAndRead run p held z) (sym o.deeds) (once_later o.part _ (now ((bytes, (o.limit, refl)), now (o.number, refl, o.took))));
     succeeded = (everywhere (λ newer d older. IsSucceeded run p held newer d) own).0 (succeeded o);
     synced = (everywhere (IsSuccessorSynced run p held) own).0 (all_synced o);
   }

@@ -118,7 +118,7 @@ not_gone_read bytes e = go (nat_lt LIMIT_BYTES (length bytes)) e
 -- a message was read: these are its bytes, or it is too long; the contents are as they were
 pub record Reads (ns : List ℕ) (c : Contents) (bytes : List ℕ) (h : Hand) (z : View) (j : Hand) (left : List ℕ) (r : Result (List ℕ) PlanFault) : Type 0 where
   pub value : r ≡ readable bytes
-  pub left_same : Left true ns c h z j
+  pub same : Left true ns c h z j
 
 module _ (p : Place) (name bytes : List ℕ) (c : Contents) (there : c.texts p name ≡ Some bytes) where
   -- of a message that stands under this name the bytes are told
@@ -126,8 +126,8 @@ module _ (p : Place) (name bytes : List ℕ) (c : Contents) (there : c.texts p n
   unfolding Gives content_read bind ◌>>=◌
   content_gives ns v h text is =
       read_view true v of_stop h text (Reads ns c bytes h) p name LIMIT_BYTES (content_by p name)
-      (λ b f. record { value = content_reads bytes b (told (answer.Content b) f); left_same = same (answer.Content b) })
-      (λ l f. record { value = long_reads bytes l (told (answer.Long l) f); left_same = same (answer.Long l) })
+      (λ b f. record { value = content_reads bytes b (told (answer.Content b) f); same = same (answer.Content b) })
+      (λ l f. record { value = long_reads bytes l (told (answer.Long l) f); same = same (answer.Long l) })
       (λ f. absurd (not_gone_read bytes (told answer.Gone f)))
     where
       told : (a : Answer) → fits_view true v (step.Read p name LIMIT_BYTES) a → a ≡ read_file_answer LIMIT_BYTES (Some bytes)

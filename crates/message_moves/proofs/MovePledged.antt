@@ -1,5 +1,5 @@
 -- The moves of a message go as their command pledges: each step is careful under the folder's lock, and these are the deeds of each part.
-use Rattle.std.proofs.Common.{◌≡◌, ◌<◌, ◌^◌, ◌∷◌, ℕ, true, List, Ok, refl}
+use Rattle.std.proofs.Common.{◌≡◌, ◌<◌, ◌^◌, ◌∷◌, ℕ, Bool, true, false, List, Ok, refl}
 use Rattle.mh_base.specs.Entries.{entry_text, kind_of}
 use Rattle.mh_base.specs.Numbers.{IsMsgNum}
 use Rattle.mh_base.specs.declared.entry.Entry.TheVariants.{Held, Number}
@@ -7,7 +7,7 @@ use Rattle.mh_base.proofs.EntryKinds.{kind_of-entry_text}
 use Rattle.folder_files.specs.Careful.{Discards, HasLock, MayDiscard, Takes, discards, takes}
 use Rattle.folder_files.specs.Commands.{MakesStep}
 use Rattle.folder_files.specs.Deeds.{Deed, WasDone, did}
-use Rattle.folder_files.specs.Named.{is_held_of, is_taking}
+use Rattle.folder_files.specs.Named.{is_committed, is_held_of, is_taking}
 use Rattle.folder_files.specs.Places.{is_folder}
 use Rattle.folder_files.specs.Standing.{is_standing}
 use Rattle.folder_files.specs.declared.place.Place.{Place}
@@ -63,7 +63,7 @@ HasContent p name own later j bytes = later ≡ after_content p name bytes own
 abbrev pub HasDiscarded : Place → List ℕ → List Deed → Outcome Unit
 HasDiscarded p held own later j u = later ≡ after_discard p held own
 
--- of names, the run's held name of a number is the one by which that is taken
+-- the run's held name of a number is one by which it takes that number
 module _ (run : ℕ) (few : run < 2 ^ 128) (n : ℕ) (ok : IsMsgNum n) where
   pub is_taken_so : is_taking run (kind_of (entry_text (Number n))) (kind_of (entry_text (Held run n))) ≡ true
   is_taken_so = rw (kind_of-entry_text (Number n) ok, kind_of-entry_text (Held run n) (few, ok)) (rw (num_itself run, num_itself n) refl)
@@ -73,6 +73,14 @@ module _ (run : ℕ) (few : run < 2 ^ 128) (n : ℕ) (ok : IsMsgNum n) where
 
   held_standing : is_standing (entry_text (Held run n)) ≡ true
   held_standing = held_stands (entry_text (Held run n)) (is_held_any run (entry_text (Held run n)) is_held_so)
+
+  -- it is none that a commit writes anew
+  pub held_uncommitted : (p : Place) → is_committed p (entry_text (Held run n)) ≡ false
+  held_uncommitted p = go (is_committed p (entry_text (Held run n))) refl
+    where
+      go : (v : Bool) → is_committed p (entry_text (Held run n)) ≡ v → v ≡ false
+      go true e = absurd (not_both (is_standing (entry_text (Held run n))) held_standing (is_committed_quiet p (entry_text (Held run n)) e))
+      go false e = refl
 
 module _ (w : Pledge) (few : w.run < 2 ^ 128) (p : Place) (folder : is_folder p ≡ true) where
   -- a message is taken under the folder's lock, where the run hasn't taken that number there
@@ -84,7 +92,7 @@ module _ (w : Pledge) (few : w.run < 2 ^ 128) (p : Place) (folder : is_folder p 
       (λ s. (
         record {
           is_own = careful s.unfailed Takes (takes p number held (folder, is_taken_so w.run few n ok, fresh)) lets.makes (lock_held p own lock);
-          marks = λ e. absurd (not_both (is_standing held) (held_standing w.run few n ok) (is_committed_quiet p held e));
+          marks = λ e. absurd (not_both (is_committed p held) e (held_uncommitted w.run few n ok p));
           steps = λ no. lets.may;
         },
         tt,
