@@ -1,10 +1,11 @@
 -- What the moves of a message make of contents alone: under which name it stands, and that nothing else is changed.
-use Rattle.std.proofs.Common.{◌≡◌, ◌<◌, ◌^◌, ℕ, Bool, true, false, List, Some, None, Result, Ok, Err, refl, sym, ◌∙◌, ap, bytes_eq, nat_lt, length}
+use Rattle.std.proofs.Common.{◌≡◌, ◌<◌, ◌^◌, ℕ, Bool, true, false, List, Option, Some, None, Result, Ok, Err, refl, sym, ◌∙◌, ap, bytes_eq, nat_lt, length}
 use Rattle.std.specs.Prelude.{is_some, if◌then◌else◌}
 use Rattle.mh_base.specs.Entries.{entry_text, kind_of}
 use Rattle.mh_base.specs.Numbers.{IsMsgNum}
 use Rattle.mh_base.specs.declared.entry.Entry.TheVariants.{Held, Number}
 use Rattle.mh_base.proofs.EntryKinds.{kind_of-entry_text}
+use Rattle.folder_files.specs.Places.{same_place}
 use Rattle.folder_files.specs.Steps.{read_file_answer}
 use Rattle.folder_files.specs.declared.place.Place.{Place}
 use Rattle.folder_files.specs.declared.step.Answer.{Answer}
@@ -16,7 +17,7 @@ use Rattle.file_plans.specs.Contents.{Contents, with_moved, with_text}
 use Rattle.file_plans.specs.Giving.{Gives}
 use Rattle.file_plans.specs.Plan.{Hand, Return, bind, fresh, ◌>>=◌}
 use Rattle.file_plans.specs.Views.{View, by_view, fits_view, view_after}
-use Rattle.file_plans.proofs.Existing.{at_name}
+use Rattle.file_plans.proofs.Existing.{at_name, at_self}
 use Rattle.file_plans.proofs.Giving.{gives_more, gives_on}
 use Rattle.file_plans.proofs.Onward.{Is, fits_at, onward}
 use Rattle.file_plans.proofs.Viewing.{read_view}
@@ -93,6 +94,17 @@ module _ (run : ℕ) (few : run < 2 ^ 128) (p : Place) (n : ℕ) (ok : IsMsgNum 
       each =
           at_name p held (λ q x. (with_text (aside c p run n bytes) p held None).texts q x ≡ (with_text c p number None).texts q x)
           (rw (place_is p, bytes_self held, apart) (sym free)) (λ q x e. rw e refl)
+
+  -- while it is held aside it stands under its held name
+  pub aside_stands : (aside c p run n bytes).texts p held ≡ Some bytes
+  aside_stands = rw (at_self p held) refl
+
+-- what names of different places lead to may be changed in either order
+pub places_turned : (c : Contents) (p q : Place) (x y : List ℕ) (s t : Option (List ℕ)) → same_place p q ≡ false → with_text (with_text c p x s) q y t ≡ with_text (with_text c q y t) p x s
+places_turned c p q x y s t away = (λ i. record { there = c.there; texts = λ r z. each r z i; outside = c.outside })
+  where
+    each : (r : Place) (z : List ℕ) → (with_text (with_text c p x s) q y t).texts r z ≡ (with_text (with_text c q y t) p x s).texts r z
+    each = at_name q y (λ r z. (with_text (with_text c p x s) q y t).texts r z ≡ (with_text (with_text c q y t) p x s).texts r z) (rw (at_self q y, away) refl) (λ r z e. rw e refl)
 
 content_reads : (bytes b : List ℕ) → answer.Content b ≡ read_file_answer LIMIT_BYTES (Some bytes) → Ok b ≡ readable bytes
 content_reads bytes b e = go (nat_lt LIMIT_BYTES (length bytes)) e
