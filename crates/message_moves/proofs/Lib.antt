@@ -1,0 +1,4 @@
+pub mod MoveAsks
+pub mod MoveCopied
+pub mod MoveGiven
+pub mod MovePledged
