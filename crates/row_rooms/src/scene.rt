@@ -15,7 +15,8 @@ use std::test::Fail;
 pub struct Scene {
     alloc: Global,
     mail: Bytes,
-    pub room: Room,
+    /// In a box, so that it is let go by one call wherever a scene is.
+    pub room: Box<Room>,
     /// The run that acts now.
     pub run: u128,
 }
@@ -41,11 +42,17 @@ fn asked_by(word: &[u8]) -> Result<Asked, Fail> {
     }
 }
 
+fn room_of(alloc: Global, given: &Given, prompts: PromptList) -> Result<Box<Room>, Fail> {
+    let world = given.world()?;
+    let room = Room::new(alloc, world, prompts)?;
+    Ok(Box::new(alloc, room)?)
+}
+
 impl Scene {
     /// What is given, and what else happens from now on.
     pub fn new(alloc: Global, given: &Given, prompts: PromptList) -> Result<Scene, Fail> {
         let mail = given.mail().duplicate(alloc)?;
-        let room = Room::new(alloc, given.world()?, prompts)?;
+        let room = room_of(alloc, given, prompts)?;
         let run = 0;
         Ok(Scene {
             alloc,
@@ -64,21 +71,21 @@ impl Scene {
         told.extend(word(words, 1)?)?;
         let place = place(self.alloc, &self.mail, word(words, 1)?)?;
         self.next_run();
-        show_place(self.alloc, &mut self.room, self.run, &place, told)
+        show_place(self.alloc, &mut *self.room, self.run, &place, told)
     }
 
     fn outside(&mut self, words: &[Bytes], told: &mut Bytes) -> Result<(), Fail> {
         told.extend(word(words, 1)?)?;
         let path = path(self.alloc, word(words, 1)?)?;
         self.next_run();
-        show_drop(self.alloc, &mut self.room, self.run, &path, told)
+        show_drop(self.alloc, &mut *self.room, self.run, &path, told)
     }
 
     fn lock(&mut self, words: &[Bytes], told: &mut Bytes) -> Result<(), Fail> {
         told.extend(word(words, 1)?)?;
         let place = place(self.alloc, &self.mail, word(words, 1)?)?;
         self.next_run();
-        show_lock(self.alloc, &mut self.room, self.run, &place, told)?;
+        show_lock(self.alloc, &mut *self.room, self.run, &place, told)?;
         Ok(self.room.end(self.run)?)
     }
 
@@ -88,7 +95,7 @@ impl Scene {
 
     fn act(&mut self, run: u128, words: &[Bytes], told: &mut Bytes) -> Result<(), Fail> {
         let step = step(self.alloc, &self.mail, words)?;
-        let answer = attempt(self.alloc, run, &mut self.room, step)?;
+        let answer = attempt(self.alloc, run, &mut *self.room, step)?;
         show_answer(self.alloc, told, &answer)
     }
 
