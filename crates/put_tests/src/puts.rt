@@ -50,7 +50,7 @@ fn inbox(alloc: Global) -> Result<Scene, Fail> {
 fn are_put(alloc: Global, scene: &mut Scene) -> Result<bool, Fail> {
     let mail = Bytes::from_slice(alloc, b"Mail")?;
     let place = place(alloc, &mail, b"+inbox")?;
-    puts(alloc, &mut scene.room, mail, &place)
+    puts(alloc, &mut *scene.room, mail, &place)
 }
 
 /// What is shown of the folder.
