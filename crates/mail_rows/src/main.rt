@@ -3,27 +3,19 @@
 #![tactic(auto)]
 
 mod calls;
-mod counted;
-mod given;
-mod places;
+mod commands;
 mod play;
-mod prompts;
-mod shown;
-mod steps;
+mod stretches;
 mod sweep;
-mod weaving;
 
-use play::Play;
+use play::told_by;
 use std::io::{self, Write};
 use std::test::Fail;
 
 fn main(rt: HostRuntime) -> Result<(), Fail> {
     let alloc = rt.alloc();
     let text = io::read_to_string(alloc, rt.stdin())?;
-    let mut play = Play::new(alloc)?;
-    for line in text.as_str().lines() {
-        play.line(line.as_bytes())?;
-    }
-    rt.stdout().write_all(play.told())?;
+    let told = told_by(alloc, text.as_str())?;
+    rt.stdout().write_all(told.as_slice())?;
     Ok(())
 }

@@ -1,41 +1,73 @@
 // The lines, one after another.
-use crate::calls::Scene;
-use crate::given::Given;
-use crate::places::{path, place};
-use crate::prompts::prompt;
+use crate::calls::show_setting;
+use crate::commands::Commands;
 use crate::sweep::Sweep;
 use folder_room::PromptList;
-use mh_base::{Bytes, Text};
-use mh_tools::Setting;
-use row_text::{number, signed, word, words};
+use mh_base::Bytes;
+use row_mailboxes::{Given, prompt};
+use row_text::{from, number, word, words};
 use std::alloc::Global;
 use std::test::Fail;
 
 /// A row: its mailbox, what else happens, and where its commands run from the first of them on; and all that was told so far.
 #[derive(Drop)]
-pub(crate) struct Play {
+struct Play {
     alloc: Global,
     given: Given,
     prompts: PromptList,
-    scene: Option<Scene>,
+    commands: Option<Commands>,
     sweep: Option<Sweep>,
     told: Bytes,
 }
 
+/// What a line outside of a sweep is.
+#[derive(Clone, Copy)]
+enum Kind {
+    Row,
+    Again,
+    Prompt,
+    Setting,
+    Sweep,
+    Alone,
+    /// A command or a step.
+    Acts,
+    /// What is told without its line.
+    Looks,
+    Gives,
+}
+
+/// A line on what was left before.
+fn going_on(word: &[u8]) -> Kind {
+    match word {
+        b"$" | b"run" => Kind::Acts,
+        b"show" | b"drop" | b"lock" | b"count" | b"out" => Kind::Looks,
+        _ => Kind::Gives,
+    }
+}
+
+fn kind_of(word: &[u8]) -> Kind {
+    match word {
+        b"=" => Kind::Row,
+        b"again" => Kind::Again,
+        b"at" => Kind::Prompt,
+        b"setting" => Kind::Setting,
+        b"sweep" => Kind::Sweep,
+        b">" => Kind::Alone,
+        _ => going_on(word),
+    }
+}
+
 impl Play {
-    pub(crate) fn new(alloc: Global) -> Result<Play, Fail> {
+    fn new(alloc: Global) -> Result<Play, Fail> {
+        let given = Given::new(alloc)?;
         Ok(Play {
             alloc,
-            given: Given::new(alloc)?,
+            given,
             prompts: PromptList::new(alloc),
-            scene: None,
+            commands: None,
             sweep: None,
             told: Bytes::new(alloc),
         })
-    }
-
-    pub(crate) fn told(&self) -> &[u8] {
-        self.told.as_slice()
     }
 
     fn echo(&mut self, line: &[u8]) -> Result<(), Fail> {
@@ -45,87 +77,56 @@ impl Play {
     }
 
     /// The commands begin anew on what is given.
-    fn again(&mut self) {
+    fn again(&mut self) -> Result<(), Fail> {
         self.prompts = PromptList::new(self.alloc);
-        self.scene = None;
+        self.commands = None;
+        Ok(())
     }
 
     /// A new row, where nothing is given.
-    fn begin(&mut self) -> Result<(), Fail> {
+    fn begin(&mut self, line: &[u8]) -> Result<(), Fail> {
         self.given = Given::new(self.alloc)?;
-        self.again();
+        self.again()?;
+        self.echo(line)
+    }
+
+    fn begin_commands(&mut self) -> Result<(), Fail> {
+        let prompts = std::mem::replace(&mut self.prompts, PromptList::new(self.alloc));
+        self.commands = Some(Commands::new(self.alloc, &self.given, prompts)?);
         Ok(())
     }
 
-    /// A command, or something that is shown.
+    /// A command, a step, or something that is shown.
     fn play(&mut self, line: &[u8]) -> Result<(), Fail> {
-        let mut scene = match self.scene.take() {
-            Some(scene) => scene,
-            None => {
-                let prompts = std::mem::replace(&mut self.prompts, PromptList::new(self.alloc));
-                Scene::new(self.alloc, &self.given, prompts)?
-            }
-        };
-        scene.line(line, &mut self.told)?;
-        self.scene = Some(scene);
-        Ok(())
+        if self.commands.is_none() {
+            self.begin_commands()?;
+        }
+        match self.commands.as_mut() {
+            Some(commands) => commands.line(line, &mut self.told),
+            None => Ok(()),
+        }
     }
 
-    fn command(&mut self, line: &[u8]) -> Result<(), Fail> {
+    fn act(&mut self, line: &[u8]) -> Result<(), Fail> {
         self.echo(line)?;
         self.play(line)
     }
 
     /// A command on what is given, whatever ran before.
     fn alone(&mut self, line: &[u8]) -> Result<(), Fail> {
-        self.scene = None;
-        self.command(line)
+        self.commands = None;
+        self.act(line)
     }
 
     fn prompt(&mut self, words: &[Bytes]) -> Result<(), Fail> {
         let at = number(word(words, 1)?)?;
-        let what = words.get(2..).unwrap_or(&[]);
-        self.prompts
-            .push(prompt(self.alloc, &self.given, at, what)?)?;
-        Ok(())
+        let prompt = prompt(self.alloc, &self.given, at, from(words, 2))?;
+        Ok(self.prompts.push(prompt)?)
     }
 
-    fn lock(&mut self, words: &[Bytes]) -> Result<(), Fail> {
-        let place = place(self.alloc, self.given.mail(), word(words, 1)?)?;
-        let run = u128::from(number(word(words, 2)?)?);
-        self.given.lock(place, run)
-    }
-
-    fn outside(&mut self, words: &[Bytes]) -> Result<(), Fail> {
-        let path = path(self.alloc, word(words, 1)?)?;
-        let text = words.get(2..).unwrap_or(&[]);
-        self.given.outside(path, text)
-    }
-
-    /// Whether there is a setting of this moment and offset.
     fn setting(&mut self, line: &[u8], words: &[Bytes]) -> Result<(), Fail> {
         self.echo(line)?;
-        let moment = signed(word(words, 1)?)?;
-        let offset = i32::try_from(signed(word(words, 2)?)?)
-            .ok()
-            .ok_or("an offset")?;
-        let told: &[u8] = match Setting::new(1, moment, offset, Text::new(self.alloc)) {
-            Some(_) => b"a setting\n",
-            None => b"no setting\n",
-        };
-        self.told.extend(told)?;
-        Ok(())
-    }
-
-    /// A directory with files, each a name and its bytes.
-    fn place(&mut self, words: &[Bytes]) -> Result<(), Fail> {
-        let place = place(self.alloc, self.given.mail(), word(words, 0)?)?;
-        self.given.place(place)?;
-        let files = words.get(1..).unwrap_or(&[]);
-        for file in files.chunks(2) {
-            self.given.file(word(file, 0)?, word(file, 1)?)?;
-        }
-        Ok(())
+        show_setting(self.alloc, words, &mut self.told)
     }
 
     fn begin_sweep(&mut self, line: &[u8], words: &[Bytes]) -> Result<(), Fail> {
@@ -135,48 +136,62 @@ impl Play {
     }
 
     /// A line outside of a sweep.
-    fn plain(&mut self, line: &[u8], words: Vec<Bytes>) -> Result<(), Fail> {
-        match word(&words, 0)? {
-            b"=" => {
-                self.begin()?;
-                self.echo(line)
-            }
-            b"again" => {
-                self.again();
-                Ok(())
-            }
-            b"$" => self.command(line),
-            b">" => self.alone(line),
-            b"show" | b"drop" | b"lock" | b"count" | b"out" => self.play(line),
-            b"at" => self.prompt(&words),
-            b"locked" => self.lock(&words),
-            b"setting" => self.setting(line, &words),
-            b"mail" => self.given.set_mail(word(&words, 1)?),
-            b"outside" => self.outside(&words),
-            b"sweep" => self.begin_sweep(line, &words),
-            _ => self.place(&words),
+    fn plain(&mut self, line: &[u8], words: &[Bytes]) -> Result<(), Fail> {
+        match kind_of(word(words, 0)?) {
+            Kind::Row => self.begin(line),
+            Kind::Again => self.again(),
+            Kind::Prompt => self.prompt(words),
+            Kind::Setting => self.setting(line, words),
+            Kind::Sweep => self.begin_sweep(line, words),
+            Kind::Alone => self.alone(line),
+            Kind::Acts => self.act(line),
+            Kind::Looks => self.play(line),
+            Kind::Gives => self.given.line(words),
+        }
+    }
+
+    fn end_sweep(&mut self) -> Result<(), Fail> {
+        match self.sweep.take() {
+            Some(sweep) => sweep.run(&self.given, &mut self.told),
+            None => Ok(()),
         }
     }
 
     /// A line of a sweep, or its end.
-    fn swept(&mut self, line: &[u8], mut sweep: Sweep) -> Result<(), Fail> {
+    fn swept(&mut self, line: &[u8]) -> Result<(), Fail> {
         if line == b"end".as_slice() {
-            return sweep.run(&self.given, &mut self.told);
+            return self.end_sweep();
         }
         self.echo(line)?;
-        sweep.add(line)?;
-        self.sweep = Some(sweep);
-        Ok(())
+        match self.sweep.as_mut() {
+            Some(sweep) => sweep.add(line),
+            None => Ok(()),
+        }
     }
 
-    pub(crate) fn line(&mut self, line: &[u8]) -> Result<(), Fail> {
-        if let Some(sweep) = self.sweep.take() {
-            return self.swept(line, sweep);
+    /// A line of a row. An empty one, or one that begins with `#`, says nothing.
+    fn line(&mut self, line: &[u8]) -> Result<(), Fail> {
+        if self.sweep.is_some() {
+            return self.swept(line);
         }
         if line.is_empty() || line.starts_with(b"#") {
             return Ok(());
         }
         let words = words(self.alloc, line)?;
-        self.plain(line, words)
+        self.plain(line, &words)
     }
+
+    fn lines(&mut self, rows: &str) -> Result<(), Fail> {
+        for line in rows.lines() {
+            self.line(line.as_bytes())?;
+        }
+        Ok(())
+    }
+}
+
+/// What these rows tell.
+pub(crate) fn told_by(alloc: Global, rows: &str) -> Result<Bytes, Fail> {
+    let mut play = Play::new(alloc)?;
+    play.lines(rows)?;
+    Ok(play.told)
 }

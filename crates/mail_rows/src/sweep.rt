@@ -1,11 +1,11 @@
 // The same lines again and again: with one prompt at each step in turn, or woven with another run's steps in many ways.
-use crate::calls::Scene;
-use crate::given::Given;
-use crate::prompts::prompt;
-use crate::weaving::woven;
+use crate::commands::{Commands, OTHER, steps_alone};
+use crate::stretches::{Stretch, add_time, show_stretches};
 use folder_room::PromptList;
 use mh_base::Bytes;
-use row_text::word;
+use row_mailboxes::{Given, prompt};
+use row_rooms::woven;
+use row_text::{from, word};
 use std::alloc::Global;
 use std::test::Fail;
 
@@ -18,38 +18,11 @@ pub(crate) struct Sweep {
     alloc: Global,
     /// How many times it happens; none: as long as it is a step's failure.
     times: Option<u64>,
-    /// The words that say what.
+    /// Whether another run's steps are woven in.
+    weaves: bool,
+    /// The words that say what happens, or the other run's command.
     what: Vec<Bytes>,
     lines: Vec<Bytes>,
-}
-
-/// The times after which the same was shown.
-#[derive(Drop)]
-struct Stretch {
-    times: Vec<u64>,
-    shown: Bytes,
-}
-
-/// The first and the last of these times, or all of them where they aren't one behind the other.
-fn show_times(alloc: Global, told: &mut Bytes, times: &[u64]) -> Result<(), Fail> {
-    let first = times.first().copied().unwrap_or(0);
-    let last = times.last().copied().unwrap_or(0);
-    if last.saturating_sub(first).saturating_add(1) == times.len() as u64 {
-        told.extend(format!(in alloc; "@ {first}-{last}\n")?.as_bytes())?;
-        return Ok(());
-    }
-    told.extend(b"@")?;
-    for time in times {
-        told.extend(format!(in alloc; " {time}")?.as_bytes())?;
-    }
-    told.extend(b"\n")?;
-    Ok(())
-}
-
-fn show_stretch(alloc: Global, told: &mut Bytes, stretch: &Stretch) -> Result<(), Fail> {
-    show_times(alloc, told, stretch.times.as_slice())?;
-    told.extend(stretch.shown.as_slice())?;
-    Ok(())
 }
 
 /// The number that a word is, if it is one.
@@ -57,92 +30,101 @@ fn numeral(word: &[u8]) -> Option<u64> {
     std::str::from_utf8(word).ok()?.parse::<u64>().ok()
 }
 
-/// The number with which a line's words go on, and the words behind it.
-fn numbered(alloc: Global, words: &[Bytes]) -> Result<(Option<u64>, Vec<Bytes>), Fail> {
-    let times = numeral(word(words, 1)?);
-    let from = if times.is_some() { 2 } else { 1 };
-    let mut what = Vec::new(alloc);
-    for one in words.get(from..).unwrap_or(&[]) {
-        what.push(Bytes::from_slice(alloc, one.as_slice())?)?;
+fn copied(alloc: Global, words: &[Bytes]) -> Result<Vec<Bytes>, Fail> {
+    let mut copy = Vec::new(alloc);
+    for word in words {
+        copy.push(Bytes::from_slice(alloc, word.as_slice())?)?;
     }
-    Ok((times, what))
+    Ok(copy)
 }
 
 impl Sweep {
-    pub(crate) fn new(alloc: Global, words: &[Bytes]) -> Result<Sweep, Fail> {
-        let (times, what) = numbered(alloc, words)?;
+    /// How many times, and `weave` and a command; or what happens.
+    fn of(alloc: Global, times: Option<u64>, words: &[Bytes]) -> Result<Sweep, Fail> {
+        let weaves = word(words, 0)? == b"weave".as_slice();
+        let what = copied(alloc, from(words, if weaves { 1 } else { 0 }))?;
+        let lines = Vec::new(alloc);
         Ok(Sweep {
             alloc,
             times,
+            weaves,
             what,
-            lines: Vec::new(alloc),
+            lines,
         })
+    }
+
+    /// By the words of its first line.
+    pub(crate) fn new(alloc: Global, words: &[Bytes]) -> Result<Sweep, Fail> {
+        let times = numeral(word(words, 1)?);
+        let words = from(words, if times.is_some() { 2 } else { 1 });
+        Sweep::of(alloc, times, words)
     }
 
     pub(crate) fn add(&mut self, line: &[u8]) -> Result<(), Fail> {
         let line = Bytes::from_slice(self.alloc, line)?;
-        self.lines.push(line)?;
-        Ok(())
+        Ok(self.lines.push(line)?)
     }
 
-    /// Whether another run's steps are woven in.
-    fn is_woven(&self) -> Result<bool, Fail> {
-        Ok(word(self.what.as_slice(), 0)? == b"weave".as_slice())
+    fn woven(&self, given: &Given, time: u64) -> Result<PromptList, Fail> {
+        let steps = steps_alone(self.alloc, given, &self.what)?;
+        woven(self.alloc, OTHER, &steps, time)
+    }
+
+    fn prompt(&self, given: &Given, time: u64) -> Result<PromptList, Fail> {
+        let mut prompts = PromptList::new(self.alloc);
+        prompts.push(prompt(self.alloc, given, time, &self.what)?)?;
+        Ok(prompts)
     }
 
     /// What happens this time.
     fn prompts(&self, given: &Given, time: u64) -> Result<PromptList, Fail> {
-        let what = self.what.as_slice();
-        if self.is_woven()? {
-            let steps = Scene::steps_alone(self.alloc, given, what.get(1..).unwrap_or(&[]))?;
-            return woven(self.alloc, &steps, time);
+        if self.weaves {
+            self.woven(given, time)
+        } else {
+            self.prompt(given, time)
         }
-        let mut prompts = PromptList::new(self.alloc);
-        prompts.push(prompt(self.alloc, given, time, what)?)?;
-        Ok(prompts)
     }
 
-    /// What the lines show this time; none after the last time.
-    fn shown_at(&self, given: &Given, time: u64) -> Result<Option<Bytes>, Fail> {
-        let prompts = self.prompts(given, time)?;
-        let mut scene = Scene::new(self.alloc, given, prompts)?;
+    /// What the lines show; none where no step failed and the times end with the failures.
+    fn shown_by(&self, commands: &mut Commands) -> Result<Option<Bytes>, Fail> {
         let mut shown = Bytes::new(self.alloc);
         for line in self.lines.iter() {
-            scene.line(line.as_slice(), &mut shown)?;
-            if self.times.is_none() && !scene.has_failed() {
+            commands.line(line.as_slice(), &mut shown)?;
+            if self.times.is_none() && !commands.has_failed() {
                 return Ok(None);
             }
         }
         Ok(Some(shown))
     }
 
-    /// The time is told with those after which the same was shown: with the last ones, or where steps are woven with any.
+    /// What the lines show this time; none after the last time.
+    fn shown_at(&self, given: &Given, time: u64) -> Result<Option<Bytes>, Fail> {
+        let prompts = self.prompts(given, time)?;
+        let mut commands = Commands::new(self.alloc, given, prompts)?;
+        self.shown_by(&mut commands)
+    }
+
+    /// The time is told with the last ones, or where steps are woven with any, after which the same was shown.
     fn add_time(&self, stretches: &mut Vec<Stretch>, time: u64, shown: Bytes) -> Result<(), Fail> {
         let last = stretches.len().saturating_sub(1);
-        let from = if self.is_woven()? { 0 } else { last };
-        for stretch in stretches.as_mut_slice().get_mut(from..).unwrap_or(&mut []) {
-            if stretch.shown.same(&shown) {
-                stretch.times.push(time)?;
-                return Ok(());
+        let from = if self.weaves { 0 } else { last };
+        add_time(self.alloc, stretches, from, time, shown)
+    }
+
+    fn stretches(&self, given: &Given) -> Result<Vec<Stretch>, Fail> {
+        let mut stretches = Vec::new(self.alloc);
+        for time in 1..=self.times.unwrap_or(STEPS) {
+            match self.shown_at(given, time)? {
+                Some(shown) => self.add_time(&mut stretches, time, shown)?,
+                None => break,
             }
         }
-        let times = vec![in self.alloc; time; 1]?;
-        stretches.push(Stretch { times, shown })?;
-        Ok(())
+        Ok(stretches)
     }
 
     /// For each stretch of times after which the same is shown, these and that.
     pub(crate) fn run(&self, given: &Given, told: &mut Bytes) -> Result<(), Fail> {
-        let mut stretches = Vec::new(self.alloc);
-        for time in 1..=self.times.unwrap_or(STEPS) {
-            let Some(shown) = self.shown_at(given, time)? else {
-                break;
-            };
-            self.add_time(&mut stretches, time, shown)?;
-        }
-        for stretch in stretches.iter() {
-            show_stretch(self.alloc, told, stretch)?;
-        }
-        Ok(())
+        let stretches = self.stretches(given)?;
+        show_stretches(self.alloc, told, &stretches)
     }
 }

@@ -10,7 +10,7 @@ fn folder(alloc: Global, mail: &Bytes, word: &[u8]) -> Result<Place, Fail> {
 }
 
 /// `~` is the home directory, `.` the current one, `Mail` the mail directory at this path, and `+name` a folder of it.
-pub(crate) fn place(alloc: Global, mail: &Bytes, word: &[u8]) -> Result<Place, Fail> {
+pub fn place(alloc: Global, mail: &Bytes, word: &[u8]) -> Result<Place, Fail> {
     match word {
         b"~" => Ok(Place::Home),
         b"." => Ok(Place::Work),
@@ -19,12 +19,12 @@ pub(crate) fn place(alloc: Global, mail: &Bytes, word: &[u8]) -> Result<Place, F
     }
 }
 
-pub(crate) fn name(alloc: Global, word: &[u8]) -> Result<Name, Fail> {
+pub fn name(alloc: Global, word: &[u8]) -> Result<Name, Fail> {
     Ok(Name::new(Bytes::from_slice(alloc, word)?).ok_or("a name")?)
 }
 
 /// A file outside the mailbox: `~/path` below the home directory, and any other below the current one.
-pub(crate) fn path(alloc: Global, word: &[u8]) -> Result<FilePath, Fail> {
+pub fn path(alloc: Global, word: &[u8]) -> Result<FilePath, Fail> {
     let (home, text) = match word.strip_prefix(b"~/") {
         Some(text) => (true, text),
         None => (false, word),

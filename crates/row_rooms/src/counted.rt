@@ -21,13 +21,8 @@ fn is_lock(event: &Event) -> bool {
     }
 }
 
-/// The run's steps, and how many of them were locks.
-pub(crate) fn show_counted(
-    alloc: Global,
-    history: &History,
-    run: u128,
-    told: &mut Bytes,
-) -> Result<(), Fail> {
+/// How many steps the run asked for, and how many of them were locks.
+fn counts(history: &History, run: u128) -> (u64, u64) {
     let mut steps = 0u64;
     let mut locks = 0u64;
     for event in history.as_slice() {
@@ -38,6 +33,17 @@ pub(crate) fn show_counted(
             }
         }
     }
+    (steps, locks)
+}
+
+/// The run's steps, and how many of them were locks.
+pub fn show_counted(
+    alloc: Global,
+    history: &History,
+    run: u128,
+    told: &mut Bytes,
+) -> Result<(), Fail> {
+    let (steps, locks) = counts(history, run);
     told.extend(format!(in alloc; "{steps} steps, {locks} locks\n")?.as_bytes())?;
     Ok(())
 }
