@@ -1,18 +1,18 @@
--- A call of `inc` keeps the marks of messages: of the private ones those of folders into which it put no new message.
+-- A call of `inc` keeps the marks of messages.
 use Rattle.std.proofs.Common.{◌≡◌, ◌<◌, ◌^◌, ◌∷◌, [], ℕ, true, List, Option, Some, Result, Ok, Err, map, refl, sym, subst}
 use Rattle.std.specs.Str.{chars}
 use Rattle.mh_base.specs.Folders.{is_folder_name}
 use Rattle.mh_profile.specs.declared.named_value.NamedValue.{NamedValue}
 use Rattle.mh_profile.specs.Reading.{entries_in}
 use Rattle.folder_files.specs.Deeds.{Deed}
-use Rattle.folder_files.specs.declared.place.Place.TheVariants.{Folder, Home, Mail}
+use Rattle.folder_files.specs.declared.place.Place.TheVariants.{Home, Mail}
 use Rattle.folder_files.specs.declared.step.Answer.{Answer}
 use Rattle.folder_files.specs.declared.step.Step.{Step}
 use Rattle.file_plans.specs.Asking.{reading_of}
 use Rattle.file_plans.specs.Follows.{Follows, State, deeds_in}
-use Rattle.file_plans.specs.Plan.{Ask, Hand, Plan, bind, lifted, ◌>>=◌}
+use Rattle.file_plans.specs.Plan.{Ask, Hand, bind, lifted, ◌>>=◌}
 use Rattle.file_plans.specs.Rules.{IfOkay, Keeps}
-use Rattle.file_plans.specs.Runs.{Deed as Done, exit_of}
+use Rattle.file_plans.specs.Runs.{exit_of}
 use Rattle.file_plans.specs.declared.answers.Reading.{Reading}
 use Rattle.file_plans.specs.declared.answers.Reading.TheVariants as reading
 use Rattle.file_plans.proofs.Acting.{acts}
@@ -21,9 +21,13 @@ use Rattle.step_plans.specs.Hands.{knowing}
 use Rattle.step_plans.specs.Pledges.{Pledge}
 use Rattle.step_plans.proofs.Going.{Sound}
 use Rattle.step_plans.proofs.Ruling.{rules_of}
+use Rattle.sequence_marks.specs.KeepsSequencesOf.{KeepsSequencesOf}
+use Rattle.sequence_marks.proofs.SequencesOf.{MindsSequencesOf}
 use Rattle.command_stages.specs.Texts.{too_large}
 use Rattle.command_stages.proofs.FolderLines.{current_valid}
 use Rattle.mh_looks.specs.ScanPledge.{scan_pledge}
+use Rattle.opened_folders.proofs.AllMarks.{MindsAll, pledge_minds}
+use Rattle.opened_folders.proofs.CommitMinds.{IsTold}
 use Rattle.opened_folders.proofs.EndedKept.{Still, keeps_more}
 use Rattle.opened_folders.proofs.Meeting.{keeps_met, with_step}
 use Rattle.opened_folders.proofs.WorkMinds.{Anyhow}
@@ -32,12 +36,11 @@ use Rattle.inc_command.specs.IncPledge.{inc_pledge}
 use Rattle.inc_command.specs.declared.job.IncJob.{IncJob}
 use Rattle.inc_command.proofs.IncMinds.{inc_meets}
 use Rattle.inc_command.proofs.IncPledged.{inc_keeps}
-use Rattle.inc_command.proofs.PutMinds.{MindsButPuts}
 use Rattle.command_words.specs.Ended.{ended_cause, plain}
 use Rattle.command_words.specs.IncWords.{inc_said}
 use Rattle.command_words.specs.declared.ended.Ended.{Ended}
 use Rattle.command_line.specs.Command.{command, inc_by, word_by}
-use Rattle.command_line.specs.CommandMarks.{IsTextName, KeepsUnput}
+use Rattle.command_line.specs.CommandMarks.{IsTextName}
 use Rattle.command_line.specs.CommandNames.{named}
 use Rattle.command_line.specs.CommandPledge.{incs_pledge}
 use Rattle.command_line.specs.Incorporating.{job_by}
@@ -46,19 +49,11 @@ use Rattle.command_line.specs.declared.name.CommandName.{CommandName}
 use Rattle.command_line.specs.declared.name.CommandName.TheVariants.{Inc}
 use Rattle.command_line.proofs.Begun.{Any, any_so, none_read, start_same}
 use Rattle.command_line.proofs.FolderChars.{AreUtf8, chars_texts}
-use Rattle.command_line.proofs.MindsMarks.{keeps_may, minds_sequences}
+use Rattle.command_line.proofs.MindingPlans.{Minding, NothingMore, minding_kept, minds_own, minds_with}
+use Rattle.command_line.proofs.MindsMarks.{minds_sequences}
 use Rattle.command_line.proofs.Pledging.{Answered, answers, context_step, entries_keep, inc_job_keeps, inc_onward, known_sound, named_onward, on_entries, onward_by, plan_by, profile_step, two_once, two_readings, word_onward}
 use Rattle.command_line.proofs.SaidInc.{job_chars, job_valid}
 use Rattle.command_line.proofs.TwoAnswers.{follows_so, keeps_after, keeps_ended, rest_by}
-use Rattle.command_line.proofs.UnputMinds.{MindsUnput, unput_all, unput_asked, unput_kept}
-
--- a plan that keeps a pledge, which minds the marks so
-record Minding {R : Type 0} (run : ℕ) (h : Hand) (plan : Plan R) : Type 1 where
-  pledge : Pledge
-  run_is : pledge.run ≡ run
-  minds : MindsUnput pledge
-  Q : List Done → Hand → R → Type 0
-  keeps : Keeps (rules_of pledge) [] h plan Q
 
 module _ (run : ℕ) (few : run < 2 ^ 128) (profile : List NamedValue) (h : Hand) where
   abbrev path : List ℕ
@@ -66,10 +61,13 @@ module _ (run : ℕ) (few : run < 2 ^ 128) (profile : List NamedValue) (h : Hand
 
   module _ (job : IncJob) (valid : is_folder_name job.folder ≡ true) where
     abbrev Besides : List Deed → Step → Type 0
-    Besides own s = MindsButPuts run (Folder path job.folder) job.folder own s
+    Besides own s = MindsAll (λ other. IsTold job.folder other) run own s
 
     abbrev takes_pledge : Pledge
     takes_pledge = with_step (inc_pledge run path job) Besides
+
+    taken_minds : IsTextName job.folder → MindsSequencesOf IsTextName (with_step takes_pledge NothingMore)
+    taken_minds text = minds_own job.folder (with_step takes_pledge NothingMore) text (pledge_minds (λ other. IsTold job.folder other) (with_step takes_pledge NothingMore) (λ own s may. may.0.1))
 
     taken_keeps : (c d : Answer) (es : List NamedValue) → Sound takes_pledge (acts (two_readings profile c d)) h → Keeps (rules_of takes_pledge) (two_readings profile c d) (knowing es h) (inc run path job) (IfOkay Any)
     taken_keeps c d es sound =
@@ -82,19 +80,19 @@ module _ (run : ℕ) (few : run < 2 ^ 128) (profile : List NamedValue) (h : Hand
         (inc_meets run few path job (current_valid job.folder valid) (acts past) (knowing es h) still (none_read profile job.folder c d)))
 
   minding : (b : Answer) (value : Result IncJob Ended) → ((job : IncJob) → value ≡ Ok job → (is_folder_name job.folder ≡ true) × IsTextName job.folder)
-      → Minding run h (Ask profile_step (λ c. rest_by (context_step profile) (inc_by run profile value) (inc_onward run profile value) b))
+      → Minding run NothingMore h (Ask profile_step (λ c. rest_by (context_step profile) (inc_by run profile value) (inc_onward run profile value) b))
   unfolding inc_onward
   minding b (Err e) valid = record {
     pledge = incs_pledge run profile (Err e);
     run_is = refl;
-    minds = unput_all (scan_pledge run path) (minds_sequences run path);
+    minds = minds_with (scan_pledge run path) NothingMore (minds_sequences run path);
     Q = _;
     keeps = inc_job_keeps run few profile h b (Err e);
   }
   minding b (Ok job) valid = record {
     pledge = takes_pledge job (valid job refl).0;
     run_is = refl;
-    minds = unput_asked (inc_pledge run path job) path job.folder (valid job refl).1;
+    minds = taken_minds job (valid job refl).0 (valid job refl).1;
     Q = IfOkay Any;
     keeps = keeps_after (takes_pledge job (valid job refl).0) Home (Mail path) profile_name context_name LIMIT_BYTES h (on_entries (inc run path job) (reading_of b)) (IfOkay Any)
         (λ c d sound. entries_keep (takes_pledge job (valid job refl).0) (two_readings profile c d) h sound (inc run path job) Any (λ es. taken_keeps job (valid job refl).0 c d es sound) (reading_of b));
@@ -105,38 +103,35 @@ module _ (run : ℕ) (few : run < 2 ^ 128) (user : List ℕ) (word : List ℕ) (
   abbrev all : List (List ℕ)
   all = word ∷ words
 
-  long_minding : (l : ℕ) → Minding run h (plan_by run few user all (reading.Long l) b)
+  long_minding : (l : ℕ) → Minding run NothingMore h (plan_by run few user all (reading.Long l) b)
   unfolding onward_by lifted bind ◌>>=◌
   long_minding l = record {
     pledge = scan_pledge run (path_of (entries_in []));
     run_is = refl;
-    minds = unput_all (scan_pledge run (path_of (entries_in []))) (minds_sequences run (path_of (entries_in [])));
+    minds = minds_with (scan_pledge run (path_of (entries_in []))) NothingMore (minds_sequences run (path_of (entries_in [])));
     Q = IfOkay Any;
     keeps = keeps_ended (scan_pledge run (path_of (entries_in []))) Home profile_name LIMIT_BYTES h (Err (plain (too_large l))) (IfOkay Any) (λ c. tt);
   }
 
-  inc_named : (profile : List NamedValue) (name : Option CommandName) → name ≡ Some Inc → Minding run h (Ask profile_step (λ c. rest_by (context_step profile) (word_by run user profile word words name) (word_onward run profile user word words name) b))
+  inc_named : (profile : List NamedValue) (name : Option CommandName) → name ≡ Some Inc → Minding run NothingMore h (Ask profile_step (λ c. rest_by (context_step profile) (word_by run user profile word words name) (word_onward run profile user word words name) b))
   unfolding word_onward
   inc_named profile name is =
-      subst (λ z. Minding run h (Ask profile_step (λ c. rest_by (context_step profile) (word_by run user profile word words z) (word_onward run profile user word words z) b))) (sym is)
+      subst (λ z. Minding run NothingMore h (Ask profile_step (λ c. rest_by (context_step profile) (word_by run user profile word words z) (word_onward run profile user word words z) b))) (sym is)
       (minding run few profile h b (job_by user profile (inc_said profile (map chars words)))
       (λ job e. (job_valid user profile (map chars words) job e, job_chars user profile (map chars words) job (chars_texts words texts) e)))
 
-  inc_read : (r : Reading) → named word ≡ Some Inc → Minding run h (plan_by run few user all r b)
+  inc_read : (r : Reading) → named word ≡ Some Inc → Minding run NothingMore h (plan_by run few user all r b)
   unfolding onward_by named_onward lifted bind ◌>>=◌
   inc_read (reading.Content bytes) is = inc_named (entries_in bytes) (named word) is
   inc_read (reading.Long l) is = long_minding l
   inc_read reading.Gone is = inc_named (entries_in []) (named word) is
 
 module _ (run : ℕ) (few : run < 2 ^ 128) (user : List ℕ) (x y : State) (result : Result Unit Ended) where
-  pub inc_kept : (word : List ℕ) (words : List (List ℕ)) → AreUtf8 words → named word ≡ Some Inc → Follows run ended_cause (command run user (word ∷ words)) x y result → KeepsUnput run x.files.story y.files.story
+  pub inc_kept : (word : List ℕ) (words : List (List ℕ)) → AreUtf8 words → named word ≡ Some Inc → Follows run ended_cause (command run user (word ∷ words)) x y result → KeepsSequencesOf IsTextName run x.files.story y.files.story
   inc_kept word words texts is f = go (answers run few user (word ∷ words) x y result f)
     where
-      go : Answered run few user (word ∷ words) x.hand y.hand (deeds_in f.went.log) (exit_of ended_cause result) → KeepsUnput run x.files.story y.files.story
+      go : Answered run few user (word ∷ words) x.hand y.hand (deeds_in f.went.log) (exit_of ended_cause result) → KeepsSequencesOf IsTextName run x.files.story y.files.story
       go t =
           let m = inc_read run few user word words texts x.hand t.second (reading_of t.first) is in
-          subst (λ n. KeepsUnput n x.files.story y.files.story) m.run_is
-          (unput_kept m.pledge m.minds x.files.story y.files.story (start_same run ended_cause (command run user (word ∷ words)) x y result f)
-          (keeps_may m.pledge ended_cause (plan_by run few user (word ∷ words) (reading_of t.first) t.second) x y result m.Q m.keeps
-          (subst (λ n. Follows n ended_cause (plan_by run few user (word ∷ words) (reading_of t.first) t.second) x y result) (sym m.run_is)
-          (follows_so run ended_cause (command run user (word ∷ words)) (plan_by run few user (word ∷ words) (reading_of t.first) t.second) x y result f t.runs))))
+          minding_kept run ended_cause (plan_by run few user (word ∷ words) (reading_of t.first) t.second) x y result m
+          (follows_so run ended_cause (command run user (word ∷ words)) (plan_by run few user (word ∷ words) (reading_of t.first) t.second) x y result f t.runs) (start_same run ended_cause (command run user (word ∷ words)) x y result f)

@@ -7,6 +7,7 @@ pub mod Giving
 pub mod IncEnding
 pub mod IncKept
 pub mod MarksKept
+pub mod MindingPlans
 pub mod MindsMarks
 pub mod Plans
 pub mod Pledging
@@ -19,4 +20,3 @@ pub mod Texts
 pub mod ToldApart
 pub mod TwoAnswers
 pub mod Unlinked
-pub mod UnputMinds

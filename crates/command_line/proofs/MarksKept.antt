@@ -7,8 +7,6 @@ use Rattle.mh_profile.specs.Reading.{entries_in}
 use Rattle.folder_files.specs.Deeds.{Deed}
 use Rattle.folder_files.specs.Histories.{past_of}
 use Rattle.folder_files.specs.Story.{Story}
-use Rattle.folder_files.specs.declared.event.Event.{Event}
-use Rattle.folder_files.specs.declared.event.Event.TheVariants.{Act, Crash, Deliver, End}
 use Rattle.folder_files.specs.declared.place.Place.TheVariants.{Home, Mail}
 use Rattle.folder_files.specs.declared.step.Answer.{Answer}
 use Rattle.folder_files.specs.declared.step.Step.{Step}
@@ -17,14 +15,13 @@ use Rattle.file_plans.specs.Asking.{reading_of}
 use Rattle.file_plans.specs.Follows.{Follows, State, deeds_in}
 use Rattle.file_plans.specs.Plan.{Ask, Hand, Plan, bind, lifted, ◌>>=◌}
 use Rattle.file_plans.specs.Rules.{IfOkay, Keeps}
-use Rattle.file_plans.specs.Runs.{Deed as Done, exit_of}
+use Rattle.file_plans.specs.Runs.{exit_of}
 use Rattle.file_plans.specs.declared.answers.Reading.{Reading}
 use Rattle.file_plans.specs.declared.answers.Reading.TheVariants as reading
 use Rattle.file_plans.proofs.Acting.{acts}
 use Rattle.step_plans.specs.ContextCommit.{LIMIT_BYTES, context_name}
 use Rattle.step_plans.specs.Hands.{knowing}
 use Rattle.step_plans.specs.Pledges.{Marks, MayAsk, Pledge}
-use Rattle.step_plans.specs.Safety.{AtSteps}
 use Rattle.step_plans.specs.declared.command_fault.CommandFault.{CommandFault}
 use Rattle.step_plans.proofs.Going.{Sound}
 use Rattle.step_plans.proofs.Ruling.{rules_of}
@@ -67,24 +64,14 @@ use Rattle.command_line.specs.Profile.{folder_of, path_of, profile_name}
 use Rattle.command_line.specs.declared.name.CommandName.{CommandName}
 use Rattle.command_line.specs.declared.name.CommandName.TheVariants.{Inc, Mark, Rmm, Scan}
 use Rattle.command_line.proofs.IncKept.{inc_kept}
-use Rattle.command_line.proofs.MindsMarks.{command_keeps_sequences, keeps_may, minds_sequences}
+use Rattle.command_line.proofs.MindingPlans.{Minding, NothingMore, minding_kept, minding_may, minds_own, minds_with}
+use Rattle.command_line.proofs.MindsMarks.{command_keeps_sequences, minds_sequences}
 use Rattle.command_line.proofs.Pledging.{Answered, answers, context_keeps, context_step, known_sound, mark_acts, mark_onward, mark_words_keep, named_onward, on_context, onward_by, plan_by, profile_step, rmm_acts, rmm_onward, rmm_words_keep, two_readings, word_onward}
 use Rattle.command_line.proofs.FolderChars.{AreUtf8, HasChars, acted_chars, chars_texts, mark_chars, rmm_chars}
 use Rattle.command_line.proofs.SaidFolder.{acted_valid, mark_valid, rmm_words_valid}
 use Rattle.command_line.proofs.Begun.{Any, any_so, none_read, start_same}
-use Rattle.command_line.proofs.StepsWith.{may_without, own_with}
-use Rattle.command_line.proofs.ToldApart.{told_by}
+use Rattle.command_line.proofs.StepsWith.{own_with}
 use Rattle.command_line.proofs.TwoAnswers.{follows_so, keeps_after, keeps_ended, rest_by}
-
-minds_own : (acted : List ℕ) (w : Pledge) → IsTextName acted → MindsSequencesOf (λ other. IsTold acted other) w → MindsSequencesOf IsTextName w
-minds_own acted w real m = record { public = m.public; private = λ mail folder sequence is. m.private mail folder sequence (told_by acted folder real is) }
-
--- a pledge that minds all marks minds them where more is asked of its steps
-minds_with : (w : Pledge) (A : List Deed → Step → Type 0) → MindsSequences w → MindsSequencesOf IsTextName (with_step w A)
-minds_with w A m = record {
-  public = λ mail folder sequence own s may. m.public mail folder sequence own s (may_without w A own s may);
-  private = λ mail folder sequence is own s may. m.private mail folder sequence own s (may_without w A own s may);
-}
 
 -- a `mark` that only lists may ask for what a command may that looks
 module _ (run : ℕ) (path : List ℕ) (job : MarkJob) (valid : is_folder_name job.folder ≡ true) where
@@ -112,14 +99,6 @@ module _ (run : ℕ) (path : List ℕ) (job : MarkJob) (valid : is_folder_name j
     public = λ mail folder sequence own s may. (minds_sequences run path).public mail folder sequence own s (looks_may own s may);
     private = λ mail folder sequence own s may. (minds_sequences run path).private mail folder sequence own s (looks_may own s may);
   }
-
--- a plan that keeps a pledge, which minds the marks where each own step meets this besides
-record Minding {R : Type 0} (run : ℕ) (B : List Deed → Step → Type 0) (h : Hand) (plan : Plan R) : Type 1 where
-  pledge : Pledge
-  run_is : pledge.run ≡ run
-  minds : MindsSequencesOf IsTextName (with_step pledge B)
-  Q : List Done → Hand → R → Type 0
-  keeps : Keeps (rules_of pledge) [] h plan Q
 
 module _ (run : ℕ) (few : run < 2 ^ 128) (profile : List NamedValue) (h : Hand) where
   abbrev path : List ℕ
@@ -259,22 +238,6 @@ module _ (run : ℕ) (few : run < 2 ^ 128) (profile : List NamedValue) (h : Hand
                 (removes_keep words (entries_by b) folder real text c d (known_sound (removes_pledge words (entries_by b) folder real text) (acts (two_readings profile c d)) h (entries_by b) sound))));
           }
 
-no_more : (run : ℕ) (past : List Event) → AtSteps (λ r. r ≡ run) (λ r own s. Unit {0}) past
-no_more run [] = tt
-no_more run (Act r s a m ∷ past) = ((λ is. tt), no_more run past)
-no_more run (Deliver _ piece ∷ past) = no_more run past
-no_more run (Crash v ∷ past) = no_more run past
-no_more run (End r ∷ past) = no_more run past
-
-abbrev NothingMore : List Deed → Step → Type 0
-NothingMore own s = Unit {0}
-
-may_more : (w : Pledge) (old new : Option Story) → StoryMay w old new → StoryMay (with_step w NothingMore) old new
-may_more w None None may = tt
-may_more w (Some old) (Some new) may = λ unused. own_with w NothingMore (past_of new.history) (no_more w.run (past_of new.history)) (may unused)
-may_more w None (Some new) may = absurd may
-may_more w (Some old) None may = absurd may
-
 abbrev RemovesSo : List Deed → Step → Type 0
 RemovesSo own s = RemovesUnheld own s
 
@@ -327,20 +290,14 @@ module _ (run : ℕ) (few : run < 2 ^ 128) (user : List ℕ) (word : List ℕ) (
 
 -- a call that follows a command keeps the marks of messages
 module _ (run : ℕ) (few : run < 2 ^ 128) (user : List ℕ) (x y : State) (result : Result Unit Ended) where
-  minding_may : (words : List (List ℕ)) (f : Follows run ended_cause (command run user words) x y result) (t : Answered run few user words x.hand y.hand (deeds_in f.went.log) (exit_of ended_cause result)) {B : List Deed → Step → Type 0}
-      → (m : Minding run B x.hand (plan_by run few user words (reading_of t.first) t.second)) → StoryMay m.pledge x.files.story y.files.story
-  minding_may words f t m =
-      keeps_may m.pledge ended_cause (plan_by run few user words (reading_of t.first) t.second) x y result m.Q m.keeps
-      (subst (λ n. Follows n ended_cause (plan_by run few user words (reading_of t.first) t.second) x y result) (sym m.run_is) (follows_so run ended_cause (command run user words) (plan_by run few user words (reading_of t.first) t.second) x y result f t.runs))
-
   mark_kept : (word : List ℕ) (words : List (List ℕ)) → AreUtf8 words → named word ≡ Some Mark → Follows run ended_cause (command run user (word ∷ words)) x y result → KeepsSequencesOf IsTextName run x.files.story y.files.story
   mark_kept word words texts is f = go (answers run few user (word ∷ words) x y result f)
     where
       go : Answered run few user (word ∷ words) x.hand y.hand (deeds_in f.went.log) (exit_of ended_cause result) → KeepsSequencesOf IsTextName run x.files.story y.files.story
       go t =
           let m = mark_read run few user word words texts x.hand t.second (reading_of t.first) is in
-          subst (λ n. KeepsSequencesOf IsTextName n x.files.story y.files.story) m.run_is
-          (sequences_kept_of IsTextName (with_step m.pledge NothingMore) m.minds x.files.story y.files.story (start_same run ended_cause (command run user (word ∷ words)) x y result f) (may_more m.pledge x.files.story y.files.story (minding_may (word ∷ words) f t m)))
+          minding_kept run ended_cause (plan_by run few user (word ∷ words) (reading_of t.first) t.second) x y result m
+          (follows_so run ended_cause (command run user (word ∷ words)) (plan_by run few user (word ∷ words) (reading_of t.first) t.second) x y result f t.runs) (start_same run ended_cause (command run user (word ∷ words)) x y result f)
 
   rmm_kept : (word : List ℕ) (words : List (List ℕ)) → AreUtf8 words → named word ≡ Some Rmm → Follows run ended_cause (command run user (word ∷ words)) x y result → KeepsUnheld run x.files.story y.files.story
   rmm_kept word words texts is f = go (answers run few user (word ∷ words) x y result f)
@@ -348,7 +305,8 @@ module _ (run : ℕ) (few : run < 2 ^ 128) (user : List ℕ) (x y : State) (resu
       go : Answered run few user (word ∷ words) x.hand y.hand (deeds_in f.went.log) (exit_of ended_cause result) → KeepsUnheld run x.files.story y.files.story
       go t =
           let m = rmm_read run few user word words texts x.hand t.second (reading_of t.first) is in
-          subst (λ n. KeepsUnheld n x.files.story y.files.story) m.run_is (unheld_kept m.pledge m.minds x.files.story y.files.story (start_same run ended_cause (command run user (word ∷ words)) x y result f) (minding_may (word ∷ words) f t m))
+          subst (λ n. KeepsUnheld n x.files.story y.files.story) m.run_is (unheld_kept m.pledge m.minds x.files.story y.files.story (start_same run ended_cause (command run user (word ∷ words)) x y result f) (minding_may run ended_cause (plan_by run few user (word ∷ words) (reading_of t.first) t.second) x y result m
+          (follows_so run ended_cause (command run user (word ∷ words)) (plan_by run few user (word ∷ words) (reading_of t.first) t.second) x y result f t.runs)))
 
   by_name : (word : List ℕ) (words : List (List ℕ)) → AreUtf8 words → Follows run ended_cause (command run user (word ∷ words)) x y result → (name : Option CommandName) → named word ≡ name → KeepsCommandMarks name run x.files.story y.files.story
   by_name word words texts f None is = command_keeps_sequences run few user (word ∷ words) (ap begins_folders is) x y result f

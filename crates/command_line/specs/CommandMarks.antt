@@ -4,15 +4,9 @@ use Rattle.std.specs.Str.{all_scalars}
 use Rattle.folder_files.specs.Histories.{past_of}
 use Rattle.folder_files.specs.Story.{Story}
 use Rattle.folder_files.specs.declared.event.Event.{Event}
-use Rattle.folder_files.specs.declared.place.Place.{Place}
-use Rattle.folder_files.specs.declared.place.Place.TheVariants.{Folder}
 use Rattle.step_plans.specs.Safety.{AtSteps}
-use Rattle.marks_law.specs.Apart.{AreSoundApart}
-use Rattle.marks_law.specs.Sound.{AreSound}
-use Rattle.sequence_marks.specs.KeepsSequences.{IsMindfulSetting, IsMindfulSettingApart, KeepsSequences}
+use Rattle.sequence_marks.specs.KeepsSequences.{KeepsSequences}
 use Rattle.sequence_marks.specs.KeepsSequencesOf.{KeepsSequencesOf, SequencesStaySoundOf}
-use Rattle.sequence_marks.specs.SequenceMarks.{private_marks, public_marks}
-use Rattle.inc_command.specs.NewPuts.{PutsNew}
 use Rattle.refile_command.specs.HeldLeft.{RemovesUnheld}
 use Rattle.command_line.specs.declared.name.CommandName.{CommandName}
 use Rattle.command_line.specs.declared.name.CommandName.TheVariants.{Inc, Mark, Rmm, Scan}
@@ -33,32 +27,11 @@ KeepsUnheld run (Some old) (Some new) =
 KeepsUnheld run None (Some new) = ⊥
 KeepsUnheld run (Some old) None = ⊥
 
--- the run linked no new file to a name of this folder
-abbrev pub HasPutNone : ℕ → Place → List Event → Type 0
-HasPutNone run p past = AtSteps (λ r. r ≡ run) (λ r own s. PutsNew p s → ⊥) past
-
--- the marks of sequences stay sound: the public ones, and the private ones of each folder into which the run put no new
--- message
-pub record SequencesStaySoundUnput (run : ℕ) (old new : Story) : Type 0 where
-  pub public : (mail folder sequence : List ℕ) → IsMindfulSetting run (public_marks mail folder sequence) old new
-      → AreSound new.start (public_marks mail folder sequence) (past_of new.history)
-  pub private : (mail folder sequence : List ℕ) → IsTextName folder → HasPutNone run (Folder mail folder) (past_of new.history)
-      → IsMindfulSettingApart run (private_marks mail folder sequence) old new
-      → AreSoundApart new.start (private_marks mail folder sequence) (past_of new.history)
-
--- so of a call, where a story is told
-abbrev pub KeepsUnput : ℕ → Option Story → Option Story → Type 0
-KeepsUnput run None None = Unit {0}
-KeepsUnput run (Some old) (Some new) = SequencesStaySoundUnput run old new
-KeepsUnput run None (Some new) = ⊥
-KeepsUnput run (Some old) None = ⊥
-
--- a command that looks keeps all, whatever a folder is called; `mark` those of folders whose names are texts; so does
--- `rmm` where no message is held aside when it removes; and `inc`, but for the private ones of the folder that it puts
--- mail into
+-- a command that looks keeps all, whatever a folder is called; `inc` and `mark` those of folders whose names are texts; and
+-- so does `rmm` where no message is held aside when it removes
 abbrev pub KeepsCommandMarks : Option CommandName → ℕ → Option Story → Option Story → Type 0
 KeepsCommandMarks None run old new = KeepsSequences run old new
-KeepsCommandMarks (Some Inc) run old new = KeepsUnput run old new
+KeepsCommandMarks (Some Inc) run old new = KeepsSequencesOf IsTextName run old new
 KeepsCommandMarks (Some Scan) run old new = KeepsSequences run old new
 KeepsCommandMarks (Some Mark) run old new = KeepsSequencesOf IsTextName run old new
 KeepsCommandMarks (Some Rmm) run old new = KeepsUnheld run old new

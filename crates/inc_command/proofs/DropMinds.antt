@@ -1,4 +1,4 @@
--- Each step of `inc` over its drop minds the marks, as each of its puts does.
+-- Each step of `inc` over its drop minds the marks of all sequences.
 use Rattle.std.proofs.Common.{◌≡◌, ◌≤◌, ◌+◌, ◌-◌, ◌==◌, ◌++◌, ◌∷◌, [], ℕ, zero, suc, Bool, true, false, List, Option, Result, Ok, Err, length, min, nat_lt, nat_le, arith}
 use Rattle.std.specs.Prelude.{if◌then◌else◌}
 use Rattle.mh_sequences.specs.Runs.{has}
@@ -36,7 +36,7 @@ use Rattle.inc_command.specs.declared.counting.DropSize.{DropSize}
 use Rattle.inc_command.specs.declared.intake.Taken.{Taken}
 use Rattle.inc_command.specs.declared.job.IncJob.{IncJob}
 use Rattle.inc_command.proofs.NewWithin.{AreNumbers, numbers_more}
-use Rattle.inc_command.proofs.PutMinds.{A as Minding, Known as KnownOf, Numbered, known_kept, stored_meets, told_more}
+use Rattle.inc_command.proofs.PutMinds.{A as Minding, Known as KnownOf, Numbered, known_kept, stored_meets}
 
 module _ (run : ℕ) (path : List ℕ) (job : IncJob) (names : List (List ℕ)) (listing : List Run) (old : List ℕ) (marks : (sequence : List ℕ) (n : ℕ) → says_public sequence old n ≡ true → has listing n ≡ true) where
   abbrev w : Pledge
@@ -59,7 +59,7 @@ module _ (run : ℕ) (path : List ℕ) (job : IncJob) (names : List (List ℕ)) 
       → ((later : List Deed) → Known numbers later → (piece : DropPiece) → M later h (k piece) Q) → M own h (lifted from_ (read_drop job.drop from most) >>= k) Q
   unfolding Meets read_drop ask lifted bind ◌>>=◌
   drop_meets numbers own h from_ from most k Q f next = λ may. (
-    told_more run path job own (step.ReadDrop job.drop from most) (look_minds (λ other. IsTold job.folder other) run own (step.ReadDrop job.drop from most) tt),
+    look_minds (λ other. IsTold job.folder other) run own (step.ReadDrop job.drop from most) tt,
     λ a row live. next (did (step.ReadDrop job.drop from most) a ∷ own) (known_kept run path job names listing old marks numbers own (step.ReadDrop job.drop from most) a may tt (λ t e. cc (e)) tt f) (drop_piece_of a),
   )
 

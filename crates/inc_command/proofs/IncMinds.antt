@@ -1,4 +1,4 @@
--- Each step of `inc` minds the marks of all sequences; but a put, of the private ones only those of other folders.
+-- Each step of `inc` minds the marks of all sequences.
 use Rattle.std.proofs.Common.{◌≡◌, ◌⊎◌, inl, inr, ◌<◌, ◌^◌, ◌∷◌, [], ℕ, Bool, true, false, List, sym, subst, arith}
 use Rattle.mh_base.specs.Entries.{kind_of}
 use Rattle.mh_sequences.specs.Runs.{has}
@@ -27,12 +27,14 @@ use Rattle.opened_folders.specs.FolderPledge.{told_within}
 use Rattle.opened_folders.specs.Making.{made_begun}
 use Rattle.opened_folders.specs.Opening.{Opened}
 use Rattle.opened_folders.proofs.AllMarks.{MindsAll, quiet_minds}
-use Rattle.opened_folders.proofs.BegunSeen.{HasSeenBegun, NoneUnlinked, told_cur, told_listed, told_valid}
+use Rattle.opened_folders.proofs.BegunSeen.{HasSeenBegun, NoneUnlinked}
 use Rattle.opened_folders.proofs.ChosenListed.{has_tested}
 use Rattle.opened_folders.proofs.CommitMinds.{Facts, IsTold, Within, changed_meets}
 use Rattle.opened_folders.proofs.FolderPledged.{HasBegun}
+use Rattle.opened_folders.proofs.FreeMarks.{FreesOthers}
 use Rattle.opened_folders.proofs.MadeMinds.{Made, made_minds}
 use Rattle.opened_folders.proofs.Meeting.{Meets, meets_lifted, meets_more, meets_okay, meets_then}
+use Rattle.opened_folders.proofs.ToldMarks.{told_cur, told_listed, told_valid}
 use Rattle.opened_folders.proofs.WorkMinds.{Anyhow, current_meets, opened_meets}
 use Rattle.opened_folders.proofs.WorkPledged.{made_goes}
 use Rattle.inc_command.specs.DropTaken.{drop_taken, where_of}
@@ -45,7 +47,7 @@ use Rattle.folder_files.specs.Commands.{Incorporating}
 use Rattle.inc_command.proofs.DropMinds.{HasTaken, Takes, headed_meets, pass_meets, room_meets}
 use Rattle.inc_command.proofs.IncPledged.{lasts, lets, top_low}
 use Rattle.inc_command.proofs.NewWithin.{new_cur, new_valid, new_within}
-use Rattle.inc_command.proofs.PutMinds.{A as Minding, Known as KnownOf, There as ThereOf, told_more, weaker}
+use Rattle.inc_command.proofs.PutMinds.{A as Minding, Known as KnownOf, There as ThereOf}
 
 module _ (run : ℕ) (few : run < 2 ^ 128) (path : List ℕ) (job : IncJob) (ok : AreChanges (current_change job.folder)) where
   abbrev w : Pledge
@@ -74,7 +76,7 @@ module _ (run : ℕ) (few : run < 2 ^ 128) (path : List ℕ) (job : IncJob) (ok 
   unfolding Meets drop_ended cut_drop ask lifted bind ◌>>=◌
   cut_meets own h false l = tt
   cut_meets own h true l = λ may. (
-    told_more run path job own (step.CutDrop job.drop l) (quiet_minds Of run own (step.CutDrop job.drop l) (λ other folder c. c) (λ other folder sequence temp e. cc (e))),
+    quiet_minds Of run own (step.CutDrop job.drop l) (λ other folder c. c) (λ other folder sequence temp e. cc (e)),
     λ a row live. ended (did (step.CutDrop job.drop l) a ∷ own) (drop_cut_of a),
   )
     where
@@ -84,7 +86,7 @@ module _ (run : ℕ) (few : run < 2 ^ 128) (path : List ℕ) (job : IncJob) (ok 
       ended later drop_cut.Grown = tt
 
   -- the work on a folder that was begun
-  module _ (first own : List Deed) (h : Hand) (o : Opened) (begun : HasBegun w first path job.folder own o) (b : HasSeenBegun path job.folder own o) where
+  module _ (first own : List Deed) (h : Hand) (o : Opened) (begun : HasBegun w first path job.folder own o) (b : HasSeenBegun path job.folder own o) (frees : FreesOthers run path job.folder o.listing own) where
     abbrev old : List ℕ
     old = begun.base.0
 
@@ -98,7 +100,7 @@ module _ (run : ℕ) (few : run < 2 ^ 128) (path : List ℕ) (job : IncJob) (ok 
     m = told_within o.listing b.text b.context job.folder
 
     known : Known [] own
-    known = ((record { lock = b.facts.0.lock; there = there; held = b.facts.0.held; listed = b.facts.0.listed }, b.facts.1), begun.base.1)
+    known = (((record { lock = b.facts.0.lock; there = there; held = b.facts.0.held; listed = b.facts.0.listed }, b.facts.1), begun.base.1), frees)
       where
         there : (z : List ℕ) → There [] z → is_number (kind_of z) ≡ true → Sees p z true own
         there z (inl so) number = b.facts.0.there z so number
@@ -122,14 +124,13 @@ module _ (run : ℕ) (few : run < 2 ^ 128) (path : List ℕ) (job : IncJob) (ok 
     marked_meets : (t : Taken) (later : List Deed) (j : Hand) → HasTaken run path job b.names o.listing old begun.marks later t
         → M later j (lifted (of_plan job.folder) (changed_sequences run p mail job.folder m (made t.numbers)) >>= (λ marked. made_current run path job.folder)) (okay Free)
     marked_meets t later j f =
-        weaker run path job later j (lifted (of_plan job.folder) (changed_sequences run p mail job.folder m (made t.numbers)) >>= (λ marked. made_current run path job.folder)) (okay Free)
-        (meets_then (MayAsk w) (MindsAll Of run) later j (lifted (of_plan job.folder) (changed_sequences run p mail job.folder m (made t.numbers))) (λ marked. made_current run path job.folder) (λ last i u. Facts w path job.folder b.names (There t.numbers) last) Free
+        meets_then (MayAsk w) (MindsAll Of run) later j (lifted (of_plan job.folder) (changed_sequences run p mail job.folder m (made t.numbers))) (λ marked. made_current run path job.folder) (λ last i u. Facts w path job.folder b.names (There t.numbers) last) Free
         (meets_lifted (MayAsk w) (MindsAll Of run) later j (of_plan job.folder) (changed_sequences run p mail job.folder m (made t.numbers)) (λ last i u. Facts w path job.folder b.names (There t.numbers) last)
         (changed_meets w path job.folder b.names (There t.numbers) (made t.numbers) (new_valid job.change_cur t.numbers (set_among t.numbers) job.unseen m (told_valid o.listing b.text b.context job.folder))
-        (new_cur job.change_cur t.numbers (set_among t.numbers) job.unseen m f.numbers (told_cur o.listing b.text b.context job.folder)) (made_within t.numbers) later j m f.known.0))
+        (new_cur job.change_cur t.numbers (set_among t.numbers) job.unseen m f.numbers (told_cur o.listing b.text b.context job.folder)) (made_within t.numbers) later j m f.known.0.0))
         (λ last i u g.
         meets_okay (MayAsk w) (MindsAll Of run) last i (made_current run path job.folder) (λ end k v. Facts w path job.folder b.names (There t.numbers) end) Free (λ end k v z. tt)
-        (current_meets w path job.folder b.names (There t.numbers) ok last i g)))
+        (current_meets w path job.folder b.names (There t.numbers) ok last i g))
 
     marked_at : (q : Place) (n : List ℕ) (s : Marked) → q ≡ p → n ≡ job.folder → s ≡ m → (t : Taken) (later : List Deed) (j : Hand) → HasTaken run path job b.names o.listing old begun.marks later t
         → M later j (lifted (of_plan job.folder) (changed_sequences run q mail n s (marked_by_all (new_marks job t.numbers) s)) >>= (λ marked. made_current run path job.folder)) (okay Free)
@@ -159,11 +160,11 @@ module _ (run : ℕ) (few : run < 2 ^ 128) (path : List ℕ) (job : IncJob) (ok 
     pub work_anyhow : M own h (opened_incorporated run path job o) Anyhow
     work_anyhow = meets_more (MayAsk w) A own h (opened_incorporated run path job o) (okay Free) Anyhow (λ later j r q. tt) work_meets
 
-  -- each step of `inc` minds the marks so
+  -- each step of `inc` minds them
   pub inc_meets : (own : List Deed) (h : Hand) → Sound w own h → NoneUnlinked p own → M own h (inc run path job) Anyhow
   unfolding inc
   inc_meets own h sound none =
-      opened_meets w path job.folder A (λ before s m. told_more run path job before s m) (opened_incorporated run path job) (λ later j o. Made w path job.folder own later j o) (λ later j o q. work_anyhow own later j o q.0 q.1)
+      opened_meets w path job.folder A (λ before s m. m) (opened_incorporated run path job) (λ later j o. Made w path job.folder own later j o) (λ later j o q. work_anyhow own later j o q.0 q.1.0 q.1.1)
       (lifted (of_plan job.folder) (made_begun run p mail job.folder)) own h
       (meets_lifted (MayAsk w) (MindsAll Of run) own h (of_plan job.folder) (made_begun run p mail job.folder) (Made w path job.folder own)
       (made_minds w path job.folder own h sound

@@ -6,7 +6,6 @@ pub mod IncAnswers
 pub mod IncOutcome
 pub mod IncPledge
 pub mod Intake
-pub mod NewPuts
 pub mod Passing
 pub mod Stored
 pub mod Taking

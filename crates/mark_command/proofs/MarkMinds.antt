@@ -25,10 +25,11 @@ use Rattle.command_stages.specs.Endings.{of_plan}
 use Rattle.opened_folders.specs.FolderPledge.{told_within}
 use Rattle.opened_folders.specs.Opening.{Opened, with_sequences}
 use Rattle.opened_folders.proofs.AllMarks.{MindsAll}
-use Rattle.opened_folders.proofs.BegunSeen.{HasSeenBegun, InListing, NoneUnlinked, told_cur, told_listed, told_valid}
+use Rattle.opened_folders.proofs.BegunSeen.{HasSeenBegun, NoneUnlinked}
 use Rattle.opened_folders.proofs.ChosenListed.{has_tested, marked_cur_is, marked_member, words_listed}
 use Rattle.opened_folders.proofs.CommitMinds.{Facts, IsTold, Within, changed_meets}
 use Rattle.opened_folders.proofs.Meeting.{Meets, meets_end, meets_lifted, meets_more, meets_return, meets_say, meets_then}
+use Rattle.opened_folders.proofs.ToldMarks.{InListing, told_cur, told_listed, told_valid}
 use Rattle.opened_folders.proofs.WorkMinds.{Anyhow, current_meets, whole_meets}
 use Rattle.mark_command.specs.Lines.{lines_for}
 use Rattle.mark_command.specs.Mark.{chosen_from, chosen_marked, lines_said, mark_changes, opened_marked, said_if}

@@ -40,13 +40,13 @@ use Rattle.step_plans.proofs.Committing.{left_spares, spares_now}
 use Rattle.marks_law.specs.Bearers.{Marking, marks}
 use Rattle.marks_law.specs.Sound.{IsSound, IsOwn}
 use Rattle.marks_law.specs.Minding.{Minds, KeepsMarks, Sees}
-use Rattle.marks_law.specs.Apart.{IsText, IsSynced, IsSteady, by_text, AreConsiderate, AreSoundApart, IsMindfulApart, HasMindedApart, since, on}
+use Rattle.marks_law.specs.Apart.{IsFree, IsText, IsSynced, IsSteady, by_text, AreConsiderate, AreSoundApart, IsMindfulApart, HasMindedApart, since, on}
 use Rattle.marks_law.proofs.Sounding.{sound_marked}
 use Rattle.marks_law.proofs.Views.{EachView, each_more, each_now, each_goes, each_part, part_each}
 use Rattle.marks_law.proofs.Seeing.{left_untouched, touch_changes, others_leave, alone_in, sees_told}
 use Rattle.marks_law.proofs.Stepping.{own_on, made_names, commit_sound, commit_minds, commit_quiet, torn_names, torn_text, some_of}
 use Rattle.marks_law.proofs.Law.{changes_case, folder_lockable, unfailed}
-use Rattle.marks_law.proofs.Knowing.{commit_now, text_told, others_keep, bases}
+use Rattle.marks_law.proofs.Knowing.{commit_now, free_told, text_told, others_keep, bases}
 use Rattle.marks_law.proofs.Windows.{IsLike, AreAsNow, like_told, steady_told}
 
 -- windows side by side
@@ -71,8 +71,8 @@ each_given : (G : Type 0) (P : Slots → Type 0) (s : Slots) (cs : List Change) 
 each_given G P s [] h = h
 each_given G P s (c ∷ cs) h = ((λ g. (h g).0), each_given G P s cs (λ g. (h g).1))
 
--- what holds of each for all texts, holds for all texts of each
-at_all : (G : List ℕ → Type 0) (P : List ℕ → Option ℕ → Type 0) (s : Slots) (cs : List Change) (x : List ℕ) → ((t : List ℕ) → G t → AtEach (P t) s cs x) → AtEach (λ o. (t : List ℕ) → G t → P t o) s cs x
+-- what holds of each for all such things, holds for all of them of each
+at_all : {T : Type 0} (G : T → Type 0) (P : T → Option ℕ → Type 0) (s : Slots) (cs : List Change) (x : List ℕ) → ((t : T) → G t → AtEach (P t) s cs x) → AtEach (λ o. (t : T) → G t → P t o) s cs x
 at_all G P s [] x h = h
 at_all G P s (c ∷ cs) x h = ((λ t g. (h t g).0), at_all G P s cs x (λ t g. (h t g).1))
 
@@ -214,21 +214,29 @@ module _ (start : World) (k : Marking) (st : IsStart start) (c : is_committed k.
   ]
     where
       IsKnownAs : Changes k.folder s → Option ℕ → Type 0
-      IsKnownAs ch x = (t : List ℕ) → IsText r k t (own r past) × IsSynced k (own r past) → (n : ℕ) → marks k w0 x n ≡ k.says t n
+      IsKnownAs ch x =
+          ((t : List ℕ) → IsText r k t (own r past) × IsSynced k (own r past) → (n : ℕ) → marks k w0 x n ≡ k.says t n)
+          × ((n : ℕ) → IsFree r k n (own r past) × IsSynced k (own r past) → marks k w0 x n ≡ false)
 
       clean : Changes k.folder s → HasFailed (own r past) → ⊥
       clean ch f = unfailed r (own r past) k.folder s (folder_lockable k.folder folder) careful_now ch f
 
       known : (ch : Changes k.folder s) → AtEach (IsKnownAs ch) (w0.directories k.place).safe (w0.directories k.place).pending k.name
-      known ch = at_all (λ t. IsText r k t (own r past) × IsSynced k (own r past)) (λ t x. (n : ℕ) → marks k w0 x n ≡ k.says t n) (w0.directories k.place).safe (w0.directories k.place).pending k.name
+      known ch = at_zip (λ x. (t : List ℕ) → IsText r k t (own r past) × IsSynced k (own r past) → (n : ℕ) → marks k w0 x n ≡ k.says t n) (λ x. (n : ℕ) → IsFree r k n (own r past) × IsSynced k (own r past) → marks k w0 x n ≡ false)
+          (w0.directories k.place).safe (w0.directories k.place).pending k.name
+          (at_all (λ t. IsText r k t (own r past) × IsSynced k (own r past)) (λ t x. (n : ℕ) → marks k w0 x n ≡ k.says t n) (w0.directories k.place).safe (w0.directories k.place).pending k.name
           (λ t q. at_more (IsLike k w0) (λ x. (n : ℕ) → marks k w0 x n ≡ k.says t n) (w0.directories k.place).safe (w0.directories k.place).pending k.name
           (λ x z n. z.same n ∙ text_told start k st c folder silent r l careful none honest orderly considerate lv (clean ch) t q.0 n)
-          (like_told start k st c folder silent r l careful none honest orderly considerate lv (clean ch) q.1))
+          (like_told start k st c folder silent r l careful none honest orderly considerate lv (clean ch) q.1)))
+          (at_all (λ n. IsFree r k n (own r past) × IsSynced k (own r past)) (λ n x. marks k w0 x n ≡ false) (w0.directories k.place).safe (w0.directories k.place).pending k.name
+          (λ n q. at_more (IsLike k w0) (λ x. marks k w0 x n ≡ false) (w0.directories k.place).safe (w0.directories k.place).pending k.name
+          (λ x z. z.same n ∙ free_told start k st c folder silent r l careful none honest orderly considerate lv (clean ch) n q.0)
+          (like_told start k st c folder silent r l careful none honest orderly considerate lv (clean ch) q.1)))
 
       names : (ch : Changes k.folder s) (x : Option ℕ) → IsKnownAs ch x → SoundPair start k past w0 (λ y. now_in (w0.directories k.folder) y) x → SoundPair start k (Act r s a Made ∷ past) (left w0 r s a Made) (λ y. now_in ((left w0 r s a Made).directories k.folder) y) x
       names ch x kn z = record {
         below = λ b e. (let le = left_grows w0 s Made in let q = z.below b e in omega arith);
-        sound = made_names start past r s a Made k folder c i0 x z.below (by_text r k) lv careful_now (λ y b q. sees_told start r k.folder y b l honest orderly (folder_lockable k.folder folder) lv q) (λ t q n. kn t q n) (minds (inl ch)) z.sound;
+        sound = made_names start past r s a Made k folder c i0 x z.below (by_text r k) lv careful_now (λ y b q. sees_told start r k.folder y b l honest orderly (folder_lockable k.folder folder) lv q) (λ t q n. kn.0 t q n) (λ n q. kn.1 n q) (minds (inl ch)) z.sound;
       }
 
   pub run_act : (r : ℕ) (s : Step) (a : Answer) (m : After) → IsNext w0 r s a m → IsLive r w0 → Cares r (own r past) s → (Changes k.folder s ⊎ ((t : List ℕ) × (s ≡ step.Rename k.place t k.name)) → Minds r k (by_text r k) (own r past) s)

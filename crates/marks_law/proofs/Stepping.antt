@@ -38,7 +38,7 @@ use Rattle.step_plans.proofs.Law.{may_made}
 use Rattle.marks_law.specs.Heirs.{IsHeir, Descends, now, on, itself, further}
 use Rattle.marks_law.specs.Bearers.{Marking, in_folder, marks, Bears, set, kept, on}
 use Rattle.marks_law.specs.Sound.{IsSound, IsOwn}
-use Rattle.marks_law.specs.Minding.{Touches, Sees, SeesNoneHeld, Knowing, by_base, KeepsMarks, IsUnmarked, AreAllThere, Minds, keeps, replaces, makes, clears, plain, copies, gives_back, gives_above, takes_plain, takes_alone, backs_up, removes, backs_up_plain, removes_plain, lets_go, commits}
+use Rattle.marks_law.specs.Minding.{Touches, Sees, SeesNoneHeld, Knowing, by_base, KeepsMarks, AreAllThere, Minds, keeps, replaces, makes, clears, plain, copies, gives_back, gives_above, takes_plain, takes_alone, backs_up, removes, backs_up_plain, removes_plain, lets_go, commits}
 use Rattle.marks_law.proofs.Sounding.{number_name, number_held, absent, sound_marked, sound_set, sound_let_go, sound_removed, sound_removed_plain, sound_taken_plain, sound_taken_alone}
 use Rattle.marks_law.proofs.Seeing.{left_untouched}
 
@@ -121,7 +121,7 @@ module _ (start : World) (past : List Event) (r : ℕ) (s : Step) (a : Answer) (
 
   module _ (g : Knowing) (alive : IsLive r w) (careful : Cares r (own r past) s)
       (sees : (y : List ℕ) (b : Bool) → Sees k.folder y b (own r past) → is_some (now_in d y) ≡ b)
-      (known : (t : List ℕ) → g.Knows t (own r past) → (n : ℕ) → marks k w text n ≡ k.says t n) where
+      (known : (t : List ℕ) → g.Knows t (own r past) → (n : ℕ) → marks k w text n ≡ k.says t n) (unmarked : (n : ℕ) → g.Unmarks n (own r past) → marks k w text n ≡ false) where
     there : (y : List ℕ) → Sees k.folder y true (own r past) → (f : ℕ) × (now_in d y ≡ Some f)
     there y h = some_of (now_in d y) (sees y true h)
 
@@ -130,9 +130,6 @@ module _ (start : World) (past : List Event) (r : ℕ) (s : Step) (a : Answer) (
 
     none_held : SeesNoneHeld k.folder (own r past) → (h : List ℕ) → is_held (kind_of h) ≡ true → now_in d h ≡ None
     none_held none h is = away h (none h is)
-
-    unmarked : (n : ℕ) → IsUnmarked k g n (own r past) → marks k w text n ≡ false
-    unmarked n u = known u.0 u.1 n ∙ u.2
 
     same_names : Old (λ z. now_in d z) → New (λ z. now_in d z)
     same_names h = later (λ z. now_in d z) (λ z. now_in d z) (λ z st. refl) h
@@ -196,7 +193,7 @@ module _ (start : World) (past : List Event) (r : ℕ) (s : Step) (a : Answer) (
                 elim y [ inl b ↦ temp_apart t z (is_temp_any r t may) st b | inr b ↦ not_both (is_standing z) st (subst (λ u. is_standing u ≡ false) b (is_committed_quiet k.folder x (com_ e))) ]
 
         -- a number that is not marked goes, while each marked number is there
-        removed_plain : {t : Step} → s ≡ t → (n : ℕ) → IsUnmarked k g n (own r past) → AreAllThere k g (own r past)
+        removed_plain : {t : Step} → s ≡ t → (n : ℕ) → g.Unmarks n (own r past) → AreAllThere k g (own r past)
             → ((z : List ℕ) → is_standing z ≡ true → (now_in (directory_after w t k.folder) z ≡ now_in d z) ⊎ (now_in (directory_after w t k.folder) z ≡ None))
             → ((z : List ℕ) (j : ℕ) → kind_of z ≡ Number j → (n ≡ j → ⊥) → Touches k.folder z t → ⊥) → NamesAfter t
         removed_plain {t = t} es n u all fewer others = sound_removed_plain (λ z. now_in d z) (λ z. now_in (directory_after w t k.folder) z) (marks k v text) (IsOwn start k (Act r s a m ∷ past) text) n
@@ -388,7 +385,7 @@ module _ (start : World) (past : List Event) (r : ℕ) (s : Step) (a : Answer) (
   made_own : Minds r k (by_base r k) (own r past) s → SoundNow start k past before → SoundNow start k (Act r s a Made ∷ past) (left before r s a Made)
   made_own minds h = elim (left_spares before r (own r past) s Failed Made p x c careful (failed Made alive (may_made s))) [
     | inl z ↦ subst (λ (o : Option ℕ). IsSound (λ y. now_in (directory_after before s p) y) (marks k (left before r s a Made) o) (IsOwn start k (Act r s a Made ∷ past) o)) (sym (spares_now x (before.directories p) z))
-        (made_names start past r s a Made k folder c i (now_in (before.directories p) x) (λ b e. now_below before.next_file (before.directories p) (i.below p) x b e) (by_base r k) alive careful sees known minds h)
+        (made_names start past r s a Made k folder c i (now_in (before.directories p) x) (λ b e. now_below before.next_file (before.directories p) (i.below p) x b e) (by_base r k) alive careful sees known (λ n u. known u.0 u.1 n ∙ u.2) minds h)
     | inr z ↦ commit z.0.0 z.0.1 z.0.3.0 z.0.3.1
   ]
     where

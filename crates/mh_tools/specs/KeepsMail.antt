@@ -24,7 +24,6 @@ pub record KeepsMail (c : Call) : Type 0 where
   pub promises : Promises (command_pledge c.setting.run c.setting.user c.words (entries_by profile) (entries_by context)) (begins c fresh) (ends c fresh)
 
 -- no mark of a sequence that users name passes to another message, where the others mind them: by a command that looks,
--- by `mark`, by `rmm` where no message was left held aside in the folder when it removed one, and by `inc` but for the
--- private sequences of the folder that it puts mail into
+-- by `inc` and `mark`, and by `rmm` where no message was left held aside in the folder when it removed one
 abbrev pub KeepsMarks : Call → Type 0
 KeepsMarks c = KeepsCommandMarks (command_of c.words) c.setting.run c.before.files.story c.after.files.story

@@ -1,8 +1,6 @@
 -- Once a folder is begun, its text marks only numbers of messages.
 use Rattle.std.proofs.Common.{◌≡◌, ◌||◌, ℕ, true, List, ◌∙◌, ap, subst}
-use Rattle.std.specs.Prelude.{IfSome}
 use Rattle.mail_headers.specs.Fields.{fields_of}
-use Rattle.mh_base.specs.Numbers.{IsMsgNum}
 use Rattle.mh_profile.specs.Reading.{entries_in}
 use Rattle.mh_sequences.specs.Names.{is_seq_name}
 use Rattle.mh_sequences.specs.Printing.{text_of}
@@ -17,12 +15,8 @@ use Rattle.sequence_commits.specs.Telling.{same_told}
 use Rattle.sequence_commits.proofs.ReadOnce.{read_is, read_valid}
 use Rattle.sequence_commits.proofs.ToldAlike.{told_same}
 use Rattle.opened_folders.specs.FolderPledge.{told_within}
-use Rattle.opened_folders.proofs.BegunSeen.{cur_valid, told_cur, told_listed, told_valid}
+use Rattle.opened_folders.proofs.ToldMarks.{read_cur, told_cur, told_listed, told_valid}
 use Rattle.opened_folders.proofs.MarksWritten.{and_both, text_marks}
-
-read_cur : (text context folder : List ℕ) → IfSome (sequences_in text (entries_in context) folder).cur IsMsgNum
-unfolding sequences_in
-read_cur text context folder = cur_valid (fields_of text)
 
 -- what a text marks is a member of what it tells
 read_marks : (text context folder sequence : List ℕ) (n : ℕ) → says_public sequence text n ≡ true → member (sequences_in text (entries_in context) folder).users sequence n ≡ true

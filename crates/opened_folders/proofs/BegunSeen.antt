@@ -1,19 +1,12 @@
 -- What a run sees of a folder once it has begun it, and that each of these steps minds all marks.
-use Rattle.std.proofs.Common.{◌≡◌, ◌⊎◌, inl, inr, ◌+◌, ◌<◌, ◌&&◌, ◌∷◌, [], ℕ, Bool, true, false, List, Option, Ok, refl, sym, ◌∙◌, ap, subst, arith, bytes_eq}
-use Rattle.std.specs.Prelude.{IfSome, None, Some, codes, decimal, nat_lt, if◌then◌else◌}
-use Rattle.std.specs.List.{find}
-use Rattle.std.proofs.lemmas.Bool.Decides.{Decides-ltb}
+use Rattle.std.proofs.Common.{◌≡◌, ◌⊎◌, inl, inr, ◌+◌, ◌∷◌, [], ℕ, Bool, true, false, List, Option, Ok, refl, sym, ◌∙◌, ap, subst, arith}
+use Rattle.std.specs.Prelude.{Some, decimal}
 use Rattle.mh_base.specs.Entries.{kind_of}
-use Rattle.mh_base.specs.Numbers.{IsMsgNum, decimal_of, in_range}
 use Rattle.mh_base.specs.declared.entry.Entry.TheVariants.{Number}
 use Rattle.mh_profile.specs.declared.named_value.NamedValue.{NamedValue}
 use Rattle.mh_profile.specs.Reading.{entries_in}
-use Rattle.mail_headers.specs.Fields.{FieldText, fields_of}
-use Rattle.mail_headers.specs.Unfolding.{unfolded}
-use Rattle.mh_sequences.specs.Lists.{is_listed, items}
-use Rattle.mh_sequences.specs.Reading.{cur_in, first_or}
-use Rattle.mh_sequences.specs.Runs.{AreRuns, has}
-use Rattle.mh_sequences.specs.Sequences.{AreSequences, Marked, member}
+use Rattle.mh_sequences.specs.Runs.{AreRuns}
+use Rattle.mh_sequences.specs.Sequences.{Marked}
 use Rattle.mh_sequences.specs.declared.run.Run.{Run}
 use Rattle.folder_files.specs.Careful.{HasLock}
 use Rattle.folder_files.specs.Deeds.{Deed, WasDone, did, last, now, on, still}
@@ -52,61 +45,20 @@ use Rattle.held_messages.proofs.Telling.{highest_small}
 use Rattle.held_messages.proofs.Tops.{highest_above}
 use Rattle.sequence_marks.specs.SequenceMarks.{private_marks}
 use Rattle.sequence_commits.specs.Committing.{cut_committed}
-use Rattle.sequence_commits.specs.Cutting.{cut_to}
 use Rattle.sequence_commits.specs.Reading.{sequences_in}
-use Rattle.sequence_commits.proofs.CutOnce.{cut_is, cut_valid}
-use Rattle.sequence_commits.proofs.ReadOnce.{read_valid}
 use Rattle.sequence_commits.proofs.RunTests.{all_has, all_runs}
 use Rattle.opened_folders.specs.Existing.{are_tried, exists_in, numbers_settled}
 use Rattle.opened_folders.specs.FolderPledge.{told_within}
 use Rattle.opened_folders.specs.Opening.{Opened, begun, folder_locked, locked_begun, locked_by, mail_made, marks_cut, marks_read, opened_of, sequences_read, settled_read, text_by}
 use Rattle.opened_folders.proofs.AllMarks.{MindsAll, clear_minds, look_minds, make_minds}
-use Rattle.opened_folders.proofs.CommitMinds.{Facts, IsTold, Within, changed_meets, sequences_name}
+use Rattle.opened_folders.proofs.CommitFrees.{frees_meet, same_private}
+use Rattle.opened_folders.proofs.CommitMinds.{Facts, IsTold, sequences_name}
 use Rattle.opened_folders.proofs.CommitSeen.{Synced, synced_kept}
 use Rattle.opened_folders.proofs.FolderSeen.{LetGo, Quiet, Seen, quiet_seen}
+use Rattle.opened_folders.proofs.FreeMarks.{FreesOthers, FreesRead}
 use Rattle.opened_folders.proofs.Meeting.{Meets, meets_end, meets_list, meets_lock, meets_make, meets_on, meets_quietly, meets_read, meets_return, meets_stop, meets_sync_folder, meets_then}
+use Rattle.opened_folders.proofs.ToldMarks.{InListing, told_cur, told_in, told_listed, told_valid}
 use Rattle.opened_folders.proofs.SettledSeen.{AbsentFrom, HasSettled, number_ranged, settle_meets}
-
--- the current message that a text tells of is a message number
-ranged : (o : Option ℕ) → IfSome (in_range o) IsMsgNum
-ranged None = tt
-ranged (Some n) = go (nat_lt 0 n) (nat_lt n 1000000) refl refl
-  where
-    go : (low high : Bool) → nat_lt 0 n ≡ low → nat_lt n 1000000 ≡ high → IfSome (if low && high then Some n else None) IsMsgNum
-    go true true e f = let a : 0 < n = (Decides-ltb 0 n).0 e in let b : n < 1000000 = (Decides-ltb n 1000000).0 f in (omega (arith, a), omega (arith, b))
-    go true false e f = tt
-    go false high e f = tt
-
-number_or : (o : Option (List ℕ)) (later : Option ℕ) → IfSome later IsMsgNum → IfSome (first_or o later) IsMsgNum
-number_or None later f = f
-number_or (Some item) later f = ranged (decimal_of item)
-
-pub cur_valid : (fields : List FieldText) → IfSome (cur_in fields) IsMsgNum
-cur_valid [] = tt
-cur_valid (f ∷ fs) = go (bytes_eq f.name (codes "cur")) (cur_valid fs)
-  where
-    go : (b : Bool) → IfSome (cur_in fs) IsMsgNum → IfSome (if b then first_or (find is_listed (items (unfolded f.value))) (cur_in fs) else cur_in fs) IsMsgNum
-    go true rest = number_or (find is_listed (items (unfolded f.value))) (cur_in fs) rest
-    go false rest = rest
-
-pub told_valid : (listing : List Run) (text context folder : List ℕ) → AreSequences (told_within listing text context folder).users
-told_valid listing text context folder = cut_valid listing (sequences_in text (entries_in context) folder)
-
-pub told_cur : (listing : List Run) (text context folder : List ℕ) → IfSome (told_within listing text context folder).cur IsMsgNum
-unfolding cut_to sequences_in
-told_cur listing text context folder = cur_valid (fields_of text)
-
--- a name of a number that is listed
-abbrev pub InListing : List Run → List ℕ → Type 0
-InListing listing z = (n : ℕ) × (kind_of z ≡ Number n) × (has listing n ≡ true)
-
-pub told_listed : (listing : List Run) (text context folder sequence : List ℕ) (n : ℕ) → member (told_within listing text context folder).users sequence n ≡ true → has listing n ≡ true
-told_listed listing text context folder sequence n e =
-    let m = sequences_in text (entries_in context) folder in
-    (both (member m.users sequence n) (has listing n) (sym ((cut_is listing m (read_valid text (entries_in context) folder)).numbers sequence n) ∙ e)).1
-
-pub told_in : (listing : List Run) (text context folder : List ℕ) → Within (InListing listing) (told_within listing text context folder)
-told_in listing text context folder z n sequence kind e = (n, kind, told_listed listing text context folder sequence n e)
 
 -- no name of the place was unlinked
 abbrev pub NoneUnlinked : Place → List Deed → Type 0
@@ -279,7 +231,7 @@ module _ (w : Pledge) (path folder : List ℕ) where
         ))
 
     abbrev Entries : Outcome (List NamedValue)
-    Entries later j es = Known later × ((context : List ℕ) × (es ≡ entries_in context))
+    Entries later j es = Known later × ((context : List ℕ) × (es ≡ entries_in context) × FreesRead w.run path folder context later)
 
     entries_meet : (own : List Deed) (h : Hand) → Known own → M own h (context_read mail) (okay Entries)
     unfolding context_read
@@ -287,17 +239,28 @@ module _ (w : Pledge) (path folder : List ℕ) where
         meets_read (MayAsk w) (MindsAll Of w.run) own h of_stop (okay Entries) mail context_name LIMIT_BYTES entries_by
         (λ may. (
           look_minds Of w.run own (step.Read mail context_name LIMIT_BYTES) tt,
-          (λ bytes. meets_return (MayAsk w) (MindsAll Of w.run) (did (step.Read mail context_name LIMIT_BYTES) (answer.Content bytes) ∷ own) h (entries_in bytes) (okay Entries) (known_kept own (step.Read mail context_name LIMIT_BYTES) (answer.Content bytes) may tt (λ t e. cc (e)) f, (bytes, refl))),
+          (λ bytes. meets_return (MayAsk w) (MindsAll Of w.run) (did (step.Read mail context_name LIMIT_BYTES) (answer.Content bytes) ∷ own) h (entries_in bytes) (okay Entries)
+              (known_kept own (step.Read mail context_name LIMIT_BYTES) (answer.Content bytes) may tt (λ t e. cc (e)) f, (bytes, refl, (λ sequence n e. apart.found (LIMIT_BYTES, refl) f.0.lock e)))),
           (λ l. meets_end (MayAsk w) (MindsAll Of w.run) (did (step.Read mail context_name LIMIT_BYTES) (answer.Long l) ∷ own) h (fault.TooLarge l) Entries),
-          meets_return (MayAsk w) (MindsAll Of w.run) (did (step.Read mail context_name LIMIT_BYTES) answer.Gone ∷ own) h [] (okay Entries) (known_kept own (step.Read mail context_name LIMIT_BYTES) answer.Gone may tt (λ t e. cc (e)) f, ([], sym no_entries)),
+          meets_return (MayAsk w) (MindsAll Of w.run) (did (step.Read mail context_name LIMIT_BYTES) answer.Gone ∷ own) h [] (okay Entries)
+              (known_kept own (step.Read mail context_name LIMIT_BYTES) answer.Gone may tt (λ t e. cc (e)) f, ([], sym no_entries, (λ sequence n e. apart.missing refl f.0.lock))),
         ))
 
-    known_meets : (own : List Deed) (h : Hand) (es : List NamedValue) → Known own → M own h (known es) (okay (λ later j u. Known later))
+    known_meets : (own : List Deed) (h : Hand) (es : List NamedValue) → M own h (known es) (okay (λ later j u. (later ≡ own) × (j.context ≡ Some es)))
     unfolding Meets known
-    known_meets own h es f = f
+    known_meets own h es = (refl, refl)
+
+    -- the sequences of both texts: the hand knows the context, and the run what that doesn't mark
+    record ReadMarks (later : List Deed) (j : Hand) (m : Marked) : Type 0 where
+      known : Known later
+      text : List ℕ
+      context : List ℕ
+      is : m ≡ sequences_in text (entries_in context) folder
+      hand : j.context ≡ Some (entries_in context)
+      frees : FreesRead w.run path folder context later
 
     abbrev Reads : Outcome Marked
-    Reads later j m = Known later × ((text : List ℕ) × (context : List ℕ) × (m ≡ sequences_in text (entries_in context) folder))
+    Reads later j m = ReadMarks later j m
 
     marks_meet : (own : List Deed) (h : Hand) → Known own → M own h (marks_read p mail folder) (okay Reads)
     unfolding marks_read
@@ -306,8 +269,17 @@ module _ (w : Pledge) (path folder : List ℕ) where
         (λ later j text g.
         meets_then (MayAsk w) (MindsAll Of w.run) later j (context_read mail) (λ entries. known entries >>= (λ seen. Return (Ok (sequences_in text entries folder)))) Entries Reads (entries_meet later j g)
         (λ next i entries k.
-        meets_then (MayAsk w) (MindsAll Of w.run) next i (known entries) (λ seen. Return (Ok (sequences_in text entries folder))) (λ end l u. Known end) Reads (known_meets next i entries k.0)
-        (λ end l u z. meets_return (MayAsk w) (MindsAll Of w.run) end l (sequences_in text entries folder) (okay Reads) (z, (text, k.1.0, ap (λ es. sequences_in text es folder) k.1.1)))))
+        meets_then (MayAsk w) (MindsAll Of w.run) next i (known entries) (λ seen. Return (Ok (sequences_in text entries folder))) (λ end l u. (end ≡ next) × (l.context ≡ Some entries)) Reads (known_meets next i entries)
+        (λ end l u z.
+        meets_return (MayAsk w) (MindsAll Of w.run) end l (sequences_in text entries folder) (okay Reads)
+        (record {
+          known = subst Known (sym z.0) k.0;
+          text = text;
+          context = k.1.0;
+          is = ap (λ es. sequences_in text es folder) k.1.1;
+          hand = z.1 ∙ ap (λ es. Some es) k.1.1;
+          frees = subst (λ o. FreesRead w.run path folder k.1.0 o) (sym z.0) k.1.2;
+        }))))
 
   -- the folder's numbers, as the run knows them
   abbrev Listing : Settled → List Run
@@ -321,17 +293,20 @@ module _ (w : Pledge) (path folder : List ℕ) where
   unfolding numbers_settled
   settled_exists s z f = let ranged = number_ranged z f.0 f.1 in (f.0, f.1, sym (all_has (exists_in w.run s) f.0 ranged.0 ranged.1) ∙ f.2)
 
+  -- and of each private sequence of the folder the run knows that the context marks no number that isn't listed
   abbrev Begun_ : Outcome Opened
-  Begun_ later j o = HasSeenBegun path folder later o
+  Begun_ later j o = HasSeenBegun path folder later o × FreesOthers w.run path folder o.listing later
 
-  cut_meets : (own : List Deed) (h : Hand) (s : Settled) (text context : List ℕ) → Seen p s.names (InListing (Listing s)) own × Synced path folder own → M own h (marks_cut w.run p mail folder s (sequences_in text (entries_in context) folder)) (okay Begun_)
+  cut_meets : (own : List Deed) (h : Hand) (s : Settled) (text context : List ℕ) → h.context ≡ Some (entries_in context) → FreesRead w.run path folder context own → Seen p s.names (InListing (Listing s)) own × Synced path folder own
+      → M own h (marks_cut w.run p mail folder s (sequences_in text (entries_in context) folder)) (okay Begun_)
   unfolding marks_cut
-  cut_meets own h s text context f =
+  cut_meets own h s text context hand frees f =
       meets_then (MayAsk w) (MindsAll Of w.run) own h (cut_committed w.run p mail folder (sequences_in text (entries_in context) folder) (Listing s))
-      (λ cut. Return (Ok (opened_of p folder (Listing s) (told_within (Listing s) text context folder) s.ends))) (λ later j u. Facts w path folder s.names (InListing (Listing s)) later) Begun_
-      (changed_meets w path folder s.names (InListing (Listing s)) (told_within (Listing s) text context folder) (told_valid (Listing s) text context folder) (told_cur (Listing s) text context folder) (told_in (Listing s) text context folder) own h (sequences_in text (entries_in context) folder) f)
+      (λ cut. Return (Ok (opened_of p folder (Listing s) (told_within (Listing s) text context folder) s.ends))) (λ later j u. Facts w path folder s.names (InListing (Listing s)) later × FreesOthers w.run path folder (Listing s) later) Begun_
+      (frees_meet w path folder s.names (InListing (Listing s)) (told_within (Listing s) text context folder) (told_valid (Listing s) text context folder) (told_cur (Listing s) text context folder) (told_in (Listing s) text context folder) context (Listing s)
+      (told_listed (Listing s) text context folder) own h (sequences_in text (entries_in context) folder) (λ same. same_private (Listing s) text context folder same) hand f frees)
       (λ later j u g. meets_return (MayAsk w) (MindsAll Of w.run) later j (opened_of p folder (Listing s) (told_within (Listing s) text context folder) s.ends) (okay Begun_)
-      (record { place = refl; name = refl; names = s.names; facts = g; runs = settled_runs s; text = text; context = context; sequences = refl }))
+      (record { place = refl; name = refl; names = s.names; facts = g.0; runs = settled_runs s; text = text; context = context; sequences = refl }, g.1))
 
   read_meets : (own : List Deed) (h : Hand) (s : Settled) → Seen p s.names (InListing (Listing s)) own × Synced path folder own → M own h (settled_read w.run p mail folder s) (okay Begun_)
   unfolding settled_read
@@ -339,7 +314,7 @@ module _ (w : Pledge) (path folder : List ℕ) where
       meets_then (MayAsk w) (MindsAll Of w.run) own h (cleared p s.names) (λ clear. marks_read p mail folder >>= (λ marked. marks_cut w.run p mail folder s marked)) (λ later j u. Known s.names (InListing (Listing s)) later) Begun_ (cleared_meets s.names (InListing (Listing s)) own h s.names f)
       (λ later j u g.
       meets_then (MayAsk w) (MindsAll Of w.run) later j (marks_read p mail folder) (λ marked. marks_cut w.run p mail folder s marked) (Reads s.names (InListing (Listing s))) Begun_ (marks_meet s.names (InListing (Listing s)) later j g)
-      (λ next i m k. subst (λ z. M next i (marks_cut w.run p mail folder s z) (okay Begun_)) (sym k.1.2) (cut_meets next i s k.1.0 k.1.1 k.0)))
+      (λ next i m k. subst (λ z. M next i (marks_cut w.run p mail folder s z) (okay Begun_)) (sym k.is) (cut_meets next i s k.text k.context k.hand k.frees k.known)))
 
   -- a folder is begun, and each step of that minds all marks
   pub begun_meets : (own : List Deed) (h : Hand) → NoneUnlinked p own → M own h (begun w.run p mail folder) (okay Begun_)

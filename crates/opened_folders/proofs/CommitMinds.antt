@@ -153,7 +153,7 @@ module _ (w : Pledge) (path folder : List ℕ) where
       considered other sequence (inr same) = inr (old, text, known.base, created, same)
 
   -- the context gets the entries of the folder's sequences, whose numbers are there
-  entries_minds : (own : List Deed) (temp old : List ℕ) (m : Marked) (seen : List NamedValue) → AreSequences m.users → IfSome m.cur IsMsgNum
+  pub entries_minds : (own : List Deed) (temp old : List ℕ) (m : Marked) (seen : List NamedValue) → AreSequences m.users → IfSome m.cur IsMsgNum
       → ((z : List ℕ) (n : ℕ) (sequence : List ℕ) → kind_of z ≡ Number n → member m.users sequence n ≡ true → Sees p z true own)
       → HasLock p own → Steady path folder own → Synced path folder own → Context Of w path folder old own
       → WasDone (step.Create mail temp (printed (changed (changes_to (suffix folder) (private_entries (suffix folder) m.users) seen) (entries_in old)))) own
@@ -198,20 +198,20 @@ module _ (w : Pledge) (path folder : List ℕ) where
     abbrev Known : List Deed → Type 0
     Known own = Facts names There own
 
-    abbrev Held : List Deed → Type 0
+    abbrev pub Held : List Deed → Type 0
     Held own = Seen p names There own × Steady path folder own
 
     known_kept : (own : List Deed) (s : Step) (a : Answer) → MayAsk w own s → Quiet p s → ((temp : List ℕ) → s ≡ step.Rename mail temp context_name → ⊥) → Known own → Known (did s a ∷ own)
     known_kept own s a may quiet none f = (quiet_seen w p names There own s a may quiet f.0, synced_kept Of w path folder own s a quiet none f.1)
 
-    held_kept : (own : List Deed) (s : Step) (a : Answer) → MayAsk w own s → Quiet p s → Held own → Held (did s a ∷ own)
+    pub held_kept : (own : List Deed) (s : Step) (a : Answer) → MayAsk w own s → Quiet p s → Held own → Held (did s a ∷ own)
     held_kept own s a may quiet f = (quiet_seen w p names There own s a may quiet f.0, steady_kept own s a may quiet f.1)
 
-    there : (own : List Deed) → Seen p names There own → (z : List ℕ) (n : ℕ) (sequence : List ℕ) → kind_of z ≡ Number n → member m.users sequence n ≡ true → Sees p z true own
+    pub there : (own : List Deed) → Seen p names There own → (z : List ℕ) (n : ℕ) (sequence : List ℕ) → kind_of z ≡ Number n → member m.users sequence n ≡ true → Sees p z true own
     there own f z n sequence kind is = f.there z (within z n sequence kind is) (rw kind refl)
 
     -- the folder's text
-    text_meets : (own : List Deed) (h : Hand) → Known own → M own h (sequences_replaced w.run p (text_of m)) (okay (λ later j u. Held later × Synced path folder later))
+    pub text_meets : (own : List Deed) (h : Hand) → Known own → M own h (sequences_replaced w.run p (text_of m)) (okay (λ later j u. Held later × Synced path folder later))
     unfolding sequences_replaced
     text_meets own h f = go (nat_lt LIMIT_BYTES (length (text_of m)))
       where

@@ -35,7 +35,7 @@ use Rattle.marks_law.specs.Apart as apart
 use Rattle.sequence_marks.specs.SequenceMarks.{private_marks}
 use Rattle.opened_folders.proofs.AllMarks.{MindsAll, clear_minds, create_minds, look_minds, make_minds}
 use Rattle.opened_folders.proofs.FolderSeen.{Quiet, created_temp}
-use Rattle.opened_folders.proofs.Meeting.{Meets, meets_create, meets_end, meets_lock, meets_make, meets_quietly, meets_read, meets_rename, meets_return, meets_sync_file, meets_sync_folder, meets_then, meets_unlock}
+use Rattle.opened_folders.proofs.Meeting.{Meets, meets_create, meets_end, meets_lock, meets_make, meets_okay, meets_quietly, meets_read, meets_rename, meets_return, meets_sync_file, meets_sync_folder, meets_then, meets_unlock}
 
 -- the run synced the mail directory under the folder's lock, after its last commit of the context
 abbrev pub Synced : List ℕ → List ℕ → List Deed → Type 0
@@ -178,16 +178,30 @@ module _ (Of : List ℕ → Type 0) (w : Pledge) (path folder : List ℕ) where
   context_kept : (old : List ℕ) (own : List Deed) (s : Step) (a : Answer) → (s ≡ step.Unlock mail → ⊥) → (s ≡ step.Unlock p → ⊥) → (IsKnown w.run mail context_name (did s a) → ⊥) → Context old own → Context old (did s a ∷ own)
   context_kept old own s a off away unknown f = record { base = commits.on off unknown f.base; text = λ sequence. apart.on away unknown (f.text sequence) }
 
+  -- a fact that steps keep besides which commit no context
+  abbrev pub LastsBetween : (List Deed → Type 0) → Type 0
+  LastsBetween F = (own : List Deed) (s : Step) (a : Answer) → MayAsk w own s → Quiet p s → NoCommit path s → F own → F (did s a ∷ own)
+
   -- a commit of the context by such changes: a fact that lasts, and that the mail directory was synced, hold before and after it; and each
-  -- commit of such a text minds all marks
+  -- commit of such a text minds all marks. Of what each commit makes another, the one holds before it, and the other after it
   module _ (F : List Deed → Type 0) (keeps : Lasts F) (locks : (own : List Deed) → F own → HasLock p own) (cs : List ChangeEntry)
       (minds : (own : List Deed) (temp old : List ℕ) → MayAsk w own (step.Rename mail temp context_name) → F own → Synced path folder own → Context old own → WasDone (step.Create mail temp (printed (changed cs (entries_in old)))) own
-      → MindsAll Of w.run own (step.Rename mail temp context_name)) where
+      → MindsAll Of w.run own (step.Rename mail temp context_name))
+      (Old New : List Deed → Type 0) (keeps_old : LastsBetween Old) (keeps_new : LastsBetween New)
+      (commits_so : (own : List Deed) (temp old : List ℕ) → MayAsk w own (step.Rename mail temp context_name) → F own → Context old own → WasDone (step.Create mail temp (printed (changed cs (entries_in old)))) own → Old own
+      → New (did (step.Rename mail temp context_name) answer.Done ∷ own)) where
     abbrev Both : List Deed → Type 0
-    Both own = F own × Synced path folder own
+    Both own = (F own × Synced path folder own) × Old own
 
     both_kept : (own : List Deed) (s : Step) (a : Answer) → MayAsk w own s → Quiet p s → NoCommit path s → Both own → Both (did s a ∷ own)
-    both_kept own s a may quiet none f = (keeps own s a may quiet f.0, synced_kept own s a quiet none f.1)
+    both_kept own s a may quiet none f = ((keeps own s a may quiet f.0.0, synced_kept own s a quiet none f.0.1), keeps_old own s a may quiet none f.1)
+
+    -- after it
+    abbrev Since : List Deed → Type 0
+    Since own = (F own × Synced path folder own) × New own
+
+    since_kept : (own : List Deed) (s : Step) (a : Answer) → MayAsk w own s → Quiet p s → NoCommit path s → Since own → Since (did s a ∷ own)
+    since_kept own s a may quiet none f = ((keeps own s a may quiet f.0.0, synced_kept own s a quiet none f.0.1), keeps_new own s a may quiet none f.1)
 
     abbrev Reads : List ℕ → List Deed → Type 0
     Reads old own = Both own × Context old own
@@ -209,7 +223,7 @@ module _ (Of : List ℕ → Type 0) (w : Pledge) (path folder : List ℕ) where
         unknown (inr (inr e)) = let same = did_step e.1 in cc (same)
 
     abbrev Ends : Outcome Unit
-    Ends later j u = Both later
+    Ends later j u = Since later
 
     replaced_context : (own : List Deed) (h : Hand) (old text : List ℕ) → text ≡ printed (changed cs (entries_in old)) → Reads old own → M own h (context_replaced w.run mail text) (okay Ends)
     unfolding context_replaced
@@ -218,12 +232,13 @@ module _ (Of : List ℕ → Type 0) (w : Pledge) (path folder : List ℕ) where
         go : (b : Bool) → M own h (if b then Return (Err (fault.TooLarge (length text))) else replaced w.run mail context_name text) (okay Ends)
         go true = meets_end (MayAsk w) (MindsAll Of w.run) own h (fault.TooLarge (length text)) Ends
         go false =
-            replaced_meets mail (Reads old) (create_kept old) (sync_kept old) own h context_name text Both f
-            (λ later temp may g made. minds later temp old may g.0.0 g.0.1 g.1 (subst (λ z. WasDone (step.Create mail temp z) later) is made))
+            replaced_meets mail (Reads old) (create_kept old) (sync_kept old) own h context_name text Since f
+            (λ later temp may g made. minds later temp old may g.0.0.0 g.0.0.1 g.1 (subst (λ z. WasDone (step.Create mail temp z) later) is made))
             (λ later temp may g made may_sync.
-            let one = keeps later (step.Rename mail temp context_name) answer.Done may (λ same. absurd (mail_apart same)) g.0.0 in (
-              keeps (did (step.Rename mail temp context_name) answer.Done ∷ later) (step.SyncFolder mail) answer.Done may_sync tt one,
-              λ sequence. apart.synced refl (locks (did (step.Rename mail temp context_name) answer.Done ∷ later) one),
+            let renamed_ = did (step.Rename mail temp context_name) answer.Done ∷ later in
+            let one = keeps later (step.Rename mail temp context_name) answer.Done may (λ same. absurd (mail_apart same)) g.0.0.0 in (
+              (keeps renamed_ (step.SyncFolder mail) answer.Done may_sync tt one, λ sequence. apart.synced refl (locks renamed_ one)),
+              keeps_new renamed_ (step.SyncFolder mail) answer.Done may_sync tt (λ t u. cc (u)) (commits_so later temp old may g.0.0.0 g.1 (subst (λ z. WasDone (step.Create mail temp z) later) is made) g.0.1),
             ))
 
     abbrev Entries : Outcome (List NamedValue)
@@ -240,7 +255,7 @@ module _ (Of : List ℕ → Type 0) (w : Pledge) (path folder : List ℕ) where
             refl,
             (
               both_kept own (step.Read mail context_name LIMIT_BYTES) (answer.Content bytes) may tt (λ t u. cc (u)) f,
-              record { base = commits.found (LIMIT_BYTES, refl) lock_; text = λ sequence. apart.found (LIMIT_BYTES, refl) (locks own f.0) },
+              record { base = commits.found (LIMIT_BYTES, refl) lock_; text = λ sequence. apart.found (LIMIT_BYTES, refl) (locks own f.0.0) },
             ),
           )),
           (λ l. meets_end (MayAsk w) (MindsAll Of w.run) (did (step.Read mail context_name LIMIT_BYTES) (answer.Long l) ∷ own) h (fault.TooLarge l) Entries),
@@ -249,23 +264,23 @@ module _ (Of : List ℕ → Type 0) (w : Pledge) (path folder : List ℕ) where
             sym no_entries,
             (
               both_kept own (step.Read mail context_name LIMIT_BYTES) answer.Gone may tt (λ t u. cc (u)) f,
-              record { base = commits.missing refl lock_; text = λ sequence. apart.missing refl (locks own f.0) },
+              record { base = commits.missing refl lock_; text = λ sequence. apart.missing refl (locks own f.0.0) },
             ),
           ),
         ))
 
-    known_meets : (own : List Deed) (h : Hand) (es : List NamedValue) → Both own → M own h (known es) (okay Ends)
+    known_meets : (own : List Deed) (h : Hand) (es : List NamedValue) → Since own → M own h (known es) (okay Ends)
     unfolding Meets known
     known_meets own h es f = f
 
-    free_meets : (own : List Deed) (h : Hand) (es : List NamedValue) → Both own → M own h (let_go mail >>= (λ free. known es)) (okay Ends)
+    free_meets : (own : List Deed) (h : Hand) (es : List NamedValue) → Since own → M own h (let_go mail >>= (λ free. known es)) (okay Ends)
     unfolding let_go
     free_meets own h es f =
         meets_then (MayAsk w) (MindsAll Of w.run) own h (let_go mail) (λ free. known es) Ends Ends
         (meets_unlock (MayAsk w) (MindsAll Of w.run) own h of_stop (okay Ends) mail (λ a. Return (Ok tt))
         (λ may. (
           look_minds Of w.run own (step.Unlock mail) tt,
-          meets_return (MayAsk w) (MindsAll Of w.run) (did (step.Unlock mail) answer.Done ∷ own) h tt (okay Ends) (both_kept own (step.Unlock mail) answer.Done may mail_apart (λ t u. cc (u)) f),
+          meets_return (MayAsk w) (MindsAll Of w.run) (did (step.Unlock mail) answer.Done ∷ own) h tt (okay Ends) (since_kept own (step.Unlock mail) answer.Done may mail_apart (λ t u. cc (u)) f),
         )))
         (λ later j u g. known_meets later j es g)
 
@@ -295,10 +310,19 @@ module _ (Of : List ℕ → Type 0) (w : Pledge) (path folder : List ℕ) where
           made_meets (did (step.MakeFolder mail) answer.Exists ∷ own) h (both_kept own (step.MakeFolder mail) answer.Exists may tt (λ t u. cc (u)) f),
         ))
 
-    pub commit_meets : (own : List Deed) (h : Hand) → F own → Synced path folder own → M own h (commit_context w.run mail cs) (okay Ends)
+    pub commit_meets_so : (own : List Deed) (h : Hand) → F own → Synced path folder own → Old own → (settled cs h.context ≡ true → New own) → M own h (commit_context w.run mail cs) (okay (λ later j u. (F later × Synced path folder later) × New later))
     unfolding Meets commit_context
-    commit_meets own h f s = go (settled cs h.context)
+    commit_meets_so own h f s old says_so = go (settled cs h.context) refl
       where
-        go : (b : Bool) → M own h (commit_by w.run mail cs b) (okay Ends)
-        go true = meets_return (MayAsk w) (MindsAll Of w.run) {E = PlanFault} own h tt (okay Ends) (f, s)
-        go false = committed_meets own h (f, s)
+        go : (b : Bool) → settled cs h.context ≡ b → M own h (commit_by w.run mail cs b) (okay Ends)
+        go true e = meets_return (MayAsk w) (MindsAll Of w.run) {E = PlanFault} own h tt (okay Ends) ((f, s), says_so e)
+        go false e = committed_meets own h ((f, s), old)
+
+  -- where nothing is made another
+  pub commit_meets : (F : List Deed → Type 0) → Lasts F → ((own : List Deed) → F own → HasLock p own) → (cs : List ChangeEntry)
+      → ((own : List Deed) (temp old : List ℕ) → MayAsk w own (step.Rename mail temp context_name) → F own → Synced path folder own → Context old own → WasDone (step.Create mail temp (printed (changed cs (entries_in old)))) own
+      → MindsAll Of w.run own (step.Rename mail temp context_name))
+      → (own : List Deed) (h : Hand) → F own → Synced path folder own → M own h (commit_context w.run mail cs) (okay (λ later j u. F later × Synced path folder later))
+  commit_meets F keeps locks cs minds own h f s =
+      meets_okay (MayAsk w) (MindsAll Of w.run) own h (commit_context w.run mail cs) (λ later j u. (F later × Synced path folder later) × Unit {0}) (λ later j u. F later × Synced path folder later) (λ later j u g. g.0)
+      (commit_meets_so F keeps locks cs minds (λ before. Unit {0}) (λ before. Unit {0}) (λ before step_ a may quiet none u. tt) (λ before step_ a may quiet none u. tt) (λ before temp old may g context made u. tt) own h f s tt (λ e. tt))

@@ -4,7 +4,7 @@ use Rattle.mh_base.specs.Entries.{kind_of}
 use Rattle.folder_files.specs.Careful.{HasLock, IsCareful, changes, looks}
 use Rattle.folder_files.specs.Commands.{Manner}
 use Rattle.folder_files.specs.Deeds.{Deed, Once, WasDone, did, now, on, still}
-use Rattle.folder_files.specs.Named.{is_committed, is_held, is_number, is_temp}
+use Rattle.folder_files.specs.Named.{is_committed, is_held, is_number, is_temp, is_temp_of}
 use Rattle.folder_files.specs.Standing.{is_standing}
 use Rattle.folder_files.specs.Steps.{has_text}
 use Rattle.folder_files.specs.declared.place.Place.{Place}
@@ -54,10 +54,12 @@ module _ (w : Pledge) where
     quiet_unlock : (s : Step) → Quiet p s → s ≡ step.Unlock p → ⊥
     quiet_unlock s quiet e = (subst (λ z. Quiet p z) e quiet) refl
 
-    -- a careful rename to a committed name is of a temporary one
+    -- a careful rename to a committed name is of a temporary one of the run
+    pub renamed_own : (own : List Deed) (a b : List ℕ) → is_committed p b ≡ true → MayAsk w own (step.Rename p a b) → is_temp_of w.run (kind_of a) ≡ true
+    renamed_own own a b committed may = (commit_of w.run own p a b committed (careful_rename w.run own p a b (own_is_careful w.run w.manner own (step.Rename p a b) may.is_own)).1).1.0
+
     renamed_temp : (own : List Deed) (a b : List ℕ) → is_committed p b ≡ true → MayAsk w own (step.Rename p a b) → is_temp (kind_of a) ≡ true
-    renamed_temp own a b committed may =
-        is_temp_any w.run a (commit_of w.run own p a b committed (careful_rename w.run own p a b (own_is_careful w.run w.manner own (step.Rename p a b) may.is_own)).1).1.0
+    renamed_temp own a b committed may = is_temp_any w.run a (renamed_own own a b committed may)
 
     quiet_touches : (own : List Deed) (s : Step) (z : List ℕ) → MayAsk w own s → Quiet p s → is_standing z ≡ true → Touches p z s → ⊥
     quiet_touches own (step.List q) z may quiet stands t = t

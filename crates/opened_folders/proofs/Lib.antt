@@ -4,9 +4,10 @@ pub mod BeginState
 pub mod BegunEnds
 pub mod BegunSeen
 pub mod BegunWorks
-pub mod ChosenListed
 pub mod Causes
+pub mod ChosenListed
 pub mod CleanRuns
+pub mod CommitFrees
 pub mod CommitMinds
 pub mod CommitSeen
 pub mod EndedKept
@@ -18,6 +19,8 @@ pub mod FolderEndings
 pub mod FolderGiven
 pub mod FolderPledged
 pub mod FolderSeen
+pub mod FreeMarks
+pub mod HandKept
 pub mod HomesFound
 pub mod KeptGiven
 pub mod KeptMessages
@@ -32,10 +35,12 @@ pub mod NumbersStay
 pub mod OneStep
 pub mod SequencesEnd
 pub mod Sets
-pub mod Speaking
 pub mod SettledEnds
 pub mod SettledSeen
 pub mod SettledShown
+pub mod Speaking
+pub mod SpokenEntries
+pub mod ToldMarks
 pub mod TriedAlone
 pub mod WorkEnds
 pub mod WorkGiven

@@ -19,6 +19,7 @@ use Rattle.opened_folders.proofs.BegunSeen.{HasSeenBegun, NoneUnlinked, begun_me
 use Rattle.opened_folders.proofs.CleanRuns.{sound_more}
 use Rattle.opened_folders.proofs.CommitMinds.{IsTold}
 use Rattle.opened_folders.proofs.FolderPledged.{HasBegun}
+use Rattle.opened_folders.proofs.FreeMarks.{FreesOthers}
 use Rattle.opened_folders.proofs.Meeting.{Meets, meets_lifted, meets_make, meets_more}
 
 -- of a plan that goes as pledged, and whose steps meet this, both hold at its end
@@ -43,8 +44,8 @@ module _ (w : Pledge) (path folder : List ℕ) where
   abbrev mail : Place
   mail = Mail path
 
-  abbrev Seen_ : Outcome Opened
-  Seen_ later j o = HasSeenBegun path folder later o
+  abbrev pub Seen_ : Outcome Opened
+  Seen_ later j o = HasSeenBegun path folder later o × FreesOthers w.run path folder o.listing later
 
   made_meets : (own : List Deed) (h : Hand) → NoneUnlinked p own → Meets (MayAsk w) (MindsAll Of w.run) own h (made_begun w.run p mail folder) (okay Seen_)
   unfolding made_begun
@@ -58,7 +59,7 @@ module _ (w : Pledge) (path folder : List ℕ) where
 
   -- with what is known of it where it is begun as pledged
   abbrev pub Made : List Deed → Outcome Opened
-  Made own later j o = HasBegun w own path folder later o × HasSeenBegun path folder later o
+  Made own later j o = HasBegun w own path folder later o × Seen_ later j o
 
   both : (own later : List Deed) (j : Hand) (r : Result Opened PlanFault) → okay (λ last i o. HasBegun w own path folder last o) later j r × okay Seen_ later j r → okay (Made own) later j r
   both own later j (Ok o) q = q

@@ -25,7 +25,7 @@ use Rattle.sequence_marks.specs.SequenceMarks.{says_private, says_public}
 use Rattle.sequence_commits.specs.FolderEntries.{is_of_folder}
 use Rattle.sequence_commits.specs.PrivateChanges.{changes_to, entry_names, given, gone, is_left_over}
 
-by_bool : {X : Type 0} (b : Bool) → (b ≡ true → X) → (b ≡ false → X) → X
+pub by_bool : {X : Type 0} (b : Bool) → (b ≡ true → X) → (b ≡ false → X) → X
 by_bool true f g = f refl
 by_bool false f g = g refl
 
@@ -149,7 +149,7 @@ changed_same [] es ending sequence n silent = refl
 changed_same (c ∷ cs) es ending sequence n silent = changed_same cs (changed_by c.name c.value es) ending sequence n silent.1 ∙ one_same c.name c.value ending sequence n es silent.0
 
 -- changes keep entries entries
-changed_valid : (cs : List ChangeEntry) (es : List NamedValue) → AreChanges cs → AreEntries es → AreEntries (changed cs es)
+pub changed_valid : (cs : List ChangeEntry) (es : List NamedValue) → AreChanges cs → AreEntries es → AreEntries (changed cs es)
 unfolding changed
 changed_valid [] es ok all = all
 changed_valid (c ∷ cs) es ok all = changed_valid cs (changed_by c.name c.value es) ok.1 (one c.value ok.0)

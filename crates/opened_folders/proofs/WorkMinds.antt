@@ -22,6 +22,7 @@ use Rattle.opened_folders.proofs.BegunSeen.{HasSeenBegun, NoneUnlinked, begun_me
 use Rattle.opened_folders.proofs.CommitMinds.{Facts, IsTold, other_minds}
 use Rattle.opened_folders.proofs.CommitSeen.{commit_meets}
 use Rattle.opened_folders.proofs.FolderSeen.{Seen, quiet_seen}
+use Rattle.opened_folders.proofs.FreeMarks.{FreesOthers}
 use Rattle.opened_folders.proofs.Meeting.{Meets, meets_bind, meets_lifted, meets_return, meets_then, meets_weaker}
 
 -- whatever comes of a part
@@ -88,5 +89,5 @@ module _ (w : Pledge) (path folder : List ℕ) where
       (works : (own : List Deed) (h : Hand) (o : Opened) → HasSeenBegun path folder own o → Meets (MayAsk w) A own h (act o) Anyhow)
       (own : List Deed) (h : Hand) → NoneUnlinked p own → Meets (MayAsk w) A own h (lifted (of_plan folder) (begun w.run p mail folder) >>= (λ o. bind (act o) (ended p))) Anyhow
   whole_meets A minds act works own h none =
-      opened_meets A minds act (λ later j o. HasSeenBegun path folder later o) works (lifted (of_plan folder) (begun w.run p mail folder)) own h
-      (meets_lifted (MayAsk w) (MindsAll Of w.run) own h (of_plan folder) (begun w.run p mail folder) (λ later j o. HasSeenBegun path folder later o) (begun_meets w path folder own h none))
+      opened_meets A minds act (λ later j o. HasSeenBegun path folder later o × FreesOthers w.run path folder o.listing later) (λ later j o q. works later j o q.0) (lifted (of_plan folder) (begun w.run p mail folder)) own h
+      (meets_lifted (MayAsk w) (MindsAll Of w.run) own h (of_plan folder) (begun w.run p mail folder) (λ later j o. HasSeenBegun path folder later o × FreesOthers w.run path folder o.listing later) (begun_meets w path folder own h none))

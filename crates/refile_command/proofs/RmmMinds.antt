@@ -42,11 +42,12 @@ use Rattle.command_stages.specs.Endings.{of_plan}
 use Rattle.opened_folders.specs.FolderPledge.{told_within}
 use Rattle.opened_folders.specs.Opening.{Opened}
 use Rattle.opened_folders.proofs.AllMarks.{MindsAll, look_minds, plain_minds}
-use Rattle.opened_folders.proofs.BegunSeen.{HasSeenBegun, NoneUnlinked, told_cur, told_listed}
+use Rattle.opened_folders.proofs.BegunSeen.{HasSeenBegun, NoneUnlinked}
 use Rattle.opened_folders.proofs.ChosenListed.{marked_cur_is, marked_member, tested_has}
 use Rattle.opened_folders.proofs.CommitMinds.{Facts, IsTold, Within, changed_meets}
 use Rattle.opened_folders.proofs.FolderSeen.{quiet_seen}
 use Rattle.opened_folders.proofs.Meeting.{Meets, meets_end, meets_lifted, meets_more, meets_okay, meets_rename, meets_return, meets_stop, meets_sync_folder, meets_then, meets_unlink, meets_weaker}
+use Rattle.opened_folders.proofs.ToldMarks.{told_cur, told_listed}
 use Rattle.opened_folders.proofs.WorkMinds.{Anyhow, current_meets, whole_meets}
 use Rattle.refile_command.specs.HeldLeft.{HasLetGo, RemovesUnheld}
 use Rattle.refile_command.specs.Rmm.{all_removed, chosen_from, opened_removed, removed_marked, removed_safely, rmm, said_removed, withdrawn}
