@@ -153,7 +153,7 @@ module _ (run : ℕ) (path folder : List ℕ) (f : FilePath) (first : List Deed)
 
 -- messages are taken in, one after another
 module _ (w : Pledge) (few : w.run < 2 ^ 128) (path folder : List ℕ) (Known : ℕ → List Deed → Type 0) (f : FilePath)
-    (lets : PutsMessages w (Folder path folder) Known None (HoldsOne w.run f)) (silent : Bool)
+    (lets : (bytes : List ℕ) → PutsMessages w (Folder path folder) bytes Known None (HoldsOne w.run f)) (silent : Bool)
     (tells : silent ≡ false → (own : List Deed) (piece : List ℕ) → IsLineOfStored w.run (Folder path folder) own piece → w.may_tell own piece)
     (first : List Deed) (listing : List Run) (text context old : List ℕ) where
   abbrev pub Taking : List ℕ → List (List ℕ) → List ℕ → List Deed → Type 0

@@ -30,7 +30,7 @@ pub record IsTakenBy (run : ℕ) (p : Place) (bytes : List ℕ) (own : List Deed
   pub put : IsPutBy run p bytes own m before
   pub deeds : later ≡ did (step.SyncFolder p) answer.Done ∷ before
 
-module _ (w : Pledge) (few : w.run < 2 ^ 128) (p : Place) (Known : ℕ → List Deed → Type 0) (Now : List Deed → Type 0) (lets : PutsMessages w p Known None Now) (is_there : is_folder p ≡ true) where
+module _ (w : Pledge) (few : w.run < 2 ^ 128) (p : Place) (Known : ℕ → List Deed → Type 0) (Now : List Deed → Type 0) (lets : (bytes : List ℕ) → PutsMessages w p bytes Known None Now) (is_there : is_folder p ≡ true) where
   -- the message is stored at this number, and the lock is had
   abbrev pub HasStored : List ℕ → List Deed → Outcome ℕ
   HasStored bytes own later j m = Held own p later × IsMsgNum m × HasStoredAt w.run p m bytes later × IsTakenBy w.run p bytes own m later × Known m later
@@ -38,7 +38,7 @@ module _ (w : Pledge) (few : w.run < 2 ^ 128) (p : Place) (Known : ℕ → List 
   pub stored_goes : (bytes : List ℕ) (top : ℕ) → top ≤ 999999 → (own : List Deed) (h : Hand) → Known top own → Now own → HasLock p own → Goes w own h (message_stored w.run p top bytes) (okay (HasStored bytes own))
   unfolding message_stored
   stored_goes bytes top small own h known current lock =
-      goes_then w own h (message_put w.run p bytes None top) _ (HasPut w few p Known None Now lets is_there bytes own) (HasStored bytes own) (put_goes w few p Known None Now lets is_there bytes tt top small own h known current lock)
+      goes_then w own h (message_put w.run p bytes None top) _ (HasPut w few p bytes Known None Now (lets bytes) is_there own) (HasStored bytes own) (put_goes w few p bytes Known None Now (lets bytes) is_there tt top small own h known current lock)
       (λ later j m f.
       goes_then w later j (synced p (decimal m)) _ (Adds later (did (step.SyncFolder p) answer.Done)) (HasStored bytes own) (synced_goes w later j p (decimal m))
       (λ last i u e. goes_at w last (did (step.SyncFolder p) answer.Done ∷ later) i _ (okay (HasStored bytes own)) e (goes_return w _ i m (okay (HasStored bytes own)) (safe later m f.0 f.1 f.2 f.3 f.4))))
@@ -49,7 +49,7 @@ module _ (w : Pledge) (few : w.run < 2 ^ 128) (p : Place) (Known : ℕ → List 
         ok,
         now (refl, put),
         record { before = later; put = by; deeds = refl },
-        lets.kept m later (step.SyncFolder p) answer.Done tt known_,
+        (lets bytes).kept m later (step.SyncFolder p) answer.Done tt known_,
       )
 
   -- lines of stored messages may be told, where any are
