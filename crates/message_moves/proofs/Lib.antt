@@ -2,3 +2,4 @@ pub mod MoveAsks
 pub mod MoveCopied
 pub mod MoveGiven
 pub mod MovePledged
+mod Turns
