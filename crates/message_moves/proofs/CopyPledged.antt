@@ -61,7 +61,7 @@ stored_behind run bytes qs q m own all one r c = by (Contains-append_cases qs (q
 leave_locks : (q r : Place) → AsksPut (LeavesLock q) r
 leave_locks q r = record { create = λ temp bytes. tt; sync = λ temp. tt; link = λ temp number. tt; unlink = λ temp. tt }
 
-pub leave_any : (r : Place) → AsksPut AnyStep r
+leave_any : (r : Place) → AsksPut AnyStep r
 leave_any r = record { create = λ temp bytes. tt; sync = λ temp. tt; link = λ temp number. tt; unlink = λ temp. tt }
 
 -- the folder that messages leave or are copied from; those of which the run has the locks; what is known of numbers; what is so once a message

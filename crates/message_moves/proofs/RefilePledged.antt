@@ -104,9 +104,6 @@ module _ (w : Pledge) (few : w.run < 2 ^ 128) (p : Place) (folder : is_folder p 
   abbrev held_of : ℕ → List ℕ
   held_of n = entry_text (Held w.run n)
 
-  abbrev Held_ : List ℕ → List Deed → Type 0
-  Held_ ns own = AllSpared w.run p ns own
-
   abbrev To : List Destination → List Deed → Type 0
   To ds own = AreDestinations w few p In Known Now keeps ds own
 
@@ -121,7 +118,37 @@ module _ (w : Pledge) (few : w.run < 2 ^ 128) (p : Place) (folder : is_folder p 
     pub discards : (n : ℕ) (own : List Deed) → IsMsgNum n → HasCopied w.run p (held_of n) folders own → LetsDiscard w p (held_of n) own
     pub lasts : (n : ℕ) → KeptBy AnyStep (May n)
 
-  module _ (folders : List Place) (May : ℕ → List Deed → Type 0) (lets : LetsRefile folders May) where
+  -- each step of messages that leave keeps this fact of the deeds
+  pub record MovesKeep (P : Step → Type 0) (F : List Deed → Type 0) : Type 0 where
+    pub kept : KeptBy P F
+    pub take : (n : ℕ) → IsMsgNum n → P (taking w.run p n)
+    pub read : (n : ℕ) → IsMsgNum n → P (step.Read p (held_of n) LIMIT_BYTES)
+    pub elsewhere : (q : Place) → (q ≡ p → ⊥) → AsksPut P q
+    pub safe : (q : Place) → P (step.SyncFolder q)
+    pub gone : (n : ℕ) → IsMsgNum n → P (step.Unlink p (held_of n))
+
+  module _ (folders : List Place) (May : ℕ → List Deed → Type 0) (lets : LetsRefile folders May) (P : Step → Type 0) (F : List Deed → Type 0) (moves : MovesKeep P F) where
+    -- the held names of these messages were used for nothing, and that is so
+    abbrev Still : List ℕ → List Deed → Type 0
+    Still ns own = AllSpared w.run p ns own × F own
+
+    abbrev Leaves : List ℕ → Step → Type 0
+    Leaves ns s = SparesAll w.run p ns s × P s
+
+    still_kept : (ns : List ℕ) → KeptBy (Leaves ns) (Still ns)
+    still_kept ns own s a leaves f = (spared_on w.run p ns own s a leaves.0 f.0, moves.kept own s a leaves.1 f.1)
+
+    leaves_puts : (ns : List ℕ) (q : Place) → (q ≡ p → ⊥) → AsksPut (Leaves ns) q
+    leaves_puts ns q apart = record {
+      create = λ temp bytes. ((put_elsewhere w.run p ns q apart).create temp bytes, (moves.elsewhere q apart).create temp bytes);
+      sync = λ temp. ((put_elsewhere w.run p ns q apart).sync temp, (moves.elsewhere q apart).sync temp);
+      link = λ temp number. ((put_elsewhere w.run p ns q apart).link temp number, (moves.elsewhere q apart).link temp number);
+      unlink = λ temp. ((put_elsewhere w.run p ns q apart).unlink temp, (moves.elsewhere q apart).unlink temp);
+    }
+
+    leaves_sync : (ns : List ℕ) (q : Place) → Leaves ns (step.SyncFolder q)
+    leaves_sync ns q = (free w.run p ns (step.SyncFolder q) (λ held. tt), moves.safe q)
+
     abbrev pub AllMay : List ℕ → List Deed → Type 0
     AllMay [] own = Unit {0}
     AllMay (n ∷ ns) own = May n own × AllMay ns own
@@ -136,7 +163,7 @@ module _ (w : Pledge) (few : w.run < 2 ^ 128) (p : Place) (folder : is_folder p 
       held = held_of n
 
       abbrev Refiled : Outcome (List Destination)
-      Refiled later j es = (places es ≡ folders) × To es later × HasLocks later × Held_ ns later × HasGone w.run p folders n later
+      Refiled later j es = (places es ≡ folders) × To es later × HasLocks later × Still ns later × HasGone w.run p folders n later
 
       abbrev Open : List ℕ → (List Deed → Type 0) → List Deed → Type 0
       Open bytes G own = IsOpen w.run p held bytes G own
@@ -144,19 +171,19 @@ module _ (w : Pledge) (few : w.run < 2 ^ 128) (p : Place) (folder : is_folder p 
       abbrev Both : Place → ℕ → List ℕ → (List Deed → Type 0) → List Deed → Type 0
       Both q m bytes G part = G part × HasStoredAt w.run q m bytes part × HasCopy w.run bytes part
 
-      opens : (bytes : List ℕ) → Opens w few p In Known Now keeps bytes (Open bytes) (SparesAll w.run p ns) (Held_ ns)
+      opens : (bytes : List ℕ) → Opens w few p In Known Now keeps bytes (Open bytes) (Leaves ns) (Still ns)
       opens bytes = record {
         stored = λ q is G kept own later m number by o.
-            open_less w.run p held bytes (Both q m bytes G) (Copied w few p In Known Now keeps bytes (Open bytes) (SparesAll w.run p ns) (Held_ ns) q G m) (λ part c. (c.0, c.1)) later
+            open_less w.run p held bytes (Both q m bytes G) (Copied w few p In Known Now keeps bytes (Open bytes) (Leaves ns) (Still ns) q G m) (λ part c. (c.0, c.1)) later
             (subst (λ z. IsOpen w.run p held bytes (Both q m bytes G) z) (sym by.deeds) (put_opens w.run p held bytes q is bytes (as_they_are bytes) G kept own by.before m number by.put o));
         less = open_less w.run p held bytes;
-        rest = spared_on w.run p ns;
-        elsewhere = put_elsewhere w.run p ns;
-        safe = λ q. free w.run p ns (step.SyncFolder q) (λ held_. tt);
+        rest = still_kept ns;
+        elsewhere = leaves_puts ns;
+        safe = leaves_sync ns;
       }
 
       abbrev Going_ : List ℕ → (List Deed → Type 0) → List Deed → Type 0
-      Going_ bytes G own = Going w few p In Known Now keeps bytes (Open bytes) (SparesAll w.run p ns) (Held_ ns) G own
+      Going_ bytes G own = Going w few p In Known Now keeps bytes (Open bytes) (Leaves ns) (Still ns) G own
 
       abbrev has_copied : (fs : List Place) (bytes : List ℕ) (own : List Deed) → IsOpen w.run p held bytes (AreStored w.run bytes fs) own → HasCopied w.run p held fs own
       has_copied fs bytes own o = record { bytes = bytes; since = o.part; reading = did (step.Read p held o.limit) (answer.Content bytes); before = did (step.Rename p o.number held) answer.Done ∷ o.old; deeds = o.deeds; is_reading = (o.limit, refl); stored = o.also }
@@ -178,7 +205,7 @@ module _ (w : Pledge) (few : w.run < 2 ^ 128) (p : Place) (folder : is_folder p 
             same,
             destinations_kept w few p In Known Now keeps es _ (step.SyncFolder p) answer.Done tt (destinations_kept w few p In Known Now keeps es own (step.Unlink p held) answer.Done tt to),
             (λ q l. still (λ x. cc (x)) (still (λ x. cc (x)) (g.locks q l))),
-            spared_on w.run p ns _ (step.SyncFolder p) answer.Done (free w.run p ns (step.SyncFolder p) (λ other. tt)) (spared_on w.run p ns own (step.Unlink p held) answer.Done (free w.run p ns (step.Unlink p held) (λ other. tt)) g.others),
+            still_kept ns _ (step.SyncFolder p) answer.Done (leaves_sync ns p) (still_kept ns own (step.Unlink p held) answer.Done (free w.run p ns (step.Unlink p held) (λ other. tt), moves.gone n ok) g.others),
             has_gone folders bytes own g.open_,
           )))
         where
@@ -189,13 +216,13 @@ module _ (w : Pledge) (few : w.run < 2 ^ 128) (p : Place) (folder : is_folder p 
       rest d ds x = content_read p x >>= (λ bytes. copied_to_all w.run bytes (d ∷ ds) [] >>= (λ later. held_discarded p x >>= (λ gone. Return (Ok later))))
 
       -- what the taking and the reading leave alone
-      spares_taking : SparesAll w.run p ns (taking w.run p n)
-      spares_taking = names_none w.run few p n ok ns are apart (taking w.run p n) (λ other off e is. off is)
+      spares_taking : Leaves ns (taking w.run p n)
+      spares_taking = (names_none w.run few p n ok ns are apart (taking w.run p n) (λ other off e is. off is), moves.take n ok)
 
-      spares_reading : SparesAll w.run p ns (step.Read p held LIMIT_BYTES)
-      spares_reading = names_none w.run few p n ok ns are apart (step.Read p held LIMIT_BYTES) (λ other off e is. off is)
+      spares_reading : Leaves ns (step.Read p held LIMIT_BYTES)
+      spares_reading = (names_none w.run few p n ok ns are apart (step.Read p held LIMIT_BYTES) (λ other off e is. off is), moves.read n ok)
 
-      read_goes : (d : Destination) (ds : List Destination) → places (d ∷ ds) ≡ folders → is_folder d.place ≡ true → (own : List Deed) (j : Hand) → AreSpared p held own → Held_ ns own → HasLocks own → To (d ∷ ds) own
+      read_goes : (d : Destination) (ds : List Destination) → places (d ∷ ds) ≡ folders → is_folder d.place ≡ true → (own : List Deed) (j : Hand) → AreSpared p held own → Still ns own → HasLocks own → To (d ∷ ds) own
           → Goes w (after_take w.run p n own) j (rest d ds held) (okay Refiled)
       read_goes d ds some is own j spared others locks to =
           goes_then w (after_take w.run p n own) j (content_read p held) (λ bytes. copied_to_all w.run bytes (d ∷ ds) [] >>= (λ later. held_discarded p held >>= (λ gone. Return (Ok later)))) (HasContent p held (after_take w.run p n own)) Refiled
@@ -204,19 +231,19 @@ module _ (w : Pledge) (few : w.run < 2 ^ 128) (p : Place) (folder : is_folder p 
         where
           copying : (bytes : List ℕ) (i : Hand) → Goes w (after_content p held bytes (after_take w.run p n own)) i (copied_to_all w.run bytes (d ∷ ds) [] >>= (λ later. held_discarded p held >>= (λ gone. Return (Ok later)))) (okay Refiled)
           copying bytes i =
-              goes_then w _ i (copied_to_all w.run bytes (d ∷ ds) []) (λ later. held_discarded p held >>= (λ gone. Return (Ok later))) (AllCopied w few p In Known Now keeps bytes (Open bytes) (SparesAll w.run p ns) (Held_ ns) (opens bytes) (places (d ∷ ds))) Refiled
-              (copies_go w few p In Known Now keeps bytes (Open bytes) (SparesAll w.run p ns) (Held_ ns) (opens bytes) (d ∷ ds) _ i
+              goes_then w _ i (copied_to_all w.run bytes (d ∷ ds) []) (λ later. held_discarded p held >>= (λ gone. Return (Ok later))) (AllCopied w few p In Known Now keeps bytes (Open bytes) (Leaves ns) (Still ns) (opens bytes) (places (d ∷ ds))) Refiled
+              (copies_go w few p In Known Now keeps bytes (Open bytes) (Leaves ns) (Still ns) (opens bytes) (d ∷ ds) _ i
               (destinations_kept w few p In Known Now keeps (d ∷ ds) (after_take w.run p n own) (step.Read p held LIMIT_BYTES) (answer.Content bytes) tt (destinations_kept w few p In Known Now keeps (d ∷ ds) own (taking w.run p n) answer.Done tt to)) Anything
               (record {
                 locks = λ q l. still (λ x. cc (x)) (still (λ x. cc (x)) (locks q l));
                 open_ = opened w.run few p n ok bytes own spared;
                 current = lets.reads n bytes (after_take w.run p n own) ok;
-                others = spared_on w.run p ns (after_take w.run p n own) (step.Read p held LIMIT_BYTES) (answer.Content bytes) spares_reading (spared_on w.run p ns own (taking w.run p n) answer.Done spares_taking others);
+                others = still_kept ns (after_take w.run p n own) (step.Read p held LIMIT_BYTES) (answer.Content bytes) spares_reading (still_kept ns own (taking w.run p n) answer.Done spares_taking others);
               }))
               (λ last k es g. ending d ds some is bytes last k es (g.0 ∙ some) g.1 (subst (λ qs. Going_ bytes (AreStored w.run bytes qs) last) some g.2))
 
       -- a message that has nowhere to go stays
-      message_goes : (ds : List Destination) → places ds ≡ folders → (own : List Deed) (h : Hand) → May n own → AreSpared p held own → Held_ ns own → HasLocks own → To ds own → Goes w own h (message_refiled w.run p n ds) (okay Refiled)
+      message_goes : (ds : List Destination) → places ds ≡ folders → (own : List Deed) (h : Hand) → May n own → AreSpared p held own → Still ns own → HasLocks own → To ds own → Goes w own h (message_refiled w.run p n ds) (okay Refiled)
       unfolding message_refiled
       message_goes [] some own h may spared others locks to = goes_return w own h [] (okay Refiled) (some, tt, locks, others, subst (λ fs. HasGone w.run p fs n own) some tt)
       message_goes (d ∷ ds) some own h may spared others locks to =
@@ -227,15 +254,15 @@ module _ (w : Pledge) (few : w.run < 2 ^ 128) (p : Place) (folder : is_folder p 
     -- The messages of these numbers are refiled, where their held names were used for nothing and the locks are had: each step is careful, and they
     -- went to each of the folders.
     abbrev pub AllRefiled : List ℕ → Outcome (List Destination)
-    AllRefiled ns later j es = (places es ≡ folders) × To es later × HasLocks later × AllGone w.run p folders ns later
+    AllRefiled ns later j es = (places es ≡ folders) × To es later × HasLocks later × F later × AllGone w.run p folders ns later
 
-    pub messages_go : (ns : List ℕ) → AreMessages ns → (ds : List Destination) → places ds ≡ folders → (own : List Deed) (h : Hand) → AllMay ns own → AllSpared w.run p ns own → HasLocks own → To ds own → Goes w own h (messages_refiled w.run p ns ds) (okay (AllRefiled ns))
+    pub messages_go : (ns : List ℕ) → AreMessages ns → (ds : List Destination) → places ds ≡ folders → (own : List Deed) (h : Hand) → AllMay ns own → AllSpared w.run p ns own → F own → HasLocks own → To ds own → Goes w own h (messages_refiled w.run p ns ds) (okay (AllRefiled ns))
     unfolding messages_refiled
-    messages_go [] are ds some own h may spared locks to = goes_return w own h ds (okay (AllRefiled [])) (some, to, locks, tt)
-    messages_go (n ∷ ns) are ds some own h may spared locks to =
+    messages_go [] are ds some own h may spared fact locks to = goes_return w own h ds (okay (AllRefiled [])) (some, to, locks, fact, tt)
+    messages_go (n ∷ ns) are ds some own h may spared fact locks to =
         goes_lasting w (AllMay ns) (all_may_kept ns) own h (message_refiled w.run p n ds) (λ later. messages_refiled w.run p ns later) (Refiled n are.0 ns are.2 are.1) (AllRefiled (n ∷ ns)) may.1
-        (message_goes n are.0 ns are.2 are.1 ds some own h may.0 spared.0 spared.1 locks to)
+        (message_goes n are.0 ns are.2 are.1 ds some own h may.0 spared.0 (spared.1, fact) locks to)
         (λ later j es rest f.
         goes_more w later j (messages_refiled w.run p ns es) (okay (λ last i fs. HasGone w.run p folders n last × AllRefiled ns last i fs)) (okay (AllRefiled (n ∷ ns)))
-        (okay_more (λ last i fs. HasGone w.run p folders n last × AllRefiled ns last i fs) (AllRefiled (n ∷ ns)) (λ last i fs g. (g.1.0, g.1.1, g.1.2, (g.0, g.1.3))))
-        (lasting w (HasGone w.run p folders n) (gone_kept w.run p folders n) later j (messages_refiled w.run p ns es) (AllRefiled ns) f.4 (messages_go ns are.2 es f.0 later j rest f.3 f.2 f.1)))
+        (okay_more (λ last i fs. HasGone w.run p folders n last × AllRefiled ns last i fs) (AllRefiled (n ∷ ns)) (λ last i fs g. (g.1.0, g.1.1, g.1.2, g.1.3, (g.0, g.1.4))))
+        (lasting w (HasGone w.run p folders n) (gone_kept w.run p folders n) later j (messages_refiled w.run p ns es) (AllRefiled ns) f.4 (messages_go ns are.2 es f.0 later j rest f.3.0 f.3.1 f.2 f.1)))

@@ -22,13 +22,13 @@ use Rattle.step_plans.proofs.Lasting.{KeptBy, goes_lasting, lasting}
 use Rattle.step_plans.proofs.Stepping.{goes_return}
 use Rattle.step_plans.proofs.Written.{goes_at}
 use Rattle.message_puts.specs.Stored.{HasStoredAt}
-use Rattle.message_puts.proofs.PutPledged.{Tries, made_ready, tried, untried}
+use Rattle.message_puts.proofs.PutPledged.{AsksPut, Tries, made_ready, tried, untried}
 use Rattle.message_puts.proofs.StoredPledged.{IsStoredBy}
 use Rattle.message_moves.specs.Copied.{HasCopied}
 use Rattle.message_moves.specs.Copying.{copied_to_all, message_copied, messages_copied}
 use Rattle.message_moves.specs.Moving.{content_read}
 use Rattle.message_moves.specs.declared.destination.Destination.{Destination}
-use Rattle.message_moves.proofs.CopyPledged.{AllCopied, AreDestinations, Locks, Opens, copies_go, destinations_kept, leave_any, places}
+use Rattle.message_moves.proofs.CopyPledged.{AllCopied, AreDestinations, Locks, Opens, copies_go, destinations_kept, places}
 use Rattle.message_moves.proofs.MoveCopied.{Anything}
 use Rattle.message_moves.proofs.MovePledged.{HasContent, after_content, content_goes}
 
@@ -107,10 +107,14 @@ module _ (w : Pledge) (few : w.run < 2 ^ 128) (p : Place) (In : Place → Type 0
     pub reads : (n : ℕ) (bytes : List ℕ) (own : List Deed) → May n own → Now bytes (after_content p (number n) bytes own)
     pub lasts : (n : ℕ) → KeptBy AnyStep (May n)
 
-  abbrev Nothing : List Deed → Type 0
-  Nothing own = Unit {0}
+  -- each step of messages that are copied keeps this fact of the deeds
+  pub record CopiesKeep (P : Step → Type 0) (F : List Deed → Type 0) : Type 0 where
+    pub kept : KeptBy P F
+    pub read : (n : ℕ) → P (step.Read p (number n) LIMIT_BYTES)
+    pub elsewhere : (q : Place) → (q ≡ p → ⊥) → AsksPut P q
+    pub safe : (q : Place) → P (step.SyncFolder q)
 
-  module _ (folders : List Place) (May : ℕ → List Deed → Type 0) (lets : LetsCopy May) where
+  module _ (folders : List Place) (May : ℕ → List Deed → Type 0) (lets : LetsCopy May) (P : Step → Type 0) (F : List Deed → Type 0) (copies : CopiesKeep P F) where
     abbrev pub EachMay : List ℕ → List Deed → Type 0
     EachMay [] own = Unit {0}
     EachMay (n ∷ ns) own = May n own × EachMay ns own
@@ -128,54 +132,55 @@ module _ (w : Pledge) (few : w.run < 2 ^ 128) (p : Place) (In : Place → Type 0
       abbrev Open : List ℕ → (List Deed → Type 0) → List Deed → Type 0
       Open bytes G own = IsSince p (number n) bytes G own
 
-      opens : (bytes : List ℕ) → Opens w few p In Known Now keeps bytes (Open bytes) AnyStep Nothing
+      opens : (bytes : List ℕ) → Opens w few p In Known Now keeps bytes (Open bytes) P F
       opens bytes = record {
         stored = λ q is G kept own later m ok by o. since_stored p (number n) bytes w.run q G kept own later m ok by o;
         less = since_less p (number n) bytes;
-        rest = λ own s a any f. tt;
-        elsewhere = λ q apart. leave_any q;
-        safe = λ q. tt;
+        rest = copies.kept;
+        elsewhere = copies.elsewhere;
+        safe = copies.safe;
       }
 
       abbrev One : Outcome (List Destination)
-      One later j es = (places es ≡ folders) × To es later × HasLocks later × HasCopied w.run p (number n) folders later
+      One later j es = (places es ≡ folders) × To es later × HasLocks later × F later × HasCopied w.run p (number n) folders later
 
       abbrev Ends : List ℕ → Outcome (List Destination)
-      Ends bytes = AllCopied w few p In Known Now keeps bytes (Open bytes) AnyStep Nothing (opens bytes) folders
+      Ends bytes = AllCopied w few p In Known Now keeps bytes (Open bytes) P F (opens bytes) folders
 
       ended : (bytes : List ℕ) (later : List Deed) (j : Hand) (es : List Destination) → Ends bytes later j es → One later j es
       ended bytes later j es g = (
         g.0,
         g.1,
         g.2.locks,
+        g.2.others,
         record { bytes = bytes; since = g.2.open_.part; reading = g.2.open_.reading; before = g.2.open_.old; deeds = g.2.open_.deeds; is_reading = g.2.open_.is_reading; stored = g.2.open_.also },
       )
 
-      message_goes : (ds : List Destination) → places ds ≡ folders → (own : List Deed) (h : Hand) → May n own → HasLocks own → To ds own → Goes w own h (message_copied w.run p n ds) (okay One)
+      message_goes : (ds : List Destination) → places ds ≡ folders → (own : List Deed) (h : Hand) → May n own → F own → HasLocks own → To ds own → Goes w own h (message_copied w.run p n ds) (okay One)
       unfolding message_copied
-      message_goes ds same own h may locks to =
+      message_goes ds same own h may fact locks to =
           goes_then w own h (content_read p (number n)) (λ bytes. copied_to_all w.run bytes ds []) (HasContent p (number n) own) One (content_goes w p (number n) own h)
           (λ later i bytes e. goes_at w later (after_content p (number n) bytes own) i (copied_to_all w.run bytes ds []) (okay One) e
           (goes_more w _ i (copied_to_all w.run bytes ds []) (okay (Ends bytes)) (okay One) (okay_more (Ends bytes) One (ended bytes))
-          (subst (λ qs. Goes w (after_content p (number n) bytes own) i (copied_to_all w.run bytes ds []) (okay (AllCopied w few p In Known Now keeps bytes (Open bytes) AnyStep Nothing (opens bytes) qs))) same
-          (copies_go w few p In Known Now keeps bytes (Open bytes) AnyStep Nothing (opens bytes) ds _ i (destinations_kept w few p In Known Now keeps ds own (step.Read p (number n) LIMIT_BYTES) (answer.Content bytes) tt to) Anything
+          (subst (λ qs. Goes w (after_content p (number n) bytes own) i (copied_to_all w.run bytes ds []) (okay (AllCopied w few p In Known Now keeps bytes (Open bytes) P F (opens bytes) qs))) same
+          (copies_go w few p In Known Now keeps bytes (Open bytes) P F (opens bytes) ds _ i (destinations_kept w few p In Known Now keeps ds own (step.Read p (number n) LIMIT_BYTES) (answer.Content bytes) tt to) Anything
           (record {
             locks = λ q l. still (λ x. cc (x)) (locks q l);
             open_ = record { part = []; reading = did (step.Read p (number n) LIMIT_BYTES) (answer.Content bytes); old = own; deeds = refl; is_reading = (LIMIT_BYTES, refl); also = tt };
             current = lets.reads n bytes own may;
-            others = tt;
+            others = copies.kept own (step.Read p (number n) LIMIT_BYTES) (answer.Content bytes) (copies.read n) fact;
           })))))
 
     -- the messages of these numbers are copied where the locks are had: each step is careful
     abbrev pub AllOf : List ℕ → Outcome (List Destination)
-    AllOf ns later j es = (places es ≡ folders) × To es later × HasLocks later × AreCopied ns later
+    AllOf ns later j es = (places es ≡ folders) × To es later × HasLocks later × F later × AreCopied ns later
 
-    pub copied_messages_go : (ns : List ℕ) (ds : List Destination) → places ds ≡ folders → (own : List Deed) (h : Hand) → EachMay ns own → HasLocks own → To ds own → Goes w own h (messages_copied w.run p ns ds) (okay (AllOf ns))
+    pub copied_messages_go : (ns : List ℕ) (ds : List Destination) → places ds ≡ folders → (own : List Deed) (h : Hand) → EachMay ns own → F own → HasLocks own → To ds own → Goes w own h (messages_copied w.run p ns ds) (okay (AllOf ns))
     unfolding messages_copied
-    copied_messages_go [] ds same own h may locks to = goes_return w own h ds (okay (AllOf [])) (same, to, locks, tt)
-    copied_messages_go (n ∷ ns) ds same own h may locks to =
-        goes_lasting w (EachMay ns) (each_may_kept ns) own h (message_copied w.run p n ds) (λ later. messages_copied w.run p ns later) (One n) (AllOf (n ∷ ns)) may.1 (message_goes n ds same own h may.0 locks to)
+    copied_messages_go [] ds same own h may fact locks to = goes_return w own h ds (okay (AllOf [])) (same, to, locks, fact, tt)
+    copied_messages_go (n ∷ ns) ds same own h may fact locks to =
+        goes_lasting w (EachMay ns) (each_may_kept ns) own h (message_copied w.run p n ds) (λ later. messages_copied w.run p ns later) (One n) (AllOf (n ∷ ns)) may.1 (message_goes n ds same own h may.0 fact locks to)
         (λ later j es rest f.
         goes_more w later j (messages_copied w.run p ns es) (okay (λ last i fs. HasCopied w.run p (number n) folders last × AllOf ns last i fs)) (okay (AllOf (n ∷ ns)))
-        (okay_more (λ last i fs. HasCopied w.run p (number n) folders last × AllOf ns last i fs) (AllOf (n ∷ ns)) (λ last i fs g. (g.1.0, g.1.1, g.1.2, (g.0, g.1.3))))
-        (lasting w (HasCopied w.run p (number n) folders) (copied_kept w.run p (number n) folders) later j (messages_copied w.run p ns es) (AllOf ns) f.3 (copied_messages_go ns es f.0 later j rest f.2 f.1)))
+        (okay_more (λ last i fs. HasCopied w.run p (number n) folders last × AllOf ns last i fs) (AllOf (n ∷ ns)) (λ last i fs g. (g.1.0, g.1.1, g.1.2, g.1.3, (g.0, g.1.4))))
+        (lasting w (HasCopied w.run p (number n) folders) (copied_kept w.run p (number n) folders) later j (messages_copied w.run p ns es) (AllOf ns) f.4 (copied_messages_go ns es f.0 later j rest f.3 f.2 f.1)))
