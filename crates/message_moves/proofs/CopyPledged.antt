@@ -9,17 +9,18 @@ use Rattle.folder_files.specs.Places.{is_folder}
 use Rattle.folder_files.specs.declared.place.Place.{Place}
 use Rattle.folder_files.specs.declared.step.Step.{Step}
 use Rattle.folder_files.specs.declared.step.Step.TheVariants as step
-use Rattle.file_plans.specs.Plan.{Hand, Return}
+use Rattle.file_plans.specs.Plan.{Hand, Return, lifted}
 use Rattle.file_plans.proofs.Framing.{AnyStep}
 use Rattle.step_plans.specs.Pledges.{Pledge}
 use Rattle.step_plans.proofs.Facts.{LeavesLock, lock_kept}
-use Rattle.step_plans.proofs.Going.{Goes, Outcome, goes_then, okay}
+use Rattle.step_plans.proofs.Going.{Goes, Outcome, goes_lifted, goes_then, okay}
 use Rattle.step_plans.proofs.Lasting.{KeptBy, goes_lasting}
 use Rattle.step_plans.proofs.Stepping.{goes_return}
 use Rattle.message_puts.specs.Putting.{message_stored}
 use Rattle.message_puts.specs.Stored.{HasStoredAt}
 use Rattle.message_puts.proofs.PutPledged.{AsksPut, IsEnd, PutsMessages}
 use Rattle.message_puts.proofs.StoredPledged.{HasStored, IsStoredBy, stored_goes, stored_keeps}
+use Rattle.command_stages.specs.Endings.{of_plan}
 use Rattle.message_moves.specs.Copying.{copied_to, copied_to_all, highest_of}
 use Rattle.message_moves.specs.declared.destination.Destination.{Destination}
 
@@ -120,12 +121,13 @@ module _ (w : Pledge) (few : w.run < 2 ^ 128) (p : Place) (In : Place → Type 0
       copied_goes : (d : Destination) (G : List Deed → Type 0) → KeptBy AnyStep G → (own : List Deed) (h : Hand) → IsDestination d own → Going G own → Goes w own h (copied_to w.run bytes d) (okay (One d G))
       unfolding copied_to
       copied_goes d G kept own h is g =
-          goes_then w own h (message_stored w.run d.place (highest_of d.highest) bytes) (λ number. Return (Ok (now_at number))) Stored (One d G)
-          (stored_goes w few d.place bytes (Known d.place) (Now bytes) (is.open_to.lets bytes) is.open_to.is_there (highest_of d.highest) (highest_small d.highest is.number) own h is.known g.current (g.locks d.place is.open_to.is_in))
+          goes_then w own h (lifted (of_plan d.folder) (message_stored w.run d.place (highest_of d.highest) bytes)) (λ number. Return (Ok (now_at number))) Stored (One d G)
+          (goes_lifted w own h (of_plan d.folder) (message_stored w.run d.place (highest_of d.highest) bytes) Stored
+          (stored_goes w few d.place bytes (Known d.place) (Now bytes) (is.open_to.lets bytes) is.open_to.is_there (highest_of d.highest) (highest_small d.highest is.number) own h is.known g.current (g.locks d.place is.open_to.is_in)))
           (λ later j m f. goes_return w later j (now_at m) (okay (One d G)) (refl, record { open_to = is.open_to; number = f.1; known = f.4 }, (m, going later m f.1 f.3)))
         where
           now_at : ℕ → Destination
-          now_at m = record { place = d.place; highest = Some m }
+          now_at m = record { folder = d.folder; place = d.place; highest = Some m }
 
           Stored : Outcome ℕ
           Stored = HasStored w few d.place bytes (Known d.place) (Now bytes) (is.open_to.lets bytes) is.open_to.is_there own

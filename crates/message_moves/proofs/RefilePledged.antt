@@ -12,18 +12,19 @@ use Rattle.folder_files.specs.declared.place.Place.{Place}
 use Rattle.folder_files.specs.declared.step.Answer.TheVariants as answer
 use Rattle.folder_files.specs.declared.step.Step.{Step}
 use Rattle.folder_files.specs.declared.step.Step.TheVariants as step
-use Rattle.file_plans.specs.Plan.{Hand, Return, ◌>>=◌}
+use Rattle.file_plans.specs.Plan.{Hand, Return, lifted, ◌>>=◌}
 use Rattle.file_plans.proofs.Framing.{AnyStep}
 use Rattle.step_plans.specs.ContextCommit.{LIMIT_BYTES}
-use Rattle.step_plans.specs.PlanFaults.{Planned}
 use Rattle.step_plans.specs.Pledges.{Pledge}
-use Rattle.step_plans.proofs.Going.{Goes, Outcome, goes_more, goes_then, okay, okay_more}
+use Rattle.step_plans.proofs.Going.{Goes, Outcome, goes_lifted, goes_more, goes_then, okay, okay_more}
 use Rattle.step_plans.proofs.Lasting.{KeptBy, goes_lasting, lasting}
 use Rattle.step_plans.proofs.Past.{once_map}
 use Rattle.step_plans.proofs.Stepping.{goes_return}
 use Rattle.step_plans.proofs.Written.{goes_at}
 use Rattle.message_puts.specs.Stored.{HasStoredAt}
 use Rattle.message_puts.proofs.PutPledged.{AsksPut}
+use Rattle.command_stages.specs.Endings.{of_plan}
+use Rattle.command_stages.specs.Texts.{Commanded}
 use Rattle.message_moves.specs.Copied.{HasCopied, HasRefiled}
 use Rattle.message_moves.specs.Copying.{copied_to_all}
 use Rattle.message_moves.specs.Moving.{content_read, held_discarded, number_taken}
@@ -127,7 +128,7 @@ module _ (w : Pledge) (few : w.run < 2 ^ 128) (p : Place) (folder : is_folder p 
     pub safe : (q : Place) → P (step.SyncFolder q)
     pub gone : (n : ℕ) → IsMsgNum n → P (step.Unlink p (held_of n))
 
-  module _ (folders : List Place) (May : ℕ → List Deed → Type 0) (lets : LetsRefile folders May) (P : Step → Type 0) (F : List Deed → Type 0) (moves : MovesKeep P F) where
+  module _ (source : List ℕ) (folders : List Place) (May : ℕ → List Deed → Type 0) (lets : LetsRefile folders May) (P : Step → Type 0) (F : List Deed → Type 0) (moves : MovesKeep P F) where
     -- the held names of these messages were used for nothing, and that is so
     abbrev Still : List ℕ → List Deed → Type 0
     Still ns own = AllSpared w.run p ns own × F own
@@ -196,10 +197,11 @@ module _ (w : Pledge) (few : w.run < 2 ^ 128) (p : Place) (folder : is_folder p 
           taken = now (o.number, refl, o.took)
 
       ending : (d : Destination) (ds : List Destination) → places (d ∷ ds) ≡ folders → is_folder d.place ≡ true → (bytes : List ℕ) (own : List Deed) (j : Hand) (es : List Destination) → places es ≡ folders → To es own → Going_ bytes (AreStored w.run bytes folders) own
-          → Goes w own j (held_discarded p held >>= (λ gone. Return (Ok es))) (okay Refiled)
+          → Goes w own j (lifted (of_plan source) (held_discarded p held) >>= (λ gone. Return (Ok es))) (okay Refiled)
       ending d ds some is bytes own j es same to g =
-          goes_then w own j (held_discarded p held) (λ gone. Return (Ok es)) (HasDiscarded p held own) Refiled
-          (discard_goes w few p folder held (is_held_so w.run few n ok) own j (lets.discards n own ok (has_copied folders bytes own g.open_)) (may_discard w.run p held bytes own (open_less w.run p held bytes _ (HasCopy w.run bytes) copied own g.open_)) (g.locks p inside))
+          goes_then w own j (lifted (of_plan source) (held_discarded p held)) (λ gone. Return (Ok es)) (HasDiscarded p held own) Refiled
+          (goes_lifted w own j (of_plan source) (held_discarded p held) (HasDiscarded p held own)
+          (discard_goes w few p folder held (is_held_so w.run few n ok) own j (lets.discards n own ok (has_copied folders bytes own g.open_)) (may_discard w.run p held bytes own (open_less w.run p held bytes _ (HasCopy w.run bytes) copied own g.open_)) (g.locks p inside)))
           (λ later i u e. goes_at w later (after_discard p held own) i (Return (Ok es)) (okay Refiled) e
           (goes_return w _ i es (okay Refiled) (
             same,
@@ -212,8 +214,8 @@ module _ (w : Pledge) (few : w.run < 2 ^ 128) (p : Place) (folder : is_folder p 
           copied : (part : List Deed) → AreStored w.run bytes folders part → HasCopy w.run bytes part
           copied part f = let one = f d.place (subst (λ qs. Contains qs d.place) some (0, omega arith, refl)) in stored_copy w.run d.place one.0 bytes is part one.1
 
-      abbrev rest : Destination → List Destination → List ℕ → Planned (List Destination)
-      rest d ds x = content_read p x >>= (λ bytes. copied_to_all w.run bytes (d ∷ ds) [] >>= (λ later. held_discarded p x >>= (λ gone. Return (Ok later))))
+      abbrev rest : Destination → List Destination → List ℕ → Commanded (List Destination)
+      rest d ds x = lifted (of_plan source) (content_read p x) >>= (λ bytes. copied_to_all w.run bytes (d ∷ ds) [] >>= (λ later. lifted (of_plan source) (held_discarded p x) >>= (λ gone. Return (Ok later))))
 
       -- what the taking and the reading leave alone
       spares_taking : Leaves ns (taking w.run p n)
@@ -225,13 +227,13 @@ module _ (w : Pledge) (few : w.run < 2 ^ 128) (p : Place) (folder : is_folder p 
       read_goes : (d : Destination) (ds : List Destination) → places (d ∷ ds) ≡ folders → is_folder d.place ≡ true → (own : List Deed) (j : Hand) → AreSpared p held own → Still ns own → HasLocks own → To (d ∷ ds) own
           → Goes w (after_take w.run p n own) j (rest d ds held) (okay Refiled)
       read_goes d ds some is own j spared others locks to =
-          goes_then w (after_take w.run p n own) j (content_read p held) (λ bytes. copied_to_all w.run bytes (d ∷ ds) [] >>= (λ later. held_discarded p held >>= (λ gone. Return (Ok later)))) (HasContent p held (after_take w.run p n own)) Refiled
-          (content_goes w p held (after_take w.run p n own) j)
+          goes_then w (after_take w.run p n own) j (lifted (of_plan source) (content_read p held)) (λ bytes. copied_to_all w.run bytes (d ∷ ds) [] >>= (λ later. lifted (of_plan source) (held_discarded p held) >>= (λ gone. Return (Ok later)))) (HasContent p held (after_take w.run p n own)) Refiled
+          (goes_lifted w (after_take w.run p n own) j (of_plan source) (content_read p held) (HasContent p held (after_take w.run p n own)) (content_goes w p held (after_take w.run p n own) j))
           (λ later i bytes e. goes_at w later (after_content p held bytes (after_take w.run p n own)) i _ (okay Refiled) e (copying bytes i))
         where
-          copying : (bytes : List ℕ) (i : Hand) → Goes w (after_content p held bytes (after_take w.run p n own)) i (copied_to_all w.run bytes (d ∷ ds) [] >>= (λ later. held_discarded p held >>= (λ gone. Return (Ok later)))) (okay Refiled)
+          copying : (bytes : List ℕ) (i : Hand) → Goes w (after_content p held bytes (after_take w.run p n own)) i (copied_to_all w.run bytes (d ∷ ds) [] >>= (λ later. lifted (of_plan source) (held_discarded p held) >>= (λ gone. Return (Ok later)))) (okay Refiled)
           copying bytes i =
-              goes_then w _ i (copied_to_all w.run bytes (d ∷ ds) []) (λ later. held_discarded p held >>= (λ gone. Return (Ok later))) (AllCopied w few p In Known Now keeps bytes (Open bytes) (Leaves ns) (Still ns) (opens bytes) (places (d ∷ ds))) Refiled
+              goes_then w _ i (copied_to_all w.run bytes (d ∷ ds) []) (λ later. lifted (of_plan source) (held_discarded p held) >>= (λ gone. Return (Ok later))) (AllCopied w few p In Known Now keeps bytes (Open bytes) (Leaves ns) (Still ns) (opens bytes) (places (d ∷ ds))) Refiled
               (copies_go w few p In Known Now keeps bytes (Open bytes) (Leaves ns) (Still ns) (opens bytes) (d ∷ ds) _ i
               (destinations_kept w few p In Known Now keeps (d ∷ ds) (after_take w.run p n own) (step.Read p held LIMIT_BYTES) (answer.Content bytes) tt (destinations_kept w few p In Known Now keeps (d ∷ ds) own (taking w.run p n) answer.Done tt to)) Anything
               (record {
@@ -243,11 +245,12 @@ module _ (w : Pledge) (few : w.run < 2 ^ 128) (p : Place) (folder : is_folder p 
               (λ last k es g. ending d ds some is bytes last k es (g.0 ∙ some) g.1 (subst (λ qs. Going_ bytes (AreStored w.run bytes qs) last) some g.2))
 
       -- a message that has nowhere to go stays
-      message_goes : (ds : List Destination) → places ds ≡ folders → (own : List Deed) (h : Hand) → May n own → AreSpared p held own → Still ns own → HasLocks own → To ds own → Goes w own h (message_refiled w.run p n ds) (okay Refiled)
+      message_goes : (ds : List Destination) → places ds ≡ folders → (own : List Deed) (h : Hand) → May n own → AreSpared p held own → Still ns own → HasLocks own → To ds own → Goes w own h (message_refiled w.run source p n ds) (okay Refiled)
       unfolding message_refiled
       message_goes [] some own h may spared others locks to = goes_return w own h [] (okay Refiled) (some, tt, locks, others, subst (λ fs. HasGone w.run p fs n own) some tt)
       message_goes (d ∷ ds) some own h may spared others locks to =
-          goes_then w own h (number_taken w.run p n) (rest d ds) (HasTaken w.run p n own) Refiled (take_goes w few p folder n ok own h (lets.takes n own ok may) (never_taken w.run p n own spared) (locks p inside))
+          goes_then w own h (lifted (of_plan source) (number_taken w.run p n)) (rest d ds) (HasTaken w.run p n own) Refiled
+          (goes_lifted w own h (of_plan source) (number_taken w.run p n) (HasTaken w.run p n own) (take_goes w few p folder n ok own h (lets.takes n own ok may) (never_taken w.run p n own spared) (locks p inside)))
           (λ later j name q. goes_at w later (after_take w.run p n own) j (rest d ds name) (okay Refiled) q.0
           (subst (λ x. Goes w (after_take w.run p n own) j (rest d ds x) (okay Refiled)) (sym q.1) (read_goes d ds some to.0.open_to.is_there own j spared others locks to)))
 
@@ -256,13 +259,13 @@ module _ (w : Pledge) (few : w.run < 2 ^ 128) (p : Place) (folder : is_folder p 
     abbrev pub AllRefiled : List ℕ → Outcome (List Destination)
     AllRefiled ns later j es = (places es ≡ folders) × To es later × HasLocks later × F later × AllGone w.run p folders ns later
 
-    pub messages_go : (ns : List ℕ) → AreMessages ns → (ds : List Destination) → places ds ≡ folders → (own : List Deed) (h : Hand) → AllMay ns own → AllSpared w.run p ns own → F own → HasLocks own → To ds own → Goes w own h (messages_refiled w.run p ns ds) (okay (AllRefiled ns))
+    pub messages_go : (ns : List ℕ) → AreMessages ns → (ds : List Destination) → places ds ≡ folders → (own : List Deed) (h : Hand) → AllMay ns own → AllSpared w.run p ns own → F own → HasLocks own → To ds own → Goes w own h (messages_refiled w.run source p ns ds) (okay (AllRefiled ns))
     unfolding messages_refiled
     messages_go [] are ds some own h may spared fact locks to = goes_return w own h ds (okay (AllRefiled [])) (some, to, locks, fact, tt)
     messages_go (n ∷ ns) are ds some own h may spared fact locks to =
-        goes_lasting w (AllMay ns) (all_may_kept ns) own h (message_refiled w.run p n ds) (λ later. messages_refiled w.run p ns later) (Refiled n are.0 ns are.2 are.1) (AllRefiled (n ∷ ns)) may.1
+        goes_lasting w (AllMay ns) (all_may_kept ns) own h (message_refiled w.run source p n ds) (λ later. messages_refiled w.run source p ns later) (Refiled n are.0 ns are.2 are.1) (AllRefiled (n ∷ ns)) may.1
         (message_goes n are.0 ns are.2 are.1 ds some own h may.0 spared.0 (spared.1, fact) locks to)
         (λ later j es rest f.
-        goes_more w later j (messages_refiled w.run p ns es) (okay (λ last i fs. HasGone w.run p folders n last × AllRefiled ns last i fs)) (okay (AllRefiled (n ∷ ns)))
+        goes_more w later j (messages_refiled w.run source p ns es) (okay (λ last i fs. HasGone w.run p folders n last × AllRefiled ns last i fs)) (okay (AllRefiled (n ∷ ns)))
         (okay_more (λ last i fs. HasGone w.run p folders n last × AllRefiled ns last i fs) (AllRefiled (n ∷ ns)) (λ last i fs g. (g.1.0, g.1.1, g.1.2, g.1.3, (g.0, g.1.4))))
-        (lasting w (HasGone w.run p folders n) (gone_kept w.run p folders n) later j (messages_refiled w.run p ns es) (AllRefiled ns) f.4 (messages_go ns are.2 es f.0 later j rest f.3.0 f.3.1 f.2 f.1)))
+        (lasting w (HasGone w.run p folders n) (gone_kept w.run p folders n) later j (messages_refiled w.run source p ns es) (AllRefiled ns) f.4 (messages_go ns are.2 es f.0 later j rest f.3.0 f.3.1 f.2 f.1)))

@@ -12,18 +12,19 @@ use Rattle.folder_files.specs.declared.step.Answer.{Answer}
 use Rattle.folder_files.specs.declared.step.Answer.TheVariants as answer
 use Rattle.folder_files.specs.declared.step.Step.{Step}
 use Rattle.folder_files.specs.declared.step.Step.TheVariants as step
-use Rattle.file_plans.specs.Plan.{Hand}
+use Rattle.file_plans.specs.Plan.{Hand, lifted}
 use Rattle.file_plans.proofs.Framing.{AnyStep}
 use Rattle.file_plans.proofs.Showing.{number_kind}
 use Rattle.step_plans.specs.ContextCommit.{LIMIT_BYTES}
 use Rattle.step_plans.specs.Pledges.{Pledge}
-use Rattle.step_plans.proofs.Going.{Goes, Outcome, goes_more, goes_then, okay, okay_more}
+use Rattle.step_plans.proofs.Going.{Goes, Outcome, goes_lifted, goes_more, goes_then, okay, okay_more}
 use Rattle.step_plans.proofs.Lasting.{KeptBy, goes_lasting, lasting}
 use Rattle.step_plans.proofs.Stepping.{goes_return}
 use Rattle.step_plans.proofs.Written.{goes_at}
 use Rattle.message_puts.specs.Stored.{HasStoredAt}
 use Rattle.message_puts.proofs.PutPledged.{AsksPut, Tries, made_ready, tried, untried}
 use Rattle.message_puts.proofs.StoredPledged.{IsStoredBy}
+use Rattle.command_stages.specs.Endings.{of_plan}
 use Rattle.message_moves.specs.Copied.{HasCopied}
 use Rattle.message_moves.specs.Copying.{copied_to_all, message_copied, messages_copied}
 use Rattle.message_moves.specs.Moving.{content_read}
@@ -114,7 +115,7 @@ module _ (w : Pledge) (few : w.run < 2 ^ 128) (p : Place) (In : Place → Type 0
     pub elsewhere : (q : Place) → (q ≡ p → ⊥) → AsksPut P q
     pub safe : (q : Place) → P (step.SyncFolder q)
 
-  module _ (folders : List Place) (May : ℕ → List Deed → Type 0) (lets : LetsCopy May) (P : Step → Type 0) (F : List Deed → Type 0) (copies : CopiesKeep P F) where
+  module _ (source : List ℕ) (folders : List Place) (May : ℕ → List Deed → Type 0) (lets : LetsCopy May) (P : Step → Type 0) (F : List Deed → Type 0) (copies : CopiesKeep P F) where
     abbrev pub EachMay : List ℕ → List Deed → Type 0
     EachMay [] own = Unit {0}
     EachMay (n ∷ ns) own = May n own × EachMay ns own
@@ -156,10 +157,11 @@ module _ (w : Pledge) (few : w.run < 2 ^ 128) (p : Place) (In : Place → Type 0
         record { bytes = bytes; since = g.2.open_.part; reading = g.2.open_.reading; before = g.2.open_.old; deeds = g.2.open_.deeds; is_reading = g.2.open_.is_reading; stored = g.2.open_.also },
       )
 
-      message_goes : (ds : List Destination) → places ds ≡ folders → (own : List Deed) (h : Hand) → May n own → F own → HasLocks own → To ds own → Goes w own h (message_copied w.run p n ds) (okay One)
+      message_goes : (ds : List Destination) → places ds ≡ folders → (own : List Deed) (h : Hand) → May n own → F own → HasLocks own → To ds own → Goes w own h (message_copied w.run source p n ds) (okay One)
       unfolding message_copied
       message_goes ds same own h may fact locks to =
-          goes_then w own h (content_read p (number n)) (λ bytes. copied_to_all w.run bytes ds []) (HasContent p (number n) own) One (content_goes w p (number n) own h)
+          goes_then w own h (lifted (of_plan source) (content_read p (number n))) (λ bytes. copied_to_all w.run bytes ds []) (HasContent p (number n) own) One
+          (goes_lifted w own h (of_plan source) (content_read p (number n)) (HasContent p (number n) own) (content_goes w p (number n) own h))
           (λ later i bytes e. goes_at w later (after_content p (number n) bytes own) i (copied_to_all w.run bytes ds []) (okay One) e
           (goes_more w _ i (copied_to_all w.run bytes ds []) (okay (Ends bytes)) (okay One) (okay_more (Ends bytes) One (ended bytes))
           (subst (λ qs. Goes w (after_content p (number n) bytes own) i (copied_to_all w.run bytes ds []) (okay (AllCopied w few p In Known Now keeps bytes (Open bytes) P F (opens bytes) qs))) same
@@ -175,12 +177,12 @@ module _ (w : Pledge) (few : w.run < 2 ^ 128) (p : Place) (In : Place → Type 0
     abbrev pub AllOf : List ℕ → Outcome (List Destination)
     AllOf ns later j es = (places es ≡ folders) × To es later × HasLocks later × F later × AreCopied ns later
 
-    pub copied_messages_go : (ns : List ℕ) (ds : List Destination) → places ds ≡ folders → (own : List Deed) (h : Hand) → EachMay ns own → F own → HasLocks own → To ds own → Goes w own h (messages_copied w.run p ns ds) (okay (AllOf ns))
+    pub copied_messages_go : (ns : List ℕ) (ds : List Destination) → places ds ≡ folders → (own : List Deed) (h : Hand) → EachMay ns own → F own → HasLocks own → To ds own → Goes w own h (messages_copied w.run source p ns ds) (okay (AllOf ns))
     unfolding messages_copied
     copied_messages_go [] ds same own h may fact locks to = goes_return w own h ds (okay (AllOf [])) (same, to, locks, fact, tt)
     copied_messages_go (n ∷ ns) ds same own h may fact locks to =
-        goes_lasting w (EachMay ns) (each_may_kept ns) own h (message_copied w.run p n ds) (λ later. messages_copied w.run p ns later) (One n) (AllOf (n ∷ ns)) may.1 (message_goes n ds same own h may.0 fact locks to)
+        goes_lasting w (EachMay ns) (each_may_kept ns) own h (message_copied w.run source p n ds) (λ later. messages_copied w.run source p ns later) (One n) (AllOf (n ∷ ns)) may.1 (message_goes n ds same own h may.0 fact locks to)
         (λ later j es rest f.
-        goes_more w later j (messages_copied w.run p ns es) (okay (λ last i fs. HasCopied w.run p (number n) folders last × AllOf ns last i fs)) (okay (AllOf (n ∷ ns)))
+        goes_more w later j (messages_copied w.run source p ns es) (okay (λ last i fs. HasCopied w.run p (number n) folders last × AllOf ns last i fs)) (okay (AllOf (n ∷ ns)))
         (okay_more (λ last i fs. HasCopied w.run p (number n) folders last × AllOf ns last i fs) (AllOf (n ∷ ns)) (λ last i fs g. (g.1.0, g.1.1, g.1.2, g.1.3, (g.0, g.1.4))))
-        (lasting w (HasCopied w.run p (number n) folders) (copied_kept w.run p (number n) folders) later j (messages_copied w.run p ns es) (AllOf ns) f.4 (copied_messages_go ns es f.0 later j rest f.3 f.2 f.1)))
+        (lasting w (HasCopied w.run p (number n) folders) (copied_kept w.run p (number n) folders) later j (messages_copied w.run source p ns es) (AllOf ns) f.4 (copied_messages_go ns es f.0 later j rest f.3 f.2 f.1)))

@@ -3,11 +3,12 @@ ghost use Rattle.std.specs.Prelude.{◌≡◌, ◌≤◌};
 ghost use Rattle.message_moves.specs.Copying.{highest_of};
 
 use folder_files::Place;
-use mh_base::{List, MsgNum};
+use mh_base::{FolderName, List, MsgNum};
 
-/// A folder to which messages go, and the highest number of a message there, where it has any.
+/// A folder to which messages go, where it is, and the highest number of a message there, where it has any.
 #[derive(Drop)]
 pub struct Destination {
+    pub folder: FolderName,
     pub place: Place,
     pub highest: Option<MsgNum>,
 }

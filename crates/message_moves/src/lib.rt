@@ -4,6 +4,7 @@
 mod copying;
 mod destination;
 mod discarding;
+mod origin;
 mod reading;
 mod refiling;
 mod taking;
@@ -11,6 +12,7 @@ mod taking;
 pub use copying::copy_messages;
 pub use destination::{Destination, DestinationList};
 pub use discarding::discard;
+pub use origin::Origin;
 pub use reading::content;
 pub use refiling::refile_messages;
 pub use taking::take;
