@@ -12,7 +12,6 @@ use Rattle.folder_files.specs.declared.place.Place.{Place}
 use Rattle.folder_files.specs.declared.place.Place.TheVariants.{Folder, Mail}
 use Rattle.folder_files.specs.declared.step.Answer.{Answer}
 use Rattle.folder_files.specs.declared.step.Answer.TheVariants as answer
-use Rattle.folder_files.specs.declared.step.Step.{Step}
 use Rattle.folder_files.specs.declared.step.Step.TheVariants as step
 use Rattle.file_plans.specs.Plan.{Hand, Plan, ◌>>=◌}
 use Rattle.file_plans.proofs.Framing.{AnyStep}
@@ -30,7 +29,8 @@ use Rattle.step_plans.proofs.Stepping.{goes_return}
 use Rattle.sequence_commits.proofs.SequencesPledged.{sequences_name}
 use Rattle.message_puts.specs.Stored.{HasStoredAt}
 use Rattle.message_puts.proofs.FirstPuts.{AllNew, AreOnce, first_put, once_asked}
-use Rattle.message_puts.proofs.PutPledged.{AsksPut, IsPutBy, PutsMessages, linking_kept, put_kept, put_ready}
+use Rattle.message_puts.proofs.PutPledged.{AsksPut, IsPutBy, PutsMessages, linking_kept, put_ready}
+use Rattle.message_puts.proofs.StoredPledged.{IsStoredBy, stored_keeps}
 use Rattle.opened_folders.specs.Reads.{HaveSeen}
 use Rattle.opened_folders.proofs.CleanRuns.{goes_asked}
 use Rattle.opened_folders.proofs.FolderPledged.{seen_kept}
@@ -40,7 +40,7 @@ use Rattle.inc_command.specs.Stored.{AreStoredAt, IsLineOfStored}
 use Rattle.inc_command.specs.Taking.{message_taken}
 use Rattle.inc_command.specs.declared.intake.Taken.{Taken}
 use Rattle.inc_command.proofs.DropKept.{LeavesDrop, leaves_first, pieces_kept, stored_kept, stored_taken}
-use Rattle.inc_command.proofs.TakenPledged.{HasStored as IsStoredBy, IsTakenBy, taken_goes}
+use Rattle.inc_command.proofs.TakenPledged.{HasTaken, taken_goes}
 
 -- one part of a sound run, and the next where it is Ok
 sound_okay : {A E : Type 0} (w : Pledge) (P : Outcome A) (own : List Deed) (h : Hand) (r : Result A E) → Soundly w (okay P) own h r → okay (λ later j a. Sound w later j × P later j a) own h r
@@ -110,29 +110,24 @@ module _ (run : ℕ) (path folder : List ℕ) (f : FilePath) (first : List Deed)
   asks_drop : AsksPut (LeavesDrop f) p
   asks_drop = record { create = λ temp bytes. tt; sync = λ temp. tt; link = λ temp number. tt; unlink = λ temp. tt }
 
-  -- what the deeds keep by which a message is stored
-  taken_kept : (P : Step → Type 0) (F : List Deed → Type 0) → KeptBy P F → AsksPut P p → P (step.SyncFolder p) → (bytes : List ℕ) (own : List Deed) (m : ℕ) (later : List Deed) → IsTakenBy run p bytes own m later → F own → F later
-  taken_kept P F keeps asks sync bytes own m later t g =
-      subst F (sym t.deeds) (keeps t.before (step.SyncFolder p) answer.Done sync (put_kept P F keeps run p asks bytes own m t.before t.put g))
-
   pieces_case : (d : List ℕ) (own later : List Deed) → (HasPieces f d own → HasPieces f d later) → (d ≡ []) ⊎ HasPieces f d own → (d ≡ []) ⊎ HasPieces f d later
   pieces_case d own later g (inl e) = inl e
   pieces_case d own later g (inr z) = inr (g z)
 
   -- a message was stored
   course_taken : (d : List ℕ) (done : List (List ℕ)) (numbers bytes : List ℕ) (own : List Deed) (m : ℕ) (later : List Deed) → Course d done numbers own
-      → Held own p later → IsMsgNum m → HasStoredAt run p m bytes later → IsTakenBy run p bytes own m later → AreOnce run later → Course d (done ++ bytes ∷ []) (numbers ++ m ∷ []) later
+      → Held own p later → IsMsgNum m → HasStoredAt run p m bytes later → IsStoredBy run p bytes own m later → AreOnce run later → Course d (done ++ bytes ∷ []) (numbers ++ m ∷ []) later
   course_taken d done numbers bytes own m later c held ok at_ t once = record {
     ground = record {
       settled = λ s. held.settled (c.ground.settled s);
       lock = held.lock;
-      base = taken_kept (LeavesBase p sequences_name) (IsBase run p sequences_name old) (base_kept run p sequences_name old) asks_base tt bytes own m later t c.ground.base;
-      seen = taken_kept AnyStep (HaveSeen run p (Mail path) listing text context) (seen_kept run p (Mail path) listing text context) (asks_any_put p) tt bytes own m later t c.ground.seen;
+      base = stored_keeps (LeavesBase p sequences_name) (IsBase run p sequences_name old) (base_kept run p sequences_name old) run p asks_base tt bytes own m later t c.ground.base;
+      seen = stored_keeps AnyStep (HaveSeen run p (Mail path) listing text context) (seen_kept run p (Mail path) listing text context) run p (asks_any_put p) tt bytes own m later t c.ground.seen;
       once = once;
     };
-    pieces = pieces_case d own later (λ z. taken_kept (LeavesDrop f) (HasPieces f d) (pieces_kept f d) asks_drop tt bytes own m later t z) c.pieces;
+    pieces = pieces_case d own later (λ z. stored_keeps (LeavesDrop f) (HasPieces f d) (pieces_kept f d) run p asks_drop tt bytes own m later t z) c.pieces;
     stored = subst (λ ms. HasStored run f [] ms later) (sym (reverse-append done (bytes ∷ []))) stored_later;
-    at = stored_behind run p numbers done m bytes later (taken_kept AnyStep (AreStoredAt run p numbers done) (stored_still run p numbers done) (asks_any_put p) tt bytes own m later t c.at) at_;
+    at = stored_behind run p numbers done m bytes later (stored_keeps AnyStep (AreStoredAt run p numbers done) (stored_still run p numbers done) run p (asks_any_put p) tt bytes own m later t c.at) at_;
   }
     where
       b : IsPutBy run p bytes own m t.before
@@ -153,7 +148,7 @@ module _ (run : ℕ) (path folder : List ℕ) (f : FilePath) (first : List Deed)
 
 -- messages are taken in, one after another
 module _ (w : Pledge) (few : w.run < 2 ^ 128) (path folder : List ℕ) (Known : ℕ → List Deed → Type 0) (f : FilePath)
-    (lets : PutsMessages w (Folder path folder) Known None (HoldsOne w.run f)) (silent : Bool)
+    (lets : (bytes : List ℕ) → PutsMessages w (Folder path folder) bytes Known None (HoldsOne w.run f)) (silent : Bool)
     (tells : silent ≡ false → (own : List Deed) (piece : List ℕ) → IsLineOfStored w.run (Folder path folder) own piece → w.may_tell own piece)
     (first : List Deed) (listing : List Run) (text context old : List ℕ) where
   abbrev pub Taking : List ℕ → List (List ℕ) → List ℕ → List Deed → Type 0
@@ -167,7 +162,7 @@ module _ (w : Pledge) (few : w.run < 2 ^ 128) (path folder : List ℕ) (Known : 
       (taken_goes w few (Folder path folder) Known (HoldsOne w.run f) lets refl silent tells folder message top small own h known holds c.ground.lock))
     where
       Stores : Outcome ℕ
-      Stores later j m = IsStoredBy w few (Folder path folder) Known (HoldsOne w.run f) lets refl message own later j m
+      Stores later j m = HasTaken w few (Folder path folder) Known (HoldsOne w.run f) lets refl message own later j m
 
       by_end : (later : List Deed) (j : Hand) (r : Result ℕ CommandFault) → AreOnce w.run later × okay Stores later j r → okay (λ last i m. IsMsgNum m × Known m last × Taking d (done ++ message ∷ []) (numbers ++ m ∷ []) last) later j r
       by_end later j (Ok m) q = (q.1.1, q.1.4, course_taken w.run path folder f first listing text context old d done numbers message own m later c q.1.0 q.1.1 q.1.2 q.1.3 q.0)

@@ -36,6 +36,7 @@ use Rattle.step_plans.proofs.Going.{Outcome}
 use Rattle.step_plans.proofs.Lasting.{KeptBy}
 use Rattle.step_plans.proofs.Stepping.{on_piece}
 use Rattle.message_puts.proofs.PutPledged.{AsksPut}
+use Rattle.message_puts.proofs.StoredPledged.{stored_keeps, was_stored}
 use Rattle.message_puts.specs.Stored.{HasMetAt, HasStoredAt}
 use Rattle.command_stages.specs.Endings.{of_plan}
 use Rattle.mh_looks.specs.MessageLine.{line_of}
@@ -54,7 +55,8 @@ use Rattle.inc_command.specs.IncAnswers.{ShowsInc, ShowsIntake, WasCounted, WasT
 use Rattle.inc_command.specs.IncPledge.{HasTakenIn}
 use Rattle.inc_command.specs.Intake.{all_taken, with_number}
 use Rattle.inc_command.specs.Stored.{AreStoredAt}
-use Rattle.inc_command.specs.Taking.{message_stored, message_taken, message_told}
+use Rattle.message_puts.specs.Putting.{message_stored}
+use Rattle.inc_command.specs.Taking.{message_taken, message_told}
 use Rattle.inc_command.specs.declared.counting.DropSize.{DropSize}
 use Rattle.inc_command.specs.declared.head.Head.{Head}
 use Rattle.inc_command.specs.declared.intake.Taken.{Taken}
@@ -63,7 +65,7 @@ use Rattle.inc_command.proofs.Courses.{stored_still}
 use Rattle.inc_command.proofs.DropKept.{LeavesDrop, pieces_kept}
 use Rattle.inc_command.proofs.Finishing.{IsFound, finished_all, finished_on, none_found}
 use Rattle.inc_command.proofs.Fronts.{end_gives, piece_gives}
-use Rattle.inc_command.proofs.PutEnds.{PutShown, ShowsPut, StoredAs, Stores, Topped, stored_comes, stored_keeps, was_stored}
+use Rattle.inc_command.proofs.PutEnds.{PutShown, ShowsPut, StoredAs, Stores, Topped, stored_comes}
 
 -- a piece of a drop, and then the rest
 comes_drop : {B F : Type 0} (own : List Deed) (h : Hand) (from : Stop → F) (Q : Outcome (Result B F)) (f : FilePath) (at most : ℕ) (k : DropPiece → Plan (Result B F))

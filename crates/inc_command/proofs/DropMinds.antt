@@ -31,7 +31,8 @@ use Rattle.inc_command.specs.DropTaken.{Read, Where, as_counted, drop_taken, end
 use Rattle.inc_command.specs.Inc.{heading, heading_told, if_room, room_counted, top_of}
 use Rattle.inc_command.specs.IncPledge.{inc_pledge}
 use Rattle.inc_command.specs.Intake.{all_taken, with_number}
-use Rattle.inc_command.specs.Taking.{message_stored, message_taken, message_told}
+use Rattle.message_puts.specs.Putting.{message_stored}
+use Rattle.inc_command.specs.Taking.{message_taken, message_told}
 use Rattle.inc_command.specs.declared.counting.DropSize.{DropSize}
 use Rattle.inc_command.specs.declared.intake.Taken.{Taken}
 use Rattle.inc_command.specs.declared.job.IncJob.{IncJob}

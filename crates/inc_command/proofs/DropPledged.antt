@@ -50,7 +50,7 @@ not_less a b never = go (nat_lt a b) (Decides-ltb a b)
         at_least off = grind (arith, off)
 
 module _ (w : Pledge) (few : w.run < 2 ^ 128) (path folder : List ℕ) (Known : ℕ → List Deed → Type 0) (f : FilePath)
-    (lets : PutsMessages w (Folder path folder) Known None (HoldsOne w.run f)) (silent : Bool)
+    (lets : (bytes : List ℕ) → PutsMessages w (Folder path folder) bytes Known None (HoldsOne w.run f)) (silent : Bool)
     (tells : silent ≡ false → (own : List Deed) (piece : List ℕ) → IsLineOfStored w.run (Folder path folder) own piece → w.may_tell own piece)
     (begin : List Deed) (listing : List Run) (text context old : List ℕ) where
   abbrev p : Place
@@ -193,7 +193,7 @@ module _ (w : Pledge) (few : w.run < 2 ^ 128) (path folder : List ℕ) (Known : 
     unfolding piece_taken
     piece_on s own h sound c lt =
         then_soundly w own h (piece_read f (length d) asked) (λ bytes. Return (given_by d bytes) >>= (λ given. into where_ s.taken given >>= (λ taken. Return (Ok (record { bytes = d ++ bytes; taken = taken }))))) Reads Q sound
-        (piece_goes own h (length d) asked Reads (λ bytes k same. (taken_read d bytes s.taken.numbers asked k own c.taken, lets.kept s.taken.highest own (step.ReadDrop f (length d) asked) (answer.Piece bytes k) tt c.known, same)))
+        (piece_goes own h (length d) asked Reads (λ bytes k same. (taken_read d bytes s.taken.numbers asked k own c.taken, (lets []).kept s.taken.highest own (step.ReadDrop f (length d) asked) (answer.Piece bytes k) tt c.known, same)))
         (λ later j bytes ok q. by_given bytes later j ok q (given_by d bytes) refl)
       where
         d : List ℕ

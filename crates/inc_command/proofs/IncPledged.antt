@@ -207,15 +207,15 @@ module _ (run : ℕ) (few : run < 2 ^ 128) (path : List ℕ) (job : IncJob) wher
     (λ other number e is. holds),
   )
 
-  puts : PutsMessages w p Known None (HoldsOne run job.drop)
-  puts = record {
+  puts : (bytes : List ℕ) → PutsMessages w p bytes Known None (HoldsOne run job.drop)
+  puts bytes = record {
     serves = may_begin.serves;
-    puts = λ own temp number. inr (inl (refl, refl));
+    puts = λ own temp number ready holds. inr (inl (refl, refl));
     link = λ own temp n is_own is_number_ reach holds. near_none own temp n is_own reach holds;
     kept = known_kept;
     linked = λ own temp n. inr (inr (now (temp, inl refl)));
     met = λ own temp n. inr (inr (now (temp, inr refl)));
-    made_now = λ own temp bytes holds. holds_on (did (step.Create p temp bytes) answer.Done ∷ own) (step.SyncFile p temp) answer.Done tt (holds_on own (step.Create p temp bytes) answer.Done tt holds);
+    made_now = λ own temp holds. holds_on (did (step.Create p temp bytes) answer.Done ∷ own) (step.SyncFile p temp) answer.Done tt (holds_on own (step.Create p temp bytes) answer.Done tt holds);
     met_now = λ own temp n holds. holds_on own (step.Link p temp (decimal n)) answer.Exists tt holds;
   }
 

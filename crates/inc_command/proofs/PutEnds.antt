@@ -11,10 +11,8 @@ use Rattle.folder_files.specs.Named.{is_temp_of}
 use Rattle.folder_files.specs.declared.place.Place.{Place}
 use Rattle.folder_files.specs.declared.place.Place.TheVariants.{Folder}
 use Rattle.folder_files.specs.declared.step.Answer.TheVariants as answer
-use Rattle.folder_files.specs.declared.step.Step.{Step}
 use Rattle.folder_files.specs.declared.step.Step.TheVariants as step
 use Rattle.file_plans.specs.Plan.{Hand, Return, ◌>>=◌}
-use Rattle.file_plans.proofs.Showing.{number_kind}
 use Rattle.step_plans.specs.Endings.{IsTakenAway}
 use Rattle.step_plans.specs.Hands.{temp_name, used}
 use Rattle.step_plans.specs.Locking.{removed}
@@ -24,30 +22,16 @@ use Rattle.step_plans.specs.declared.fault.PlanFault.{PlanFault}
 use Rattle.step_plans.specs.declared.fault.PlanFault.TheVariants as fault
 use Rattle.step_plans.proofs.Coming.{Comes, comes_sync_folder, comes_then, comes_to, comes_unlink}
 use Rattle.step_plans.proofs.Going.{Outcome}
-use Rattle.step_plans.proofs.Lasting.{KeptBy}
 use Rattle.held_messages.specs.Settle.{given_at, given_from, given_up}
-use Rattle.message_puts.specs.Putting.{linked_first, message_put, number_got, numbered}
-use Rattle.message_puts.specs.Stored.{HasMetAt, HasPutAt, HasStoredAt}
-use Rattle.message_puts.proofs.PutPledged.{AsksPut, IsLinked, IsPutBy, Tries, made_ready, put_kept, put_ready, tried, untried}
+use Rattle.message_puts.specs.Putting.{linked_first, message_put, message_stored, number_got, numbered}
+use Rattle.message_puts.specs.Stored.{HasMetAt}
+use Rattle.message_puts.proofs.PutPledged.{IsLinked, IsPutBy, Tries, made_ready, tried, untried}
+use Rattle.message_puts.proofs.StoredPledged.{IsStoredBy}
 use Rattle.opened_folders.specs.Endings.{Answering, HasMetIn, IsLastName, PutsBackups, ShowsInFolder, last_gone, met_gone}
 use Rattle.opened_folders.proofs.CleanRuns.{Clean, clean_more, comes_link}
 use Rattle.opened_folders.proofs.NamesKept.{last_kept, met_in_kept, putting, taking}
 use Rattle.opened_folders.proofs.SequencesEnd.{Writes, written_clean, written_comes}
 use Rattle.opened_folders.proofs.SettledEnds.{Shown}
-use Rattle.inc_command.specs.Taking.{message_stored}
-use Rattle.inc_command.proofs.TakenPledged.{IsTakenBy}
-
--- what each of the steps keeps by which a message is stored, lasts until it is stored
-pub stored_keeps : (P : Step → Type 0) (F : List Deed → Type 0) → KeptBy P F → (run : ℕ) (p : Place) → AsksPut P p → P (step.SyncFolder p) → (bytes : List ℕ) (own : List Deed) (m : ℕ) (later : List Deed) → IsTakenBy run p bytes own m later → F own → F later
-stored_keeps P F keeps run p asks sync bytes own m later t g =
-    subst F (sym t.deeds) (keeps t.before (step.SyncFolder p) answer.Done sync (put_kept P F keeps run p asks bytes own m t.before t.put g))
-
--- and it is stored
-pub was_stored : (run : ℕ) (p : Place) (bytes : List ℕ) (own : List Deed) (m : ℕ) (later : List Deed) → IsMsgNum m → IsTakenBy run p bytes own m later → HasStoredAt run p m bytes later
-was_stored run p bytes own m later ok t = subst (HasStoredAt run p m bytes) (sym t.deeds) (now (refl, subst (HasPutAt run p m bytes) (sym t.put.deeds) (on (subst (HasPutAt run p m bytes) (sym t.put.link.deeds) put_there))))
-  where
-    put_there : HasPutAt run p m bytes (did (step.Link p t.put.temp (decimal m)) answer.Done ∷ t.put.link.older)
-    put_there = now (record { temp = t.put.temp; linked = refl; is_own = t.put.is_own; at_number = rw (number_kind m ok) refl; ready = put_ready run p bytes own m t.before t.put })
 
 module _ (run : ℕ) (few : run < 2 ^ 128) (path folder : List ℕ) (Answers : Answering) where
   abbrev p : Place
@@ -195,7 +179,7 @@ module _ (run : ℕ) (few : run < 2 ^ 128) (path folder : List ℕ) (Answers : A
 
   -- it is stored
   pub record Stores (bytes : List ℕ) (own : List Deed) (m : ℕ) (later : List Deed) (h : Hand) : Type 0 where
-    pub taken : IsTakenBy run p bytes own m later
+    pub taken : IsStoredBy run p bytes own m later
     pub clean : Clean run later h
     pub safe : PutsBackups p later
     pub number : IsMsgNum m

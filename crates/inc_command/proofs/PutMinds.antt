@@ -42,7 +42,7 @@ use Rattle.opened_folders.proofs.SettledSeen.{grows_link, kind_numbered}
 use Rattle.opened_folders.proofs.ToldMarks.{InListing}
 use Rattle.inc_command.specs.Inc.{top_of}
 use Rattle.inc_command.specs.IncPledge.{inc_pledge}
-use Rattle.inc_command.specs.Taking.{message_stored}
+use Rattle.message_puts.specs.Putting.{message_stored}
 use Rattle.inc_command.specs.declared.job.IncJob.{IncJob}
 
 -- a set's numbers are its greatest at most

@@ -39,7 +39,8 @@ use Rattle.mh_looks.proofs.Apart.{names_apart}
 use Rattle.opened_folders.proofs.WorkGiven.{lifted_gives}
 use Rattle.inc_command.specs.IncOutcome.{lines_from, numbers_up, with_messages}
 use Rattle.inc_command.specs.Intake.{all_taken, with_number}
-use Rattle.inc_command.specs.Taking.{message_stored, message_taken, message_told}
+use Rattle.message_puts.specs.Putting.{message_stored}
+use Rattle.inc_command.specs.Taking.{message_taken, message_told}
 use Rattle.inc_command.specs.declared.intake.Taken.{Taken}
 
 -- the contents with these messages one behind the other from this number on

@@ -1,23 +1,14 @@
 -- The plan by which a message is taken in: no line is written of a message that is not safe.
-use Rattle.std.specs.Prelude.{ℕ, Bool, true, false, List, None, Ok, decimal}
+use Rattle.std.specs.Prelude.{ℕ, Bool, true, false, List, Ok}
 use Rattle.folder_files.specs.declared.place.Place.{Place}
 use Rattle.file_plans.specs.Plan.{Return, lifted, say, ◌>>=◌}
 use Rattle.step_plans.specs.CommandFaults.{of_sink}
-use Rattle.step_plans.specs.PlanFaults.{Planned}
-use Rattle.step_plans.specs.Replacing.{synced}
-use Rattle.message_puts.specs.Putting.{message_put}
+use Rattle.message_puts.specs.Putting.{message_stored}
 use Rattle.command_stages.specs.Endings.{of_plan}
 use Rattle.command_stages.specs.Texts.{Commanded}
 use Rattle.mh_looks.specs.MessageLine.{line_of}
 
--- a message gets a number above the highest, and the directory is made safe
-unfoldable pub message_stored : ℕ → Place → ℕ → List ℕ → Planned ℕ
-message_stored run p top bytes = do
-  number ← message_put run p bytes None top
-  safe ← synced p (decimal number)
-  Return (Ok number)
-
--- its line is written, but where nothing is to be
+-- the line of a message is written, but where nothing is to be
 abbrev pub message_told : Bool → ℕ → List ℕ → Commanded Unit
 message_told true number bytes = Return (Ok tt)
 message_told false number bytes = lifted of_sink (say (line_of number bytes))

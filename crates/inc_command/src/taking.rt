@@ -4,18 +4,18 @@ ghost use Rattle.folder_files.specs.Story.{FilesState};
 ghost use Rattle.file_plans.specs.Plan.{Hand as Kept, lifted};
 ghost use Rattle.file_plans.specs.Follows.{Follows, by_hand, by_out};
 ghost use Rattle.step_plans.specs.CommandFaults.{command_cause};
-ghost use Rattle.step_plans.specs.PlanFaults.{plan_cause};
 ghost use Rattle.command_stages.specs.Endings.{of_plan};
-ghost use Rattle.inc_command.specs.Taking.{message_stored, message_taken, message_told};
+ghost use Rattle.message_puts.specs.Putting.{message_stored};
+ghost use Rattle.inc_command.specs.Taking.{message_taken, message_told};
 
 use command_stages::fault_in;
 use file_plans::say;
 use folder_files::{Files, Place};
-use message_puts::put;
-use mh_base::{Bytes, Duplicate, Entry, FolderName, MsgNum, Sink, entry_name};
+use message_puts::store;
+use mh_base::{Bytes, Duplicate, FolderName, MsgNum, Sink};
 use mh_looks::message_line;
 use std::alloc::Global;
-use step_plans::{CommandFault, Hand, PlanFault, sync};
+use step_plans::{CommandFault, Hand};
 
 /// Where messages go: the folder, its place, and whether no line is written of them.
 #[derive(Clone, Copy)]
@@ -25,28 +25,7 @@ pub struct Target<'a> {
     pub silent: bool,
 }
 
-/// A message is put into a directory, and then that is made safe.
-fn store<F: Files>(
-    alloc: Global,
-    hand: &mut Hand,
-    files: &mut F,
-    place: &Place,
-    highest: u32,
-    bytes: &mut Bytes,
-) -> Result<MsgNum, PlanFault>
-    requires { highest ≤ 999999 }
-    ensures plan { Follows hand.old.run plan_cause (message_stored hand.old.run place.now highest bytes.old) (by_hand hand.old.kept (F.state files.old)) (by_hand hand.new.kept (F.state files.new)) result }
-    ensures same { (hand.new.run ≡ hand.old.run) × (hand.new.mail ≡ hand.old.mail) }
-    ensures bytes { OnOk result (bytes.new ≡ bytes.old) }
-{
-    let run = hand.run();
-    let number = put(alloc, hand, files, place, bytes, None, highest)?;
-    let name = entry_name(alloc, &Entry::Number(number))?;
-    sync(alloc, run, files, place, &name)?;
-    Ok(number)
-}
-
-/// The same, in this folder.
+/// A message is put into this folder, which is made safe.
 fn store_in<F: Files>(
     alloc: Global,
     hand: &mut Hand,

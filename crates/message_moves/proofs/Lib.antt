@@ -1,4 +1,8 @@
+mod Turns
+pub mod CopyPledged
 pub mod MoveAsks
 pub mod MoveCopied
 pub mod MoveGiven
 pub mod MovePledged
+pub mod RefilePledged
+pub mod StayPledged

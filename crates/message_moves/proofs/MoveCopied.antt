@@ -7,7 +7,7 @@ use Rattle.mh_base.specs.declared.entry.Entry.TheVariants.{Held}
 use Rattle.folder_files.specs.Annotations.{Annotates}
 use Rattle.folder_files.specs.Careful.{IsCopyPut, IsPutLink, IsRead, IsSucceeded, IsSuccessorSynced, MayDiscard, WasCopied, WasCopiedFrom, WasGiven, WasGivenAway, WasReady, WasTakenAndRead}
 use Rattle.folder_files.specs.Deeds.{Deed, Once, WasDone, did, now, on}
-use Rattle.folder_files.specs.Named.{is_held, is_taking, is_temp_of}
+use Rattle.folder_files.specs.Named.{is_held, is_number, is_taking, is_temp_of}
 use Rattle.folder_files.specs.Places.{is_folder}
 use Rattle.folder_files.specs.Walks.{Walks}
 use Rattle.folder_files.specs.declared.place.Place.{Place}
@@ -17,9 +17,11 @@ use Rattle.folder_files.specs.declared.step.Step.{Step}
 use Rattle.folder_files.specs.declared.step.Step.TheVariants as step
 use Rattle.folder_files.proofs.Names.{is_held_any, is_taking_held, is_temp_any, is_temp_unheld, not_both}
 use Rattle.folder_files.proofs.Walking.{everywhere}
+use Rattle.file_plans.proofs.Framing.{AnyStep}
 use Rattle.file_plans.proofs.Showing.{number_kind}
 use Rattle.step_plans.proofs.Lasting.{KeptBy}
 use Rattle.step_plans.proofs.Past.{did_answer, did_step, once_map}
+use Rattle.message_puts.specs.Stored.{HasStoredAt}
 use Rattle.message_puts.proofs.PutPledged.{IsPutBy, Tries, made_ready, tried, untried}
 use Rattle.message_moves.proofs.MovePledged.{after_content, after_take, is_taken_so, taking}
 
@@ -146,7 +148,7 @@ open_more run p held bytes G H own s a spares no_put more o = record {
   also = more o.part o.also;
 }
 
-was_copied : (q : Place) (temp bytes copy : List ℕ) → Annotates bytes copy → (part : List Deed) → WasReady q temp copy part → WasCopied q temp bytes part
+pub was_copied : (q : Place) (temp bytes copy : List ℕ) → Annotates bytes copy → (part : List Deed) → WasReady q temp copy part → WasCopied q temp bytes part
 was_copied q temp bytes copy a [] w = elim w [ ]
 was_copied q temp bytes copy a (d ∷ part) (now f) = on (once_map (λ x o e. (copy, e, a)) f.1)
 was_copied q temp bytes copy a (d ∷ part) (on w) = on (was_copied q temp bytes copy a part w)
@@ -157,50 +159,71 @@ module _ (run : ℕ) (p : Place) (held bytes : List ℕ) (q : Place) (folder : i
   temp_apart : (own : List Deed) (G : List Deed → Type 0) → IsOpen run p held bytes G own → (temp : List ℕ) → is_temp_of run (kind_of temp) ≡ true → temp ≡ held → ⊥
   temp_apart own G o temp is e = not_both (is_held (kind_of held)) (is_held_any run held (is_taking_held run o.number held o.took)) (subst (λ z. is_held (kind_of z) ≡ false) e (is_temp_unheld temp (is_temp_any run temp is)))
 
-  abbrev Ready : List ℕ → List Deed → Type 0
-  Ready temp part = WasReady q temp copy part
+  -- what holds of the later deeds lasts, and the file of this name is ready
+  module _ (G : List Deed → Type 0) (keeps : KeptBy AnyStep G) where
+    abbrev Made : List ℕ → List Deed → Type 0
+    Made temp part = G part × WasDone (step.Create q temp copy) part
 
-  open_ready : (temp : List ℕ) (G : List Deed → Type 0) (own : List Deed) → IsOpen run p held bytes G own → IsOpen run p held bytes (Ready temp) (made_ready q temp copy own)
-  open_ready temp G own o =
-      open_more run p held bytes (λ part. WasDone (step.Create q temp copy) part) (Ready temp) (did (step.Create q temp copy) answer.Done ∷ own) (step.SyncFile q temp) answer.Done tt (λ x t l. (let e = did_step l.1 in cc (e))) (λ part c. now (refl, c))
-      (open_more run p held bytes G (λ part. WasDone (step.Create q temp copy) part) own (step.Create q temp copy) answer.Done tt (λ x t l. (let e = did_step l.1 in cc (e))) (λ part g. now refl) o)
+    abbrev Ready : List ℕ → List Deed → Type 0
+    Ready temp part = G part × WasReady q temp copy part
 
-  open_tries : (temp : List ℕ) → is_temp_of run (kind_of temp) ≡ true → (base older : List Deed) → Tries q temp base older → IsOpen run p held bytes (Ready temp) base → IsOpen run p held bytes (Ready temp) older
-  open_tries temp is base _ untried o = o
-  open_tries temp is base _ (tried {own = older} n t) o =
-      let more = open_tries temp is base older t o in
-      open_more run p held bytes (Ready temp) (Ready temp) older (step.Link q temp (decimal n)) answer.Exists (λ e same. temp_apart older (Ready temp) more temp is same) (λ x u l. (let e = did_answer l.1 in cc (e))) (λ part c. on c) more
+    open_ready : (temp : List ℕ) (own : List Deed) → IsOpen run p held bytes G own → IsOpen run p held bytes (Ready temp) (made_ready q temp copy own)
+    open_ready temp own o =
+        open_more run p held bytes (Made temp) (Ready temp) (did (step.Create q temp copy) answer.Done ∷ own) (step.SyncFile q temp) answer.Done tt (λ x t l. (let e = did_step l.1 in cc (e))) (λ part c. (keeps part (step.SyncFile q temp) answer.Done tt c.0, now (refl, c.1)))
+        (open_more run p held bytes G (Made temp) own (step.Create q temp copy) answer.Done tt (λ x t l. (let e = did_step l.1 in cc (e))) (λ part g. (keeps part (step.Create q temp copy) answer.Done tt g, now refl)) o)
 
-  open_linked : (temp : List ℕ) → is_temp_of run (kind_of temp) ≡ true → (m : ℕ) → IsMsgNum m → (own : List Deed) → IsOpen run p held bytes (Ready temp) own
-      → IsOpen run p held bytes (HasCopy run bytes) (did (step.SyncFolder q) answer.Done ∷ (did (step.Unlink q temp) answer.Done ∷ (did (step.Link q temp (decimal m)) answer.Done ∷ own)))
-  unfolding Walks
-  open_linked temp is m ok own o = record {
-    part = after o.part;
-    old = o.old;
-    number = o.number;
-    limit = o.limit;
-    deeds = ap after o.deeds;
-    took = o.took;
-    unnamed = o.unnamed;
-    spared = (tt, (tt, ((λ e same. temp_apart own (Ready temp) o temp is same), o.spared)));
-    synced = (
-      (λ x y l. absurd (let e = did_step l.1 in cc (e))),
-      (
+    open_tries : (temp : List ℕ) → is_temp_of run (kind_of temp) ≡ true → (base older : List Deed) → Tries q temp base older → IsOpen run p held bytes (Ready temp) base → IsOpen run p held bytes (Ready temp) older
+    open_tries temp is base _ untried o = o
+    open_tries temp is base _ (tried {own = older} n t) o =
+        let more = open_tries temp is base older t o in
+        open_more run p held bytes (Ready temp) (Ready temp) older (step.Link q temp (decimal n)) answer.Exists (λ e same. temp_apart older (Ready temp) more temp is same) (λ x u l. (let e = did_answer l.1 in cc (e)))
+        (λ part c. (keeps part (step.Link q temp (decimal n)) answer.Exists tt c.0, on c.1)) more
+
+    -- and then it stands at this number, and is safe there
+    abbrev pub HasCopyAt : ℕ → List Deed → Type 0
+    HasCopyAt m part = G part × HasStoredAt run q m copy part × HasCopy run bytes part
+
+    open_linked : (temp : List ℕ) → is_temp_of run (kind_of temp) ≡ true → (m : ℕ) → IsMsgNum m → (own : List Deed) → IsOpen run p held bytes (Ready temp) own
+        → IsOpen run p held bytes (HasCopyAt m) (did (step.SyncFolder q) answer.Done ∷ (did (step.Unlink q temp) answer.Done ∷ (did (step.Link q temp (decimal m)) answer.Done ∷ own)))
+    unfolding Walks
+    open_linked temp is m ok own o = record {
+      part = after o.part;
+      old = o.old;
+      number = o.number;
+      limit = o.limit;
+      deeds = ap after o.deeds;
+      took = o.took;
+      unnamed = o.unnamed;
+      spared = (tt, (tt, ((λ e same. temp_apart own (Ready temp) o temp is same), o.spared)));
+      synced = (
         (λ x y l. absurd (let e = did_step l.1 in cc (e))),
-        ((λ x y l. now (ap (λ z. did (step.SyncFolder z) answer.Done) (let e = did_step l.1 in cc (e)))), walks_behind run (after []) o.part o.synced),
-      ),
-    );
-    also = on (on (now (q, temp, (decimal m, refl, is, rw (number_kind m ok) refl, folder), was_copied q temp bytes copy copies o.part o.also)));
-  }
-    where
-      after : List Deed → List Deed
-      after z = did (step.SyncFolder q) answer.Done ∷ (did (step.Unlink q temp) answer.Done ∷ (did (step.Link q temp (decimal m)) answer.Done ∷ z))
+        (
+          (λ x y l. absurd (let e = did_step l.1 in cc (e))),
+          ((λ x y l. now (ap (λ z. did (step.SyncFolder z) answer.Done) (let e = did_step l.1 in cc (e)))), walks_behind run (after []) o.part o.synced),
+        ),
+      );
+      also = (
+        keeps _ (step.SyncFolder q) answer.Done tt (keeps _ (step.Unlink q temp) answer.Done tt (keeps o.part (step.Link q temp (decimal m)) answer.Done tt o.also.0)),
+        now (refl, on (now (record { temp = temp; linked = refl; is_own = is; at_number = numbered; ready = o.also.1 }))),
+        on (on (now (q, temp, (decimal m, refl, is, numbered, folder), was_copied q temp bytes copy copies o.part o.also.1))),
+      );
+    }
+      where
+        after : List Deed → List Deed
+        after z = did (step.SyncFolder q) answer.Done ∷ (did (step.Unlink q temp) answer.Done ∷ (did (step.Link q temp (decimal m)) answer.Done ∷ z))
 
-  pub put_opens : (G : List Deed → Type 0) (own before : List Deed) (m : ℕ) → IsMsgNum m → IsPutBy run q copy own m before → IsOpen run p held bytes G own → IsOpen run p held bytes (HasCopy run bytes) (did (step.SyncFolder q) answer.Done ∷ before)
-  put_opens G own before m ok b o =
-      subst (λ z. IsOpen run p held bytes (HasCopy run bytes) (did (step.SyncFolder q) answer.Done ∷ z)) (sym b.deeds)
-      (subst (λ z. IsOpen run p held bytes (HasCopy run bytes) (did (step.SyncFolder q) answer.Done ∷ (did (step.Unlink q b.temp) answer.Done ∷ z))) (sym b.link.deeds)
-      (open_linked b.temp b.is_own m ok b.link.older (open_tries b.temp b.is_own (made_ready q b.temp copy own) b.link.older b.link.tries (open_ready b.temp G own o))))
+        numbered : is_number (kind_of (decimal m)) ≡ true
+        numbered = rw (number_kind m ok) refl
+
+    pub put_opens : (own before : List Deed) (m : ℕ) → IsMsgNum m → IsPutBy run q copy own m before → IsOpen run p held bytes G own → IsOpen run p held bytes (HasCopyAt m) (did (step.SyncFolder q) answer.Done ∷ before)
+    put_opens own before m ok b o =
+        subst (λ z. IsOpen run p held bytes (HasCopyAt m) (did (step.SyncFolder q) answer.Done ∷ z)) (sym b.deeds)
+        (subst (λ z. IsOpen run p held bytes (HasCopyAt m) (did (step.SyncFolder q) answer.Done ∷ (did (step.Unlink q b.temp) answer.Done ∷ z))) (sym b.link.deeds)
+        (open_linked b.temp b.is_own m ok b.link.older (open_tries b.temp b.is_own (made_ready q b.temp copy own) b.link.older b.link.tries (open_ready b.temp own o))))
+
+-- what is known of the later deeds, may be less
+pub open_less : (run : ℕ) (p : Place) (held bytes : List ℕ) (G H : List Deed → Type 0) → ((part : List Deed) → G part → H part) → (own : List Deed) → IsOpen run p held bytes G own → IsOpen run p held bytes H own
+open_less run p held bytes G H less own o = record { part = o.part; old = o.old; number = o.number; limit = o.limit; deeds = o.deeds; took = o.took; unnamed = o.unnamed; spared = o.spared; synced = o.synced; also = less o.part o.also }
 
 -- a message whose bytes are the copy
 pub as_they_are : (bytes : List ℕ) → Annotates bytes bytes

@@ -1,1 +1,4 @@
+pub mod Copied
+pub mod Copying
 pub mod Moving
+pub mod Refiling

@@ -1,3 +1,4 @@
 pub mod FirstPuts
 pub mod PutGiven
 pub mod PutPledged
+pub mod StoredPledged

@@ -49,14 +49,14 @@ abbrev pub MayReach : (ℕ → List Deed → Type 0) → Option ℕ → ℕ → 
 MayReach Known wish n own = (wish ≡ Some n) ⊎ IsNear Known n own
 
 -- the pledge lets messages be put into this folder, at numbers near to known ones, while this is so; what was linked, or met by a link, is known
-pub record PutsMessages (w : Pledge) (p : Place) (Known : ℕ → List Deed → Type 0) (wish : Option ℕ) (Now : List Deed → Type 0) : Type 0 where
+pub record PutsMessages (w : Pledge) (p : Place) (bytes : List ℕ) (Known : ℕ → List Deed → Type 0) (wish : Option ℕ) (Now : List Deed → Type 0) : Type 0 where
   pub serves : Serves w p
-  pub puts : (own : List Deed) (temp number : List ℕ) → MakesStep w.manner own Puts (step.Link p temp number)
+  pub puts : (own : List Deed) (temp number : List ℕ) → WasReady p temp bytes own → Now own → MakesStep w.manner own Puts (step.Link p temp number)
   pub link : (own : List Deed) (temp : List ℕ) (n : ℕ) → is_temp_of w.run (kind_of temp) ≡ true → is_number (kind_of (decimal n)) ≡ true → MayReach Known wish n own → Now own → w.may_step own (step.Link p temp (decimal n))
   pub kept : (n : ℕ) → KeptBy AnyStep (Known n)
   pub linked : (own : List Deed) (temp : List ℕ) (n : ℕ) → Known n (did (step.Link p temp (decimal n)) answer.Done ∷ own)
   pub met : (own : List Deed) (temp : List ℕ) (n : ℕ) → Known n (did (step.Link p temp (decimal n)) answer.Exists ∷ own)
-  pub made_now : (own : List Deed) (temp bytes : List ℕ) → Now own → Now (made_ready p temp bytes own)
+  pub made_now : (own : List Deed) (temp : List ℕ) → Now own → Now (made_ready p temp bytes own)
   pub met_now : (own : List Deed) (temp : List ℕ) (n : ℕ) → Now own → Now (did (step.Link p temp (decimal n)) answer.Exists ∷ own)
 
 was_synced : (p : Place) (temp bytes : List ℕ) (own : List Deed) → WasReady p temp bytes own → WasSynced p temp own
@@ -98,7 +98,7 @@ pub record IsPutBy (run : ℕ) (p : Place) (bytes : List ℕ) (own : List Deed) 
   pub link : IsLinked p temp (made_ready p temp bytes own) m linked
   pub deeds : later ≡ did (step.Unlink p temp) answer.Done ∷ linked
 
-module _ (w : Pledge) (few : w.run < 2 ^ 128) (p : Place) (Known : ℕ → List Deed → Type 0) (wish : Option ℕ) (Now : List Deed → Type 0) (lets : PutsMessages w p Known wish Now) (folder : is_folder p ≡ true) where
+module _ (w : Pledge) (few : w.run < 2 ^ 128) (p : Place) (bytes : List ℕ) (Known : ℕ → List Deed → Type 0) (wish : Option ℕ) (Now : List Deed → Type 0) (lets : PutsMessages w p bytes Known wish Now) (folder : is_folder p ≡ true) where
   further : (own : List Deed) (d : Deed) (later : List Deed) → (AreSettled own → AreSettled (d ∷ own)) → Held (d ∷ own) p later → Held own p later
   further own d later f c = record { settled = λ s. c.settled (f s); lock = c.lock }
 
@@ -106,7 +106,7 @@ module _ (w : Pledge) (few : w.run < 2 ^ 128) (p : Place) (Known : ℕ → List 
   is_numbered n ok = rw (number_kind n ok) refl
 
   -- the file of this name is ready, after these deeds
-  module _ (temp bytes : List ℕ) (is_own : is_temp_of w.run (kind_of temp) ≡ true) (base : List Deed) where
+  module _ (temp : List ℕ) (is_own : is_temp_of w.run (kind_of temp) ≡ true) (base : List Deed) where
     -- the number at which it was put, if at any
     abbrev PutThere : Option ℕ → List Deed → Type 0
     PutThere None own = Unit {0}
@@ -124,7 +124,7 @@ module _ (w : Pledge) (few : w.run < 2 ^ 128) (p : Place) (Known : ℕ → List 
 
     may_link : (own : List Deed) (i : Hand) (n : ℕ) → IsMsgNum n → MayReach Known wish n own → MayLink own → Sound w own i → MayAsk w own (step.Link p temp (decimal n))
     may_link own i n ok near l s = record {
-      is_own = careful s.unfailed Puts (puts p temp (decimal n) (folder, is_numbered n ok, (is_own, was_synced p temp bytes own l.ready))) (lets.puts own temp (decimal n)) (lock_held p own l.lock);
+      is_own = careful s.unfailed Puts (puts p temp (decimal n) (folder, is_numbered n ok, (is_own, was_synced p temp bytes own l.ready))) (lets.puts own temp (decimal n) l.ready l.current) (lock_held p own l.lock);
       marks = tt;
       steps = λ no. lets.link own temp n is_own (is_numbered n ok) near l.current;
     }
@@ -192,15 +192,15 @@ module _ (w : Pledge) (few : w.run < 2 ^ 128) (p : Place) (Known : ℕ → List 
         got later j (Some m) f = goes_return w later j m (okay (Numbered own)) f
 
   -- a message with these bytes was put at this number by such deeds, and the lock is had
-  abbrev pub HasPut : List ℕ → List Deed → Outcome ℕ
-  HasPut bytes own later j m = Held own p later × IsMsgNum m × HasPutAt w.run p m bytes later × IsPutBy w.run p bytes own m later × Known m later
+  abbrev pub HasPut : List Deed → Outcome ℕ
+  HasPut own later j m = Held own p later × IsMsgNum m × HasPutAt w.run p m bytes later × IsPutBy w.run p bytes own m later × Known m later
 
   -- under the folder's lock
-  pub put_goes : (bytes : List ℕ) → IsEnd wish → (top : ℕ) → top ≤ 999999 → (own : List Deed) (h : Hand) → Known top own → Now own → HasLock p own → Goes w own h (message_put w.run p bytes wish top) (okay (HasPut bytes own))
+  pub put_goes : IsEnd wish → (top : ℕ) → top ≤ 999999 → (own : List Deed) (h : Hand) → Known top own → Now own → HasLock p own → Goes w own h (message_put w.run p bytes wish top) (okay (HasPut own))
   unfolding message_put
-  put_goes bytes ok top small own h known current lock =
-      goes_then w own h (written w.run p bytes) _ (Written w few p lets.serves own bytes) (HasPut bytes own) (written_goes w few p lets.serves own h bytes (λ l. lock))
-      (λ later j temp q. goes_at w later (made_ready p temp bytes own) j _ (okay (HasPut bytes own)) q.0 (then_numbered temp q.1 j))
+  put_goes ok top small own h known current lock =
+      goes_then w own h (written w.run p bytes) _ (Written w few p lets.serves own bytes) (HasPut own) (written_goes w few p lets.serves own h bytes (λ l. lock))
+      (λ later j temp q. goes_at w later (made_ready p temp bytes own) j _ (okay (HasPut own)) q.0 (then_numbered temp q.1 j))
     where
       known_ready : (temp : List ℕ) → Known top (made_ready p temp bytes own)
       known_ready temp = lets.kept top (did (step.Create p temp bytes) answer.Done ∷ own) (step.SyncFile p temp) answer.Done tt (lets.kept top own (step.Create p temp bytes) answer.Done tt known)
@@ -209,7 +209,7 @@ module _ (w : Pledge) (few : w.run < 2 ^ 128) (p : Place) (Known : ℕ → List 
       settled_ready temp f =
           settled_kept (did (step.Create p temp bytes) answer.Done ∷ own) (step.SyncFile p temp) answer.Done tt (settled_kept own (step.Create p temp bytes) answer.Done tt f)
 
-      unlinked : (temp : List ℕ) (is_own : is_temp_of w.run (kind_of temp) ≡ true) (later : List Deed) (k : Hand) (m : ℕ) → Numbered temp bytes is_own (made_ready p temp bytes own) (made_ready p temp bytes own) later k m → HasPut bytes own (did (step.Unlink p temp) answer.Done ∷ later) k m
+      unlinked : (temp : List ℕ) (is_own : is_temp_of w.run (kind_of temp) ≡ true) (later : List Deed) (k : Hand) (m : ℕ) → Numbered temp is_own (made_ready p temp bytes own) (made_ready p temp bytes own) later k m → HasPut own (did (step.Unlink p temp) answer.Done ∷ later) k m
       unlinked temp is_own later k m f = (
         record { settled = λ s. settled_kept later (step.Unlink p temp) answer.Done tt (f.0.settled (settled_ready temp s)); lock = still (λ e. cc (e)) f.0.lock },
         f.1,
@@ -218,13 +218,13 @@ module _ (w : Pledge) (few : w.run < 2 ^ 128) (p : Place) (Known : ℕ → List 
         lets.kept m later (step.Unlink p temp) answer.Done tt f.2.2,
       )
 
-      then_numbered : (temp : List ℕ) → is_temp_of w.run (kind_of temp) ≡ true → (j : Hand) → Goes w (made_ready p temp bytes own) j (numbered p temp wish top >>= (λ number. removed p temp >>= (λ gone. Return (Ok number)))) (okay (HasPut bytes own))
+      then_numbered : (temp : List ℕ) → is_temp_of w.run (kind_of temp) ≡ true → (j : Hand) → Goes w (made_ready p temp bytes own) j (numbered p temp wish top >>= (λ number. removed p temp >>= (λ gone. Return (Ok number)))) (okay (HasPut own))
       then_numbered temp is_own j =
-          goes_then w (made_ready p temp bytes own) j (numbered p temp wish top) _ (Numbered temp bytes is_own (made_ready p temp bytes own) (made_ready p temp bytes own)) (HasPut bytes own)
-          (numbered_goes temp bytes is_own (made_ready p temp bytes own) ok top small (made_ready p temp bytes own) j (known_ready temp) (record { lock = still (λ e. cc (e)) (still (λ e. cc (e)) lock); ready = now (refl, now refl); tries = untried; current = lets.made_now own temp bytes current }))
+          goes_then w (made_ready p temp bytes own) j (numbered p temp wish top) _ (Numbered temp is_own (made_ready p temp bytes own) (made_ready p temp bytes own)) (HasPut own)
+          (numbered_goes temp is_own (made_ready p temp bytes own) ok top small (made_ready p temp bytes own) j (known_ready temp) (record { lock = still (λ e. cc (e)) (still (λ e. cc (e)) lock); ready = now (refl, now refl); tries = untried; current = lets.made_now own temp current }))
           (λ later k m f.
-          goes_then w later k (removed p temp) _ (Adds later (did (step.Unlink p temp) answer.Done)) (HasPut bytes own) (removed_goes w p lets.serves later k temp (is_temp_any w.run (kind_of temp) is_own) (λ l. f.0.lock))
-          (λ last i u e. goes_at w last (did (step.Unlink p temp) answer.Done ∷ later) i _ (okay (HasPut bytes own)) e (goes_return w _ i m (okay (HasPut bytes own)) (unlinked temp is_own later i m f))))
+          goes_then w later k (removed p temp) _ (Adds later (did (step.Unlink p temp) answer.Done)) (HasPut own) (removed_goes w p lets.serves later k temp (is_temp_any w.run (kind_of temp) is_own) (λ l. f.0.lock))
+          (λ last i u e. goes_at w last (did (step.Unlink p temp) answer.Done ∷ later) i _ (okay (HasPut own)) e (goes_return w _ i m (okay (HasPut own)) (unlinked temp is_own later i m f))))
 
 -- what the steps of a put keep, lasts until the file is linked, and until its temporary name is gone
 pub record AsksPut (P : Step → Type 0) (p : Place) : Type 0 where

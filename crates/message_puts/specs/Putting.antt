@@ -1,10 +1,10 @@
--- The plan by which a new message gets a number.
-use Rattle.std.specs.Prelude.{◌+◌, ℕ, List, Option, Some, None, Ok, Err}
+-- The plans by which a new message gets a number, and is made safe there.
+use Rattle.std.specs.Prelude.{◌+◌, ℕ, List, Option, Some, None, Ok, Err, decimal}
 use Rattle.folder_files.specs.declared.place.Place.{Place}
 use Rattle.file_plans.specs.Plan.{Return, ◌>>=◌}
 use Rattle.step_plans.specs.Locking.{removed}
 use Rattle.step_plans.specs.PlanFaults.{Planned}
-use Rattle.step_plans.specs.Replacing.{written}
+use Rattle.step_plans.specs.Replacing.{synced, written}
 use Rattle.step_plans.specs.declared.fault.PlanFault.TheVariants as fault
 use Rattle.held_messages.specs.Settle.{given_from, homed_name}
 
@@ -31,4 +31,11 @@ message_put run p bytes wish top = do
   temp ← written run p bytes
   number ← numbered p temp wish top
   gone ← removed p temp
+  Return (Ok number)
+
+-- it gets a number above the highest, and the directory is made safe
+unfoldable pub message_stored : ℕ → Place → ℕ → List ℕ → Planned ℕ
+message_stored run p top bytes = do
+  number ← message_put run p bytes None top
+  safe ← synced p (decimal number)
   Return (Ok number)

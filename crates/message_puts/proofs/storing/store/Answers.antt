@@ -1,8 +1,8 @@
 use Rattle.std.proofs.Common.{refl}
 use Rattle.mh_base.specs.Entries.{entry_text}
 use Rattle.file_plans.proofs.Following.{done, go, no_room, stop}
-use Rattle.inc_command.specs.Taking.{message_stored}
-use Rattle.inc_command.proofs.taking.store.Goals as goal
+use Rattle.message_puts.specs.Putting.{message_stored}
+use Rattle.message_puts.proofs.storing.store.Goals as goal
 
 pub returns-in_err-number-clause-plan : goal.returns-in_err-number-clause-plan
 unfolding message_stored
