@@ -5,5 +5,6 @@ pub mod MoveGiven
 pub mod MovePledged
 pub mod MovingKinds
 pub mod RefilePledged
+pub mod RefiledGiven
 pub mod StayPledged
 mod Turns

@@ -1,7 +1,7 @@
 -- Steps of a refiling are of the kinds that its manner has, and so are those of copies that leave their message where it is.
-use Rattle.std.proofs.Common.{◌≡◌, ◌<◌, ◌^◌, inl, inr, ℕ, List, refl}
+use Rattle.std.proofs.Common.{◌<◌, ◌^◌, inl, inr, ℕ, List, refl}
 use Rattle.std.specs.Prelude.{Contains}
-use Rattle.mh_base.specs.Entries.{entry_text, kind_of}
+use Rattle.mh_base.specs.Entries.{entry_text}
 use Rattle.mh_base.specs.Numbers.{IsMsgNum}
 use Rattle.mh_base.specs.declared.entry.Entry.TheVariants.{Held, Number}
 use Rattle.mh_base.proofs.EntryKinds.{kind_of-entry_text}
