@@ -23,16 +23,12 @@ use Rattle.file_plans.proofs.Showing.{context_no_number, foreign, shows_message}
 use Rattle.step_plans.specs.CommandFaults.{of_sink}
 use Rattle.step_plans.specs.ContextCommit.{context_name}
 use Rattle.step_plans.specs.Hands.{temp_name, used}
-use Rattle.step_plans.specs.Replacing.{synced}
 use Rattle.step_plans.specs.declared.command_fault.CommandFault.{CommandFault}
 use Rattle.step_plans.specs.declared.command_fault.CommandFault.TheVariants as fault
 use Rattle.step_plans.specs.declared.fault.PlanFault.{PlanFault}
-use Rattle.step_plans.specs.declared.fault.PlanFault.TheVariants as plan
 use Rattle.step_plans.proofs.Named.{temp_is}
-use Rattle.step_plans.proofs.Replaced.{Fails, gives_next, synced_gives}
 use Rattle.held_messages.specs.HeldPairs.{with_folder_changed}
-use Rattle.message_puts.specs.Putting.{message_put}
-use Rattle.message_puts.proofs.PutGiven.{Puts, put_gives}
+use Rattle.message_puts.proofs.StoredGiven.{Stores, stored_gives}
 use Rattle.command_stages.specs.Endings.{of_plan}
 use Rattle.mh_looks.specs.MessageLine.{line_of, number_column, subject_of}
 use Rattle.mh_looks.proofs.Apart.{names_apart}
@@ -187,20 +183,6 @@ line_some n bytes e = ends (number_column n) (subject_of bytes) e
     ends (x ∷ a) b q = cc
 
 module _ (run : ℕ) (few : run < 2 ^ 128) (folder : List ℕ) (p : Place) (silent : Bool) where
-  -- a message is put and made safe
-  abbrev Stored : Contents → ℕ → List ℕ → Hand → View → Hand → List ℕ → Result ℕ PlanFault → Type 0
-  Stored c n bytes h z j left (Ok m) = (m ≡ n) × Is true z.numbers z (with_text c p (decimal n) (Some bytes)) × (j ≡ used h)
-  Stored c n bytes h z j left (Err e) = e ≡ plan.Memory
-
-  memory_only : (h : Hand) (e : PlanFault) → Fails true h e → e ≡ plan.Memory
-  memory_only h plan.Faulted f = absurd f
-  memory_only h (plan.Locked q) f = absurd (f refl)
-  memory_only h (plan.Meddled q x) f = absurd (f refl)
-  memory_only h plan.Full f = absurd f
-  memory_only h (plan.Absent q) f = absurd f
-  memory_only h (plan.TooLarge l) f = absurd f
-  memory_only h plan.Memory f = refl
-
   module _ (c : Contents) (top : ℕ) (roomy : IsRoomy c p top) (low : top < 999999) (ns : List ℕ) (v : View) (is : Is true ns v c) (h : Hand) where
     abbrev n : ℕ
     n = top + 1
@@ -208,18 +190,8 @@ module _ (run : ℕ) (few : run < 2 ^ 128) (folder : List ℕ) (p : Place) (sile
     abbrev later : List ℕ → Contents
     later bytes = with_text c p (decimal n) (Some bytes)
 
-    stored_gives : (bytes : List ℕ) → Gives (by_view true) v h [] (message_stored run p top bytes) (Stored c n bytes h)
-    unfolding Gives message_stored
-    stored_gives bytes =
-        gives_on (by_view true) v h [] (message_put run p bytes None top) (λ number. synced p (decimal number) >>= (λ safe. Return (Ok number))) (Puts ns c p n bytes h) (Stored c n bytes h)
-        (put_gives run few p c roomy.there top low (roomy.above n (omega arith) (omega (arith, low))) bytes ns v h [] is (λ named. roomy.free (temp_name run h.next) (temp_is run h.next few named)))
-        (λ z j left m put. subst (λ k. Gives (by_view true) z j left (synced p (decimal k) >>= (λ safe. Return (Ok k))) (Stored c n bytes h)) (sym put.number)
-        (subst (λ i. Gives (by_view true) z i left (synced p (decimal n) >>= (λ safe. Return (Ok n))) (Stored c n bytes h)) (sym put.hand)
-        (gives_next true z.numbers (later bytes) (used h) (Fails true h) z (used h) left (synced p (decimal n)) (λ safe. Return (Ok n)) (Stored c n bytes h)
-        (synced_gives true z.numbers p h (decimal n) z (later bytes) (used h) left ((λ e. put.contents), refl) (λ e. roomy.there))
-        (λ y rest u same. (refl, ((λ e. same.0 refl), refl), refl))
-        (λ y i rest e f. memory_only h e f))))
-        (λ z j left e f. memory_only h e f)
+    one_gives : (bytes : List ℕ) → Gives (by_view true) v h [] (message_stored run p top bytes) (Stores c p n bytes h)
+    one_gives bytes = stored_gives run few p c roomy.there top low (roomy.above n (omega arith) (omega (arith, low))) bytes ns v h [] is (λ named. roomy.free (temp_name run h.next) (temp_is run h.next few named))
 
     -- and its line is written
     abbrev TakesOne : List ℕ → List ℕ → View → Hand → List ℕ → Result ℕ CommandFault → Type 0
@@ -236,12 +208,12 @@ module _ (run : ℕ) (few : run < 2 ^ 128) (folder : List ℕ) (p : Place) (sile
     unfolding message_taken
     taken_gives bytes text =
         gives_on (by_view true) v h (told silent (line_of n bytes) ++ text) (lifted (of_plan folder) (message_stored run p top bytes)) (λ number. message_told silent number bytes >>= (λ done. Return (Ok number)))
-        (λ z j left r. (left ≡ told silent (line_of n bytes) ++ text) × ((q : Result ℕ PlanFault) × (r ≡ converted (of_plan folder) q) × Stored c n bytes h z j [] q)) (TakesOne bytes text)
-        (lifted_gives v h (told silent (line_of n bytes) ++ text) (of_plan folder) (message_stored run p top bytes) (Stored c n bytes h) (stored_gives bytes))
+        (λ z j left r. (left ≡ told silent (line_of n bytes) ++ text) × ((q : Result ℕ PlanFault) × (r ≡ converted (of_plan folder) q) × Stores c p n bytes h z j [] q)) (TakesOne bytes text)
+        (lifted_gives v h (told silent (line_of n bytes) ++ text) (of_plan folder) (message_stored run p top bytes) (Stores c p n bytes h) (one_gives bytes))
         (λ z j left m g. good z j left m g.0 g.1.0 g.1.1 g.1.2)
         (λ z j left e g. bad z j left e g.1.0 g.1.1 g.1.2)
       where
-        good : (z : View) (j : Hand) (left : List ℕ) (m : ℕ) → left ≡ told silent (line_of n bytes) ++ text → (q : Result ℕ PlanFault) → Ok m ≡ converted (of_plan folder) q → Stored c n bytes h z j [] q
+        good : (z : View) (j : Hand) (left : List ℕ) (m : ℕ) → left ≡ told silent (line_of n bytes) ++ text → (q : Result ℕ PlanFault) → Ok m ≡ converted (of_plan folder) q → Stores c p n bytes h z j [] q
             → Gives (by_view true) z j left (message_told silent m bytes >>= (λ done. Return (Ok m))) (TakesOne bytes text)
         good z j left m rest (Ok k) e s =
             let same : k ≡ m = cc (e) in
@@ -249,7 +221,7 @@ module _ (run : ℕ) (few : run < 2 ^ 128) (folder : List ℕ) (p : Place) (sile
             (subst (λ i. Gives (by_view true) z i left (message_told silent n bytes >>= (λ done. Return (Ok n))) (TakesOne bytes text)) (sym s.2) (told_gives silent bytes text z left s.1 rest))
         good z j left m rest (Err x) e s = absurd (cc (e))
 
-        bad : (z : View) (j : Hand) (left : List ℕ) (e : CommandFault) (q : Result ℕ PlanFault) → Err e ≡ converted (of_plan folder) q → Stored c n bytes h z j [] q → e ≡ fault.Memory
+        bad : (z : View) (j : Hand) (left : List ℕ) (e : CommandFault) (q : Result ℕ PlanFault) → Err e ≡ converted (of_plan folder) q → Stores c p n bytes h z j [] q → e ≡ fault.Memory
         bad z j left e (Ok k) f s = absurd (cc (f))
         bad z j left e (Err x) f s = let same : e ≡ of_plan folder x = cc (f) in same ∙ ap (of_plan folder) s
 

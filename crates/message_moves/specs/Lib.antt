@@ -1,4 +1,5 @@
 pub mod Copied
 pub mod Copying
 pub mod Moving
+pub mod RefiledAlone
 pub mod Refiling

@@ -5,3 +5,4 @@ pub mod RmmMinds
 pub mod RmmPledged
 pub mod Selected
 pub mod Shown
+mod RefileWorked

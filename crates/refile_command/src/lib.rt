@@ -5,5 +5,5 @@ mod job;
 mod leaving;
 mod removing;
 
-pub use job::RmmJob;
+pub use job::{RefileJob, RmmJob};
 pub use leaving::rmm;
