@@ -34,12 +34,12 @@ use Rattle.held_messages.specs.Settle.{given_at, given_up, given_from, homed, al
 use Rattle.held_messages.proofs.PairLemmas.{IsPair, ArePairs}
 use Rattle.held_messages.proofs.Linking.{IsEnd, held_is}
 
--- the pledge lets what is held aside in this place be put back
+-- the pledge lets what is held aside in this place be put back, and go there once it was made safe under its number
 pub record Settles (w : Pledge) (p : Place) : Type 0 where
   pub gives : (own : List Deed) (held number : List ℕ) → MakesStep w.manner own Gives (step.Link p held number)
   pub drops : (own : List Deed) (held : List ℕ) → MakesStep w.manner own Drops (step.Unlink p held)
   pub link : (own : List Deed) (held number : List ℕ) → is_held (kind_of held) ≡ true → is_number (kind_of number) ≡ true → w.may_step own (step.Link p held number)
-  pub unlink : (own : List Deed) (held : List ℕ) → is_held (kind_of held) ≡ true → w.may_step own (step.Unlink p held)
+  pub unlink : (own : List Deed) (held : List ℕ) → is_held (kind_of held) ≡ true → WasGivenAway p held own → w.may_step own (step.Unlink p held)
 
 -- where a held name was put somewhere
 abbrev pub Where : (Place → List ℕ → List Deed → Type 0) → Place → HeldPair → Option ℕ → List Deed → Type 0
@@ -132,7 +132,7 @@ module _ (w : Pledge) (p : Place) (lets : Settles w p) (folder : is_folder p ≡
     unfolding removed
     dropped_one_goes own i lock away =
         goes_unlink w own i of_stop (okay (Of (Held own p))) p held (held_to p held)
-        (λ s. (record { is_own = careful s.unfailed Drops (drops p held (folder, held_is h pair, away)) (lets.drops own held) (lock_held p own lock); marks = tt; steps = λ no. lets.unlink own held (held_is h pair) }, tt))
+        (λ s. (record { is_own = careful s.unfailed Drops (drops p held (folder, held_is h pair, away)) (lets.drops own held) (lock_held p own lock); marks = tt; steps = λ no. lets.unlink own held (held_is h pair) away }, tt))
         (goes_return w _ i tt (okay (Of (Held own p))) (record { settled = λ f. settled_kept own (step.Unlink p held) answer.Done tt f; lock = still (λ e. cc (e)) lock }))
         (goes_end w _ i (fault.Meddled p held) (Of (Held own p)))
 

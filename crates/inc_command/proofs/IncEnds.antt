@@ -85,7 +85,7 @@ module _ (run : ℕ) (few : run < 2 ^ 128) (path : List ℕ) (job : IncJob) wher
     creates = λ own q temp bytes. tt;
     clears = λ own q temp is. tt;
     gives = λ own q held number is. tt;
-    drops = λ own q held is. tt;
+    drops = λ own q held is away. tt;
     commits = λ own q temp name is. tt;
   }
 

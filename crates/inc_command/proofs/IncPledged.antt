@@ -164,7 +164,7 @@ module _ (run : ℕ) (few : run < 2 ^ 128) (path : List ℕ) (job : IncJob) wher
     creates = λ own q temp bytes. ((λ l e. absurd (cc (e))), (λ other number e is. absurd (cc (e))), (λ other number e is. absurd (cc (e))));
     clears = λ own q temp is. ((λ l e. absurd (cc (e))), (λ other number e is_temp_. absurd (cc (e))), (λ other number e is_temp_. absurd (cc (e))));
     gives = λ own q held number is. ((λ l e. absurd (cc (e))), (λ temp other e is_temp_. absurd (let same : held ≡ temp = cc (e) in unheld (kind_of temp) is_temp_ (subst (λ x. is_held (kind_of x) ≡ true) same is))), (λ temp other e is_temp_. absurd (let same : held ≡ temp = cc (e) in unheld (kind_of temp) is_temp_ (subst (λ x. is_held (kind_of x) ≡ true) same is))));
-    drops = λ own q held is. ((λ l e. absurd (cc (e))), (λ temp number e is_temp_. absurd (cc (e))), (λ temp number e is_temp_. absurd (cc (e))));
+    drops = λ own q held is away. ((λ l e. absurd (cc (e))), (λ temp number e is_temp_. absurd (cc (e))), (λ temp number e is_temp_. absurd (cc (e))));
     commits = λ own q temp name is. ((λ l e. absurd (cc (e))), (λ other number e is_temp_. absurd (cc (e))), (λ other number e is_temp_. absurd (cc (e))));
   }
 

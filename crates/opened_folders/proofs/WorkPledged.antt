@@ -8,7 +8,7 @@ use Rattle.mh_sequences.specs.Printing.{private_entries, text_of}
 use Rattle.mh_sequences.specs.Reading.{suffix}
 use Rattle.mh_sequences.specs.Sequences.{Marked}
 use Rattle.mh_sequences.specs.declared.run.Run.{Run}
-use Rattle.folder_files.specs.Careful.{HasLock, Kind, makes, Makes, Creates, Puts, Gives, Takes, Removes, Drops, Discards, Commits, Clears, Cuts, Stores}
+use Rattle.folder_files.specs.Careful.{HasLock, Kind, WasGivenAway, makes, Makes, Creates, Puts, Gives, Takes, Removes, Drops, Discards, Commits, Clears, Cuts, Stores}
 use Rattle.folder_files.specs.Commands.{KeepsFolder, MakesStep, Manner, begins_folder, serves_commit}
 use Rattle.folder_files.specs.Deeds.{Deed, did}
 use Rattle.folder_files.specs.Named.{is_committed, is_held, is_temp}
@@ -78,7 +78,7 @@ pub record LetsBegin (path folder : List ℕ) (manner : Manner) (may_step : List
   pub creates : (own : List Deed) (q : Place) (temp bytes : List ℕ) → may_step own (step.Create q temp bytes)
   pub clears : (own : List Deed) (q : Place) (temp : List ℕ) → is_temp (kind_of temp) ≡ true → may_step own (step.Unlink q temp)
   pub gives : (own : List Deed) (q : Place) (held number : List ℕ) → is_held (kind_of held) ≡ true → may_step own (step.Link q held number)
-  pub drops : (own : List Deed) (q : Place) (held : List ℕ) → is_held (kind_of held) ≡ true → may_step own (step.Unlink q held)
+  pub drops : (own : List Deed) (q : Place) (held : List ℕ) → is_held (kind_of held) ≡ true → WasGivenAway q held own → may_step own (step.Unlink q held)
   pub commits : (own : List Deed) (q : Place) (temp name : List ℕ) → is_committed q name ≡ true → may_step own (step.Rename q temp name)
 
 -- what a command makes of sequences without regard to its deeds it makes later too
@@ -138,7 +138,7 @@ module _ (run : ℕ) (few : run < 2 ^ 128) (path folder : List ℕ) (Makes_ : Li
     gives = λ own held number. lets.kinds own Gives (step.Link p held number) (inl (refl, refl));
     drops = λ own held. lets.kinds own Drops (step.Unlink p held) (inl (refl, refl));
     link = λ own held number is_held_ is_number_. lets.gives own p held number is_held_;
-    unlink = λ own held is. lets.drops own p held is;
+    unlink = λ own held is away. lets.drops own p held is away;
   }
 
   apart : mail ≡ p → ⊥

@@ -114,7 +114,7 @@ module _ (run : ℕ) (few : run < 2 ^ 128) (path : List ℕ) (job : RmmJob) wher
     creates = λ own q temp bytes. λ n r. absurd r;
     clears = λ own q temp is. λ n r. absurd (temp_no_number (kind_of temp) n is r.1);
     gives = λ own q held number is. λ n r. absurd r;
-    drops = λ own q held is. λ n r. absurd (held_no_number (kind_of held) n is r.1);
+    drops = λ own q held is away. λ n r. absurd (held_no_number (kind_of held) n is r.1);
     commits = λ own q temp name is. λ n r. absurd (committed_no_backup path job.folder name n (subst (λ z. is_committed z name ≡ true) r.0 is) r.2);
   }
 
