@@ -43,6 +43,12 @@ impl Opened {
         &self.place
     }
 
+    pub fn folder(&self) -> &FolderName
+        ensures { result.now ≡ self.now.folder }
+    {
+        &self.folder
+    }
+
     /// The numbers of its messages.
     pub fn listing(&self) -> &NumSet
         ensures { result.now.runs ≡ self.now.listing }
