@@ -211,7 +211,7 @@ module _ (run : ℕ) (few : run < 2 ^ 128) (path : List ℕ) (job : IncJob) wher
   puts bytes = record {
     serves = may_begin.serves;
     puts = λ own temp number ready holds. inr (inl (refl, refl));
-    link = λ own temp n is_own is_number_ reach holds. near_none own temp n is_own reach holds;
+    link = λ own temp n is_own is_number_ reach ready holds. near_none own temp n is_own reach holds;
     kept = known_kept;
     linked = λ own temp n. inr (inr (now (temp, inl refl)));
     met = λ own temp n. inr (inr (now (temp, inr refl)));

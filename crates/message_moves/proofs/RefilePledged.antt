@@ -112,11 +112,11 @@ module _ (w : Pledge) (few : w.run < 2 ^ 128) (p : Place) (folder : is_folder p 
   HasLocks own = Locks w few p In Known Now keeps own
 
   -- The pledge lets messages leave for these folders: each may be taken while this is so of it and the deeds, which lasts; what is held aside may be put
-  -- elsewhere once it was read; and it may be discarded once it is copied to each of them.
+  -- elsewhere once it was read; and it may be discarded once it was taken and then copied to each of them.
   pub record LetsRefile (folders : List Place) (May : ℕ → List Deed → Type 0) : Type 0 where
     pub takes : (n : ℕ) (own : List Deed) → IsMsgNum n → May n own → LetsTake w p n own
-    pub reads : (n : ℕ) (bytes : List ℕ) (own : List Deed) → IsMsgNum n → Now bytes (after_content p (held_of n) bytes own)
-    pub discards : (n : ℕ) (own : List Deed) → IsMsgNum n → HasCopied w.run p (held_of n) folders own → LetsDiscard w p (held_of n) own
+    pub reads : (n : ℕ) (bytes : List ℕ) (own : List Deed) → IsMsgNum n → May n own → Now bytes (after_content p (held_of n) bytes own)
+    pub discards : (n : ℕ) (own : List Deed) → IsMsgNum n → (copied : HasCopied w.run p (held_of n) folders own) → WasTaken w.run p (held_of n) copied.before → LetsDiscard w p (held_of n) own
     pub lasts : (n : ℕ) → KeptBy AnyStep (May n)
 
   -- each step of messages that leave keeps this fact of the deeds
@@ -189,19 +189,19 @@ module _ (w : Pledge) (few : w.run < 2 ^ 128) (p : Place) (folder : is_folder p 
       abbrev has_copied : (fs : List Place) (bytes : List ℕ) (own : List Deed) → IsOpen w.run p held bytes (AreStored w.run bytes fs) own → HasCopied w.run p held fs own
       has_copied fs bytes own o = record { bytes = bytes; since = o.part; reading = did (step.Read p held o.limit) (answer.Content bytes); before = did (step.Rename p o.number held) answer.Done ∷ o.old; deeds = o.deeds; is_reading = (o.limit, refl); stored = o.also }
 
+      was_taken : (fs : List Place) (bytes : List ℕ) (own : List Deed) (o : IsOpen w.run p held bytes (AreStored w.run bytes fs) own) → WasTaken w.run p held (has_copied fs bytes own o).before
+      was_taken fs bytes own o = now (o.number, refl, o.took)
+
       has_gone : (fs : List Place) (bytes : List ℕ) (own : List Deed) → IsOpen w.run p held bytes (AreStored w.run bytes fs) own → HasGone w.run p fs n (after_discard p held own)
       has_gone [] bytes own o = tt
-      has_gone (q ∷ qs) bytes own o = now (refl, now (record { gone = refl; copied = has_copied (q ∷ qs) bytes own o; taken = taken }))
-        where
-          taken : WasTaken w.run p held (did (step.Rename p o.number held) answer.Done ∷ o.old)
-          taken = now (o.number, refl, o.took)
+      has_gone (q ∷ qs) bytes own o = now (refl, now (record { gone = refl; copied = has_copied (q ∷ qs) bytes own o; taken = was_taken (q ∷ qs) bytes own o }))
 
       ending : (d : Destination) (ds : List Destination) → places (d ∷ ds) ≡ folders → is_folder d.place ≡ true → (bytes : List ℕ) (own : List Deed) (j : Hand) (es : List Destination) → places es ≡ folders → To es own → Going_ bytes (AreStored w.run bytes folders) own
           → Goes w own j (lifted (of_plan source) (held_discarded p held) >>= (λ gone. Return (Ok es))) (okay Refiled)
       ending d ds some is bytes own j es same to g =
           goes_then w own j (lifted (of_plan source) (held_discarded p held)) (λ gone. Return (Ok es)) (HasDiscarded p held own) Refiled
           (goes_lifted w own j (of_plan source) (held_discarded p held) (HasDiscarded p held own)
-          (discard_goes w few p folder held (is_held_so w.run few n ok) own j (lets.discards n own ok (has_copied folders bytes own g.open_)) (may_discard w.run p held bytes own (open_less w.run p held bytes _ (HasCopy w.run bytes) copied own g.open_)) (g.locks p inside)))
+          (discard_goes w few p folder held (is_held_so w.run few n ok) own j (lets.discards n own ok (has_copied folders bytes own g.open_) (was_taken folders bytes own g.open_)) (may_discard w.run p held bytes own (open_less w.run p held bytes _ (HasCopy w.run bytes) copied own g.open_)) (g.locks p inside)))
           (λ later i u e. goes_at w later (after_discard p held own) i (Return (Ok es)) (okay Refiled) e
           (goes_return w _ i es (okay Refiled) (
             same,
@@ -224,9 +224,9 @@ module _ (w : Pledge) (few : w.run < 2 ^ 128) (p : Place) (folder : is_folder p 
       spares_reading : Leaves ns (step.Read p held LIMIT_BYTES)
       spares_reading = (names_none w.run few p n ok ns are apart (step.Read p held LIMIT_BYTES) (λ other off e is. off is), moves.read n ok)
 
-      read_goes : (d : Destination) (ds : List Destination) → places (d ∷ ds) ≡ folders → is_folder d.place ≡ true → (own : List Deed) (j : Hand) → AreSpared p held own → Still ns own → HasLocks own → To (d ∷ ds) own
+      read_goes : (d : Destination) (ds : List Destination) → places (d ∷ ds) ≡ folders → is_folder d.place ≡ true → (own : List Deed) (j : Hand) → May n own → AreSpared p held own → Still ns own → HasLocks own → To (d ∷ ds) own
           → Goes w (after_take w.run p n own) j (rest d ds held) (okay Refiled)
-      read_goes d ds some is own j spared others locks to =
+      read_goes d ds some is own j may spared others locks to =
           goes_then w (after_take w.run p n own) j (lifted (of_plan source) (content_read p held)) (λ bytes. copied_to_all w.run bytes (d ∷ ds) [] >>= (λ later. lifted (of_plan source) (held_discarded p held) >>= (λ gone. Return (Ok later)))) (HasContent p held (after_take w.run p n own)) Refiled
           (goes_lifted w (after_take w.run p n own) j (of_plan source) (content_read p held) (HasContent p held (after_take w.run p n own)) (content_goes w p held (after_take w.run p n own) j))
           (λ later i bytes e. goes_at w later (after_content p held bytes (after_take w.run p n own)) i _ (okay Refiled) e (copying bytes i))
@@ -239,7 +239,7 @@ module _ (w : Pledge) (few : w.run < 2 ^ 128) (p : Place) (folder : is_folder p 
               (record {
                 locks = λ q l. still (λ x. cc (x)) (still (λ x. cc (x)) (locks q l));
                 open_ = opened w.run few p n ok bytes own spared;
-                current = lets.reads n bytes (after_take w.run p n own) ok;
+                current = lets.reads n bytes (after_take w.run p n own) ok (lets.lasts n own (taking w.run p n) answer.Done tt may);
                 others = still_kept ns (after_take w.run p n own) (step.Read p held LIMIT_BYTES) (answer.Content bytes) spares_reading (still_kept ns own (taking w.run p n) answer.Done spares_taking others);
               }))
               (λ last k es g. ending d ds some is bytes last k es (g.0 ∙ some) g.1 (subst (λ qs. Going_ bytes (AreStored w.run bytes qs) last) some g.2))
@@ -252,7 +252,7 @@ module _ (w : Pledge) (few : w.run < 2 ^ 128) (p : Place) (folder : is_folder p 
           goes_then w own h (lifted (of_plan source) (number_taken w.run p n)) (rest d ds) (HasTaken w.run p n own) Refiled
           (goes_lifted w own h (of_plan source) (number_taken w.run p n) (HasTaken w.run p n own) (take_goes w few p folder n ok own h (lets.takes n own ok may) (never_taken w.run p n own spared) (locks p inside)))
           (λ later j name q. goes_at w later (after_take w.run p n own) j (rest d ds name) (okay Refiled) q.0
-          (subst (λ x. Goes w (after_take w.run p n own) j (rest d ds x) (okay Refiled)) (sym q.1) (read_goes d ds some to.0.open_to.is_there own j spared others locks to)))
+          (subst (λ x. Goes w (after_take w.run p n own) j (rest d ds x) (okay Refiled)) (sym q.1) (read_goes d ds some to.0.open_to.is_there own j may spared others locks to)))
 
     -- The messages of these numbers are refiled, where their held names were used for nothing and the locks are had: each step is careful, and they
     -- went to each of the folders.

@@ -52,7 +52,7 @@ MayReach Known wish n own = (wish ≡ Some n) ⊎ IsNear Known n own
 pub record PutsMessages (w : Pledge) (p : Place) (bytes : List ℕ) (Known : ℕ → List Deed → Type 0) (wish : Option ℕ) (Now : List Deed → Type 0) : Type 0 where
   pub serves : Serves w p
   pub puts : (own : List Deed) (temp number : List ℕ) → WasReady p temp bytes own → Now own → MakesStep w.manner own Puts (step.Link p temp number)
-  pub link : (own : List Deed) (temp : List ℕ) (n : ℕ) → is_temp_of w.run (kind_of temp) ≡ true → is_number (kind_of (decimal n)) ≡ true → MayReach Known wish n own → Now own → w.may_step own (step.Link p temp (decimal n))
+  pub link : (own : List Deed) (temp : List ℕ) (n : ℕ) → is_temp_of w.run (kind_of temp) ≡ true → is_number (kind_of (decimal n)) ≡ true → MayReach Known wish n own → WasReady p temp bytes own → Now own → w.may_step own (step.Link p temp (decimal n))
   pub kept : (n : ℕ) → KeptBy AnyStep (Known n)
   pub linked : (own : List Deed) (temp : List ℕ) (n : ℕ) → Known n (did (step.Link p temp (decimal n)) answer.Done ∷ own)
   pub met : (own : List Deed) (temp : List ℕ) (n : ℕ) → Known n (did (step.Link p temp (decimal n)) answer.Exists ∷ own)
@@ -126,7 +126,7 @@ module _ (w : Pledge) (few : w.run < 2 ^ 128) (p : Place) (bytes : List ℕ) (Kn
     may_link own i n ok near l s = record {
       is_own = careful s.unfailed Puts (puts p temp (decimal n) (folder, is_numbered n ok, (is_own, was_synced p temp bytes own l.ready))) (lets.puts own temp (decimal n) l.ready l.current) (lock_held p own l.lock);
       marks = tt;
-      steps = λ no. lets.link own temp n is_own (is_numbered n ok) near l.current;
+      steps = λ no. lets.link own temp n is_own (is_numbered n ok) near l.ready l.current;
     }
 
     put_there : (own : List Deed) (n : ℕ) → IsMsgNum n → MayLink own → Linked own (did (step.Link p temp (decimal n)) answer.Done ∷ own) (record { next = 0; context = None }) (Some n)
