@@ -1,6 +1,8 @@
 pub mod Gathering
 pub mod HeldLeft
 pub mod Refile
+pub mod RefileDone
+pub mod RefilePledge
 pub mod Rmm
 pub mod RmmAnswers
 pub mod RmmOutcome
