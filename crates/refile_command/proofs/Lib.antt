@@ -1,4 +1,9 @@
+pub mod AllEnded
+pub mod BeginsAsks
+pub mod FolderMarks
+pub mod FolderNames
 pub mod Loops
+pub mod RefileGathering
 pub mod RmmEnds
 pub mod RmmGiven
 pub mod RmmMinds
