@@ -4,6 +4,8 @@ pub mod FolderMarks
 pub mod FolderNames
 pub mod Loops
 pub mod RefileGathering
+pub mod RefileLets
+pub mod RefileMoved
 pub mod RmmEnds
 pub mod RmmGiven
 pub mod RmmMinds

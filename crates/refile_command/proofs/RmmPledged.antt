@@ -68,7 +68,7 @@ use Rattle.refile_command.proofs.Shown.{AreNumbers}
 use Rattle.msg_ranges.proofs.Rising.{lists}
 
 -- each message number is among all of them
-in_up : (n count k : ℕ) → n ≤ k → k < n + count → Contains (numbers_up n count) k
+pub in_up : (n count k : ℕ) → n ≤ k → k < n + count → Contains (numbers_up n count) k
 unfolding numbers_up
 in_up n zero k low high = absurd (omega (arith, low, high))
 in_up n (suc count) k low high = go (n == k) refl (λ apart. in_up (n + 1) count k (omega (arith, low, apart)) (omega (arith, high)))
