@@ -6,6 +6,7 @@ pub mod Loops
 pub mod RefileGathering
 pub mod RefileLets
 pub mod RefileMoved
+pub mod RefilePledged
 pub mod RmmEnds
 pub mod RmmGiven
 pub mod RmmMinds
