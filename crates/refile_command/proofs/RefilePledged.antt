@@ -13,13 +13,13 @@ use Rattle.folder_files.specs.declared.place.Place.{Place}
 use Rattle.folder_files.specs.declared.place.Place.TheVariants.{Folder, Mail}
 use Rattle.folder_files.specs.declared.refusal.Refusal.TheVariants as refusal
 use Rattle.folder_files.specs.declared.step.Step.{Step}
-use Rattle.file_plans.specs.Follows.{Follows, State}
+use Rattle.file_plans.specs.Follows.{Follows, State, deeds_in}
 use Rattle.file_plans.specs.Framing.{AsksOnly}
 use Rattle.file_plans.specs.Plan.{Hand, Return, after, bind, lifted, ◌>>=◌}
-use Rattle.file_plans.specs.Rules.{IfOkay, Keeps, Rules}
-use Rattle.file_plans.specs.Runs.{Deed as Done}
+use Rattle.file_plans.specs.Rules.{Gave, IfOkay, Keeps, Rules}
+use Rattle.file_plans.specs.Runs.{Deed as Done, exit_of}
 use Rattle.file_plans.proofs.Acting.{acts}
-use Rattle.file_plans.proofs.Keeping.{keeps_bind}
+use Rattle.file_plans.proofs.Keeping.{keeps_bind, run_keeps}
 use Rattle.step_plans.specs.CommandFaults.{command_cause}
 use Rattle.step_plans.specs.Commits.{IsBase}
 use Rattle.step_plans.specs.ContextCommit.{context_name}
@@ -29,7 +29,7 @@ use Rattle.step_plans.specs.Settled.{AreSettled}
 use Rattle.step_plans.specs.declared.command_fault.CommandFault.{CommandFault}
 use Rattle.step_plans.specs.declared.command_fault.CommandFault.TheVariants as fault
 use Rattle.step_plans.proofs.Asks.{Commits}
-use Rattle.step_plans.proofs.Facts.{base_kept, lock_kept}
+use Rattle.step_plans.proofs.Facts.{base_kept, lock_kept, none_settled}
 use Rattle.step_plans.proofs.Going.{ByActs, Goes, Outcome, Sound, Soundly, goes_keeps, goes_lifted, goes_more, goes_then, okay, okay_more}
 use Rattle.step_plans.proofs.Lasting.{KeptBy, keeping, lasting}
 use Rattle.step_plans.proofs.Pledged.{Of}
@@ -354,6 +354,16 @@ module _ (run : ℕ) (few : run < 2 ^ 128) (path : List ℕ) (job : RefileJob) w
           (λ last i g z. on_gathered later o b.1 last i g z.0 z.1)
       on_begun later j (Err e) s b = refused_keeps own later j e s.numbered
 
+  from_first : (h : Hand) → Keeps (rules_of pledge) [] h (refile run path job) (IfOkay (EndsRefiled []))
+  from_first h = refile_keeps [] h (λ n ok. tt) (record { numbered = tt; unfailed = λ z. elim z [ ] })
+
+  -- where a call of it is done, its deeds are such
+  pub refile_done : (x y : State) (result : Result Unit CommandFault) (f : Follows run command_cause (refile run path job) x y result) → result ≡ Ok tt → HasRefiledChosen run path job (acts (deeds_in f.went.log)) × AreSettled (acts (deeds_in f.went.log))
+  refile_done x y result f is =
+      let kept = run_keeps (rules_of pledge) [] x.hand (refile run path job) (deeds_in f.went.log) y.hand (exit_of command_cause result) (IfOkay (EndsRefiled [])) (from_first x.hand) f.went.runs in
+      let ends : EndsRefiled [] (deeds_in f.went.log) y.hand tt = subst (λ r. Gave (rules_of pledge) (IfOkay (EndsRefiled [])) (deeds_in f.went.log) y.hand (exit_of command_cause r)) is kept.gave in
+      (ends.1, ends.0.settled none_settled)
+
   -- so a run of it does what it promises
   pub refile_promises : (x y : State) (result : Result Unit CommandFault) → Follows run command_cause (refile run path job) x y result → Promises pledge x y
-  refile_promises x y result f = keeps_pledge pledge command_cause (refile run path job) x y result (IfOkay (EndsRefiled [])) (refile_keeps [] x.hand (λ n ok. tt) (record { numbered = tt; unfailed = λ z. elim z [ ] })) f
+  refile_promises x y result f = keeps_pledge pledge command_cause (refile run path job) x y result (IfOkay (EndsRefiled [])) (from_first x.hand) f
