@@ -13,4 +13,5 @@ pub mod RmmMinds
 pub mod RmmPledged
 pub mod Selected
 pub mod Shown
+mod RefileRefused
 mod RefileWorked
