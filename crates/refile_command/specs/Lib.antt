@@ -1,6 +1,9 @@
 pub mod Gathering
 pub mod HeldLeft
+pub mod MadeFolder
+pub mod MailMoved
 pub mod Refile
+pub mod RefileOutcome
 pub mod Rmm
 pub mod RmmAnswers
 pub mod RmmOutcome
