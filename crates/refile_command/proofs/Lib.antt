@@ -5,4 +5,5 @@ pub mod RmmMinds
 pub mod RmmPledged
 pub mod Selected
 pub mod Shown
+mod OutcomeWorked
 mod RefileWorked
