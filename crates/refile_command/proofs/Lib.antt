@@ -1,8 +1,10 @@
 pub mod Loops
+pub mod MovedShown
 pub mod RmmEnds
 pub mod RmmGiven
 pub mod RmmMinds
 pub mod RmmPledged
+pub mod Roomy
 pub mod Selected
 pub mod Shown
 mod OutcomeWorked
