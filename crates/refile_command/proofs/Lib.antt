@@ -1,4 +1,6 @@
 pub mod Loops
+pub mod MovedEntries
+pub mod MovedGiven
 pub mod MovedShown
 pub mod RmmEnds
 pub mod RmmGiven
