@@ -1,3 +1,6 @@
+pub mod BegunAsks
+pub mod BegunBeside
+pub mod FolderBegun
 pub mod Loops
 pub mod MovedEntries
 pub mod MovedGiven
@@ -9,5 +12,6 @@ pub mod RmmPledged
 pub mod Roomy
 pub mod Selected
 pub mod Shown
+pub mod ViewsAlike
 mod OutcomeWorked
 mod RefileWorked
