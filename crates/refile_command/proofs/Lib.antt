@@ -1,6 +1,9 @@
 pub mod BegunAsks
 pub mod BegunBeside
+pub mod Distinct
 pub mod FolderBegun
+pub mod FolderMade
+pub mod Greatest
 pub mod Loops
 pub mod MovedEntries
 pub mod MovedGiven
@@ -12,6 +15,8 @@ pub mod RmmPledged
 pub mod Roomy
 pub mod Selected
 pub mod Shown
+pub mod TargetNames
+pub mod TargetsGiven
 pub mod ViewsAlike
 mod OutcomeWorked
 mod RefileWorked
