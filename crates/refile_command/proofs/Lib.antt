@@ -1,6 +1,7 @@
 pub mod BegunAsks
 pub mod BegunBeside
 pub mod Distinct
+pub mod EndedAll
 pub mod FolderBegun
 pub mod FolderMade
 pub mod Greatest
@@ -8,6 +9,8 @@ pub mod Loops
 pub mod MovedEntries
 pub mod MovedGiven
 pub mod MovedShown
+pub mod RefileChosen
+pub mod RefiledOpened
 pub mod RmmEnds
 pub mod RmmGiven
 pub mod RmmMinds
