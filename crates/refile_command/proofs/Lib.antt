@@ -1,3 +1,4 @@
+pub mod AllHomesFound
 pub mod BegunAsks
 pub mod BegunBeside
 pub mod Distinct
@@ -10,6 +11,8 @@ pub mod MovedEntries
 pub mod MovedGiven
 pub mod MovedShown
 pub mod RefileChosen
+pub mod RefileGiven
+pub mod RefileSilent
 pub mod RefiledOpened
 pub mod RmmEnds
 pub mod RmmGiven
