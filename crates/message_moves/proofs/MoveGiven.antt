@@ -106,6 +106,13 @@ places_turned c p q x y s t away = (λ i. record { there = c.there; texts = λ r
     each : (r : Place) (z : List ℕ) → (with_text (with_text c p x s) q y t).texts r z ≡ (with_text (with_text c q y t) p x s).texts r z
     each = at_name q y (λ r z. (with_text (with_text c p x s) q y t).texts r z ≡ (with_text (with_text c q y t) p x s).texts r z) (rw (at_self q y, away) refl) (λ r z e. rw e refl)
 
+-- of two texts under one name the later one stands
+pub text_twice : (c : Contents) (p : Place) (x : List ℕ) (s t : Option (List ℕ)) → with_text (with_text c p x s) p x t ≡ with_text c p x t
+text_twice c p x s t = (λ i. record { there = c.there; texts = λ r z. each r z i; outside = c.outside })
+  where
+    each : (r : Place) (z : List ℕ) → (with_text (with_text c p x s) p x t).texts r z ≡ (with_text c p x t).texts r z
+    each = at_name p x (λ r z. (with_text (with_text c p x s) p x t).texts r z ≡ (with_text c p x t).texts r z) (rw (at_self p x) refl) (λ r z e. rw e refl)
+
 content_reads : (bytes b : List ℕ) → answer.Content b ≡ read_file_answer LIMIT_BYTES (Some bytes) → Ok b ≡ readable bytes
 content_reads bytes b e = go (nat_lt LIMIT_BYTES (length bytes)) e
   where

@@ -1,4 +1,4 @@
--- What one message that is refiled makes of contents alone: it stands in each destination, and nothing at its number.
+-- What one message that is refiled makes of contents alone: it stands in each destination, and nothing at its number or under its held name.
 use Rattle.std.proofs.Common.{◌≡◌, ◌⊎◌, inl, inr, ◌<◌, ◌^◌, ◌++◌, ◌∷◌, [], ℕ, Bool, true, false, List, Option, Some, None, Result, Ok, Err, refl, sym, ◌∙◌, ap, subst, append_assoc, append-nil, nat_lt, length, map}
 use Rattle.std.specs.Prelude.{decimal, is_some, if◌then◌else◌}
 use Rattle.mh_base.specs.Entries.{entry_text, kind_of}
@@ -31,9 +31,9 @@ use Rattle.message_moves.specs.Moving.{content_read, held_discarded, number_take
 use Rattle.message_moves.specs.RefiledAlone.{copied_in, next_of, raised, refiled_in}
 use Rattle.message_moves.specs.Refiling.{message_refiled}
 use Rattle.message_moves.specs.declared.destination.Destination.{Destination}
-use Rattle.message_moves.proofs.MoveGiven.{Never, Reads, Takes, aside, aside_left, aside_stands, content_gives, discard_gives, places_turned, take_gives}
+use Rattle.message_moves.proofs.MoveGiven.{Never, Reads, Takes, aside, aside_stands, content_gives, discard_gives, places_turned, take_gives, text_twice}
 
-place_apart : (p q : Place) → (p ≡ q → ⊥) → same_place p q ≡ false
+pub place_apart : (p q : Place) → (p ≡ q → ⊥) → same_place p q ≡ false
 place_apart p q off = go (same_place p q) refl
   where
     go : (b : Bool) → same_place p q ≡ b → b ≡ false
@@ -58,7 +58,7 @@ HaveRoom c [] = Unit {0}
 HaveRoom c (to ∷ others) = HasRoom c to × IsElsewhere to.place others × HaveRoom c others
 
 -- what names of other places lead to doesn't count
-other_place : (c : Contents) (p q : Place) (x y : List ℕ) (s : Option (List ℕ)) → (p ≡ q → ⊥) → (with_text c p x s).texts q y ≡ c.texts q y
+pub other_place : (c : Contents) (p q : Place) (x y : List ℕ) (s : Option (List ℕ)) → (p ≡ q → ⊥) → (with_text c p x s).texts q y ≡ c.texts q y
 other_place c p q x y s off = rw (place_apart p q off) refl
 
 room_kept : (c : Contents) (p : Place) (x : List ℕ) (s : Option (List ℕ)) (to : Destination) → (p ≡ to.place → ⊥) → HasRoom c to → HasRoom (with_text c p x s) to
@@ -74,12 +74,12 @@ rooms_kept c p x s [] off r = tt
 rooms_kept c p x s (to ∷ others) off r = (room_kept c p x s to off.0 r.0, r.1, rooms_kept c p x s others off.1 r.2)
 
 module _ (bytes : List ℕ) where
-  copied_there : (to : List Destination) (c : Contents) (p : Place) → (copied_in c bytes to).there p ≡ c.there p
+  pub copied_there : (to : List Destination) (c : Contents) (p : Place) → (copied_in c bytes to).there p ≡ c.there p
   unfolding copied_in
   copied_there [] c p = refl
   copied_there (to ∷ others) c p = copied_there others (with_text c to.place (decimal (next_of to)) (Some bytes)) p
 
-  copied_elsewhere : (to : List Destination) (c : Contents) (p : Place) (x : List ℕ) → IsElsewhere p to → (copied_in c bytes to).texts p x ≡ c.texts p x
+  pub copied_elsewhere : (to : List Destination) (c : Contents) (p : Place) (x : List ℕ) → IsElsewhere p to → (copied_in c bytes to).texts p x ≡ c.texts p x
   unfolding copied_in
   copied_elsewhere [] c p x off = refl
   copied_elsewhere (to ∷ others) c p x off = copied_elsewhere others (with_text c to.place (decimal (next_of to)) (Some bytes)) p x off.1 ∙ other_place c to.place p (decimal (next_of to)) x (Some bytes) (λ e. off.0 (sym e))
@@ -132,7 +132,7 @@ module _ (run : ℕ) (few : run < 2 ^ 128) (bytes : List ℕ) where
       more j same y i rest (Ok es) g = (g.0 ∙ append_assoc before (raised to ∷ []) (map raised others), g.1, g.2 ∙ ap (λ x. x.context) same)
       more j same y i rest (Err e) g = g
 
-module _ (run : ℕ) (few : run < 2 ^ 128) (source : List ℕ) (p : Place) (n : ℕ) (ok : IsMsgNum n) (bytes : List ℕ) (c : Contents) (here : c.there p ≡ true) (stands : c.texts p (entry_text (Number n)) ≡ Some bytes) (unheld : c.texts p (entry_text (Held run n)) ≡ None)
+module _ (run : ℕ) (few : run < 2 ^ 128) (source : List ℕ) (p : Place) (n : ℕ) (ok : IsMsgNum n) (bytes : List ℕ) (c : Contents) (here : c.there p ≡ true) (stands : c.texts p (entry_text (Number n)) ≡ Some bytes)
     (d : Destination) (ds : List Destination) (off : IsElsewhere p (d ∷ ds)) (room : HaveRoom c (d ∷ ds)) where
   abbrev number : List ℕ
   number = entry_text (Number n)
@@ -146,9 +146,9 @@ module _ (run : ℕ) (few : run < 2 ^ 128) (source : List ℕ) (p : Place) (n : 
   abbrev held_aside : Contents
   held_aside = aside c p run n bytes
 
-  -- it stands in each destination, and nothing at its number; or memory was wanting; or it is too long, and is held aside
+  -- it is not too long, stands in each destination, and nothing at its number or under its held name; or memory was wanting; or it is too long, and is held aside
   abbrev pub Refiled : Hand → View → Hand → List ℕ → Result (List Destination) CommandFault → Type 0
-  Refiled h z j left (Ok es) = (es ≡ map raised to) × Is true z.numbers z (refiled_in c p n bytes to) × (j.context ≡ h.context)
+  Refiled h z j left (Ok es) = (nat_lt LIMIT_BYTES (length bytes) ≡ false) × (es ≡ map raised to) × Is true z.numbers z (refiled_in c p run n bytes to) × (j.context ≡ h.context)
   Refiled h z j left (Err e) = (e ≡ command.Memory) ⊎ ((nat_lt LIMIT_BYTES (length bytes) ≡ true) × (e ≡ too_large (length bytes)) × Is true z.numbers z held_aside)
 
   aside_rooms : HaveRoom held_aside to
@@ -158,10 +158,8 @@ module _ (run : ℕ) (few : run < 2 ^ 128) (source : List ℕ) (p : Place) (n : 
   copied_aside : copied_in held_aside bytes to ≡ aside (copied_in c bytes to) p run n bytes
   copied_aside = copied_turned bytes to (with_text c p number None) p held (Some bytes) off ∙ ap (λ e. with_text e p held (Some bytes)) (copied_turned bytes to c p number None off)
 
-  left_so : with_text (copied_in held_aside bytes to) p held None ≡ refiled_in c p n bytes to
-  left_so =
-      ap (λ e. with_text e p held None) copied_aside
-      ∙ aside_left run few p n ok bytes (copied_in c bytes to) (copied_elsewhere bytes to c p number off ∙ stands) (copied_elsewhere bytes to c p held off ∙ unheld)
+  left_so : with_text (copied_in held_aside bytes to) p held None ≡ refiled_in c p run n bytes to
+  left_so = ap (λ e. with_text e p held None) copied_aside ∙ text_twice (with_text (copied_in c bytes to) p number None) p held (Some bytes) None
 
   held_still : is_some ((copied_in held_aside bytes to).texts p held) ≡ true
   held_still = ap is_some (copied_elsewhere bytes to held_aside p held off ∙ aside_stands run few p n ok bytes c stands)
@@ -172,24 +170,24 @@ module _ (run : ℕ) (few : run < 2 ^ 128) (source : List ℕ) (p : Place) (n : 
   ending : List Destination → List ℕ → Commanded (List Destination)
   ending later x = lifted (of_plan source) (held_discarded p x) >>= (λ gone. Return (Ok later))
 
-  discarded : (h : Hand) (z : View) (j : Hand) (left : List ℕ) (es : List Destination) → es ≡ map raised to → j.context ≡ h.context → Is true z.numbers z (copied_in held_aside bytes to) → Gives (by_view true) z j left (ending es held) (Refiled h)
+  discarded : nat_lt LIMIT_BYTES (length bytes) ≡ false → (h : Hand) (z : View) (j : Hand) (left : List ℕ) (es : List Destination) → es ≡ map raised to → j.context ≡ h.context → Is true z.numbers z (copied_in held_aside bytes to) → Gives (by_view true) z j left (ending es held) (Refiled h)
   unfolding Gives ending
-  discarded h z j left es same context is =
+  discarded short h z j left es same context is =
       gives_then (by_view true) z j left (of_plan source) (held_discarded p held) (λ gone. Return (Ok es)) (Leaves true z.numbers (with_text (copied_in held_aside bytes to) p held None) j Never) (Refiled h)
       (discard_gives p held (copied_in held_aside bytes to) there_still held_still z.numbers z j left is) ended
     where
       ended : (y : View) (i : Hand) (rest : List ℕ) (r : Result Unit PlanFault) → Leaves true z.numbers (with_text (copied_in held_aside bytes to) p held None) j Never y i rest r → Gives (by_view true) y i rest (after (λ gone. Return (Ok es)) (converted (of_plan source) r)) (Refiled h)
-      ended y i rest (Ok u) f = (same, ((λ e. f.is.0 e ∙ left_so), refl), ap (λ k. k.context) f.hand ∙ context)
+      ended y i rest (Ok u) f = (short, same, ((λ e. f.is.0 e ∙ left_so), refl), ap (λ k. k.context) f.hand ∙ context)
       ended y i rest (Err e) f = absurd f
 
   copying : List ℕ → Commanded (List Destination)
   copying x = copied_to_all run bytes to [] >>= (λ later. ending later x)
 
-  copied : (h : Hand) (z : View) (left : List ℕ) (ns : List ℕ) → Is true ns z held_aside → Gives (by_view true) z h left (copying held) (Refiled h)
+  copied : nat_lt LIMIT_BYTES (length bytes) ≡ false → (h : Hand) (z : View) (left : List ℕ) (ns : List ℕ) → Is true ns z held_aside → Gives (by_view true) z h left (copying held) (Refiled h)
   unfolding copying
-  copied h z left ns is =
+  copied short h z left ns is =
       gives_on (by_view true) z h left (copied_to_all run bytes to []) (λ later. ending later held) (Copies run few bytes held_aside to [] h) (Refiled h) (copies_give run few bytes to [] held_aside aside_rooms ns z h left is)
-      (λ y j rest es f. discarded h y j rest es f.0 f.2 f.1) (λ y j rest e f. inl f)
+      (λ y j rest es f. discarded short h y j rest es f.0 f.2 f.1) (λ y j rest e f. inl f)
 
   -- once it was read, under its held name
   abbrev then_copied : List ℕ → List ℕ → Commanded (List Destination)
@@ -201,7 +199,7 @@ module _ (run : ℕ) (few : run < 2 ^ 128) (source : List ℕ) (p : Place) (n : 
   by_bytes h ns y i rest true long r is l = subst (λ q. Gives (by_view true) y i rest (after (then_copied held) (converted (of_plan source) q)) (Refiled h)) (sym is) (inr (long, refl, (l.is.0, refl)))
   by_bytes h ns y i rest false short r is l =
       subst (λ q. Gives (by_view true) y i rest (after (then_copied held) (converted (of_plan source) q)) (Refiled h)) (sym is)
-      (subst (λ k. Gives (by_view true) y k rest (then_copied held bytes) (Refiled h)) (sym l.hand) (copied h y rest ns l.is))
+      (subst (λ k. Gives (by_view true) y k rest (then_copied held bytes) (Refiled h)) (sym l.hand) (copied short h y rest ns l.is))
 
   abbrev then_read : List ℕ → Commanded (List Destination)
   then_read x = lifted (of_plan source) (content_read p x) >>= (λ b. then_copied x b)
@@ -212,7 +210,7 @@ module _ (run : ℕ) (few : run < 2 ^ 128) (source : List ℕ) (p : Place) (n : 
       (content_gives p held bytes held_aside (aside_stands run few p n ok bytes c stands) ns z h left is)
       (λ y i rest r f. by_bytes h ns y i rest (nat_lt LIMIT_BYTES (length bytes)) refl r f.value f.same)
 
-  -- a message that stands at its number, where the run's held name of it stands for nothing and each destination has room
+  -- a message that stands at its number, where each destination has room
   pub message_gives : (ns : List ℕ) (v : View) (h : Hand) (text : List ℕ) → Is true ns v c → Gives (by_view true) v h text (message_refiled run source p n to) (Refiled h)
   unfolding Gives message_refiled
   message_gives ns v h text is =

@@ -1,7 +1,7 @@
 -- What messages that go to other folders make of contents alone.
 use Rattle.std.specs.Prelude.{◌+◌, ℕ, List, [], ◌∷◌, Some, None, decimal}
 use Rattle.mh_base.specs.Entries.{entry_text}
-use Rattle.mh_base.specs.declared.entry.Entry.TheVariants.{Number}
+use Rattle.mh_base.specs.declared.entry.Entry.TheVariants.{Held, Number}
 use Rattle.folder_files.specs.declared.place.Place.{Place}
 use Rattle.file_plans.specs.Contents.{Contents, with_text}
 use Rattle.message_moves.specs.Copying.{highest_of}
@@ -20,6 +20,6 @@ unfoldable pub copied_in : Contents → List ℕ → List Destination → Conten
 copied_in c bytes [] = c
 copied_in c bytes (to ∷ others) = copied_in (with_text c to.place (decimal (next_of to)) (Some bytes)) bytes others
 
--- and nothing at its number
-abbrev pub refiled_in : Contents → Place → ℕ → List ℕ → List Destination → Contents
-refiled_in c p n bytes to = with_text (copied_in c bytes to) p (entry_text (Number n)) None
+-- and nothing at its number, nor under the run's held name of it
+abbrev pub refiled_in : Contents → Place → ℕ → ℕ → List ℕ → List Destination → Contents
+refiled_in c p run n bytes to = with_text (with_text (copied_in c bytes to) p (entry_text (Number n)) None) p (entry_text (Held run n)) None

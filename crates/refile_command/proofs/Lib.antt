@@ -1,17 +1,37 @@
 pub mod AllEnded
+pub mod AllHomesFound
 pub mod BeginsAsks
+pub mod BegunAsks
+pub mod BegunBeside
+pub mod Distinct
+pub mod EndedAll
+pub mod FolderBegun
+pub mod FolderMade
 pub mod FolderMarks
 pub mod FolderNames
+pub mod Greatest
 pub mod Loops
+pub mod MovedEntries
+pub mod MovedGiven
+pub mod MovedShown
+pub mod RefileChosen
 pub mod RefileGathering
+pub mod RefileGiven
 pub mod RefileLets
 pub mod RefileMoved
 pub mod RefilePledged
+pub mod RefileSilent
+pub mod RefiledOpened
 pub mod RmmEnds
 pub mod RmmGiven
 pub mod RmmMinds
 pub mod RmmPledged
+pub mod Roomy
 pub mod Selected
 pub mod Shown
+pub mod TargetNames
+pub mod TargetsGiven
+pub mod ViewsAlike
+mod OutcomeWorked
 mod RefileRefused
 mod RefileWorked

@@ -1,7 +1,10 @@
 pub mod Gathering
 pub mod HeldLeft
+pub mod MadeFolder
+pub mod MailMoved
 pub mod Refile
 pub mod RefileDone
+pub mod RefileOutcome
 pub mod RefilePledge
 pub mod Rmm
 pub mod RmmAnswers
