@@ -32,6 +32,12 @@ pub mod Shown
 pub mod TargetNames
 pub mod TargetsGiven
 pub mod ViewsAlike
+mod Gathered
+mod LetGo
+mod NumberTests
 mod OutcomeWorked
+mod RefileFollowed
 mod RefileRefused
 mod RefileWorked
+mod RoomLeft
+mod NamedTargets

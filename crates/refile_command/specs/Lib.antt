@@ -1,4 +1,5 @@
 pub mod Gathering
+pub mod Gathers
 pub mod HeldLeft
 pub mod MadeFolder
 pub mod MailMoved
@@ -10,3 +11,4 @@ pub mod Rmm
 pub mod RmmAnswers
 pub mod RmmOutcome
 pub mod RmmPledge
+pub mod Targets

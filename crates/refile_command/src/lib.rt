@@ -1,9 +1,17 @@
-//! Messages leave their folder: `rmm`.
+//! Messages leave their folder: `rmm`, and `refile`, by which they go to others.
 #![tactic(auto)]
 
+mod destinations;
+mod gathering;
 mod job;
 mod leaving;
+mod letting_go;
+mod moving;
+mod refiling;
 mod removing;
+mod rooms;
+mod targets;
 
 pub use job::{RefileJob, RmmJob};
 pub use leaving::rmm;
+pub use refiling::refile;

@@ -49,7 +49,7 @@ fn remove_safely<F: Files>(
     sync(alloc, run, files, place, &name)
 }
 
-fn withdrawal(alloc: Global, chosen: NumSet) -> Result<MarkList, AllocError>
+pub(crate) fn withdrawal(alloc: Global, chosen: NumSet) -> Result<MarkList, AllocError>
     ensures { IfOk result (λ marks. marks ≡ Withdraw chosen ∷ []) }
 {
     let mut marks = List::new(alloc);
