@@ -1,7 +1,9 @@
 pub mod Items
 pub mod Places
+mod RefileFolders
 pub mod Said
 pub mod SaidFolder
+pub mod SaidRefileFolders
 pub mod SaidRmmFolder
 pub mod SequenceNames
 pub mod Texts

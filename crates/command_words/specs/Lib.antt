@@ -3,6 +3,8 @@ pub mod FolderWords
 pub mod IncWords
 pub mod MarkWords
 pub mod MessageWords
+pub mod RefileFolders
+pub mod RefileWords
 pub mod Results
 pub mod RmmWords
 pub mod ScanWords

@@ -31,6 +31,10 @@ inc_table =
     ∷ switch (codes "changecur") Flag ∷ switch (codes "nochangecur") Flag
     ∷ switch (codes "silent") Flag ∷ switch (codes "nosilent") Flag ∷ [])
 
+-- the switches of `refile`
+abbrev pub refile_table : SwitchTable
+refile_table = table_of (switch (codes "link") Flag ∷ switch (codes "nolink") Flag ∷ switch (codes "src") Value ∷ [])
+
 -- the switches of `rmm`
 abbrev pub rmm_table : SwitchTable
 rmm_table = table_of (switch (codes "unlink") Flag ∷ switch (codes "nounlink") Flag ∷ [])

@@ -6,6 +6,7 @@ ghost use Rattle.command_words.specs.Tables.{
   scan_table as scan_table_of,
   mark_table as mark_table_of,
   inc_table as inc_table_of,
+  refile_table as refile_table_of,
   rmm_table as rmm_table_of,
 };
 
@@ -49,6 +50,13 @@ pub(crate) const NOCHANGECUR: u64 = 4;
 pub(crate) const SILENT: u64 = 5;
 
 pub(crate) const NOSILENT: u64 = 6;
+
+// The places of the switches of `refile` in its table.
+pub(crate) const LINK: u64 = 0;
+
+pub(crate) const NOLINK: u64 = 1;
+
+pub(crate) const SRC: u64 = 2;
 
 // The places of the switches of `rmm` in its table.
 pub(crate) const UNLINK: u64 = 0;
@@ -111,6 +119,20 @@ pub(crate) fn inc_table(alloc: Global) -> Result<SwitchTable, AllocError>
     push_switch(alloc, &mut switches, "nochangecur", Kind::Flag)?;
     push_switch(alloc, &mut switches, "silent", Kind::Flag)?;
     push_switch(alloc, &mut switches, "nosilent", Kind::Flag)?;
+    Ok(SwitchTable {
+        switches,
+        components: false,
+    })
+}
+
+/// The switches of `refile`.
+pub(crate) fn refile_table(alloc: Global) -> Result<SwitchTable, AllocError>
+    ensures { IfOk result (λ table. table ≡ refile_table_of) }
+{
+    let mut switches = List::new(alloc);
+    push_switch(alloc, &mut switches, "link", Kind::Flag)?;
+    push_switch(alloc, &mut switches, "nolink", Kind::Flag)?;
+    push_switch(alloc, &mut switches, "src", Kind::Value)?;
     Ok(SwitchTable {
         switches,
         components: false,
