@@ -128,12 +128,12 @@ FLOOR = r"""
 #include <unistd.h>
 int main(int argc, char **argv) {
     static char text[2500];
-    int folder = open(argv[1], O_RDONLY | O_DIRECTORY), n;
+    int folder = open(argv[1], O_RDONLY | O_DIRECTORY), size = atoi(argv[3]), n;
     memset(text, 'x', sizeof text);
     for (n = 1; n <= atoi(argv[2]); n++) {
         char name[32];
         int file = openat(folder, ".temp", O_WRONLY | O_CREAT | O_EXCL, 0600);
-        if (file < 0 || write(file, text, sizeof text) != sizeof text || fsync(file)) return 1;
+        if (file < 0 || write(file, text, size) != size || fsync(file)) return 1;
         close(file);
         sprintf(name, "%d", n);
         if (linkat(folder, ".temp", folder, name, 0) || unlinkat(folder, ".temp", 0) || fsync(folder)) return 1;
@@ -147,14 +147,15 @@ def cost():
     """The time of inc beside that of the same durable steps in C, and beside nmh's, where these are there."""
     base = os.environ.get("MH_COST")
     count = int(base) if base else 2000
-    fill(count, 2500)
+    size = min(2500, 200_000_000 // count)
+    fill(count, size)
     before = resource.getrusage(resource.RUSAGE_CHILDREN).ru_utime
     start = time.monotonic()
     ran = inc()
     took = time.monotonic() - start
     used = resource.getrusage(resource.RUSAGE_CHILDREN)
     check(f"{count:,} messages", ran.returncode == 0 and len(stored()) == count)
-    print(f"inc of {count:,} messages of 2,500 bytes: {took:.2f} s, of which {used.ru_utime - before:.2f} s its own; at most {used.ru_maxrss // 1024} MB")
+    print(f"inc of {count:,} messages of {size:,} bytes: {took:.2f} s, of which {used.ru_utime - before:.2f} s its own; at most {used.ru_maxrss // 1024} MB")
     if shutil.which("gcc"):
         with tempfile.TemporaryDirectory() as where:
             with open(f"{where}/floor.c", "w") as f:
@@ -163,12 +164,12 @@ def cost():
             shutil.rmtree(INBOX)
             os.makedirs(INBOX)
             start = time.monotonic()
-            subprocess.run([f"{where}/floor", INBOX, str(count)], check=True)
+            subprocess.run([f"{where}/floor", INBOX, str(count), str(size)], check=True)
             floor = time.monotonic() - start
         print(f"the same durable steps alone: {floor:.2f} s; {took / floor:.2f} times")
     for program in ("/usr/bin/mh/inc", "/usr/local/nmh/bin/inc"):
         if os.path.exists(program):
-            fill(count, 2500)
+            fill(count, size)
             start = time.monotonic()
             subprocess.run([program, "-file", DROP, "-silent"], env={"HOME": HOME})
             print(f"{program} of the same drop: {time.monotonic() - start:.2f} s")

@@ -72,12 +72,12 @@ use Rattle.command_words.specs.declared.rmm.RmmWords.{RmmWords}
 use Rattle.command_line.specs.BegunCauses.{ShowsEarly, ShowsFault, TakesInBy, TellsOnFolder, ShowsIncJob, ShowsMark, ShowsMarking, ShowsNamed, ShowsOnFolder, ShowsRemoving, ShowsRmm, long_context, long_profile, wrong_folder, wrong_name, wrong_stored, wrong_word}
 use Rattle.command_line.specs.Causes.{ShowsCommandFault}
 use Rattle.command_line.specs.Command.{command, command_by, context_entered, folder_found, inc_begun, inc_by, mark_begun, mark_by, mark_job, rmm_begun, rmm_by, rmm_job, word_by}
-use Rattle.command_line.specs.CommandNames.{begins_folders, command_of, named}
+use Rattle.command_line.specs.CommandNames.{shows_ends, command_of, named}
 use Rattle.command_line.specs.CommandPledge.{entries_by, text_of}
 use Rattle.command_line.specs.Incorporating.{job_by, job_on, job_with, plain_job}
 use Rattle.command_line.specs.Profile.{folder_of, path_of, profile_name, stored_of}
 use Rattle.command_line.specs.declared.name.CommandName.{CommandName}
-use Rattle.command_line.specs.declared.name.CommandName.TheVariants.{Inc, Mark, Rmm, Scan}
+use Rattle.command_line.specs.declared.name.CommandName.TheVariants.{Inc, Mark, Refile, Rmm, Scan}
 use Rattle.command_line.proofs.Ending.{scan_shows}
 use Rattle.command_line.proofs.IncEnding.{TakesIn, ToldSo, inc_comes}
 use Rattle.command_line.proofs.BegunParts.{Behind, Enters, Found, after_context, after_profile, behind_kept, clean_there, ended_more, entered_comes, entered_silent, found_comes, found_silent, in_silence, long_first, none_lasts, none_made, none_put, none_taken, none_told, numbered_there, profile_silent, told_comes, Tells}
@@ -453,7 +453,7 @@ module _ (run : ℕ) (few : run < 2 ^ 128) (user : List ℕ) (words_ : List (Lis
       inc_refused words x e =
           subst IncShown e (by_said (inc_said profile words) (said_shown (profile_words (codes "inc") profile ++ words) (read_in inc_table 0 (profile_words (codes "inc") profile ++ words))))
 
-      by_word : (word : List ℕ) (rest : List (List ℕ)) → words_ ≡ word ∷ rest → (n : Option CommandName) → named word ≡ n → begins_folders n ≡ true → Keeps Speech past fresh (word_by run user profile word rest n) EndsBy
+      by_word : (word : List ℕ) (rest : List (List ℕ)) → words_ ≡ word ∷ rest → (n : Option CommandName) → named word ≡ n → shows_ends n ≡ true → Keeps Speech past fresh (word_by run user profile word rest n) EndsBy
       by_word word rest is_words None name begins = cc (begins)
       by_word word rest is_words (Some Inc) name begins = go (job_by user profile (inc_said profile (map chars rest))) refl
         where
@@ -466,13 +466,14 @@ module _ (run : ℕ) (few : run < 2 ^ 128) (user : List ℕ) (words_ : List (Lis
           go : (r : Result MarkWords Ended) → mark_said profile (map chars rest) ≡ r → Keeps Speech past fresh (mark_by run profile r) EndsBy
           go (Ok words) said = plain_keeps past fresh (mark_begun run profile words) (mark_begun_keeps word rest is_words name words said past is clean silent)
           go (Err x) said = stops past fresh x silent (mark_refused (map chars rest) x said)
+      by_word word rest is_words (Some Refile) name begins = cc (begins)
       by_word word rest is_words (Some Rmm) name begins = go (rmm_said profile (map chars rest)) refl
         where
           go : (r : Result RmmWords Ended) → rmm_said profile (map chars rest) ≡ r → Keeps Speech past fresh (rmm_by run profile r) EndsBy
           go (Ok words) said = plain_keeps past fresh (rmm_begun run profile words) (rmm_begun_keeps word rest is_words name words said past is clean silent)
           go (Err x) said = stops past fresh x silent (rmm_refused (map chars rest) x said)
 
-      by_words : (words : List (List ℕ)) → words_ ≡ words → begins_folders (command_of words) ≡ true → Keeps Speech past fresh (command_by run user profile words) EndsBy
+      by_words : (words : List (List ℕ)) → words_ ≡ words → shows_ends (command_of words) ≡ true → Keeps Speech past fresh (command_by run user profile words) EndsBy
       by_words [] is_words begins = cc (begins)
       by_words (word ∷ rest) is_words begins = by_word word rest is_words (named word) refl begins
 
@@ -486,7 +487,7 @@ module _ (run : ℕ) (few : run < 2 ^ 128) (user : List ℕ) (words_ : List (Lis
       comes_lifted [] fresh plain (text_read Home profile_name) (Tells Home profile_name [] fresh) Profile (told_comes Home profile_name [] fresh) (λ later j text q. q) (λ later j e q. long_first later q.0 e q.1 q.2)
 
   -- a command whose words name one that begins folders: how it ends, and what shows it
-  pub begun_ends_by : begins_folders (command_of words_) ≡ true → Keeps Speech [] fresh (command run user words_) EndsBy
+  pub begun_ends_by : shows_ends (command_of words_) ≡ true → Keeps Speech [] fresh (command run user words_) EndsBy
   unfolding command ◌>>=◌
   begun_ends_by begins =
       keeps_bind Speech [] fresh (lifted plain (text_read Home profile_name)) (after (λ text. command_by run user (entries_in text) words_)) _ EndsBy
@@ -504,10 +505,10 @@ module _ (run : ℕ) (few : run < 2 ^ 128) (user : List ℕ) (words_ : List (Lis
       go later j (Err x) q = stops later j x q.0 (early x.fault (acts later) q.1.1 q.1.0)
 
   -- so does each run of it
-  pub run_ends_by : begins_folders (command_of words_) ≡ true → (ds : List runs.Deed) (j : Hand) (r : Result Unit Ended) → Runs (command run user words_) fresh ds j (Returned r) → EndsBy ds j r
+  pub run_ends_by : shows_ends (command_of words_) ≡ true → (ds : List runs.Deed) (j : Hand) (r : Result Unit Ended) → Runs (command run user words_) fresh ds j (Returned r) → EndsBy ds j r
   run_ends_by begins ds j r f = (run_keeps Speech [] fresh (command run user words_) ds j (Returned r) EndsBy (begun_ends_by begins) f).gave
 
   -- and what it says however it ends
-  pub run_tells : begins_folders (command_of words_) ≡ true → (ds : List runs.Deed) (j : Hand) (x : Exit (Result Unit Ended)) → Runs (command run user words_) fresh ds j x
+  pub run_tells : shows_ends (command_of words_) ≡ true → (ds : List runs.Deed) (j : Hand) (x : Exit (Result Unit Ended)) → Runs (command run user words_) fresh ds j x
       → IsToldBy Spoken (said_of ds) (acts ds) × (x ≡ OutFailed → (text : List ℕ) × Spoken text (acts ds) × (text ≢ []))
   run_tells begins ds j x f = run_speaks Spoken (command run user words_) fresh ds j x EndsBy (begun_ends_by begins) f

@@ -38,7 +38,7 @@ use Rattle.command_line.specs.Command.{command, command_by, context_entered, con
 use Rattle.command_line.specs.CommandNames.{begins_folders, command_of, named}
 use Rattle.command_line.specs.Profile.{folder_of, path_of, profile_name, stored_of}
 use Rattle.command_line.specs.declared.name.CommandName.{CommandName}
-use Rattle.command_line.specs.declared.name.CommandName.TheVariants.{Inc, Mark, Rmm, Scan}
+use Rattle.command_line.specs.declared.name.CommandName.TheVariants.{Inc, Mark, Refile, Rmm, Scan}
 use Rattle.command_words.specs.Ended.{plain, wrong_word}
 use Rattle.command_words.specs.FolderWords.{one_folder, folders}
 use Rattle.command_words.specs.ScanWords.{with_folder, folder_said, words_of, items_said}
@@ -191,6 +191,7 @@ module _ (run : ℕ) where
     by_word user word words (Some Inc) other = cc (other)
     by_word user word words (Some Scan) other = with_items (profile_words (codes "scan") profile ++ map chars words) (read_in scan_table 0 (profile_words (codes "scan") profile ++ map chars words))
     by_word user word words (Some Mark) other = cc (other)
+    by_word user word words (Some Refile) other = cc (other)
     by_word user word words (Some Rmm) other = cc (other)
 
     by_words : (user : List ℕ) (words : List (List ℕ)) → (begins_folders (command_of words) ≡ false) → Comes own fresh (command_by run user profile words) CommandEnds

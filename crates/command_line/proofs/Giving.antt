@@ -40,28 +40,34 @@ use Rattle.inc_command.proofs.IncGiven.{inc_gives, shows_folder_made}
 use Rattle.mark_command.specs.Mark.{mark}
 use Rattle.opened_folders.proofs.WorkGiven.{WorkEnds}
 use Rattle.mark_command.proofs.MarkGiven.{mark_gives}
+use Rattle.refile_command.specs.Refile.{refile}
+use Rattle.refile_command.specs.RefileOutcome.{homes_of_all}
 use Rattle.refile_command.specs.Rmm.{rmm}
+use Rattle.refile_command.proofs.AllHomesFound.{all_homes_found}
+use Rattle.refile_command.proofs.RefileGiven.{refile_gives}
 use Rattle.refile_command.proofs.RmmGiven.{rmm_gives}
 use Rattle.command_words.specs.Ended.{plain}
 use Rattle.command_words.specs.IncWords.{inc_said}
 use Rattle.command_words.specs.MarkWords.{mark_said}
+use Rattle.command_words.specs.RefileWords.{refile_said}
 use Rattle.command_words.specs.RmmWords.{rmm_said}
 use Rattle.command_words.specs.ScanWords.{scan_said}
 use Rattle.command_words.specs.declared.ended.Ended.{Ended}
 use Rattle.command_words.specs.declared.mark.MarkWords.{MarkWords}
+use Rattle.command_words.specs.declared.refile.RefileWords.{RefileWords}
 use Rattle.command_words.specs.declared.rmm.RmmWords.{RmmWords}
 use Rattle.command_words.specs.declared.scan.ScanWords.{ScanWords}
 use Rattle.command_words.proofs.SaidFolder.{IsValid}
-use Rattle.command_line.specs.Command.{context_seen, context_entered, folder_found, inc_begun, inc_by, job_of, mark_job, scan_begun, scan_by, mark_begun, mark_by, rmm_begun, rmm_by, rmm_job, word_by, command_by, command}
+use Rattle.command_line.specs.Command.{context_seen, context_entered, folder_found, inc_begun, inc_by, job_of, mark_job, scan_begun, scan_by, mark_begun, mark_by, refile_begun, refile_by, refile_job, rmm_begun, rmm_by, rmm_job, word_by, command_by, command}
 use Rattle.command_line.specs.CommandNames.{begins_folders, command_of, makes_folders, named}
 use Rattle.command_line.specs.Incorporating.{job_by}
-use Rattle.command_line.specs.Outcomes.{FolderWork, inc_job_work, incs, plainly, of_stage, in_folder, with_context, scans, scan_words_work, marks, mark_words_work, rmms, rmm_words_work, word_work, named_work, with_profile, work_by, work_of, alone_meeting}
+use Rattle.command_line.specs.Outcomes.{FolderWork, inc_job_work, incs, plainly, of_stage, in_folder, with_context, scans, scan_words_work, marks, mark_words_work, refiles, refile_words_work, rmms, rmm_words_work, word_work, named_work, with_profile, work_by, work_of, alone_meeting}
 use Rattle.command_line.specs.Profile.{folder_of, path_of, profile_name}
 use Rattle.command_line.specs.declared.name.CommandName.{CommandName}
-use Rattle.command_line.specs.declared.name.CommandName.TheVariants.{Inc, Mark, Rmm, Scan}
-use Rattle.command_line.proofs.Refusals.{IsRefusal, folder_refuses, job_refuses, mark_refuses, rmm_refuses, scan_refuses}
+use Rattle.command_line.specs.declared.name.CommandName.TheVariants.{Inc, Mark, Refile, Rmm, Scan}
+use Rattle.command_line.proofs.Refusals.{IsRefusal, folder_refuses, job_refuses, mark_refuses, refile_refuses, rmm_refuses, scan_refuses}
 use Rattle.command_line.proofs.SaidInc.{job_valid}
-use Rattle.command_line.proofs.SaidFolder.{acted_valid, mark_valid, rmm_words_valid}
+use Rattle.command_line.proofs.SaidFolder.{acted_valid, mark_valid, refile_words_valid, rmm_words_valid}
 
 -- an end that the last commit alone decides
 abbrev pub IsLateEnd : Result Unit Ended → Type 0
@@ -286,6 +292,17 @@ mark_stage run c few homes profile words valid v h same unmet begun =
     (homes_at run ((mailbox_in c).folders (Folder (path_of profile) folder))) (homes (Folder (path_of profile) folder)) v.numbers (after_read v (Mail (path_of profile)) context_name) (knowing (entries_in text) h)
     (record { has = (same, refl); fresh = λ x. begun.names (path_of profile) folder x; unmet = λ x is_held. unmet (Folder (path_of profile) folder) x; hand = refl }) same refl refl)
 
+-- `refile` alone, from the context on
+refile_stage : (run : ℕ) (c : Contents) → run < 2 ^ 128 → IsBare c → (profile : List NamedValue) (words : RefileWords) → IsValid words.source → (v : View) (h : Hand) (same : v.contents ≡ c) (begun : IsBegun v)
+    → Gives (by_view true) v h (stage true c profile words.source v h same (λ e. begun) (refiles (alone_meeting run) (mailbox_in c) profile words)).text (refile_begun run profile words) (WorkEnds (stage true c profile words.source v h same (λ e. begun) (refiles (alone_meeting run) (mailbox_in c) profile words)))
+unfolding refile_begun
+refile_stage run c few bare profile words valid v h same begun =
+    stage_gives true c profile words.source v h same (λ e. begun) (refiles (alone_meeting run) (mailbox_in c) profile words) WorkEnds (mark_refused c) (λ folder. refile run (path_of profile) (refile_job folder words profile))
+    (λ text folder reads is.
+    let short = read_short (c.texts (Mail (path_of profile)) context_name) text reads in
+    refile_gives run few (path_of profile) (refile_job folder words profile) (acted_valid words.source (entries_in text) profile folder valid is) c bare (entries_in text) (ap entries_in short.1) short.0
+    (homes_of_all run (path_of profile) (mailbox_in c)) (all_homes_found run (path_of profile) c bare) (after_read v (Mail (path_of profile)) context_name) same (knowing (entries_in text) h))
+
 -- `rmm` alone, from the context on
 rmm_stage : (run : ℕ) (c : Contents) → run < 2 ^ 128 → AreAllHomes run c → (profile : List NamedValue) (words : RmmWords) → IsValid words.folder → (v : View) (h : Hand) (same : v.contents ≡ c) → (unmet : (p : Place) (x : List ℕ) → v.met p x ≡ false) → (begun : IsBegun v)
     → Gives (by_view true) v h (stage true c profile words.folder v h same (λ e. begun) (rmms (alone_meeting run) (mailbox_in c) profile words)).text (rmm_begun run profile words) (WorkEnds (stage true c profile words.folder v h same (λ e. begun) (rmms (alone_meeting run) (mailbox_in c) profile words)))
@@ -420,6 +437,21 @@ module _ (alone : Bool) (run : ℕ) (c : Contents) (few : run < 2 ^ 128) (homes 
         subst (λ b. Gives (by_view b) z fresh (rmm_words_work (alone_meeting run) box profile (rmm_said profile words)).text (rmm_by run profile (rmm_said profile words)) (CommandEnds b (rmm_words_work (alone_meeting run) box profile (rmm_said profile words)))) (sym only)
         (rmm_words_true (homes only) (rmm_said profile words) (λ said e. rmm_words_valid profile words said e) (λ e is. rmm_refuses profile words e is))
 
+    refile_words_true : IsBare c → (value : Result RefileWords Ended) → ((words : RefileWords) → value ≡ Ok words → IsValid words.source) → ((e : Ended) → value ≡ Err e → IsRefusal e.fault)
+        → Gives (by_view true) z fresh (refile_words_work (alone_meeting run) box profile value).text (refile_by run profile value) (CommandEnds true (refile_words_work (alone_meeting run) box profile value))
+    unfolding Gives lifted mailbox_in
+    refile_words_true bare (Ok words) valid r =
+        gives_bind (by_view true) z fresh (refile_words_work (alone_meeting run) box profile (Ok words)).text (refile_begun run profile words) (λ q. Return (converted plain q)) (WorkEnds (stage true c profile words.source z fresh same (λ e. begun) (refiles (alone_meeting run) box profile words)))
+        (CommandEnds true (refile_words_work (alone_meeting run) box profile (Ok words)))
+        (refile_stage run c few bare profile words (valid words refl) z fresh same begun)
+        (λ y j left q e. mark_ends (stage true c profile words.source z fresh same (λ e. begun) (refiles (alone_meeting run) box profile words)) y j left q e)
+    refile_words_true bare (Err e) valid r = let is = r e refl in plain_refused true c e is.0 z fresh [] is.1 refl same
+
+    refile_words_give : alone ≡ true → IsBare c → (words : List (List ℕ)) → Gives (by_view alone) z fresh (refile_words_work (alone_meeting run) box profile (refile_said profile words)).text (refile_by run profile (refile_said profile words)) (CommandEnds alone (refile_words_work (alone_meeting run) box profile (refile_said profile words)))
+    refile_words_give only bare words =
+        subst (λ b. Gives (by_view b) z fresh (refile_words_work (alone_meeting run) box profile (refile_said profile words)).text (refile_by run profile (refile_said profile words)) (CommandEnds b (refile_words_work (alone_meeting run) box profile (refile_said profile words)))) (sym only)
+        (refile_words_true bare (refile_said profile words) (λ said e. (refile_words_valid profile words said e).0) (λ e is. refile_refuses profile words e is))
+
     inc_words_true : IsBare c → (value : Result IncJob Ended) → ((job : IncJob) → value ≡ Ok job → is_folder_name job.folder ≡ true) → ((e : Ended) → value ≡ Err e → IsRefusal e.fault)
         → Gives (by_view true) z fresh (inc_job_work (alone_meeting run) box profile value).text (inc_by run profile value) (CommandEnds true (inc_job_work (alone_meeting run) box profile value))
     unfolding Gives lifted mailbox_in
@@ -442,6 +474,7 @@ module _ (alone : Bool) (run : ℕ) (c : Contents) (few : run < 2 ^ 128) (homes 
     by_word user word words (Some Inc) only bare = inc_words_give (only refl) (bare refl) user (map chars words)
     by_word user word words (Some Scan) only bare = scan_words_give (scan_said profile (map chars words)) (λ e is. scan_refuses profile (map chars words) e is)
     by_word user word words (Some Mark) only bare = mark_words_give (only refl) (map chars words)
+    by_word user word words (Some Refile) only bare = refile_words_give (only refl) (bare refl) (map chars words)
     by_word user word words (Some Rmm) only bare = rmm_words_give (only refl) (map chars words)
 
     by_name : (user : List ℕ) (words : List (List ℕ)) → (begins_folders (command_of words) ≡ true → alone ≡ true) → (makes_folders (command_of words) ≡ true → IsBare c) → Gives (by_view alone) z fresh (named_work (alone_meeting run) box user profile words).text (command_by run user profile words) (CommandEnds alone (named_work (alone_meeting run) box user profile words))

@@ -62,7 +62,7 @@ use Rattle.command_line.specs.CommandNames.{begins_folders, command_of, named}
 use Rattle.command_line.specs.CommandPledge.{entries_by, marks_pledge, on_named, rmm_on_named, rmms_pledge}
 use Rattle.command_line.specs.Profile.{folder_of, path_of, profile_name}
 use Rattle.command_line.specs.declared.name.CommandName.{CommandName}
-use Rattle.command_line.specs.declared.name.CommandName.TheVariants.{Inc, Mark, Rmm, Scan}
+use Rattle.command_line.specs.declared.name.CommandName.TheVariants.{Inc, Mark, Refile, Rmm, Scan}
 use Rattle.command_line.proofs.IncKept.{inc_kept}
 use Rattle.command_line.proofs.MindingPlans.{Minding, NothingMore, minding_kept, minding_may, minds_own, minds_with}
 use Rattle.command_line.proofs.MindsMarks.{command_keeps_sequences, minds_sequences}
@@ -313,6 +313,7 @@ module _ (run : ℕ) (few : run < 2 ^ 128) (user : List ℕ) (x y : State) (resu
   by_name word words texts f (Some Inc) is = inc_kept run few user x y result word words texts is f
   by_name word words texts f (Some Scan) is = command_keeps_sequences run few user (word ∷ words) (ap begins_folders is) x y result f
   by_name word words texts f (Some Mark) is = mark_kept word words texts is f
+  by_name word words texts f (Some Refile) is = tt
   by_name word words texts f (Some Rmm) is = rmm_kept word words texts is f
 
   pub command_keeps_marks : (words : List (List ℕ)) → AreUtf8 words → Follows run ended_cause (command run user words) x y result → KeepsCommandMarks (command_of words) run x.files.story y.files.story

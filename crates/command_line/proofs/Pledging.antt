@@ -4,7 +4,7 @@ use Rattle.std.specs.Str.{chars}
 use Rattle.mh_profile.specs.declared.named_value.NamedValue.{NamedValue}
 use Rattle.mh_profile.specs.Reading.{entries_in}
 use Rattle.folder_files.specs.Deeds.{Deed, HasFailed}
-use Rattle.folder_files.specs.declared.place.Place.TheVariants.{Home, Mail}
+use Rattle.folder_files.specs.declared.place.Place.TheVariants.{Folder, Home, Mail}
 use Rattle.folder_files.specs.declared.step.Answer.{Answer}
 use Rattle.folder_files.specs.declared.step.Step.{Step}
 use Rattle.folder_files.specs.declared.step.Step.TheVariants.{Read}
@@ -45,22 +45,28 @@ use Rattle.mark_command.proofs.MarkPledged.{mark_keeps}
 use Rattle.command_words.specs.Ended.{Ending, ended_cause, plain}
 use Rattle.command_words.specs.IncWords.{inc_said}
 use Rattle.command_words.specs.MarkWords.{mark_said}
+use Rattle.command_words.specs.RefileWords.{refile_said}
 use Rattle.command_words.specs.RmmWords.{rmm_said}
 use Rattle.command_words.specs.ScanWords.{scan_said}
 use Rattle.command_words.specs.declared.ended.Ended.{Ended}
 use Rattle.command_words.specs.declared.mark.MarkWords.{MarkWords}
+use Rattle.command_words.specs.declared.refile.RefileWords.{RefileWords}
 use Rattle.command_words.specs.declared.rmm.RmmWords.{RmmWords}
 use Rattle.command_words.specs.declared.scan.ScanWords.{ScanWords}
 use Rattle.command_words.proofs.SaidFolder.{IsValid}
+use Rattle.refile_command.specs.Refile.{refile}
 use Rattle.refile_command.specs.Rmm.{rmm}
+use Rattle.refile_command.specs.declared.job.RefileJob.{RefileJob}
+use Rattle.refile_command.proofs.RefileMoved.{HasHeldNone}
+use Rattle.refile_command.proofs.RefilePledged.{EndsRefiled, refile_keeps}
 use Rattle.refile_command.proofs.RmmPledged.{rmm_keeps}
-use Rattle.command_line.specs.Command.{command, command_by, context_entered, context_seen, folder_found, inc_begun, inc_by, job_of, mark_begun, mark_by, mark_job, no_command, rmm_begun, rmm_by, rmm_job, scan_begun, scan_by, word_by}
+use Rattle.command_line.specs.Command.{command, command_by, context_entered, context_seen, folder_found, inc_begun, inc_by, job_of, mark_begun, mark_by, mark_job, no_command, refile_begun, refile_by, refile_job, rmm_begun, rmm_by, rmm_job, scan_begun, scan_by, word_by}
 use Rattle.command_line.specs.CommandNames.{command_of, named}
-use Rattle.command_line.specs.CommandPledge.{IsDone, KeepsPledge, command_pledge, entries_by, incs_pledge, marks_pledge, on_named, path_by, rmm_on_named, rmms_pledge, text_of, word_pledge}
+use Rattle.command_line.specs.CommandPledge.{IsDone, KeepsPledge, command_pledge, entries_by, incs_pledge, marks_pledge, on_named, path_by, refile_on_named, refiles_pledge, rmm_on_named, rmms_pledge, text_of, word_pledge}
 use Rattle.command_line.specs.Incorporating.{job_by}
 use Rattle.command_line.specs.Profile.{folder_of, path_of, profile_name}
 use Rattle.command_line.specs.declared.name.CommandName.{CommandName}
-use Rattle.command_line.specs.declared.name.CommandName.TheVariants.{Inc, Mark, Rmm, Scan}
+use Rattle.command_line.specs.declared.name.CommandName.TheVariants.{Inc, Mark, Refile, Rmm, Scan}
 use Rattle.command_line.proofs.SaidFolder.{acted_valid, scan_valid}
 use Rattle.command_line.proofs.TwoAnswers.{Onward, TwoAnswers, acts_begin_with, follows_so, keeps_after, keeps_ended, may_read, rest_by, two_answers}
 
@@ -100,6 +106,9 @@ module _ (run : ℕ) (profile : List NamedValue) where
   abbrev pub mark_acts : MarkWords → List ℕ → Commanded Unit
   mark_acts words folder = mark run (path_of profile) (mark_job folder words profile)
 
+  abbrev pub refile_acts : RefileWords → List ℕ → Commanded Unit
+  refile_acts words folder = refile run (path_of profile) (refile_job folder words profile)
+
   abbrev pub rmm_acts : RmmWords → List ℕ → Commanded Unit
   rmm_acts words folder = rmm run (path_of profile) (rmm_job folder words profile)
 
@@ -112,6 +121,11 @@ module _ (run : ℕ) (profile : List NamedValue) where
   unfolding mark_begun
   mark_onward (Ok words) = inr (λ b. on_context profile words.folder (mark_acts words) (reading_of b), context_asked profile words.folder (mark_acts words))
   mark_onward (Err e) = inl (Err e, refl)
+
+  unfoldable pub refile_onward : (value : Result RefileWords Ended) → Onward (context_step profile) (refile_by run profile value)
+  unfolding refile_begun
+  refile_onward (Ok words) = inr (λ b. on_context profile words.source (refile_acts words) (reading_of b), context_asked profile words.source (refile_acts words))
+  refile_onward (Err e) = inl (Err e, refl)
 
   unfoldable pub rmm_onward : (value : Result RmmWords Ended) → Onward (context_step profile) (rmm_by run profile value)
   unfolding rmm_begun
@@ -128,6 +142,7 @@ module _ (run : ℕ) (profile : List NamedValue) where
   word_onward user word words (Some Inc) = inc_onward (job_by user profile (inc_said profile (map chars words)))
   word_onward user word words (Some Scan) = scan_onward (scan_said profile (map chars words))
   word_onward user word words (Some Mark) = mark_onward (mark_said profile (map chars words))
+  word_onward user word words (Some Refile) = refile_onward (refile_said profile (map chars words))
   word_onward user word words (Some Rmm) = rmm_onward (rmm_said profile (map chars words))
 
   unfoldable pub named_onward : (user : List ℕ) (words : List (List ℕ)) → Onward (context_step profile) (command_by run user profile words)
@@ -181,6 +196,10 @@ pub two_once : (w : Pledge) (profile : List NamedValue) (a b : Answer) → AreOn
 two_once w profile a b =
     once_asked w (acts (Did profile_step a ∷ [])) (context_step profile) b (may_read w (acts (Did profile_step a ∷ [])) (Mail (path_of profile)) context_name LIMIT_BYTES)
     (once_asked w [] profile_step a (may_read w [] Home profile_name LIMIT_BYTES) (none_once w.run))
+
+-- nor do they use a held name of a folder
+two_unheld : (run : ℕ) (profile : List NamedValue) (folder : List ℕ) (a b : Answer) → HasHeldNone run (Folder (path_of profile) folder) (acts (two_readings profile a b))
+two_unheld run profile folder a b = λ n ok. ((λ e f. cc (e)), ((λ e f. cc (e)), tt))
 
 pub known_sound : (w : Pledge) (own : List Deed) (h : Hand) (es : List NamedValue) → Sound w own h → Sound w own (knowing es h)
 known_sound w own h es s = record { numbered = s.numbered; unfailed = s.unfailed }
@@ -287,6 +306,36 @@ module _ (run : ℕ) (few : run < 2 ^ 128) (profile : List NamedValue) (h : Hand
       w = rmm_on_named run profile words (folder_of words.folder (entries_by b) profile)
   rmm_words_keep b (Err e) = keeps_ended look Home profile_name LIMIT_BYTES h (Err e) (IfOkay (Finished (Some Rmm) path)) (λ c. tt)
 
+  -- `refile`
+  refile_done : (job : RefileJob) (a b : Answer) (later : List Done) (j : Hand) (r : Result Unit CommandFault) → IfOkay (EndsRefiled run few path job (acts (two_readings profile a b))) later j r → IfOkay (Finished (Some Refile) path) later j r
+  refile_done job a b later j (Ok u) f = record { is_done = f.0.settled (two_settled profile a b); unfailed = f.0.unfailed }
+  refile_done job a b later j (Err e) f = tt
+
+  module _ (words : RefileWords) (a b : Answer) (es : List NamedValue) (folder : List ℕ) where
+    abbrev RefileKeeps : Pledge → Type 0
+    RefileKeeps w = Sound w (acts (two_readings profile a b)) h → Keeps (rules_of w) (two_readings profile a b) (knowing es h) (refile_acts run profile words folder) (IfOkay (Finished (Some Refile) path))
+
+    refiled_so : RefileKeeps (refile_on_named run profile words (Ok folder))
+    refiled_so sound =
+        let w = refile_on_named run profile words (Ok folder) in
+        keeps_more (rules_of w) (two_readings profile a b) (knowing es h) (refile_acts run profile words folder) (IfOkay (EndsRefiled run few path (refile_job folder words profile) (acts (two_readings profile a b)))) (IfOkay (Finished (Some Refile) path)) (refile_done (refile_job folder words profile) a b)
+        (refile_keeps run few path (refile_job folder words profile) (two_readings profile a b) (knowing es h) (two_unheld run profile folder a b) (known_sound w (acts (two_readings profile a b)) h es sound))
+
+    refiled_at : folder_of words.source es profile ≡ Ok folder → RefileKeeps (refile_on_named run profile words (folder_of words.source es profile))
+    refiled_at is = subst (λ v. RefileKeeps (refile_on_named run profile words v)) (sym is) refiled_so
+
+  pub refile_words_keep : (b : Answer) (value : Result RefileWords Ended)
+      → Keeps (rules_of (refiles_pledge run profile (entries_by b) value)) [] h (Ask profile_step (λ c. rest_by (context_step profile) (refile_by run profile value) (refile_onward run profile value) b)) (IfOkay (Finished (Some Refile) path))
+  unfolding refile_onward
+  refile_words_keep b (Ok words) =
+      keeps_after w Home (Mail path) profile_name context_name LIMIT_BYTES h (on_context profile words.source (refile_acts run profile words) (reading_of b)) (IfOkay (Finished (Some Refile) path))
+      (λ c d sound. context_keeps w (two_readings profile c d) h sound profile words.source (refile_acts run profile words) (Finished (Some Refile) path) (reading_of b)
+      (λ folder is. refiled_at words c d (entries_by b) folder is sound))
+    where
+      w : Pledge
+      w = refile_on_named run profile words (folder_of words.source (entries_by b) profile)
+  refile_words_keep b (Err e) = keeps_ended look Home profile_name LIMIT_BYTES h (Err e) (IfOkay (Finished (Some Refile) path)) (λ c. tt)
+
   -- `inc`
   inc_done : (a b : Answer) (later : List Done) (j : Hand) (r : Result Unit CommandFault) → IfOkay (Still (acts (two_readings profile a b))) later j r → IfOkay (Finished (Some Inc) path) later j r
   inc_done a b later j (Ok u) f = record { is_done = f.settled (two_settled profile a b); unfailed = f.unfailed }
@@ -316,6 +365,7 @@ module _ (run : ℕ) (few : run < 2 ^ 128) (profile : List NamedValue) (h : Hand
   word_keeps user b word words (Some Inc) = inc_job_keeps b (job_by user profile (inc_said profile (map chars words)))
   word_keeps user b word words (Some Scan) = scan_words_keep b (scan_said profile (map chars words)) (λ said e. scan_valid profile (map chars words) said e)
   word_keeps user b word words (Some Mark) = mark_words_keep b (mark_said profile (map chars words))
+  word_keeps user b word words (Some Refile) = refile_words_keep b (refile_said profile (map chars words))
   word_keeps user b word words (Some Rmm) = rmm_words_keep b (rmm_said profile (map chars words))
 
   named_keeps : (user : List ℕ) (b : Answer) (words : List (List ℕ))
@@ -349,6 +399,14 @@ pledge_run run user (word ∷ words) profile context = go (named word)
         by (Err e) = refl
     removes_by (Err e) = refl
 
+    refiles_by : (value : Result RefileWords Ended) → (refiles_pledge run profile context value).run ≡ run
+    refiles_by (Ok said) = by (folder_of said.source context profile)
+      where
+        by : (value : Result (List ℕ) CommandFault) → (refile_on_named run profile said value).run ≡ run
+        by (Ok folder) = refl
+        by (Err e) = refl
+    refiles_by (Err e) = refl
+
     takes_by : (value : Result IncJob Ended) → (incs_pledge run profile value).run ≡ run
     takes_by (Ok job) = refl
     takes_by (Err e) = refl
@@ -358,6 +416,7 @@ pledge_run run user (word ∷ words) profile context = go (named word)
     go (Some Inc) = takes_by (job_by user profile (inc_said profile (map chars words)))
     go (Some Scan) = refl
     go (Some Mark) = marks_by (mark_said profile (map chars words))
+    go (Some Refile) = refiles_by (refile_said profile (map chars words))
     go (Some Rmm) = removes_by (rmm_said profile (map chars words))
 
 module _ (run : ℕ) (few : run < 2 ^ 128) (user : List ℕ) (words : List (List ℕ)) where

@@ -15,14 +15,17 @@ use Rattle.command_words.specs.FolderWords.{folder_named, folders, named_folder,
 use Rattle.inc_command.specs.declared.job.IncJob.{IncJob}
 use Rattle.command_words.specs.IncWords.{folder_alone, folder_said as inc_words_said, inc_said, items_said as inc_items, with_folder as inc_folder}
 use Rattle.command_words.specs.MarkWords.{folder_said as mark_words_said, items_said as mark_items, lacks_sequence, mark_said, with_folder as mark_folder, with_names, word_said}
+use Rattle.command_words.specs.RefileWords as refile_words
+use Rattle.command_words.specs.RefileWords.{refile_said}
 use Rattle.command_words.specs.RmmWords.{folder_said as rmm_words_said, items_said as rmm_items, rmm_said, with_folder as rmm_folder}
 use Rattle.command_words.specs.ScanWords.{folder_said, items_said, scan_said, with_folder}
 use Rattle.command_words.specs.SequenceNames.{unless_wrong, wrong_names}
-use Rattle.command_words.specs.Tables.{inc_table, mark_table, rmm_table, scan_table}
+use Rattle.command_words.specs.Tables.{inc_table, mark_table, refile_table, rmm_table, scan_table}
 use Rattle.command_words.specs.Words.{profile_words}
 use Rattle.command_words.specs.declared.ended.Ended.{Ended}
 use Rattle.command_words.specs.declared.inc.IncWords.{IncWords}
 use Rattle.command_words.specs.declared.mark.MarkWords.{MarkWords}
+use Rattle.command_words.specs.declared.refile.RefileWords.{RefileWords}
 use Rattle.command_words.specs.declared.rmm.RmmWords.{RmmWords}
 use Rattle.command_words.specs.declared.scan.ScanWords.{ScanWords}
 use Rattle.command_line.specs.Incorporating.{job_by, job_on, job_with, plain_job}
@@ -113,6 +116,26 @@ rmm_items_refuse words (Err wrong) = (refusal.BadSwitch wrong.place wrong.why, r
 -- the words of `rmm`
 pub rmm_refuses : (profile : List NamedValue) (words : List (List ℕ)) (e : Ended) → rmm_said profile words ≡ Err e → IsRefusal e.fault
 rmm_refuses profile words e is = subst RmmRefuses is (rmm_items_refuse (profile_words (codes "rmm") profile ++ words) (read_in rmm_table 0 (profile_words (codes "rmm") profile ++ words)))
+
+-- the words of `refile`
+abbrev RefileRefuses : Result RefileWords Ended → Type 0
+RefileRefuses (Ok w) = Unit {0}
+RefileRefuses (Err e) = IsRefusal e.fault
+
+refile_wrong_refuses : (said : RefileWords) (wrong : List (List ℕ)) → RefileRefuses (refile_words.unless_wrong said wrong)
+refile_wrong_refuses said [] = tt
+refile_wrong_refuses said (word ∷ words) = (refusal.BadFolder word, refl)
+
+refile_targets_refuse : (words : List (List ℕ)) (items : List Item) (names : List (List ℕ)) → RefileRefuses (refile_words.targets_said words items names)
+refile_targets_refuse words items [] = (refusal.BadSwitch (length words) Missing, refl)
+refile_targets_refuse words items (target ∷ others) = refile_wrong_refuses _ (refile_words.wrong_names items)
+
+refile_items_refuse : (words : List (List ℕ)) (r : Result (List Item) Wrong) → RefileRefuses (refile_words.items_said words r)
+refile_items_refuse words (Ok items) = refile_targets_refuse words items (refile_words.targets items)
+refile_items_refuse words (Err wrong) = (refusal.BadSwitch wrong.place wrong.why, refl)
+
+pub refile_refuses : (profile : List NamedValue) (words : List (List ℕ)) (e : Ended) → refile_said profile words ≡ Err e → IsRefusal e.fault
+refile_refuses profile words e is = subst RefileRefuses is (refile_items_refuse (profile_words (codes "refile") profile ++ words) (read_in refile_table 0 (profile_words (codes "refile") profile ++ words)))
 
 -- the folder that is acted on
 pub folder_refuses : (said : Option (List ℕ)) (context profile : List NamedValue) (e : CommandFault) → folder_of said context profile ≡ Err e → IsRefusal e

@@ -12,16 +12,19 @@ use Rattle.step_plans.specs.declared.command_fault.CommandFault.TheVariants as f
 use Rattle.command_words.specs.Ended.{wrong_at}
 use Rattle.command_words.specs.FolderWords.{folder_named, folders, one_folder, some_named}
 use Rattle.command_words.specs.MarkWords.{folder_said as mark_words_said, items_said as mark_items, lacks_sequence, mark_said, with_folder as mark_folder, with_names, word_said}
+use Rattle.command_words.specs.RefileWords.{refile_said}
 use Rattle.command_words.specs.RmmWords.{rmm_said}
 use Rattle.command_words.specs.ScanWords.{scan_said}
-use Rattle.command_words.specs.Tables.{mark_table, rmm_table, scan_table}
+use Rattle.command_words.specs.Tables.{mark_table, refile_table, rmm_table, scan_table}
 use Rattle.command_words.specs.Words.{profile_words}
 use Rattle.command_words.specs.declared.ended.Ended.{Ended}
 use Rattle.command_words.specs.declared.mark.MarkWords.{MarkWords}
+use Rattle.command_words.specs.declared.refile.RefileWords.{RefileWords}
 use Rattle.command_words.specs.declared.rmm.RmmWords.{RmmWords}
 use Rattle.command_words.specs.declared.scan.ScanWords.{ScanWords}
 use Rattle.command_line.specs.Profile.{folder_of, stored_of}
 use Rattle.command_words.proofs.SaidFolder.{IsValid, items_valid, named_valid, ok_same}
+use Rattle.command_words.proofs.SaidRefileFolders.{NamesFolders, refile_valid}
 use Rattle.command_words.proofs.SaidRmmFolder.{rmm_valid}
 
 -- the folder acted on
@@ -36,6 +39,10 @@ scan_valid profile words said e = items_valid (profile_words (codes "scan") prof
 -- the folder of the words of `rmm`
 pub rmm_words_valid : (profile : List NamedValue) (words : List (List ℕ)) (said : RmmWords) → rmm_said profile words ≡ Ok said → IsValid said.folder
 rmm_words_valid profile words said e = rmm_valid (profile_words (codes "rmm") profile ++ words) (read_in rmm_table 0 (profile_words (codes "rmm") profile ++ words)) said e
+
+-- the folders of the words of `refile`
+pub refile_words_valid : (profile : List NamedValue) (words : List (List ℕ)) (said : RefileWords) → refile_said profile words ≡ Ok said → NamesFolders said
+refile_words_valid profile words said e = refile_valid (profile_words (codes "refile") profile ++ words) (read_in refile_table 0 (profile_words (codes "refile") profile ++ words)) said e
 
 -- that of the words of `mark`
 abbrev MarkValid : Result MarkWords Ended → Type 0

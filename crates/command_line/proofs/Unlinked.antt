@@ -39,7 +39,7 @@ use Rattle.command_line.specs.Command.{command, command_by, context_entered, con
 use Rattle.command_line.specs.CommandNames.{begins_folders, command_of, named}
 use Rattle.command_line.specs.Profile.{folder_of, path_of, profile_name}
 use Rattle.command_line.specs.declared.name.CommandName.{CommandName}
-use Rattle.command_line.specs.declared.name.CommandName.TheVariants.{Inc, Mark, Rmm, Scan}
+use Rattle.command_line.specs.declared.name.CommandName.TheVariants.{Inc, Mark, Refile, Rmm, Scan}
 use Rattle.command_words.specs.Ended.{plain}
 use Rattle.command_words.specs.ScanWords.{scan_said}
 use Rattle.command_words.specs.declared.ended.Ended.{Ended}
@@ -155,6 +155,7 @@ word_nothing run user profile word words None other = asks_none IsUnlinked (Err 
 word_nothing run user profile word words (Some Inc) other = cc (other)
 word_nothing run user profile word words (Some Scan) other = by_nothing run profile (scan_said profile (map chars words))
 word_nothing run user profile word words (Some Mark) other = cc (other)
+word_nothing run user profile word words (Some Refile) other = cc (other)
 word_nothing run user profile word words (Some Rmm) other = cc (other)
 
 named_nothing : (run : ℕ) (user : List ℕ) (profile : List NamedValue) (words : List (List ℕ)) → (begins_folders (command_of words) ≡ false) → LinksNothing (command_by run user profile words)

@@ -35,7 +35,7 @@ use Rattle.command_line.specs.CommandPledge.{entries_by, path_by}
 use Rattle.command_line.specs.Incorporating.{job_by}
 use Rattle.command_line.specs.Profile.{folder_of, path_of, profile_name}
 use Rattle.command_line.specs.declared.name.CommandName.{CommandName}
-use Rattle.command_line.specs.declared.name.CommandName.TheVariants.{Inc, Mark, Rmm, Scan}
+use Rattle.command_line.specs.declared.name.CommandName.TheVariants.{Inc, Mark, Refile, Rmm, Scan}
 
 -- what shows how it ended before it came to a folder
 pub data ShowsEarly : CommandFault → List Deed → Type 0 where
@@ -108,6 +108,7 @@ ShowsNamed run user profile context folder r own words (Some Inc) =
 ShowsNamed run user profile context folder r own words (Some Scan) = ⊥
 ShowsNamed run user profile context folder r own words (Some Mark) =
     ShowsMark run profile context folder r own (mark_said profile (map chars words))
+ShowsNamed run user profile context folder r own words (Some Refile) = ⊥
 ShowsNamed run user profile context folder r own words (Some Rmm) =
     ShowsRmm run profile context folder r own (rmm_said profile (map chars words))
 

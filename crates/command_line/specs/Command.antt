@@ -1,5 +1,5 @@
 -- The plan of a command, by its words.
-use Rattle.std.specs.Prelude.{ℕ, List, [], ◌∷◌, Option, None, Some, map, Result, Ok, Err}
+use Rattle.std.specs.Prelude.{ℕ, List, [], ◌∷◌, Option, None, Some, is_some, map, Result, Ok, Err}
 use Rattle.std.specs.Str.{chars}
 use Rattle.mh_base.specs.declared.word.WordWhy.TheVariants.{NoCommand}
 use Rattle.mh_profile.specs.declared.named_value.NamedValue.{NamedValue}
@@ -16,22 +16,26 @@ use Rattle.mark_command.specs.Mark.{mark}
 use Rattle.mark_command.specs.declared.job.MarkJob.{MarkJob}
 use Rattle.inc_command.specs.Inc.{inc}
 use Rattle.inc_command.specs.declared.job.IncJob.{IncJob}
+use Rattle.refile_command.specs.Refile.{refile}
 use Rattle.refile_command.specs.Rmm.{rmm}
+use Rattle.refile_command.specs.declared.job.RefileJob.{RefileJob}
 use Rattle.refile_command.specs.declared.job.RmmJob.{RmmJob}
 use Rattle.command_words.specs.declared.ended.Ended.{Ended}
 use Rattle.command_words.specs.declared.mark.MarkWords.{MarkWords}
+use Rattle.command_words.specs.declared.refile.RefileWords.{RefileWords}
 use Rattle.command_words.specs.declared.rmm.RmmWords.{RmmWords}
 use Rattle.command_words.specs.declared.scan.ScanWords.{ScanWords}
 use Rattle.command_words.specs.Ended.{plain, wrong_word, Ending}
 use Rattle.command_words.specs.IncWords.{inc_said}
 use Rattle.command_words.specs.MarkWords.{mark_said}
+use Rattle.command_words.specs.RefileWords.{refile_said}
 use Rattle.command_words.specs.RmmWords.{rmm_said}
 use Rattle.command_words.specs.ScanWords.{scan_said}
 use Rattle.command_line.specs.CommandNames.{named}
 use Rattle.command_line.specs.Incorporating.{job_by}
 use Rattle.command_line.specs.Profile.{folder_of, negation_of, path_of, profile_name}
 use Rattle.command_line.specs.declared.name.CommandName.{CommandName}
-use Rattle.command_line.specs.declared.name.CommandName.TheVariants.{Inc, Mark, Rmm, Scan}
+use Rattle.command_line.specs.declared.name.CommandName.TheVariants.{Inc, Mark, Refile, Rmm, Scan}
 
 -- the context is read, and the run knows its entries
 unfoldable pub context_seen : List NamedValue → Commanded Unit
@@ -85,6 +89,27 @@ abbrev pub rmm_by : ℕ → List NamedValue → Result RmmWords Ended → Ending
 rmm_by run profile (Ok words) = lifted plain (rmm_begun run profile words)
 rmm_by run profile (Err e) = Return (Err e)
 
+-- the source is the folder that is acted on, and becomes the current one where the words name it
+abbrev pub refile_job : List ℕ → RefileWords → List NamedValue → RefileJob
+refile_job folder words profile = record {
+  source = folder;
+  set_current = is_some words.source;
+  specs = words.specs;
+  target = words.target;
+  others = words.others;
+  link = words.link;
+  negation = negation_of profile;
+}
+
+unfoldable pub refile_begun : ℕ → List NamedValue → RefileWords → Commanded Unit
+refile_begun run profile words = do
+  folder ← folder_found profile words.source
+  refile run (path_of profile) (refile_job folder words profile)
+
+abbrev pub refile_by : ℕ → List NamedValue → Result RefileWords Ended → Ending Unit
+refile_by run profile (Ok words) = lifted plain (refile_begun run profile words)
+refile_by run profile (Err e) = Return (Err e)
+
 -- the context is read, and new mail is taken in
 unfoldable pub inc_begun : ℕ → List ℕ → IncJob → Commanded Unit
 inc_begun run path job = do
@@ -105,6 +130,7 @@ word_by run user profile word words None = Return (Err (no_command (Some word)))
 word_by run user profile word words (Some Inc) = inc_by run profile (job_by user profile (inc_said profile (map chars words)))
 word_by run user profile word words (Some Scan) = scan_by run profile (scan_said profile (map chars words))
 word_by run user profile word words (Some Mark) = mark_by run profile (mark_said profile (map chars words))
+word_by run user profile word words (Some Refile) = refile_by run profile (refile_said profile (map chars words))
 word_by run user profile word words (Some Rmm) = rmm_by run profile (rmm_said profile (map chars words))
 
 abbrev pub command_by : ℕ → List ℕ → List NamedValue → List (List ℕ) → Ending Unit

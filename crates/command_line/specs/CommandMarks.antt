@@ -9,7 +9,7 @@ use Rattle.sequence_marks.specs.KeepsSequences.{KeepsSequences}
 use Rattle.sequence_marks.specs.KeepsSequencesOf.{KeepsSequencesOf, SequencesStaySoundOf}
 use Rattle.refile_command.specs.HeldLeft.{RemovesUnheld}
 use Rattle.command_line.specs.declared.name.CommandName.{CommandName}
-use Rattle.command_line.specs.declared.name.CommandName.TheVariants.{Inc, Mark, Rmm, Scan}
+use Rattle.command_line.specs.declared.name.CommandName.TheVariants.{Inc, Mark, Refile, Rmm, Scan}
 
 -- the name is a text of characters
 abbrev pub IsTextName : List ℕ → Type 0
@@ -28,10 +28,11 @@ KeepsUnheld run None (Some new) = ⊥
 KeepsUnheld run (Some old) None = ⊥
 
 -- a command that looks keeps all, whatever a folder is called; `inc` and `mark` those of folders whose names are texts; and
--- so does `rmm` where no message is held aside when it removes
+-- so does `rmm` where no message is held aside when it removes; of `refile` nothing is said yet
 abbrev pub KeepsCommandMarks : Option CommandName → ℕ → Option Story → Option Story → Type 0
 KeepsCommandMarks None run old new = KeepsSequences run old new
 KeepsCommandMarks (Some Inc) run old new = KeepsSequencesOf IsTextName run old new
 KeepsCommandMarks (Some Scan) run old new = KeepsSequences run old new
 KeepsCommandMarks (Some Mark) run old new = KeepsSequencesOf IsTextName run old new
+KeepsCommandMarks (Some Refile) run old new = Unit {0}
 KeepsCommandMarks (Some Rmm) run old new = KeepsUnheld run old new

@@ -1,13 +1,13 @@
 -- The commands that there are, by name.
 use Rattle.std.specs.Prelude.{ℕ, Bool, true, false, List, [], ◌∷◌, Option, None, Some, bytes_eq, codes, if◌then◌else◌}
 use Rattle.command_line.specs.declared.name.CommandName.{CommandName}
-use Rattle.command_line.specs.declared.name.CommandName.TheVariants.{Inc, Mark, Rmm, Scan}
+use Rattle.command_line.specs.declared.name.CommandName.TheVariants.{Inc, Mark, Refile, Rmm, Scan}
 
 -- the command of this name
 abbrev pub named : List ℕ → Option CommandName
 named word =
     if bytes_eq word (codes "inc") then Some Inc
-    else (if bytes_eq word (codes "scan") then Some Scan else (if bytes_eq word (codes "mark") then Some Mark else (if bytes_eq word (codes "rmm") then Some Rmm else None)))
+    else (if bytes_eq word (codes "scan") then Some Scan else (if bytes_eq word (codes "mark") then Some Mark else (if bytes_eq word (codes "rmm") then Some Rmm else (if bytes_eq word (codes "refile") then Some Refile else None))))
 
 -- the command that the words of a call name
 abbrev pub command_of : List (List ℕ) → Option CommandName
@@ -20,6 +20,7 @@ begins_folders None = false
 begins_folders (Some Inc) = true
 begins_folders (Some Scan) = false
 begins_folders (Some Mark) = true
+begins_folders (Some Refile) = true
 begins_folders (Some Rmm) = true
 
 -- it makes its folder where that is missing
@@ -28,4 +29,14 @@ makes_folders None = false
 makes_folders (Some Inc) = true
 makes_folders (Some Scan) = false
 makes_folders (Some Mark) = false
+makes_folders (Some Refile) = true
 makes_folders (Some Rmm) = false
+
+-- what shows how it ended is said of it; of `refile` not yet
+abbrev pub shows_ends : Option CommandName → Bool
+shows_ends None = false
+shows_ends (Some Inc) = true
+shows_ends (Some Scan) = false
+shows_ends (Some Mark) = true
+shows_ends (Some Refile) = false
+shows_ends (Some Rmm) = true

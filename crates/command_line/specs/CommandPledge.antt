@@ -22,19 +22,22 @@ use Rattle.mh_looks.specs.ScanPledge.{scan_pledge}
 use Rattle.mark_command.specs.MarkPledge.{pledge_by}
 use Rattle.inc_command.specs.IncPledge.{inc_pledge}
 use Rattle.inc_command.specs.declared.job.IncJob.{IncJob}
+use Rattle.refile_command.specs.RefilePledge.{refile_pledge}
 use Rattle.refile_command.specs.RmmPledge.{rmm_pledge}
 use Rattle.command_words.specs.IncWords.{inc_said}
 use Rattle.command_words.specs.MarkWords.{mark_said}
+use Rattle.command_words.specs.RefileWords.{refile_said}
 use Rattle.command_words.specs.RmmWords.{rmm_said}
 use Rattle.command_words.specs.declared.ended.Ended.{Ended}
 use Rattle.command_words.specs.declared.mark.MarkWords.{MarkWords}
+use Rattle.command_words.specs.declared.refile.RefileWords.{RefileWords}
 use Rattle.command_words.specs.declared.rmm.RmmWords.{RmmWords}
-use Rattle.command_line.specs.Command.{mark_job, rmm_job}
+use Rattle.command_line.specs.Command.{mark_job, refile_job, rmm_job}
 use Rattle.command_line.specs.CommandNames.{command_of, named}
 use Rattle.command_line.specs.Incorporating.{job_by}
 use Rattle.command_line.specs.Profile.{folder_of, path_of, profile_name}
 use Rattle.command_line.specs.declared.name.CommandName.{CommandName}
-use Rattle.command_line.specs.declared.name.CommandName.TheVariants.{Inc, Mark, Rmm, Scan}
+use Rattle.command_line.specs.declared.name.CommandName.TheVariants.{Inc, Mark, Refile, Rmm, Scan}
 
 -- the text that was read; the empty one where there is none
 abbrev pub text_of : Reading → List ℕ
@@ -76,6 +79,15 @@ abbrev pub rmms_pledge : ℕ → List NamedValue → List NamedValue → Result 
 rmms_pledge run profile context (Ok words) = rmm_on_named run profile words (folder_of words.folder context profile)
 rmms_pledge run profile context (Err e) = scan_pledge run (path_of profile)
 
+-- and of `refile`
+abbrev pub refile_on_named : ℕ → List NamedValue → RefileWords → Result (List ℕ) CommandFault → Pledge
+refile_on_named run profile words (Ok folder) = refile_pledge run (path_of profile) (refile_job folder words profile)
+refile_on_named run profile words (Err e) = scan_pledge run (path_of profile)
+
+abbrev pub refiles_pledge : ℕ → List NamedValue → List NamedValue → Result RefileWords Ended → Pledge
+refiles_pledge run profile context (Ok words) = refile_on_named run profile words (folder_of words.source context profile)
+refiles_pledge run profile context (Err e) = scan_pledge run (path_of profile)
+
 -- what `inc` pledges by its job; where none can be, the same
 abbrev pub incs_pledge : ℕ → List NamedValue → Result IncJob Ended → Pledge
 incs_pledge run profile (Ok job) = inc_pledge run (path_of profile) job
@@ -86,6 +98,7 @@ word_pledge run user profile context words None = scan_pledge run (path_of profi
 word_pledge run user profile context words (Some Inc) = incs_pledge run profile (job_by user profile (inc_said profile (map chars words)))
 word_pledge run user profile context words (Some Scan) = scan_pledge run (path_of profile)
 word_pledge run user profile context words (Some Mark) = marks_pledge run profile context (mark_said profile (map chars words))
+word_pledge run user profile context words (Some Refile) = refiles_pledge run profile context (refile_said profile (map chars words))
 word_pledge run user profile context words (Some Rmm) = rmms_pledge run profile context (rmm_said profile (map chars words))
 
 -- what a command pledges, by the user's name, its words, the entries of the profile and those of the context
@@ -100,6 +113,7 @@ IsDone None path own = AreFinished (Mail path) context_name own
 IsDone (Some Inc) path own = AreSettled own
 IsDone (Some Scan) path own = AreFinished (Mail path) context_name own
 IsDone (Some Mark) path own = AreSettled own
+IsDone (Some Refile) path own = AreSettled own
 IsDone (Some Rmm) path own = AreSettled own
 
 -- the call began with the profile, which names the path of a mail directory, and with the context of that; it kept the pledge that these and

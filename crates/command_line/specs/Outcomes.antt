@@ -13,22 +13,26 @@ use Rattle.opened_folders.specs.HomesOf.{homes_at}
 use Rattle.mark_command.specs.Outcomes.{mark_work}
 use Rattle.inc_command.specs.IncOutcome.{inc_work, with_folder_made}
 use Rattle.inc_command.specs.declared.job.IncJob.{IncJob}
+use Rattle.refile_command.specs.MadeFolder.{or_empty}
+use Rattle.refile_command.specs.RefileOutcome.{refile_work}
 use Rattle.refile_command.specs.RmmOutcome.{rmm_work}
 use Rattle.command_words.specs.Ended.{plain}
 use Rattle.command_words.specs.IncWords.{inc_said}
 use Rattle.command_words.specs.MarkWords.{mark_said}
+use Rattle.command_words.specs.RefileWords.{refile_said}
 use Rattle.command_words.specs.RmmWords.{rmm_said}
 use Rattle.command_words.specs.ScanWords.{scan_said}
 use Rattle.command_words.specs.declared.ended.Ended.{Ended}
 use Rattle.command_words.specs.declared.mark.MarkWords.{MarkWords}
+use Rattle.command_words.specs.declared.refile.RefileWords.{RefileWords}
 use Rattle.command_words.specs.declared.rmm.RmmWords.{RmmWords}
 use Rattle.command_words.specs.declared.scan.ScanWords.{ScanWords}
-use Rattle.command_line.specs.Command.{job_of, mark_job, no_command, rmm_job}
+use Rattle.command_line.specs.Command.{job_of, mark_job, no_command, refile_job, rmm_job}
 use Rattle.command_line.specs.CommandNames.{named}
 use Rattle.command_line.specs.Incorporating.{job_by}
 use Rattle.command_line.specs.Profile.{folder_of, path_of, profile_name}
 use Rattle.command_line.specs.declared.name.CommandName.{CommandName}
-use Rattle.command_line.specs.declared.name.CommandName.TheVariants.{Inc, Mark, Rmm, Scan}
+use Rattle.command_line.specs.declared.name.CommandName.TheVariants.{Inc, Mark, Refile, Rmm, Scan}
 
 abbrev pub plainly : Result Unit CommandFault → Result Unit Ended
 plainly (Ok u) = Ok u
@@ -65,14 +69,15 @@ scan_words_work m profile (Ok words) = of_stage (on_folder m profile words.folde
 scan_words_work m profile (Err e) = refused_at m e
 
 -- What a command meets that begins a folder: where each message goes that other runs held aside there, and the context's entries as they are read
--- under the folder's lock, by those that were read before.
+-- under the folder's lock, by those that were read before; and its run's number.
 pub record Meeting : Type 0 where
   pub homes : Option FolderValue → Homes
   pub entries : List NamedValue → List NamedValue
+  pub run : ℕ
 
 -- alone each goes where it goes alone, and the context is what it was; this run is the one that held nothing aside
 abbrev pub alone_meeting : ℕ → Meeting
-alone_meeting run = record { homes = homes_at run; entries = λ es. es }
+alone_meeting run = record { homes = homes_at run; entries = λ es. es; run = run }
 
 -- `mark`: what other runs hold aside in the folder goes first
 abbrev pub marks : Meeting → Mailbox → List NamedValue → MarkWords → FolderWork
@@ -92,6 +97,15 @@ abbrev pub rmm_words_work : Meeting → Mailbox → List NamedValue → Result R
 rmm_words_work g m profile (Ok words) = of_stage (on_folder m profile words.folder (rmms g m profile words))
 rmm_words_work g m profile (Err e) = refused_at m e
 
+-- `refile`: so too in each folder that it begins; one that is missing is empty
+abbrev pub refiles : Meeting → Mailbox → List NamedValue → RefileWords → FolderWork
+refiles g m profile words context folder =
+    refile_work g.run (path_of profile) (g.entries context) (λ name. g.homes (or_empty (m.folders (Folder (path_of profile) name)))) (refile_job folder words profile) m
+
+abbrev pub refile_words_work : Meeting → Mailbox → List NamedValue → Result RefileWords Ended → Work Ended
+refile_words_work g m profile (Ok words) = of_stage (on_folder m profile words.source (refiles g m profile words))
+refile_words_work g m profile (Err e) = refused_at m e
+
 -- `inc`, once the context is read: so too, in the folder of its job once that is there
 abbrev pub incs : Meeting → Mailbox → List NamedValue → IncJob → Result (List ℕ) CommandFault → Work CommandFault
 incs g m profile job (Ok text) =
@@ -108,6 +122,7 @@ word_work g m user profile word words None = refused_at m (no_command (Some word
 word_work g m user profile word words (Some Inc) = inc_job_work g m profile (job_by user profile (inc_said profile (map chars words)))
 word_work g m user profile word words (Some Scan) = scan_words_work m profile (scan_said profile (map chars words))
 word_work g m user profile word words (Some Mark) = mark_words_work g m profile (mark_said profile (map chars words))
+word_work g m user profile word words (Some Refile) = refile_words_work g m profile (refile_said profile (map chars words))
 word_work g m user profile word words (Some Rmm) = rmm_words_work g m profile (rmm_said profile (map chars words))
 
 abbrev pub named_work : Meeting → Mailbox → List ℕ → List NamedValue → List (List ℕ) → Work Ended

@@ -13,6 +13,7 @@ ghost use Rattle.command_line.specs.Profile.{profile_name as profile_name_of};
 use crate::incorporating::run_inc;
 use crate::marking::run_mark;
 use crate::name::CommandName;
+use crate::refiling::run_refile;
 use crate::removing::run_rmm;
 use crate::scanning::run_scan;
 use command_stages::read_text;
@@ -59,6 +60,7 @@ fn run_word<F: Files, O: Sink>(
         Some(CommandName::Inc) => run_inc(alloc, run, files, out, profile, user, rest),
         Some(CommandName::Scan) => run_scan(alloc, run, files, out, profile, rest),
         Some(CommandName::Mark) => run_mark(alloc, run, files, out, profile, rest),
+        Some(CommandName::Refile) => run_refile(alloc, run, files, profile, rest),
         Some(CommandName::Rmm) => run_rmm(alloc, run, files, profile, rest),
         None => {
             let word = Bytes::from_slice(alloc, word.as_bytes())?;

@@ -7,6 +7,7 @@ mod incorporating;
 mod marking;
 mod name;
 mod profile;
+mod refiling;
 mod removing;
 mod scanning;
 

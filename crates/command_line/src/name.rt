@@ -8,6 +8,7 @@ pub enum CommandName {
     Inc,
     Scan,
     Mark,
+    Refile,
     Rmm,
 }
 
@@ -24,6 +25,8 @@ impl CommandName {
             Some(CommandName::Mark)
         } else if word == "rmm" {
             Some(CommandName::Rmm)
+        } else if word == "refile" {
+            Some(CommandName::Refile)
         } else {
             None
         }

@@ -16,7 +16,7 @@ use Rattle.step_plans.specs.declared.command_fault.CommandFault.TheVariants as f
 use Rattle.opened_folders.specs.Endings.{IsShownBy, IsToldBy}
 use Rattle.command_line.specs.BegunCauses.{ShowsFault, ShowsOnFolder, TellsOnFolder}
 use Rattle.command_line.specs.Causes.{ShowsRefusal}
-use Rattle.command_line.specs.CommandNames.{begins_folders, command_of}
+use Rattle.command_line.specs.CommandNames.{command_of, shows_ends}
 use Rattle.mh_tools.specs.Calls.{Call, LooksOnly, MadeBy}
 use Rattle.mh_tools.specs.TellsWhatItSaw.{outcome_on}
 use Rattle.mh_tools.specs.declared.status.Status.TheVariants.{Done, Refused, Faulted, Locked, Meddled}
@@ -30,9 +30,9 @@ pub record IsShown (c : Call) (deeds : List Deed) : Type 0 where
   pub locked : (place : Place) → c.status ≡ Locked place → ((mail : List ℕ) × (place ≡ Mail mail) × IsHeld place TRIES deeds) × (Made IsFailed deeds → ⊥)
   pub meddled : (place : Place) (name : List ℕ) → c.status ≡ Meddled place name → IsMeddled c.setting.run place name deeds × (Made IsFailed deeds → ⊥)
 
--- the words name a command that begins a folder, by its name at least
+-- the words name a command that begins a folder, by its name at least, and of which what shows its end is said (not yet `refile`)
 abbrev pub MayBegin : Call → Type 0
-MayBegin c = begins_folders (command_of c.words) ≡ true
+MayBegin c = shows_ends (command_of c.words) ≡ true
 
 -- Of a command that may begin a folder: Done, a refusal, Locked and Meddled come only where what shows them was
 -- answered; at Done this shows the output too. After a refusal and after Locked it may have let the folder go that it had
