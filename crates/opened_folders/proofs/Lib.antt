@@ -33,6 +33,7 @@ pub mod NamesKept
 pub mod NumbersMet
 pub mod NumbersStay
 pub mod OneStep
+pub mod PutEnds
 pub mod SequencesEnd
 pub mod Sets
 pub mod SettledEnds
