@@ -1,6 +1,7 @@
 pub mod AllMarks
 pub mod BaseMarks
 pub mod BeginState
+pub mod BegunAgain
 pub mod BegunEnds
 pub mod BegunSeen
 pub mod BegunWorks
