@@ -12,6 +12,7 @@ pub mod FolderMarks
 pub mod FolderNames
 pub mod Greatest
 pub mod Loops
+pub mod MailSafe
 pub mod MessageEnds
 pub mod MovedEntries
 pub mod MovedGiven
