@@ -5,11 +5,10 @@ use Rattle.folder_files.specs.Deeds.{Deed, WasDone, did}
 use Rattle.folder_files.specs.declared.place.Place.TheVariants.{Folder, Mail}
 use Rattle.folder_files.specs.declared.refusal.Refusal.TheVariants as refusal
 use Rattle.folder_files.specs.declared.step.Answer.{Answer}
-use Rattle.folder_files.specs.declared.step.Answer.TheVariants.{Gone, Long}
-use Rattle.folder_files.specs.declared.step.Step.TheVariants.{Lock, MakeFolder, Read, SyncFolder, Unlock}
+use Rattle.folder_files.specs.declared.step.Answer.TheVariants.{Long}
+use Rattle.folder_files.specs.declared.step.Step.TheVariants.{Lock, Read, Unlock}
 use Rattle.file_plans.specs.Sightings.{IsFailed, Made}
 use Rattle.step_plans.specs.ContextCommit.{LIMIT_BYTES}
-use Rattle.step_plans.specs.Locking.{lock_name}
 use Rattle.step_plans.specs.declared.command_fault.CommandFault.{CommandFault}
 use Rattle.step_plans.specs.declared.command_fault.CommandFault.TheVariants as fault
 use Rattle.message_puts.specs.Stored.{HasMetAt}
@@ -59,8 +58,6 @@ pub data ShowsMoves (run : ℕ) (path : List ℕ) (job : RefileJob) : CommandFau
   -- a message that the words choose was just read, and is too long, with this length
   long_message : {n l : ℕ} {older : List Deed} → WasChosen run path job n older
       → ShowsMoves run path job (fault.Refused (refusal.TooLarge l LIMIT_BYTES)) (did (Read (Folder path job.source) (name_read job.link run n) LIMIT_BYTES) (Long l) ∷ older)
-  -- the mail directory is gone that the run has just made or found made
-  mail_gone : {a : Answer} {older : List Deed} → ShowsMoves run path job (fault.Meddled (Mail path) lock_name) (did (SyncFolder (Mail path)) Gone ∷ (did (MakeFolder (Mail path)) a ∷ older))
 
 -- what shows each fault of `refile` on its folders
 abbrev pub ShowsRefile : ℕ → List ℕ → RefileJob → CommandFault → List Deed → Type 0
