@@ -32,6 +32,7 @@ pub mod RmmPledged
 pub mod Roomy
 pub mod Selected
 pub mod Shown
+pub mod TargetEnds
 pub mod TargetNames
 pub mod TargetsGiven
 pub mod ViewsAlike
