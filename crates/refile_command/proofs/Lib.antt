@@ -3,6 +3,7 @@ pub mod AllHomesFound
 pub mod BeginsAsks
 pub mod BegunAsks
 pub mod BegunBeside
+pub mod ChosenEnds
 pub mod CopyEnds
 pub mod Distinct
 pub mod EndedAll
@@ -11,6 +12,7 @@ pub mod FolderMade
 pub mod FolderMarks
 pub mod FolderNames
 pub mod Greatest
+pub mod LetGoEnds
 pub mod Loops
 pub mod MailSafe
 pub mod MessageEnds
