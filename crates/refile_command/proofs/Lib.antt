@@ -20,6 +20,7 @@ pub mod MovedEntries
 pub mod MovedGiven
 pub mod MovedShown
 pub mod RefileChosen
+pub mod RefileEnds
 pub mod RefileGathering
 pub mod RefileGiven
 pub mod RefileLets
