@@ -65,7 +65,7 @@ use Rattle.inc_command.proofs.Courses.{stored_still}
 use Rattle.inc_command.proofs.DropKept.{LeavesDrop, pieces_kept}
 use Rattle.inc_command.proofs.Finishing.{IsFound, finished_all, finished_on, none_found}
 use Rattle.inc_command.proofs.Fronts.{end_gives, piece_gives}
-use Rattle.inc_command.proofs.PutEnds.{PutShown, ShowsPut, StoredAs, Stores, Topped, stored_comes}
+use Rattle.opened_folders.proofs.PutEnds.{PutShown, ShowsPut, StoredAs, Stores, Topped, stored_comes}
 
 -- a piece of a drop, and then the rest
 comes_drop : {B F : Type 0} (own : List Deed) (h : Hand) (from : Stop → F) (Q : Outcome (Result B F)) (f : FilePath) (at most : ℕ) (k : DropPiece → Plan (Result B F))

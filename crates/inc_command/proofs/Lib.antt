@@ -16,7 +16,6 @@ pub mod NewMarks
 pub mod NewWithin
 pub mod PassGiven
 pub mod Pieces
-pub mod PutEnds
 pub mod PutMinds
 pub mod Rest
 pub mod Rounds

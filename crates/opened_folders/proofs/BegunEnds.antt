@@ -71,11 +71,11 @@ module _ (run : ℕ) (few : run < 2 ^ 128) (path folder : List ℕ) (Answers : A
   at : {A : Type 0} (own now_ : List Deed) (j i : Hand) (q : Planned A) (Q : Outcome (Result A PlanFault)) → own ≡ now_ → j ≡ i → Comes now_ i q Q → Comes own j q Q
   at own now_ j i q Q e f g = rw (e, f) g
 
-  abbrev locked_deeds : List Deed → List Deed
+  abbrev pub locked_deeds : List Deed → List Deed
   locked_deeds own = did (step.Lock p) answer.Done ∷ own
 
   -- the folder's lock
-  lock_comes : (own : List Deed) (h : Hand) → Comes own h (folder_locked p) (So (λ later j u. (later ≡ locked_deeds own) × (j ≡ h)))
+  pub lock_comes : (own : List Deed) (h : Hand) → Comes own h (folder_locked p) (So (λ later j u. (later ≡ locked_deeds own) × (j ≡ h)))
   unfolding folder_locked
   lock_comes own h =
       comes_lock own h of_stop (So Next) p (locked_by p) (comes_to _ h (Ok tt) (So Next) (refl, refl)) (comes_to _ h (Err (fault.Locked p)) (So Next) (inl (refl, record { older = own; is = refl })))
@@ -85,7 +85,7 @@ module _ (run : ℕ) (few : run < 2 ^ 128) (path folder : List ℕ) (Answers : A
       Next later j u = (later ≡ locked_deeds own) × (j ≡ h)
 
   -- the mail directory
-  abbrev made_deeds : Answer → List Deed → List Deed
+  abbrev pub made_deeds : Answer → List Deed → List Deed
   made_deeds a own = did (step.SyncFolder mail) answer.Done ∷ (did (step.MakeFolder mail) a ∷ own)
 
   mail_comes : (own : List Deed) (h : Hand) → PutsNone mail own → Comes own h (mail_made mail) (So (λ later j u. (a : Answer) × (a ≢ answer.Failed) × (later ≡ made_deeds a own) × (j ≡ h)))
@@ -299,32 +299,33 @@ module _ (run : ℕ) (few : run < 2 ^ 128) (path folder : List ℕ) (Answers : A
     since = λ g x e is. f.facts.temps x e is;
   }
 
+  -- under the folder's lock, once the mail directory was made safe
+  pub settled_comes : (own : List Deed) (h : Hand) (a : Answer) → a ≢ answer.Failed → Clean run own h → Comes (made_deeds a (locked_deeds own)) h (put_back run p >>= (λ s. settled_read run p mail folder s)) (So Begins)
+  settled_comes own h a live clean =
+      comes_then (made_deeds a (locked_deeds own)) h (put_back run p) (λ s. settled_read run p mail folder s) (So (PutsBack run path folder Answers)) (So Begins)
+      (put_back_comes run path folder Answers (made_deeds a (locked_deeds own)) h clean_there (on (on (now refl))) safe_there) (λ later j s f. numbered_comes later j s (uncleared s later j f.0) f.1) (λ later j e f. f)
+    where
+      safe_there : PutsBackups p (made_deeds a (locked_deeds own))
+      safe_there =
+          backups_kept p (step.SyncFolder mail) answer.Done (did (step.MakeFolder mail) a ∷ locked_deeds own) (λ y w. putting p y (step.SyncFolder mail) answer.Done w)
+          (backups_kept p (step.MakeFolder mail) a (locked_deeds own) (λ y w. putting p y (step.MakeFolder mail) a w) (last (inl refl)))
+
+      clean_there : Clean run (made_deeds a (locked_deeds own)) h
+      clean_there =
+          clean_more run _ h (step.SyncFolder mail) answer.Done (λ e. cc (e)) tt (clean_more run _ h (step.MakeFolder mail) a live tt (clean_more run own h (step.Lock p) answer.Done (λ e. cc (e)) tt clean))
+
   -- under the folder's lock
   locked_comes : (own : List Deed) (h : Hand) → Clean run own h → PutsNone mail own → Comes (locked_deeds own) h (locked_begun run p mail folder) (So Begins)
   unfolding locked_begun
   locked_comes own h clean none =
       comes_then (locked_deeds own) h (mail_made mail) (λ made. put_back run p >>= (λ s. settled_read run p mail folder s)) (So (λ later j u. (a : Answer) × (a ≢ answer.Failed) × (later ≡ made_deeds a (locked_deeds own)) × (j ≡ h))) (So Begins)
       (mail_comes (locked_deeds own) h none_yet)
-      (λ later j u q. at later (made_deeds q.0 (locked_deeds own)) j h _ (So Begins) q.2 q.3 (settling q.0 q.1))
+      (λ later j u q. at later (made_deeds q.0 (locked_deeds own)) j h _ (So Begins) q.2 q.3 (settled_comes own h q.0 q.1 clean))
       (λ later j e q. q)
     where
       none_yet : PutsNone mail (locked_deeds own)
       none_yet (now w) = putting mail w.0 (step.Lock p) answer.Done w.1
       none_yet (on z) = none z
-
-      safe_there : (a : Answer) → PutsBackups p (made_deeds a (locked_deeds own))
-      safe_there a =
-          backups_kept p (step.SyncFolder mail) answer.Done (did (step.MakeFolder mail) a ∷ locked_deeds own) (λ y w. putting p y (step.SyncFolder mail) answer.Done w)
-          (backups_kept p (step.MakeFolder mail) a (locked_deeds own) (λ y w. putting p y (step.MakeFolder mail) a w) (last (inl refl)))
-
-      clean_there : (a : Answer) → a ≢ answer.Failed → Clean run (made_deeds a (locked_deeds own)) h
-      clean_there a live =
-          clean_more run _ h (step.SyncFolder mail) answer.Done (λ e. cc (e)) tt (clean_more run _ h (step.MakeFolder mail) a live tt (clean_more run own h (step.Lock p) answer.Done (λ e. cc (e)) tt clean))
-
-      settling : (a : Answer) → a ≢ answer.Failed → Comes (made_deeds a (locked_deeds own)) h (put_back run p >>= (λ s. settled_read run p mail folder s)) (So Begins)
-      settling a live =
-          comes_then (made_deeds a (locked_deeds own)) h (put_back run p) (λ s. settled_read run p mail folder s) (So (PutsBack run path folder Answers)) (So Begins)
-          (put_back_comes run path folder Answers (made_deeds a (locked_deeds own)) h (clean_there a live) (on (on (now refl))) (safe_there a)) (λ later j s f. numbered_comes later j s (uncleared s later j f.0) f.1) (λ later j e f. f)
 
   -- a folder is begun, by a run that has put no name into the mail directory: its end, and what shows it
   pub begun_comes : (own : List Deed) (h : Hand) → Clean run own h → PutsNone mail own → Comes own h (begun run p mail folder) (So Begins)

@@ -1,6 +1,7 @@
 pub mod AllMarks
 pub mod BaseMarks
 pub mod BeginState
+pub mod BegunAgain
 pub mod BegunEnds
 pub mod BegunSeen
 pub mod BegunWorks
@@ -33,6 +34,7 @@ pub mod NamesKept
 pub mod NumbersMet
 pub mod NumbersStay
 pub mod OneStep
+pub mod PutEnds
 pub mod SequencesEnd
 pub mod Sets
 pub mod SettledEnds

@@ -3,6 +3,8 @@ pub mod AllHomesFound
 pub mod BeginsAsks
 pub mod BegunAsks
 pub mod BegunBeside
+pub mod ChosenEnds
+pub mod CopyEnds
 pub mod Distinct
 pub mod EndedAll
 pub mod FolderBegun
@@ -10,11 +12,15 @@ pub mod FolderMade
 pub mod FolderMarks
 pub mod FolderNames
 pub mod Greatest
+pub mod LetGoEnds
 pub mod Loops
+pub mod MailSafe
+pub mod MessageEnds
 pub mod MovedEntries
 pub mod MovedGiven
 pub mod MovedShown
 pub mod RefileChosen
+pub mod RefileEnds
 pub mod RefileGathering
 pub mod RefileGiven
 pub mod RefileLets
@@ -29,6 +35,7 @@ pub mod RmmPledged
 pub mod Roomy
 pub mod Selected
 pub mod Shown
+pub mod TargetEnds
 pub mod TargetNames
 pub mod TargetsGiven
 pub mod ViewsAlike

@@ -62,10 +62,10 @@ use Rattle.refile_command.proofs.RmmPledged.{lets, listed_runs}
 use Rattle.refile_command.proofs.Selected.{chosen_listed, chosen_rise, first_of, first_or, in_runs, rest_of}
 
 -- numbers that rise from a later one on are others
-later_ones : (first n : ℕ) (ns : List ℕ) → Rise first (n ∷ ns) → (k : ℕ) → lists ns k ≡ true → n ≡ k → ⊥
+pub later_ones : (first n : ℕ) (ns : List ℕ) → Rise first (n ∷ ns) → (k : ℕ) → lists ns k ≡ true → n ≡ k → ⊥
 later_ones first n ns rise k e same = not_both (lists ns k) e (none_below (n + 1) ns rise.1 k (omega (arith, same)))
 
-number_names : (n k : ℕ) → IsMsgNum n → IsMsgNum k → entry_text (Number n) ≡ entry_text (Number k) → n ≡ k
+pub number_names : (n k : ℕ) → IsMsgNum n → IsMsgNum k → entry_text (Number n) ≡ entry_text (Number k) → n ≡ k
 number_names n k good fine e = let same : Number n ≡ Number k = sym (kind_of-entry_text (Number n) good) ∙ (ap kind_of e ∙ kind_of-entry_text (Number k) fine) in cc (same)
 
 module _ (run : ℕ) (few : run < 2 ^ 128) (path : List ℕ) (job : RmmJob) where

@@ -4,6 +4,7 @@ pub mod HeldLeft
 pub mod MadeFolder
 pub mod MailMoved
 pub mod Refile
+pub mod RefileAnswers
 pub mod RefileDone
 pub mod RefileOutcome
 pub mod RefilePledge
