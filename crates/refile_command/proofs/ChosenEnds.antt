@@ -1,5 +1,5 @@
 -- How the work of `refile` on folders that were begun ends, and what shows it.
-use Rattle.std.proofs.Common.{◌≡◌, ◌≤◌, ◌<◌, ◌+◌, ◌^◌, ◌∷◌, [], ℕ, Bool, true, false, List, Result, Ok, Err, inl, inr, length, nat_le, refl, sym, ◌∙◌, ap, subst, arith}
+use Rattle.std.proofs.Common.{◌≡◌, ◌≤◌, ◌<◌, ◌+◌, ◌^◌, ◌∷◌, [], ℕ, Bool, true, false, List, Result, Ok, Err, inl, inr, length, nat_le, refl, sym, ap, subst, arith}
 use Rattle.std.specs.Prelude.{map}
 use Rattle.std.proofs.lemmas.Bool.Decides.{nat_tests}
 use Rattle.mh_base.specs.Entries.{entry_text}
@@ -11,7 +11,7 @@ use Rattle.mh_sequences.specs.declared.run.Run.{Run}
 use Rattle.msg_ranges.specs.Selection.{marks_of}
 use Rattle.msg_ranges.proofs.Rising.{lists}
 use Rattle.folder_files.specs.Careful.{HasLock}
-use Rattle.folder_files.specs.Deeds.{Deed, WasDone, did, last, on}
+use Rattle.folder_files.specs.Deeds.{Deed, WasDone, last, on}
 use Rattle.folder_files.specs.declared.place.Place.{Place}
 use Rattle.folder_files.specs.declared.place.Place.TheVariants.{Folder, Mail}
 use Rattle.folder_files.specs.declared.refusal.Refusal.{Refusal}
@@ -47,7 +47,6 @@ use Rattle.opened_folders.proofs.CleanRuns.{Clean, clean_more}
 use Rattle.opened_folders.proofs.FolderPledged.{seen_kept}
 use Rattle.opened_folders.proofs.NamesKept.{names_met_kept, names_safe_kept}
 use Rattle.opened_folders.proofs.SequencesEnd.{Leaves, Left, changed_comes}
-use Rattle.opened_folders.proofs.SettledEnds.{Shown}
 use Rattle.opened_folders.proofs.WorkEnds.{Ends, EndsWith, comes_shown, current_comes}
 use Rattle.refile_command.specs.Gathering.{Gathered}
 use Rattle.refile_command.specs.Refile.{current_if, destination_of, gathered_refiled, greatest_of, if_room, messages_left, messages_stay, moved_by, names_source, opened_refiled, refile_chosen, room_in, said_refiled, unless_source}
@@ -56,10 +55,10 @@ use Rattle.refile_command.specs.Rmm.{withdrawn}
 use Rattle.refile_command.specs.declared.job.RefileJob.{RefileJob}
 use Rattle.refile_command.specs.declared.job.RmmJob.{RmmJob}
 use Rattle.refile_command.proofs.CopyEnds.{AreTargets}
-use Rattle.refile_command.proofs.MessageEnds.{AllMet, Left_, Moving, copied_comes, refiled_comes}
+use Rattle.refile_command.proofs.MessageEnds.{Left_, Moving, copied_comes, refiled_comes}
 use Rattle.refile_command.proofs.RmmPledged.{listed_runs}
 use Rattle.refile_command.proofs.Selected.{chosen_listed, chosen_rise, in_runs}
-use Rattle.refile_command.proofs.TargetEnds.{AreReady, EndOf, IsReady, LeavesSource}
+use Rattle.refile_command.proofs.TargetEnds.{AreReady, EndOf, LeavesSource}
 
 module _ (run : ℕ) (few : run < 2 ^ 128) (path : List ℕ) (job : RefileJob) where
   abbrev source : Place

@@ -1,11 +1,11 @@
 -- How the copies of a message to other folders end, and what shows it.
-use Rattle.std.proofs.Common.{◌≡◌, ◌<◌, ◌≤◌, ◌^◌, ◌++◌, ◌∷◌, [], ℕ, List, Some, Result, Ok, Err, inl, inr, sym, subst, refl, arith}
+use Rattle.std.proofs.Common.{◌≡◌, ◌<◌, ◌≤◌, ◌^◌, ◌++◌, ◌∷◌, [], ℕ, List, Some, Result, Ok, inl, inr, sym, subst, arith}
 use Rattle.std.specs.Prelude.{Contains}
 use Rattle.folder_files.specs.Deeds.{Deed, WasDone, on}
 use Rattle.folder_files.specs.declared.place.Place.{Place}
 use Rattle.folder_files.specs.declared.place.Place.TheVariants.{Folder}
 use Rattle.folder_files.specs.declared.step.Step.TheVariants as step
-use Rattle.file_plans.specs.Plan.{Hand, Return, lifted, ◌>>=◌}
+use Rattle.file_plans.specs.Plan.{Hand, Return, lifted}
 use Rattle.file_plans.proofs.Framing.{AnyStep}
 use Rattle.step_plans.specs.declared.command_fault.CommandFault.{CommandFault}
 use Rattle.step_plans.specs.declared.fault.PlanFault.{PlanFault}
@@ -22,9 +22,9 @@ use Rattle.message_moves.specs.Copying.{copied_to, copied_to_all, highest_of}
 use Rattle.message_moves.specs.declared.destination.Destination.{Destination}
 use Rattle.opened_folders.proofs.CleanRuns.{Clean}
 use Rattle.opened_folders.proofs.NamesKept.{LeavesNames}
-use Rattle.opened_folders.proofs.PutEnds.{PutShown, ShowsPut, StoredAs, Stores, stored_comes}
+use Rattle.opened_folders.proofs.PutEnds.{PutShown, ShowsPut, StoredAs, stored_comes}
 use Rattle.opened_folders.proofs.WorkEnds.{EndsWith, folder_shows}
-use Rattle.refile_command.specs.RefileAnswers.{ShowsRefile, ShowsTarget, none_left, target_answers}
+use Rattle.refile_command.specs.RefileAnswers.{ShowsRefile, none_left, target_answers}
 use Rattle.refile_command.specs.RefilePledge.{destinations_of}
 use Rattle.refile_command.specs.declared.job.RefileJob.{RefileJob}
 use Rattle.refile_command.proofs.FolderNames.{destinations_other}

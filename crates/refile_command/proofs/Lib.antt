@@ -35,6 +35,7 @@ pub mod RmmPledged
 pub mod Roomy
 pub mod Selected
 pub mod Shown
+pub mod ShownFirst
 pub mod TargetEnds
 pub mod TargetNames
 pub mod TargetsGiven

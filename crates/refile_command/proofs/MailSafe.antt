@@ -1,5 +1,5 @@
 -- The begin of a folder leaves the mail directory safe: where it is done, what the run put there was made safe.
-use Rattle.std.proofs.Common.{◌≡◌, ◌∷◌, [], ℕ, zero, suc, Bool, true, false, List, Result, Ok, Err, inl, inr, length, nat_lt, refl}
+use Rattle.std.proofs.Common.{◌≡◌, ◌∷◌, ℕ, zero, suc, Bool, true, false, List, Result, Ok, Err, inr, length, nat_lt, refl}
 use Rattle.std.specs.Prelude.{if◌then◌else◌}
 use Rattle.mh_base.specs.Entries.{entry_text}
 use Rattle.mh_base.specs.declared.entry.Entry.TheVariants.{Sequences}
@@ -20,7 +20,7 @@ use Rattle.file_plans.proofs.Framing.{AnyStep, asks_any, asks_none}
 use Rattle.step_plans.specs.ContextCommit.{LIMIT_BYTES, TRIES, changed, commit_by, commit_context, committed, context_name, context_read, context_replaced, settled}
 use Rattle.step_plans.specs.Hands.{known}
 use Rattle.step_plans.specs.Locking.{cleared, let_go, lock_name, locked, locked_by, temps_cleared}
-use Rattle.step_plans.specs.PlanFaults.{Planned, of_stop}
+use Rattle.step_plans.specs.PlanFaults.{of_stop}
 use Rattle.step_plans.specs.Replacing.{held_to, renamed, replaced, synced, written}
 use Rattle.step_plans.specs.declared.change.ChangeEntry.{ChangeEntry}
 use Rattle.step_plans.specs.declared.fault.PlanFault.{PlanFault}

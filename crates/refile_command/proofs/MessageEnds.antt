@@ -1,8 +1,7 @@
 -- How the moves of messages to other folders end, and what shows it.
-use Rattle.std.proofs.Common.{◌≡◌, ◌⊎◌, ◌<◌, ◌+◌, ◌^◌, ◌∷◌, [], ℕ, Bool, true, false, List, Result, Ok, Err, inl, inr, refl, sym, ◌∙◌, ap, subst}
+use Rattle.std.proofs.Common.{◌≡◌, ◌<◌, ◌+◌, ◌^◌, ◌∷◌, [], ℕ, Bool, true, false, List, Result, Ok, Err, inl, inr, refl, sym, ◌∙◌, ap, subst}
 use Rattle.mh_base.specs.Entries.{entry_text, kind_of}
 use Rattle.mh_base.specs.Numbers.{IsMsgNum}
-use Rattle.mh_base.specs.declared.entry.Entry.{Entry}
 use Rattle.mh_base.specs.declared.entry.Entry.TheVariants.{Held, Number}
 use Rattle.mh_base.proofs.EntryKinds.{kind_of-entry_text}
 use Rattle.mh_sequences.specs.declared.run.Run.{Run}
@@ -34,7 +33,7 @@ use Rattle.opened_folders.specs.FolderPledge.{told_within}
 use Rattle.opened_folders.specs.Reads.{HaveSeen}
 use Rattle.opened_folders.proofs.CleanRuns.{Clean, clean_more}
 use Rattle.opened_folders.proofs.FolderPledged.{seen_kept}
-use Rattle.opened_folders.proofs.NamesKept.{LeavesNames, backups_kept, last_kept, met_in_kept, names_met_kept, names_safe_kept, other_renamed, other_unlinked, putting}
+use Rattle.opened_folders.proofs.NamesKept.{LeavesNames, last_kept, names_met_kept, names_safe_kept, other_renamed, other_unlinked, putting}
 use Rattle.refile_command.specs.Refile.{refile_chosen}
 use Rattle.refile_command.specs.RefileAnswers.{ShowsRefile, long_message}
 use Rattle.refile_command.specs.RefilePledge.{WasChosen, name_read}

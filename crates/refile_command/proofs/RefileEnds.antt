@@ -1,5 +1,5 @@
 -- How `refile` ends, and what shows it.
-use Rattle.std.proofs.Common.{◌≡◌, ◌<◌, ◌^◌, ◌∷◌, [], ℕ, List, Result, Ok, Err, inl, inr, refl}
+use Rattle.std.proofs.Common.{◌<◌, ◌^◌, ◌∷◌, [], ℕ, List, Result, Ok, Err, inl, inr, refl}
 use Rattle.std.specs.Prelude.{map}
 use Rattle.folder_files.specs.Commands.{Marking}
 use Rattle.folder_files.specs.Deeds.{Deed}
@@ -37,7 +37,7 @@ use Rattle.refile_command.specs.RefileAnswers.{IsEndedFirst, ShowsRefile, source
 use Rattle.refile_command.specs.RefileDone.{HasRefiledChosen}
 use Rattle.refile_command.specs.RefilePledge.{destinations_of}
 use Rattle.refile_command.specs.declared.job.RefileJob.{RefileJob}
-use Rattle.refile_command.proofs.ChosenEnds.{Anyhow, Sourced, gathered_work_comes, sourced_kept}
+use Rattle.refile_command.proofs.ChosenEnds.{Sourced, gathered_work_comes, sourced_kept}
 use Rattle.refile_command.proofs.LetGoEnds.{AllLocked, EndsAll, Shown_, all_ended_end, all_locked_kept, stopped_end}
 use Rattle.refile_command.proofs.MailSafe.{OkOnly, begun_safe}
 use Rattle.refile_command.proofs.RefileLets.{w}

@@ -1,5 +1,5 @@
 -- How the destinations of `refile` are begun, one after another, and what shows how that ended.
-use Rattle.std.proofs.Common.{◌≡◌, ◌≢◌, ◌⊎◌, ◌<◌, ◌^◌, ◌++◌, ◌∷◌, [], ℕ, List, Result, Ok, Err, inl, inr, refl, sym, ap, subst}
+use Rattle.std.proofs.Common.{◌≡◌, ◌≢◌, ◌<◌, ◌^◌, ◌++◌, ◌∷◌, [], ℕ, List, Result, Ok, Err, inl, inr, refl, sym, ap, subst}
 use Rattle.std.specs.Prelude.{Contains}
 use Rattle.folder_files.specs.Deeds.{Deed, Once, WasDone, did, now, on}
 use Rattle.folder_files.specs.declared.place.Place.{Place}
