@@ -4,6 +4,7 @@ pub mod MadeFolder
 pub mod MailMoved
 pub mod Refile
 pub mod RefileDone
+pub mod RefileHeld
 pub mod RefileOutcome
 pub mod RefilePledge
 pub mod Rmm
