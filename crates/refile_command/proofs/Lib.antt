@@ -11,9 +11,11 @@ pub mod FolderMarks
 pub mod FolderNames
 pub mod Greatest
 pub mod Loops
+pub mod Meetings
 pub mod MovedEntries
 pub mod MovedGiven
 pub mod MovedShown
+pub mod OtherKept
 pub mod RefileChosen
 pub mod RefileGathering
 pub mod RefileGiven
