@@ -9,6 +9,8 @@ pub mod FolderBegun
 pub mod FolderMade
 pub mod FolderMarks
 pub mod FolderNames
+pub mod FoldersMinded
+pub mod GatheredMinds
 pub mod Greatest
 pub mod Loops
 pub mod Meetings
