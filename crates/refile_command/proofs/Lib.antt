@@ -33,8 +33,10 @@ pub mod RmmPledged
 pub mod Roomy
 pub mod Selected
 pub mod Shown
+pub mod StoredMinds
 pub mod TargetNames
 pub mod TargetsGiven
+pub mod UnmarkedNumbers
 pub mod ViewsAlike
 mod OutcomeWorked
 mod RefileRefused
