@@ -3,6 +3,7 @@ pub mod AllHomesFound
 pub mod BeginsAsks
 pub mod BegunAsks
 pub mod BegunBeside
+pub mod CopiesMind
 pub mod Distinct
 pub mod EndedAll
 pub mod FolderBegun
