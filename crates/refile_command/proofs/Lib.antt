@@ -3,6 +3,7 @@ pub mod AllHomesFound
 pub mod BeginsAsks
 pub mod BegunAsks
 pub mod BegunBeside
+pub mod ContentMinds
 pub mod CopiesMind
 pub mod Distinct
 pub mod EndedAll
@@ -13,6 +14,7 @@ pub mod FolderNames
 pub mod FoldersMinded
 pub mod GatheredMinds
 pub mod Greatest
+pub mod LeaveMinds
 pub mod Loops
 pub mod Meetings
 pub mod MovedEntries
