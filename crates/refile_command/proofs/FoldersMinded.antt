@@ -17,7 +17,7 @@ use Rattle.step_plans.proofs.Going.{Outcome, okay}
 use Rattle.sequence_marks.specs.SequenceMarks.{says_public}
 use Rattle.sequence_commits.proofs.SequencesPledged.{sequences_name}
 use Rattle.opened_folders.specs.Making.{made_begun}
-use Rattle.opened_folders.specs.Opening.{Opened}
+use Rattle.opened_folders.specs.Opening.{Opened, begun}
 use Rattle.opened_folders.proofs.AllMarks.{MindsAll}
 use Rattle.opened_folders.proofs.BegunSeen.{HasSeenBegun, NoneUnlinked, still_none}
 use Rattle.opened_folders.proofs.CommitMinds.{IsTold}
@@ -25,7 +25,7 @@ use Rattle.opened_folders.proofs.FreeMarks.{FreesOthers}
 use Rattle.opened_folders.proofs.MadeMinds.{Made}
 use Rattle.opened_folders.proofs.Meeting.{Meets, meets_keeping, meets_okay, meets_quietly}
 use Rattle.opened_folders.proofs.ToldMarks.{InListing}
-use Rattle.refile_command.proofs.BeginsAsks.{Begins, asks_made_begun}
+use Rattle.refile_command.proofs.BeginsAsks.{Begins, asks_begun, asks_made_begun}
 use Rattle.refile_command.proofs.FolderNames.{first_there, later_there}
 use Rattle.refile_command.proofs.Meetings.{AnyAsk, meets_okay_both}
 use Rattle.refile_command.proofs.OtherKept.{KeptOf, made_kept}
@@ -188,3 +188,10 @@ module _ (w : Pledge) (path other : List ℕ) where
   none_kept names off own h f =
       meets_quietly (MayAsk w) AnyAsk (NotUnlinked path names) (NoneUnlinkedIn path names) (λ before s a may is g n c. still_none (Folder path n) before s a (is n c) (g n c)) (λ before s may is g. tt) own h (made_begun w.run q mail other)
       (asks_made_begun (NotUnlinked path names) w.run q mail (none_begins names off) other) f
+
+  -- also where it isn't made before that
+  pub none_kept_begun : (names : List (List ℕ)) → ((n : List ℕ) → Contains names n → other ≡ n → ⊥) → (own : List Deed) (h : Hand) → NoneUnlinkedIn path names own
+      → Meets (MayAsk w) AnyAsk own h (begun w.run q mail other) (okay (λ later j x. NoneUnlinkedIn path names later))
+  none_kept_begun names off own h f =
+      meets_quietly (MayAsk w) AnyAsk (NotUnlinked path names) (NoneUnlinkedIn path names) (λ before s a may is g n c. still_none (Folder path n) before s a (is n c) (g n c)) (λ before s may is g. tt) own h (begun w.run q mail other)
+      (asks_begun (NotUnlinked path names) w.run q mail (none_begins names off) other) f

@@ -7,6 +7,7 @@ pub mod ContentMinds
 pub mod CopiesMind
 pub mod Distinct
 pub mod EndedAll
+pub mod EndedMinds
 pub mod FolderBegun
 pub mod FolderMade
 pub mod FolderMarks
@@ -25,6 +26,7 @@ pub mod RefileChosen
 pub mod RefileGathering
 pub mod RefileGiven
 pub mod RefileLets
+pub mod RefileMinds
 pub mod RefileMoved
 pub mod RefilePledged
 pub mod RefileSilent
@@ -36,6 +38,7 @@ pub mod RmmPledged
 pub mod Roomy
 pub mod Selected
 pub mod Shown
+pub mod StayMinds
 pub mod StoredMinds
 pub mod TargetNames
 pub mod TargetsGiven

@@ -1,12 +1,12 @@
 -- What holds of a plan by two accounts of its steps.
-use Rattle.std.proofs.Common.{◌∷◌, List, Result, Ok, Err}
+use Rattle.std.proofs.Common.{◌≡◌, ◌∷◌, List, Result, Ok, Err, refl}
 use Rattle.folder_files.specs.Deeds.{Deed, did}
 use Rattle.folder_files.specs.declared.step.Step.{Step}
-use Rattle.file_plans.specs.Plan.{Ask, Hand, Hear, Note, Plan, Recall, Return, Say, Try}
+use Rattle.file_plans.specs.Plan.{Ask, Hand, Hear, Note, Plan, Recall, Return, Say, Try, ◌>>=◌}
 use Rattle.step_plans.specs.Pledges.{MayAsk, Pledge}
 use Rattle.step_plans.proofs.Going.{Goes, Outcome, Sound, all_numbered, okay}
 use Rattle.opened_folders.proofs.CleanRuns.{sound_more}
-use Rattle.opened_folders.proofs.Meeting.{Meets, meets_more}
+use Rattle.opened_folders.proofs.Meeting.{Meets, meets_more, meets_on, meets_stop}
 
 -- nothing is asked of the steps
 abbrev pub AnyAsk : List Deed → Step → Type 0
@@ -53,3 +53,11 @@ pub meets_okay_sound : {S E : Type 0} (w : Pledge) (A : List Deed → Step → T
     → Meets (MayAsk w) A own h p (okay P) → Meets (MayAsk w) A own h p (okay (λ later j a. Sound w later j × P later j a))
 meets_okay_sound w A own h p Q P sound goes f =
     meets_more (MayAsk w) A own h p (λ later j r. Sound w later j × okay P later j r) (okay (λ later j a. Sound w later j × P later j a)) (okay_sound w P) (meets_sound w A own h p Q (okay P) sound goes f)
+
+-- a value, and what follows where it is Ok
+pub meets_value : {S R E : Type 0} (May A : List Deed → Step → Type 0) (own : List Deed) (h : Hand) (r : Result S E) (k : S → Plan (Result R E)) (Q : Outcome R) → ((a : S) → r ≡ Ok a → Meets May A own h (k a) (okay Q)) → Meets May A own h (Return r >>= k) (okay Q)
+meets_value {S = S} {E = E} May A own h r k Q f = go r refl
+  where
+    go : (v : Result S E) → r ≡ v → Meets May A own h (Return v >>= k) (okay Q)
+    go (Ok a) e = meets_on May A own h a k (okay Q) (f a e)
+    go (Err fault) e = meets_stop May A own h fault k Q
