@@ -38,7 +38,7 @@ use Rattle.step_plans.proofs.Law.{may_made}
 use Rattle.marks_law.specs.Heirs.{IsHeir, Descends, now, on, itself, further}
 use Rattle.marks_law.specs.Bearers.{Marking, in_folder, marks, Bears, set, kept, on}
 use Rattle.marks_law.specs.Sound.{IsSound, IsOwn}
-use Rattle.marks_law.specs.Minding.{Touches, Sees, SeesNoneHeld, Knowing, by_base, KeepsMarks, AreAllThere, Minds, keeps, replaces, makes, clears, plain, copies, gives_back, gives_above, takes_plain, takes_alone, backs_up, removes, backs_up_plain, removes_plain, lets_go, commits}
+use Rattle.marks_law.specs.Minding.{Touches, Sees, SeesNoneHeld, Knowing, by_base, KeepsMarks, AreAllThere, Minds, keeps, replaces, makes, clears, plain, copies, gives_back, gives_above, takes_plain, takes_alone, takes_free, backs_up, removes, backs_up_plain, removes_plain, lets_go, commits}
 use Rattle.marks_law.proofs.Sounding.{number_name, number_held, absent, sound_marked, sound_set, sound_let_go, sound_removed, sound_removed_plain, sound_taken_plain, sound_taken_alone}
 use Rattle.marks_law.proofs.Seeing.{left_untouched}
 
@@ -217,6 +217,10 @@ module _ (start : World) (past : List Event) (r : ℕ) (s : Step) (a : Answer) (
             let eh : kind_of x_ ≡ Held r n = subst (λ j. kind_of x_ ≡ Held r j) same z.2 in
             (rw (place_is k.folder) (taken_names y x_ n e eh (λ f l. sound_taken_alone (λ q. now_in d q) (marks k v text) (IsOwn start k (Act r s a m ∷ past) text) y x_ n r f e eh l (same_names h)
             (none_held none) (λ b j ej q lt. there b (above.2 b j ej (sym (known above.0 above.1 j) ∙ (sym (marks_stay text text_below j) ∙ q)) lt))) h))
+        by (takes_free {number = y} {held = x_} {n = n} e is none above) es = let z = taking_is r (kind_of y) (kind_of x_) is in let same : z.0 ≡ n = number_same (sym z.1 ∙ e) in
+            let eh : kind_of x_ ≡ Held r n = subst (λ j. kind_of x_ ≡ Held r j) same z.2 in
+            (rw (place_is k.folder) (taken_names y x_ n e eh (λ f l. sound_taken_alone (λ q. now_in d q) (marks k v text) (IsOwn start k (Act r s a m ∷ past) text) y x_ n r f e eh l (same_names h)
+            (none_held none) (λ b j ej q lt. elim (above b j ej lt) [ inl u ↦ absurd (not_both (marks k v text j) q (marks_stay text text_below j ∙ unmarked j u)) | inr t ↦ there b t ])) h))
         by (backs_up {number = y} {backup = b} is none) es =
             (rw (place_is k.folder) (sound_removed (λ z. now_in d z) (λ z. now_in (with_renamed d y b) z) (marks k v text) (IsOwn start k (Act r s a m ∷ past) text) (none_held none)
             (λ z st. renamed_one d y b z (bytes_false b z (λ q. not_both (is_standing z) st (subst (λ g. is_standing g ≡ false) q (is_backing_quiet y b is))))) (same_names h)))
@@ -298,6 +302,8 @@ pub commit_minds : (r : ℕ) (k : Marking) (g : Knowing) (deeds : List Deed) (t 
 commit_minds r k g deeds t folder c (takes_plain {number = y} {held = h} e is u all) es = let z = rename_to es in
     absurd (not_both (is_standing h) (held_stands h (is_held_any r h (is_taking_held r y h is))) (subst (λ b. is_standing b ≡ false) (sym z.2) (is_committed_quiet k.place k.name c)))
 commit_minds r k g deeds t folder c (takes_alone {number = y} {held = h} e is none above) es = let z = rename_to es in
+    absurd (not_both (is_standing h) (held_stands h (is_held_any r h (is_taking_held r y h is))) (subst (λ b. is_standing b ≡ false) (sym z.2) (is_committed_quiet k.place k.name c)))
+commit_minds r k g deeds t folder c (takes_free {number = y} {held = h} e is none above) es = let z = rename_to es in
     absurd (not_both (is_standing h) (held_stands h (is_held_any r h (is_taking_held r y h is))) (subst (λ b. is_standing b ≡ false) (sym z.2) (is_committed_quiet k.place k.name c)))
 commit_minds r k g deeds t folder c (backs_up {number = y} {backup = b} is none) es = let z = rename_to es in
     absurd (backup_uncommitted k.place y k.name (subst (λ q. is_folder q ≡ true) z.0 folder) c (subst (λ q. is_backing_up (kind_of y) (kind_of q) ≡ true) z.2 is))

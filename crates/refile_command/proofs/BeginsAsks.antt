@@ -77,24 +77,27 @@ unfolding held_pairs
 others_pairs run [] = tt
 others_pairs run (x ∷ names) = others_kind run (kind_of x) (held_pairs run names) (others_pairs run names)
 
--- where such steps of the begin of a folder are free: those of a commit of its sequences, and of the context; links of what others hold aside; and
--- unlinks
+-- where such steps of the begin of a folder are free, up to the commit of its sequences: those of a commit of its text, but only some of the mail
+-- directory; links of what others hold aside; and unlinks
+pub record Opens (P : Step → Type 0) (run : ℕ) (p mail : Place) : Type 0 where
+  pub text : Commits P p sequences_name
+  pub make_mail : P (step.MakeFolder mail)
+  pub sync_mail : P (step.SyncFolder mail)
+  pub read_context : P (step.Read mail context_name LIMIT_BYTES)
+  pub give : (h : HeldPair) (number : List ℕ) → IsPair h → IsOthers run h → P (step.Link p (held_name h) number)
+  pub drop : (name : List ℕ) → P (step.Unlink p name)
+
+-- and where all of them are: also those of a commit of the context
 pub record Begins (P : Step → Type 0) (run : ℕ) (p mail : Place) : Type 0 where
   pub text : Commits P p sequences_name
   pub context : Commits P mail context_name
   pub give : (h : HeldPair) (number : List ℕ) → IsPair h → IsOthers run h → P (step.Link p (held_name h) number)
   pub drop : (name : List ℕ) → P (step.Unlink p name)
 
--- where such steps are free but for those of a commit of the context
-pub record BeginsHere (P : Step → Type 0) (run : ℕ) (p mail : Place) : Type 0 where
-  pub text : Commits P p sequences_name
-  pub make : P (step.MakeFolder mail)
-  pub safe : P (step.SyncFolder mail)
-  pub context : P (step.Read mail context_name LIMIT_BYTES)
-  pub give : (h : HeldPair) (number : List ℕ) → IsPair h → IsOthers run h → P (step.Link p (held_name h) number)
-  pub drop : (name : List ℕ) → P (step.Unlink p name)
+opens_of : (P : Step → Type 0) (run : ℕ) (p mail : Place) → Begins P run p mail → Opens P run p mail
+opens_of P run p mail free = record { text = free.text; make_mail = free.context.make; sync_mail = free.context.sync; read_context = free.context.read; give = free.give; drop = free.drop }
 
-module _ (P : Step → Type 0) (run : ℕ) (p mail : Place) (free : BeginsHere P run p mail) where
+module _ (P : Step → Type 0) (run : ℕ) (p mail : Place) (free : Opens P run p mail) where
   -- what others hold aside is put back
   module _ (h : HeldPair) (pair : IsPair h) (others : IsOthers run h) where
     abbrev held : List ℕ
@@ -183,7 +186,7 @@ module _ (P : Step → Type 0) (run : ℕ) (p mail : Place) (free : BeginsHere P
 
   pub asks_mail : AsksOnly P (mail_made mail)
   unfolding mail_made
-  asks_mail = asks_then P (lifted of_stop (make_folder mail)) (λ made. synced mail lock_name) (asks_one_made mail free.make) (λ made. asks_synced P mail lock_name free.safe)
+  asks_mail = asks_then P (lifted of_stop (make_folder mail)) (λ made. synced mail lock_name) (asks_one_made mail free.make_mail) (λ made. asks_synced P mail lock_name free.sync_mail)
 
   -- the sequences
   asks_one_read : AsksOnly P (lifted of_stop (read p sequences_name LIMIT_BYTES))
@@ -199,17 +202,17 @@ module _ (P : Step → Type 0) (run : ℕ) (p mail : Place) (free : BeginsHere P
   unfolding AsksOnly known
   asks_known es = λ h. tt
 
+  pub asks_text_read : AsksOnly P (sequences_read p)
+  unfolding sequences_read
+  asks_text_read = asks_then P (lifted of_stop (read p sequences_name LIMIT_BYTES)) text_by asks_one_read asks_text
+
   pub asks_marks : (folder : List ℕ) → AsksOnly P (marks_read p mail folder)
   unfolding marks_read sequences_read
   asks_marks folder =
-      asks_then P (sequences_read p) _ (asks_then P (lifted of_stop (read p sequences_name LIMIT_BYTES)) text_by asks_one_read asks_text) (λ text.
-      asks_then P (context_read mail) _ (asks_context_read P mail free.context) (λ entries. asks_then P (known entries) _ (asks_known entries) (λ seen. asks_none P _)))
+      asks_then P (sequences_read p) _ asks_text_read (λ text.
+      asks_then P (context_read mail) _ (asks_context_read P mail free.read_context) (λ entries. asks_then P (known entries) _ (asks_known entries) (λ seen. asks_none P _)))
 
 module _ (P : Step → Type 0) (run : ℕ) (p mail : Place) (free : Begins P run p mail) where
-  abbrev here_ : BeginsHere P run p mail
-  here_ = record { text = free.text; make = free.context.make; safe = free.context.sync; context = free.context.read; give = free.give; drop = free.drop }
-
-  -- its sequences are committed
   asks_cut : (folder : List ℕ) (s : Settled) (m : Marked) → AsksOnly P (marks_cut run p mail folder s m)
   unfolding marks_cut
   asks_cut folder s m =
@@ -219,12 +222,12 @@ module _ (P : Step → Type 0) (run : ℕ) (p mail : Place) (free : Begins P run
   pub asks_begun : (folder : List ℕ) → AsksOnly P (begun run p mail folder)
   unfolding begun locked_begun settled_read
   asks_begun folder =
-      asks_then P (folder_locked p) _ (asks_lock P run p mail here_) (λ held.
-      asks_then P (mail_made mail) _ (asks_mail P run p mail here_) (λ made.
-      asks_then P (put_back run p) _ (asks_back P run p mail here_) (λ s.
-      asks_then P (cleared p s.names) _ (asks_cleared P p s.names (λ temp is. free.drop temp)) (λ clear. asks_then P (marks_read p mail folder) _ (asks_marks P run p mail here_ folder) (λ m. asks_cut folder s m)))))
+      asks_then P (folder_locked p) _ (asks_lock P run p mail (opens_of P run p mail free)) (λ held.
+      asks_then P (mail_made mail) _ (asks_mail P run p mail (opens_of P run p mail free)) (λ made.
+      asks_then P (put_back run p) _ (asks_back P run p mail (opens_of P run p mail free)) (λ s.
+      asks_then P (cleared p s.names) _ (asks_cleared P p s.names (λ temp is. free.drop temp)) (λ clear. asks_then P (marks_read p mail folder) _ (asks_marks P run p mail (opens_of P run p mail free) folder) (λ m. asks_cut folder s m)))))
 
   -- one that the run makes where it is missing
   pub asks_made_begun : (folder : List ℕ) → AsksOnly P (made_begun run p mail folder)
   unfolding made_begun
-  asks_made_begun folder = asks_then P (lifted of_stop (make_folder p)) _ (asks_one_made P run p mail here_ p free.text.make) (λ made. asks_lifted P once_made (begun run p mail folder) (asks_begun folder))
+  asks_made_begun folder = asks_then P (lifted of_stop (make_folder p)) _ (asks_one_made P run p mail (opens_of P run p mail free) p free.text.make) (λ made. asks_lifted P once_made (begun run p mail folder) (asks_begun folder))

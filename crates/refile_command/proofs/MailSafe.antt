@@ -41,7 +41,7 @@ use Rattle.opened_folders.specs.Opening.{Opened, begun, folder_locked, locked_be
 use Rattle.opened_folders.proofs.BegunAgain.{IsLeftSafe, PutsNothing, left_safe_kept}
 use Rattle.opened_folders.proofs.CleanRuns.{comes_both}
 use Rattle.opened_folders.proofs.NamesKept.{backups_kept, putting}
-use Rattle.refile_command.proofs.BeginsAsks.{BeginsHere, asks_back, asks_lock, asks_mail, asks_marks}
+use Rattle.refile_command.proofs.BeginsAsks.{Opens, asks_back, asks_lock, asks_mail, asks_marks}
 
 -- where a plan is Ok, this holds
 abbrev pub OkOnly : {A E : Type 0} → (List Deed → Type 0) → Outcome (Result A E)
@@ -205,8 +205,8 @@ module _ (run : ℕ) (path : List ℕ) where
       unlock = λ e. e;
     }
 
-    here_ : BeginsHere (PutsNothing mail) run p mail
-    here_ = record { text = texts; make = λ e. e; safe = λ e. e; context = λ e. e; give = λ h number pair others. apart; drop = λ name. λ e. e }
+    here_ : Opens (PutsNothing mail) run p mail
+    here_ = record { text = texts; make_mail = λ e. e; sync_mail = λ e. e; read_context = λ e. e; give = λ h number pair others. apart; drop = λ name. λ e. e }
 
     asks_text : (text : List ℕ) → AsksOnly (PutsNothing mail) (sequences_replaced run p text)
     unfolding sequences_replaced

@@ -107,7 +107,7 @@ module _ (path : List ℕ) where
       by (inl i) = all n i
       by (inr i) = elim (first_or_later name [] n i) [ inl same ↦ subst (λ z. HasLock (Folder path z) own) same one | inr none ↦ absurd (none_there n none) ]
 
-  none_twice : (names : List (List ℕ)) (name : List ℕ) (ns : List (List ℕ)) → (Contains ns name → ⊥) → ((n : List ℕ) → Contains (name ∷ ns) n → Contains names n → ⊥) → (n : List ℕ) → Contains ns n → Contains (names ++ name ∷ []) n → ⊥
+  pub none_twice : (names : List (List ℕ)) (name : List ℕ) (ns : List (List ℕ)) → (Contains ns name → ⊥) → ((n : List ℕ) → Contains (name ∷ ns) n → Contains names n → ⊥) → (n : List ℕ) → Contains ns n → Contains (names ++ name ∷ []) n → ⊥
   none_twice names name ns apart off n c d = by (Contains-append_cases names (name ∷ []) n d)
     where
       by : Contains names n ⊎ Contains (name ∷ []) n → ⊥

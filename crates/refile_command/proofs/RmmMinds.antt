@@ -65,7 +65,7 @@ negated true e = cc (e)
 negated false e = refl
 
 -- sequences without these numbers have none of them
-withdrawn_member : (numbers : List ℕ) (m : Marked) (t : List ℕ) (n : ℕ) → member (withdrawn numbers m).users t n ≡ true → (member m.users t n ≡ true) × (has (set_among numbers) n ≡ false)
+pub withdrawn_member : (numbers : List ℕ) (m : Marked) (t : List ℕ) (n : ℕ) → member (withdrawn numbers m).users t n ≡ true → (member m.users t n ≡ true) × (has (set_among numbers) n ≡ false)
 withdrawn_member numbers m t n e =
     let parts = both (member m.users t n) (not (has (set_among numbers) n)) (marked_member (Withdraw (set_of (set_among numbers) 0)) m t n e) in (parts.0, negated (has (set_among numbers) n) parts.1)
 

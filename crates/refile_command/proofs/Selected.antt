@@ -86,3 +86,8 @@ first_or n k ns e = go (n == k) refl
     go : (b : Bool) → (n == k) ≡ b → (n ≡ k) ⊎ (lists ns k ≡ true)
     go true same = inl (eqb-true n k same)
     go false other = inr (ap (λ b. b || lists ns k) (sym other) ∙ e)
+
+-- each of these numbers is a message number
+pub listed_one : (ns : List ℕ) → AreNumbers ns → (k : ℕ) → lists ns k ≡ true → IsMsgNum k
+listed_one [] valid k e = cc (e)
+listed_one (n ∷ ns) valid k e = elim (first_or n k ns e) [ inl same ↦ subst IsMsgNum same valid.0 | inr there ↦ listed_one ns valid.1 k there ]

@@ -6,6 +6,7 @@ pub mod MailMoved
 pub mod Refile
 pub mod RefileAnswers
 pub mod RefileDone
+pub mod RefileHeld
 pub mod RefileOutcome
 pub mod RefilePledge
 pub mod Rmm
