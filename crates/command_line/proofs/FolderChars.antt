@@ -29,12 +29,15 @@ use Rattle.command_words.specs.FolderWords.{FolderWord, folder_named, folders, n
 use Rattle.command_words.specs.IncWords as inc_words
 use Rattle.command_words.specs.IncWords.{inc_said}
 use Rattle.command_words.specs.MarkWords.{folder_said as mark_words_said, items_said as mark_items, lacks_sequence, mark_said, with_folder as mark_folder, with_names, word_said}
+use Rattle.command_words.specs.RefileWords.{items_said as refile_items, last_or, refile_said, source_of, targets, targets_said, unless_wrong, words_of, wrong_names}
 use Rattle.command_words.specs.RmmWords.{folder_said as rmm_words_said, items_said as rmm_items, rmm_said, said_folder as rmm_said_folder, with_folder as rmm_folder}
-use Rattle.command_words.specs.Tables.{inc_table, mark_table, rmm_table}
+use Rattle.command_words.specs.Switches.{values}
+use Rattle.command_words.specs.Tables.{inc_table, mark_table, refile_table, rmm_table}
 use Rattle.command_words.specs.Words.{profile_words, words_in}
 use Rattle.command_words.specs.declared.ended.Ended.{Ended}
 use Rattle.command_words.specs.declared.inc.IncWords.{IncWords}
 use Rattle.command_words.specs.declared.mark.MarkWords.{MarkWords}
+use Rattle.command_words.specs.declared.refile.RefileWords.{RefileWords}
 use Rattle.command_words.specs.declared.rmm.RmmWords.{RmmWords}
 use Rattle.command_line.specs.Profile.{folder_of, inbox_of, stored_of, value_or}
 
@@ -93,11 +96,12 @@ pub chars_texts : (ws : List (List ℕ)) → AreUtf8 ws → AreTexts (map chars 
 chars_texts [] f = tt
 chars_texts (w ∷ ws) f = (scalars-chars w f.0, chars_texts ws f.1)
 
--- a folder's item is a word
+-- a folder's item is a word, and so is the value of a switch
 abbrev IsTextual : Item → Type 0
 IsTextual (Folder text place) = scalars text ≡ true
 IsTextual (Message text place) = Unit {0}
-IsTextual (Switch index value place) = Unit {0}
+IsTextual (Switch index None place) = Unit {0}
+IsTextual (Switch index (Some value) place) = scalars value ≡ true
 IsTextual (Component name value place) = Unit {0}
 
 abbrev AreTextual : List Item → Type 0
@@ -110,13 +114,13 @@ Textual (Err e) = Unit {0}
 
 abbrev FirstTextual : FirstWord → Type 0
 FirstTextual (Alone item) = IsTextual item
-FirstTextual (Valued item) = (value : List ℕ) → IsTextual (item value)
+FirstTextual (Valued item) = (value : List ℕ) → scalars value ≡ true → IsTextual (item value)
 FirstTextual (IsBad why) = Unit {0}
 
 switch_textual : (f : Found) (place : ℕ) → FirstTextual (named_switch f place)
 switch_textual Nothing place = tt
 switch_textual (One index Flag) place = tt
-switch_textual (One index Value) place = λ value. tt
+switch_textual (One index Value) place = λ value e. e
 switch_textual Several place = tt
 
 dashed_textual : (table : SwitchTable) (place : ℕ) (rest : List ℕ) → FirstTextual (dashed table place rest)
@@ -124,7 +128,7 @@ dashed_textual table place [] = tt
 dashed_textual table place (c ∷ name) = go (table.components && (c == 45))
   where
     go : (b : Bool) → FirstTextual (if b then Valued (λ value. Component name value place) else named_switch (found_from table.switches (c ∷ name) 0 Nothing) place)
-    go true = λ value. tt
+    go true = λ value e. tt
     go false = switch_textual (found_from table.switches (c ∷ name) 0 Nothing) place
 
 first_textual : (table : SwitchTable) (place : ℕ) (word : List ℕ) → scalars word ≡ true → FirstTextual (first_word table place word)
@@ -145,17 +149,17 @@ last_textual (Alone item) place one = (one, tt)
 last_textual (Valued item) place one = tt
 last_textual (IsBad why) place one = tt
 
-next_textual : (f : FirstWord) (place : ℕ) (value : List ℕ) (r s : Result (List Item) Wrong) → FirstTextual f → Textual r → Textual s → Textual (next_read f place value r s)
-next_textual (Alone item) place value r s one a b = before_textual item r one a
-next_textual (Valued item) place value r s one a b = before_textual (item value) s (one value) b
-next_textual (IsBad why) place value r s one a b = tt
+next_textual : (f : FirstWord) (place : ℕ) (value : List ℕ) (r s : Result (List Item) Wrong) → FirstTextual f → scalars value ≡ true → Textual r → Textual s → Textual (next_read f place value r s)
+next_textual (Alone item) place value r s one is a b = before_textual item r one a
+next_textual (Valued item) place value r s one is a b = before_textual (item value) s (one value is) b
+next_textual (IsBad why) place value r s one is a b = tt
 
 read_textual : (table : SwitchTable) (place : ℕ) (words : List (List ℕ)) → AreTexts words → Textual (read_in table place words)
 unfolding read_in
 read_textual table place [] f = tt
 read_textual table place (word ∷ []) f = last_textual (first_word table place word) place (first_textual table place word f.0)
 read_textual table place (word ∷ (next ∷ left)) f =
-    next_textual (first_word table place word) place next (read_in table (place + 1) (next ∷ left)) (read_in table (place + 2) left) (first_textual table place word f.0) (read_textual table (place + 1) (next ∷ left) f.1) (read_textual table (place + 2) left f.1.1)
+    next_textual (first_word table place word) place next (read_in table (place + 1) (next ∷ left)) (read_in table (place + 2) left) (first_textual table place word f.0) f.1.0 (read_textual table (place + 1) (next ∷ left) f.1) (read_textual table (place + 2) left f.1.1)
 
 abbrev AreFolderTexts : List FolderWord → Type 0
 AreFolderTexts [] = Unit {0}
@@ -252,6 +256,51 @@ pub rmm_chars : (profile : List NamedValue) (words : List (List ℕ)) (said : Rm
 rmm_chars profile words said f e =
     subst RmmChars e (rmm_items_chars (profile_words (codes "rmm") profile ++ words) (read_in rmm_table 0 (profile_words (codes "rmm") profile ++ words))
     (read_textual rmm_table 0 (profile_words (codes "rmm") profile ++ words) (texts_both (profile_words (codes "rmm") profile) words (shown_texts (words_in (unwrap_or (value_of (codes "rmm") profile) []))) f)))
+
+-- `refile`
+targets_texts : (items : List Item) → AreTextual items → AreTexts (targets items)
+targets_texts [] f = tt
+targets_texts (Folder text place ∷ items) f = (plus_chars text f.0, targets_texts items f.1)
+targets_texts (Message text place ∷ items) f = targets_texts items f.1
+targets_texts (Switch index value place ∷ items) f = targets_texts items f.1
+targets_texts (Component name value place ∷ items) f = targets_texts items f.1
+
+source_chars : (at : ℕ) (before : Option (List ℕ)) (items : List Item) → HasChars before → AreTextual items → HasChars (last_or before (values at items))
+source_chars at before [] is f = is
+source_chars at before (Folder text place ∷ items) is f = source_chars at before items is f.1
+source_chars at before (Message text place ∷ items) is f = source_chars at before items is f.1
+source_chars at before (Component name value place ∷ items) is f = source_chars at before items is f.1
+source_chars at before (Switch index None place ∷ items) is f = source_chars at before items is f.1
+source_chars at before (Switch index (Some value) place ∷ items) is f = go (index == at) (source_chars at before items is f.1) (source_chars at (Some (without_plus value)) items (plus_chars value f.0) f.1)
+  where
+    go : (b : Bool) → HasChars (last_or before (values at items)) → HasChars (last_or (Some (without_plus value)) (values at items)) → HasChars (last_or before ((if b then value ∷ [] else []) ++ values at items))
+    go true rest named = named
+    go false rest named = rest
+
+-- each folder that the words name
+abbrev pub HasAllChars : RefileWords → Type 0
+HasAllChars w = HasChars w.source × AreTexts (w.target ∷ w.others)
+
+abbrev RefileChars : Result RefileWords Ended → Type 0
+RefileChars (Ok w) = HasAllChars w
+RefileChars (Err e) = Unit {0}
+
+refile_wrong_chars : (said : RefileWords) (wrong : List (List ℕ)) → HasAllChars said → RefileChars (unless_wrong said wrong)
+refile_wrong_chars said [] f = f
+refile_wrong_chars said (word ∷ words) f = tt
+
+refile_targets_chars : (words : List (List ℕ)) (items : List Item) (names : List (List ℕ)) → AreTexts names → AreTextual items → RefileChars (targets_said words items names)
+refile_targets_chars words items [] f g = tt
+refile_targets_chars words items (target ∷ others) f g = refile_wrong_chars (words_of (source_of items) target others items) (wrong_names items) (source_chars _ None items tt g, f)
+
+refile_items_chars : (words : List (List ℕ)) (r : Result (List Item) Wrong) → Textual r → RefileChars (refile_items words r)
+refile_items_chars words (Ok items) f = refile_targets_chars words items (targets items) (targets_texts items f) f
+refile_items_chars words (Err wrong) f = tt
+
+pub refile_chars : (profile : List NamedValue) (words : List (List ℕ)) (said : RefileWords) → AreTexts words → refile_said profile words ≡ Ok said → HasAllChars said
+refile_chars profile words said f e =
+    subst RefileChars e (refile_items_chars (profile_words (codes "refile") profile ++ words) (read_in refile_table 0 (profile_words (codes "refile") profile ++ words))
+    (read_textual refile_table 0 (profile_words (codes "refile") profile ++ words) (texts_both (profile_words (codes "refile") profile) words (shown_texts (words_in (unwrap_or (value_of (codes "refile") profile) []))) f)))
 
 -- `inc`
 abbrev IncChars : Result IncWords Ended → Type 0

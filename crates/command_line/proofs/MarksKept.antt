@@ -44,6 +44,7 @@ use Rattle.mark_command.specs.declared.job.MarkJob.{MarkJob}
 use Rattle.mark_command.proofs.MarkMinds.{changes_meet}
 use Rattle.mark_command.proofs.MarkPledged.{mark_keeps}
 use Rattle.refile_command.specs.HeldLeft.{RemovesUnheld}
+use Rattle.refile_command.specs.RefileHeld.{TakesUnheld}
 use Rattle.refile_command.specs.Rmm.{rmm}
 use Rattle.refile_command.specs.RmmPledge.{rmm_pledge}
 use Rattle.refile_command.specs.declared.job.RmmJob.{RmmJob}
@@ -51,26 +52,27 @@ use Rattle.refile_command.proofs.RmmMinds.{MindsUnheld, rmm_meets}
 use Rattle.refile_command.proofs.RmmPledged.{rmm_keeps}
 use Rattle.command_words.specs.Ended.{ended_cause, plain}
 use Rattle.command_words.specs.MarkWords.{mark_said}
+use Rattle.command_words.specs.RefileWords.{refile_said}
 use Rattle.command_words.specs.RmmWords.{rmm_said}
 use Rattle.command_words.specs.declared.ended.Ended.{Ended}
 use Rattle.command_words.specs.declared.mark.MarkWords.{MarkWords}
 use Rattle.command_words.specs.declared.rmm.RmmWords.{RmmWords}
 use Rattle.command_words.proofs.SaidFolder.{IsValid}
 use Rattle.command_line.specs.Command.{command, mark_by, mark_job, rmm_by, rmm_job, word_by}
-use Rattle.command_line.specs.CommandMarks.{IsTextName, KeepsCommandMarks, KeepsUnheld}
+use Rattle.command_line.specs.CommandMarks.{IsTextName, KeepsCommandMarks, KeepsWhere}
 use Rattle.command_line.specs.CommandNames.{begins_folders, command_of, named}
 use Rattle.command_line.specs.CommandPledge.{entries_by, marks_pledge, on_named, rmm_on_named, rmms_pledge}
 use Rattle.command_line.specs.Profile.{folder_of, path_of, profile_name}
 use Rattle.command_line.specs.declared.name.CommandName.{CommandName}
 use Rattle.command_line.specs.declared.name.CommandName.TheVariants.{Inc, Mark, Refile, Rmm, Scan}
 use Rattle.command_line.proofs.IncKept.{inc_kept}
-use Rattle.command_line.proofs.MindingPlans.{Minding, NothingMore, minding_kept, minding_may, minds_own, minds_with}
+use Rattle.command_line.proofs.MindingPlans.{Minding, NothingMore, minding_kept, minding_where, minds_own, minds_with, ok_one, sound_so}
 use Rattle.command_line.proofs.MindsMarks.{command_keeps_sequences, minds_sequences}
 use Rattle.command_line.proofs.Pledging.{Answered, answers, context_keeps, context_step, known_sound, mark_acts, mark_onward, mark_words_keep, named_onward, on_context, onward_by, plan_by, profile_step, rmm_acts, rmm_onward, rmm_words_keep, two_readings, word_onward}
-use Rattle.command_line.proofs.FolderChars.{AreUtf8, HasChars, acted_chars, chars_texts, mark_chars, rmm_chars}
-use Rattle.command_line.proofs.SaidFolder.{acted_valid, mark_valid, rmm_words_valid}
+use Rattle.command_line.proofs.FolderChars.{AreUtf8, HasChars, acted_chars, chars_texts, mark_chars, refile_chars, rmm_chars}
+use Rattle.command_line.proofs.RefileMarks.{refile_minding}
+use Rattle.command_line.proofs.SaidFolder.{acted_valid, mark_valid, refile_words_valid, rmm_words_valid}
 use Rattle.command_line.proofs.Begun.{Any, any_so, none_read, start_same}
-use Rattle.command_line.proofs.StepsWith.{own_with}
 use Rattle.command_line.proofs.TwoAnswers.{follows_so, keeps_after, keeps_ended, rest_by}
 
 -- a `mark` that only lists may ask for what a command may that looks
@@ -111,9 +113,6 @@ module _ (run : ℕ) (few : run < 2 ^ 128) (profile : List NamedValue) (h : Hand
   abbrev Unheld : List Deed → Step → Type 0
   Unheld own s = RemovesUnheld own s
 
-  sound_so : (w : Pledge) (A : List Deed → Step → Type 0) (own : List Deed) (j : Hand) → Sound (with_step w A) own j → Sound w own j
-  sound_so w A own j s = record { numbered = s.numbered; unfailed = s.unfailed }
-
   -- a `mark` that changes something
   module _ (words : MarkWords) (es : List NamedValue) (folder : List ℕ) (valid : is_folder_name folder ≡ true) (text : IsTextName folder) (a : MarkAct) where
     abbrev job : MarkJob
@@ -135,9 +134,6 @@ module _ (run : ℕ) (few : run < 2 ^ 128) (profile : List NamedValue) (h : Hand
     acts_keep : words.act ≡ Some a → (c d : Answer) → Sound changes_pledge (acts (two_readings profile c d)) (knowing es h) → Keeps (rules_of changes_pledge) (two_readings profile c d) (knowing es h) (mark_acts run profile words folder) (IfOkay Any)
     unfolding mark
     acts_keep is c d sound = subst (λ o. Keeps (rules_of changes_pledge) (two_readings profile c d) (knowing es h) (mark_by_act run path job o) (IfOkay Any)) (sym is) (act_keeps c d sound)
-
-  ok_one : (v : Result (List ℕ) CommandFault) (x y : List ℕ) → v ≡ Ok x → v ≡ Ok y → x ≡ y
-  ok_one v x y e f = cc (e, f)
 
   abbrev mark_plan : Answer → MarkWords → Plan (Result Unit Ended)
   mark_plan b words = Ask profile_step (λ c. rest_by (context_step profile) (mark_by run profile (Ok words)) (mark_onward run profile (Ok words)) b)
@@ -241,13 +237,8 @@ module _ (run : ℕ) (few : run < 2 ^ 128) (profile : List NamedValue) (h : Hand
 abbrev RemovesSo : List Deed → Step → Type 0
 RemovesSo own s = RemovesUnheld own s
 
--- where no message is held aside when it removes
-unheld_kept : (w : Pledge) → MindsSequencesOf IsTextName (with_step w RemovesSo) → (old new : Option Story) → SameStart old new → StoryMay w old new → KeepsUnheld w.run old new
-unheld_kept w minds None None same may = tt
-unheld_kept w minds (Some old) (Some new) same may =
-    λ unheld. sequences_kept_of IsTextName (with_step w RemovesSo) minds (Some old) (Some new) same (λ unused. own_with w RemovesSo (past_of new.history) unheld (may unused))
-unheld_kept w minds None (Some new) same may = absurd may
-unheld_kept w minds (Some old) None same may = absurd may
+abbrev TakesSo : List Deed → Step → Type 0
+TakesSo own s = TakesUnheld own s
 
 -- after a profile that is too long a command does nothing
 module _ (run : ℕ) (few : run < 2 ^ 128) (user : List ℕ) (word : List ℕ) (words : List (List ℕ)) (texts : AreUtf8 words) (h : Hand) (b : Answer) where
@@ -276,6 +267,12 @@ module _ (run : ℕ) (few : run < 2 ^ 128) (user : List ℕ) (word : List ℕ) (
       subst (λ z. Minding run RemovesSo h (Ask profile_step (λ c. rest_by (context_step profile) (word_by run user profile word words z) (word_onward run profile user word words z) b))) (sym is)
       (rmm_minding run few profile h b (rmm_said profile (map chars words)) (λ said e. (rmm_words_valid profile (map chars words) said e, rmm_chars profile (map chars words) said (chars_texts words texts) e)))
 
+  refile_named : (profile : List NamedValue) (name : Option CommandName) → name ≡ Some Refile → Minding run TakesSo h (Ask profile_step (λ c. rest_by (context_step profile) (word_by run user profile word words name) (word_onward run profile user word words name) b))
+  unfolding word_onward
+  refile_named profile name is =
+      subst (λ z. Minding run TakesSo h (Ask profile_step (λ c. rest_by (context_step profile) (word_by run user profile word words z) (word_onward run profile user word words z) b))) (sym is)
+      (refile_minding run few profile h b (refile_said profile (map chars words)) (λ said e. ((refile_words_valid profile (map chars words) said e).0, refile_chars profile (map chars words) said (chars_texts words texts) e)))
+
   mark_read : (r : Reading) → named word ≡ Some Mark → Minding run NothingMore h (plan_by run few user all r b)
   unfolding onward_by named_onward lifted bind ◌>>=◌
   mark_read (reading.Content bytes) is = mark_named (entries_in bytes) (named word) is
@@ -288,6 +285,12 @@ module _ (run : ℕ) (few : run < 2 ^ 128) (user : List ℕ) (word : List ℕ) (
   rmm_read (reading.Long l) is = long_minding RemovesSo l
   rmm_read reading.Gone is = rmm_named (entries_in []) (named word) is
 
+  refile_read : (r : Reading) → named word ≡ Some Refile → Minding run TakesSo h (plan_by run few user all r b)
+  unfolding onward_by named_onward lifted bind ◌>>=◌
+  refile_read (reading.Content bytes) is = refile_named (entries_in bytes) (named word) is
+  refile_read (reading.Long l) is = long_minding TakesSo l
+  refile_read reading.Gone is = refile_named (entries_in []) (named word) is
+
 -- a call that follows a command keeps the marks of messages
 module _ (run : ℕ) (few : run < 2 ^ 128) (user : List ℕ) (x y : State) (result : Result Unit Ended) where
   mark_kept : (word : List ℕ) (words : List (List ℕ)) → AreUtf8 words → named word ≡ Some Mark → Follows run ended_cause (command run user (word ∷ words)) x y result → KeepsSequencesOf IsTextName run x.files.story y.files.story
@@ -299,21 +302,28 @@ module _ (run : ℕ) (few : run < 2 ^ 128) (user : List ℕ) (x y : State) (resu
           minding_kept run ended_cause (plan_by run few user (word ∷ words) (reading_of t.first) t.second) x y result m
           (follows_so run ended_cause (command run user (word ∷ words)) (plan_by run few user (word ∷ words) (reading_of t.first) t.second) x y result f t.runs) (start_same run ended_cause (command run user (word ∷ words)) x y result f)
 
-  rmm_kept : (word : List ℕ) (words : List (List ℕ)) → AreUtf8 words → named word ≡ Some Rmm → Follows run ended_cause (command run user (word ∷ words)) x y result → KeepsUnheld run x.files.story y.files.story
+  rmm_kept : (word : List ℕ) (words : List (List ℕ)) → AreUtf8 words → named word ≡ Some Rmm → Follows run ended_cause (command run user (word ∷ words)) x y result → KeepsWhere RemovesUnheld run x.files.story y.files.story
   rmm_kept word words texts is f = go (answers run few user (word ∷ words) x y result f)
     where
-      go : Answered run few user (word ∷ words) x.hand y.hand (deeds_in f.went.log) (exit_of ended_cause result) → KeepsUnheld run x.files.story y.files.story
+      go : Answered run few user (word ∷ words) x.hand y.hand (deeds_in f.went.log) (exit_of ended_cause result) → KeepsWhere RemovesUnheld run x.files.story y.files.story
       go t =
-          let m = rmm_read run few user word words texts x.hand t.second (reading_of t.first) is in
-          subst (λ n. KeepsUnheld n x.files.story y.files.story) m.run_is (unheld_kept m.pledge m.minds x.files.story y.files.story (start_same run ended_cause (command run user (word ∷ words)) x y result f) (minding_may run ended_cause (plan_by run few user (word ∷ words) (reading_of t.first) t.second) x y result m
-          (follows_so run ended_cause (command run user (word ∷ words)) (plan_by run few user (word ∷ words) (reading_of t.first) t.second) x y result f t.runs)))
+          minding_where run ended_cause (plan_by run few user (word ∷ words) (reading_of t.first) t.second) x y result RemovesSo (rmm_read run few user word words texts x.hand t.second (reading_of t.first) is)
+          (follows_so run ended_cause (command run user (word ∷ words)) (plan_by run few user (word ∷ words) (reading_of t.first) t.second) x y result f t.runs) (start_same run ended_cause (command run user (word ∷ words)) x y result f)
+
+  refile_kept : (word : List ℕ) (words : List (List ℕ)) → AreUtf8 words → named word ≡ Some Refile → Follows run ended_cause (command run user (word ∷ words)) x y result → KeepsWhere TakesUnheld run x.files.story y.files.story
+  refile_kept word words texts is f = go (answers run few user (word ∷ words) x y result f)
+    where
+      go : Answered run few user (word ∷ words) x.hand y.hand (deeds_in f.went.log) (exit_of ended_cause result) → KeepsWhere TakesUnheld run x.files.story y.files.story
+      go t =
+          minding_where run ended_cause (plan_by run few user (word ∷ words) (reading_of t.first) t.second) x y result TakesSo (refile_read run few user word words texts x.hand t.second (reading_of t.first) is)
+          (follows_so run ended_cause (command run user (word ∷ words)) (plan_by run few user (word ∷ words) (reading_of t.first) t.second) x y result f t.runs) (start_same run ended_cause (command run user (word ∷ words)) x y result f)
 
   by_name : (word : List ℕ) (words : List (List ℕ)) → AreUtf8 words → Follows run ended_cause (command run user (word ∷ words)) x y result → (name : Option CommandName) → named word ≡ name → KeepsCommandMarks name run x.files.story y.files.story
   by_name word words texts f None is = command_keeps_sequences run few user (word ∷ words) (ap begins_folders is) x y result f
   by_name word words texts f (Some Inc) is = inc_kept run few user x y result word words texts is f
   by_name word words texts f (Some Scan) is = command_keeps_sequences run few user (word ∷ words) (ap begins_folders is) x y result f
   by_name word words texts f (Some Mark) is = mark_kept word words texts is f
-  by_name word words texts f (Some Refile) is = tt
+  by_name word words texts f (Some Refile) is = refile_kept word words texts is f
   by_name word words texts f (Some Rmm) is = rmm_kept word words texts is f
 
   pub command_keeps_marks : (words : List (List ℕ)) → AreUtf8 words → Follows run ended_cause (command run user words) x y result → KeepsCommandMarks (command_of words) run x.files.story y.files.story

@@ -198,7 +198,7 @@ two_once w profile a b =
     (once_asked w [] profile_step a (may_read w [] Home profile_name LIMIT_BYTES) (none_once w.run))
 
 -- nor do they use a held name of a folder
-two_unheld : (run : ℕ) (profile : List NamedValue) (folder : List ℕ) (a b : Answer) → HasHeldNone run (Folder (path_of profile) folder) (acts (two_readings profile a b))
+pub two_unheld : (run : ℕ) (profile : List NamedValue) (folder : List ℕ) (a b : Answer) → HasHeldNone run (Folder (path_of profile) folder) (acts (two_readings profile a b))
 two_unheld run profile folder a b = λ n ok. ((λ e f. cc (e)), ((λ e f. cc (e)), tt))
 
 pub known_sound : (w : Pledge) (own : List Deed) (h : Hand) (es : List NamedValue) → Sound w own h → Sound w own (knowing es h)
