@@ -103,7 +103,7 @@ module _ (run : ℕ) (few : run < 2 ^ 128) (user : List ℕ) (words_ : List (Lis
   Plainly past h (Err e) = IsEndedBy Shows e (acts past)
 
   -- an end before the command came to a folder
-  early : (e : CommandFault) (own : List Deed) → ShowsEarly e own → NoneFailed own → IsEndedBy Shows e own
+  pub early : (e : CommandFault) (own : List Deed) → ShowsEarly e own → NoneFailed own → IsEndedBy Shows e own
   early _ own (wrong_word f) clean = at_once (inl (wrong_word f)) clean
   early _ own (wrong_folder f) clean = at_once (inl (wrong_folder f)) clean
   early _ own (wrong_name f) clean = at_once (inl (wrong_name f)) clean
@@ -155,7 +155,7 @@ module _ (run : ℕ) (few : run < 2 ^ 128) (user : List ℕ) (words_ : List (Lis
         (comes_clean (acts past) fresh (folder_found profile said) (Found a said) clean (subst (λ o. Comes o fresh (folder_found profile said) (Found a said)) (sym is) (found_comes a said))))
 
     -- the command on it
-    on_folder : (word : List ℕ) (rest : List (List ℕ)) → words_ ≡ word ∷ rest → (b : Answer) (folder : List ℕ) (r : Result (List ℕ) CommandFault) (own : List Deed) → Behind a b own
+    pub on_folder : (word : List ℕ) (rest : List (List ℕ)) → words_ ≡ word ∷ rest → (b : Answer) (folder : List ℕ) (r : Result (List ℕ) CommandFault) (own : List Deed) → Behind a b own
         → ShowsNamed run user profile (entries_by b) folder r own rest (named word) → ShowsOnFolder run user words_ r own
     on_folder word rest is b folder r own f s = record { profile = a; context = b; folder = folder; newer = f.0; begun = f.1; shows = rw is s }
 
@@ -478,11 +478,11 @@ module _ (run : ℕ) (few : run < 2 ^ 128) (user : List ℕ) (words_ : List (Lis
       by_words (word ∷ rest) is_words begins = by_word word rest is_words (named word) refl begins
 
   -- the profile
-  abbrev Profile : Outcome (Result (List ℕ) Ended)
+  abbrev pub Profile : Outcome (Result (List ℕ) Ended)
   Profile later j (Ok text) = (a : Answer) × (later ≡ after_profile a) × (j ≡ fresh) × (text ≡ text_of (reading_of a))
   Profile later j (Err x) = ShowsEarly x.fault later
 
-  profile_comes : Comes [] fresh (lifted plain (text_read Home profile_name)) Profile
+  pub profile_comes : Comes [] fresh (lifted plain (text_read Home profile_name)) Profile
   profile_comes =
       comes_lifted [] fresh plain (text_read Home profile_name) (Tells Home profile_name [] fresh) Profile (told_comes Home profile_name [] fresh) (λ later j text q. q) (λ later j e q. long_first later q.0 e q.1 q.2)
 

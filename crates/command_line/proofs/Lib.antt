@@ -11,6 +11,7 @@ pub mod MindingPlans
 pub mod MindsMarks
 pub mod Plans
 pub mod Pledging
+pub mod RefileEnding
 pub mod RefileMarks
 pub mod Refusals
 pub mod SaidFolder

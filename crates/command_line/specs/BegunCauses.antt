@@ -20,16 +20,21 @@ use Rattle.mark_command.specs.declared.job.MarkAct.{MarkAct}
 use Rattle.mark_command.specs.declared.job.MarkJob.{MarkJob}
 use Rattle.inc_command.specs.IncAnswers.{IsTextOfNew, ShowsIncorporating}
 use Rattle.inc_command.specs.declared.job.IncJob.{IncJob}
+use Rattle.refile_command.specs.RefileAnswers.{ShowsRefile}
+use Rattle.refile_command.specs.RefileDone.{HasRefiledChosen}
 use Rattle.refile_command.specs.RmmAnswers.{HasRemovedChosen, rmm_answers}
+use Rattle.refile_command.specs.declared.job.RefileJob.{RefileJob}
 use Rattle.refile_command.specs.declared.job.RmmJob.{RmmJob}
 use Rattle.command_words.specs.IncWords.{inc_said}
 use Rattle.command_words.specs.MarkWords.{mark_said}
+use Rattle.command_words.specs.RefileWords.{refile_said}
 use Rattle.command_words.specs.RmmWords.{rmm_said}
 use Rattle.command_words.specs.declared.ended.Ended.{Ended}
 use Rattle.command_words.specs.declared.mark.MarkWords.{MarkWords}
+use Rattle.command_words.specs.declared.refile.RefileWords.{RefileWords}
 use Rattle.command_words.specs.declared.rmm.RmmWords.{RmmWords}
 use Rattle.command_line.specs.Causes.{ReadsContext, ReadsProfile, ShowsCommandFault}
-use Rattle.command_line.specs.Command.{mark_job, rmm_job}
+use Rattle.command_line.specs.Command.{mark_job, refile_job, rmm_job}
 use Rattle.command_line.specs.CommandNames.{named}
 use Rattle.command_line.specs.CommandPledge.{entries_by, path_by}
 use Rattle.command_line.specs.Incorporating.{job_by}
@@ -78,6 +83,12 @@ abbrev pub ShowsRemoving : ℕ → List ℕ → RmmJob → Result (List ℕ) Com
 ShowsRemoving run path job (Ok said) own = HasRemovedChosen run path job own × (said ≡ [])
 ShowsRemoving run path job (Err e) own = ShowsEnd run path job.folder (rmm_answers job) e own
 
+-- `refile` from this folder: at its end it had brought each message that the job's words choose to all folders that they
+-- name, and said nothing; or this shows its fault
+abbrev pub ShowsRefiling : ℕ → List ℕ → RefileJob → Result (List ℕ) CommandFault → List Deed → Type 0
+ShowsRefiling run path job (Ok said) own = HasRefiledChosen run path job own × (said ≡ [])
+ShowsRefiling run path job (Err e) own = ShowsRefile run path job e own
+
 -- the words of `mark`, the context or the profile name this folder, and this shows how it ended there
 abbrev pub ShowsMark : ℕ → List NamedValue → List NamedValue → List ℕ → Result (List ℕ) CommandFault → List Deed
     → Result MarkWords Ended → Type 0
@@ -94,6 +105,14 @@ ShowsRmm run profile context folder r own (Ok words) =
     × ShowsRemoving run (path_of profile) (rmm_job folder words profile) r own
 ShowsRmm run profile context folder r own (Err x) = ⊥
 
+-- and of `refile`, with the folder that messages leave or are copied from
+abbrev pub ShowsRefileWords : ℕ → List NamedValue → List NamedValue → List ℕ → Result (List ℕ) CommandFault → List Deed
+    → Result RefileWords Ended → Type 0
+ShowsRefileWords run profile context folder r own (Ok words) =
+    (folder_of words.source context profile ≡ Ok folder)
+    × ShowsRefiling run (path_of profile) (refile_job folder words profile) r own
+ShowsRefileWords run profile context folder r own (Err x) = ⊥
+
 -- the job of `inc` is to take new mail into this folder, and this shows how it ended there
 abbrev pub ShowsIncJob : ℕ → List NamedValue → List ℕ → Result (List ℕ) CommandFault → List Deed → Result IncJob Ended → Type 0
 ShowsIncJob run profile folder r own (Ok job) = (folder ≡ job.folder) × ShowsIncorporating run (path_of profile) job r own
@@ -108,7 +127,8 @@ ShowsNamed run user profile context folder r own words (Some Inc) =
 ShowsNamed run user profile context folder r own words (Some Scan) = ⊥
 ShowsNamed run user profile context folder r own words (Some Mark) =
     ShowsMark run profile context folder r own (mark_said profile (map chars words))
-ShowsNamed run user profile context folder r own words (Some Refile) = ⊥
+ShowsNamed run user profile context folder r own words (Some Refile) =
+    ShowsRefileWords run profile context folder r own (refile_said profile (map chars words))
 ShowsNamed run user profile context folder r own words (Some Rmm) =
     ShowsRmm run profile context folder r own (rmm_said profile (map chars words))
 

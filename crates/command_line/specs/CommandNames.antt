@@ -32,7 +32,7 @@ makes_folders (Some Mark) = false
 makes_folders (Some Refile) = true
 makes_folders (Some Rmm) = false
 
--- what shows how it ended is said of it; of `refile` not yet
+-- what shows how it ended is said with one folder at most that is let go; of `refile`, which lets several go, apart
 abbrev pub shows_ends : Option CommandName → Bool
 shows_ends None = false
 shows_ends (Some Inc) = true

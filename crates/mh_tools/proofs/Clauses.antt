@@ -39,6 +39,7 @@ use Rattle.command_stages.specs.Works.{Work}
 use Rattle.opened_folders.specs.Making.{IsBare}
 use Rattle.opened_folders.proofs.HomesFound.{homes_there}
 use Rattle.opened_folders.specs.Endings.{IsEndedBy}
+use Rattle.refile_command.specs.RefileAnswers.{IsEndedFirst}
 use Rattle.command_line.specs.BegunCauses.{ShowsFault, ShowsOnFolder}
 use Rattle.command_line.specs.Causes.{ShowsCommandFault}
 use Rattle.command_line.specs.Command.{command}
@@ -54,6 +55,7 @@ use Rattle.command_line.proofs.Giving.{IsLateEnd, DecidesEnd, ByFault, CommandEn
 use Rattle.command_line.proofs.FolderChars.{AreUtf8}
 use Rattle.command_line.proofs.MarksKept.{command_keeps_marks}
 use Rattle.command_line.proofs.Pledging.{command_clean, command_keeps}
+use Rattle.command_line.proofs.RefileEnding.{run_refile_ends_by, run_refile_silent}
 use Rattle.command_line.proofs.Unlinked.{command_first}
 use Rattle.mh_tools.proofs.Told.{adds_none, fault_undone}
 use Rattle.mh_tools.proofs.BareWorlds.{story_bare}
@@ -61,7 +63,7 @@ use Rattle.mh_tools.specs.AnswersAlone.{HasOutcome, IsUnfaulted, HasOutcomeAlone
 use Rattle.mh_tools.specs.AnswersAsOne.{AnswersAsOne}
 use Rattle.mh_tools.specs.Calls.{Call, LooksOnly, MakesFolder, begins, ends, MadeBy}
 use Rattle.mh_tools.specs.FollowsItsPlan.{TellsStatus, FollowsItsPlan}
-use Rattle.mh_tools.specs.IsCaused.{IsCaused, IsShown, IsShownBegun, MayBegin}
+use Rattle.mh_tools.specs.IsCaused.{IsCaused, IsShown, IsShownBegun, IsShownRefiled, MayBegin, Refiles}
 use Rattle.mh_tools.specs.KeepsMail.{KeepsMail, KeepsMarks}
 use Rattle.mh_tools.specs.Lines.{error_line_of}
 use Rattle.mh_tools.specs.Outcome.{error_of, answered, outcome_of}
@@ -231,6 +233,34 @@ module _ (c : Call) (plan : FollowsItsPlan c) where
       out = λ q. (run_tells run few c.setting.user c.words may (deeds_in went.log) plan.left exit went.runs).1 (out_fault (settle (Faulted Out) q (λ e. cc (e))));
     }
 
+  -- and of `refile`
+  module _ (few : run < 2 ^ 128) (refiles : Refiles c) where
+    refile_fault : (r : Result Unit Ended) (s : Status) (k : CommandFault) → outcome ≡ r → ended_status r ≡ s → (s ≡ Done → ⊥) → ((f : CommandFault) → fault_status f ≡ s → f ≡ k) → command_cause k ≡ OfPlan → IsEndedFirst (ShowsFault run c.setting.user c.words) k steps
+    refile_fault (Ok tt) s k is e never only cause = absurd (never (sym e))
+    refile_fault (Err x) s k is e never only cause =
+        let f : x.fault ≡ k = only x.fault e in
+        let at : exit ≡ Returned (Err x) = ap (exit_of ended_cause) is ∙ (exit_fault x k f ∙ ap (exit_by {T = Unit {0}} x) cause) in
+        subst (λ j. IsEndedFirst (ShowsFault run c.setting.user c.words) j steps) f
+        (run_refile_ends_by run few c.setting.user c.words refiles (deeds_in went.log) plan.left (Err x) (subst (λ z. Runs (command run c.setting.user c.words) fresh (deeds_in went.log) plan.left z) at went.runs)).1
+
+    refile_done : (r : Result Unit Ended) → outcome ≡ r → ended_status r ≡ Done → ShowsOnFolder run c.setting.user c.words (Ok []) steps
+    refile_done (Ok tt) is e =
+        (run_refile_ends_by run few c.setting.user c.words refiles (deeds_in went.log) plan.left (Ok tt) (subst (λ z. Runs (command run c.setting.user c.words) fresh (deeds_in went.log) plan.left z) (ap (exit_of ended_cause) is) went.runs)).1
+    refile_done (Err x) is e = absurd (fault_undone x.fault e)
+
+    refile_silent : (said_of (deeds_in went.log) ≡ []) × (exit ≡ OutFailed → ⊥)
+    refile_silent = run_refile_silent run few c.setting.user c.words refiles (deeds_in went.log) plan.left exit went.runs
+
+    shown_refiled : IsShownRefiled c steps
+    shown_refiled = record {
+      done = λ q. refile_done outcome refl (settle Done q (λ e. cc (e)));
+      refused = λ r q. refile_fault outcome (Refused r) (fault.Refused r) refl (settle (Refused r) q (λ e. cc (e))) (λ e. cc (e)) (λ f e. fault_refused f r e) refl;
+      locked = λ place q. refile_fault outcome (Locked place) (fault.Locked place) refl (settle (Locked place) q (λ e. cc (e))) (λ e. cc (e)) (λ f e. fault_locked f place e) refl;
+      meddled = λ place name q. refile_fault outcome (Meddled place name) (fault.Meddled place name) refl (settle (Meddled place name) q (λ e. cc (e))) (λ e. cc (e)) (λ f e. fault_meddled f place name e) refl;
+      told = subst (Adds c.before.out.told c.after.out.told) refile_silent.0 said_adds;
+      out = λ q. refile_silent.1 (out_fault (settle (Faulted Out) q (λ e. cc (e))));
+    }
+
   files_at : ended_status outcome ≡ Faulted Files → Rose c.before.files.faults c.after.files.faults × Made IsFailed steps
   files_at e =
       let x = faulted outcome Files refl e in
@@ -316,6 +346,7 @@ module _ (c : Call) (plan : FollowsItsPlan c) where
           out = λ q. went.out_cause (out_fault (settle (Faulted Out) q (λ e. cc (e))));
           shown = shown;
           begun = λ may. shown_begun few may;
+          refiled = λ refiles. shown_refiled few refiles;
         }
 
     some_agrees : (old new : Option Story) → GrowsBy run old new (filed_in went.log) → AreMade run old new steps → SomeAgrees old steps

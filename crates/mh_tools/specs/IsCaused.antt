@@ -1,5 +1,5 @@
 -- Where each answer of `mh` comes from.
-use Rattle.std.specs.Prelude.{◌≡◌, ◌≢◌, ℕ, true, List, [], Ok}
+use Rattle.std.specs.Prelude.{◌≡◌, ◌≢◌, ℕ, true, List, [], Some, Ok}
 use Rattle.mh_base.specs.Counts.{Rose}
 use Rattle.mh_base.specs.Streams.{Adds}
 use Rattle.folder_files.specs.Deeds.{Deed}
@@ -14,9 +14,11 @@ use Rattle.step_plans.specs.ContextCommit.{TRIES}
 use Rattle.step_plans.specs.Endings.{IsHeld, IsMeddled}
 use Rattle.step_plans.specs.declared.command_fault.CommandFault.TheVariants as fault
 use Rattle.opened_folders.specs.Endings.{IsShownBy, IsToldBy}
+use Rattle.refile_command.specs.RefileAnswers.{IsShownFirst}
 use Rattle.command_line.specs.BegunCauses.{ShowsFault, ShowsOnFolder, TellsOnFolder}
 use Rattle.command_line.specs.Causes.{ShowsRefusal}
 use Rattle.command_line.specs.CommandNames.{command_of, shows_ends}
+use Rattle.command_line.specs.declared.name.CommandName.TheVariants.{Refile}
 use Rattle.mh_tools.specs.Calls.{Call, LooksOnly, MadeBy}
 use Rattle.mh_tools.specs.TellsWhatItSaw.{outcome_on}
 use Rattle.mh_tools.specs.declared.status.Status.TheVariants.{Done, Refused, Faulted, Locked, Meddled}
@@ -30,7 +32,8 @@ pub record IsShown (c : Call) (deeds : List Deed) : Type 0 where
   pub locked : (place : Place) → c.status ≡ Locked place → ((mail : List ℕ) × (place ≡ Mail mail) × IsHeld place TRIES deeds) × (Made IsFailed deeds → ⊥)
   pub meddled : (place : Place) (name : List ℕ) → c.status ≡ Meddled place name → IsMeddled c.setting.run place name deeds × (Made IsFailed deeds → ⊥)
 
--- the words name a command that begins a folder, by its name at least, and of which what shows its end is said (not yet `refile`)
+-- the words name a command that begins a folder, by its name at least, and never more than one (`refile`, which begins
+-- several, is apart)
 abbrev pub MayBegin : Call → Type 0
 MayBegin c = shows_ends (command_of c.words) ≡ true
 
@@ -53,6 +56,24 @@ pub record IsShownBegun (c : Call) (deeds : List Deed) : Type 0 where
       × IsToldBy (TellsOnFolder c.setting.run c.setting.user c.words) said deeds
   pub out : c.status ≡ Faulted Out → (text : List ℕ) × TellsOnFolder c.setting.run c.setting.user c.words text deeds × (text ≢ [])
 
+-- the words name `refile`, by its name at least
+abbrev pub Refiles : Call → Type 0
+Refiles c = command_of c.words ≡ Some Refile
+
+-- Of `refile`: Done, a refusal, Locked and Meddled come only where what shows them was answered. After a refusal and
+-- after Locked it may have let the folders go that it had locked, one after another, as its last steps. But for those
+-- steps no step failed. However the command ends, the output gained nothing, and no fault of the output comes.
+pub record IsShownRefiled (c : Call) (deeds : List Deed) : Type 0 where
+  pub done : c.status ≡ Done → ShowsOnFolder c.setting.run c.setting.user c.words (Ok []) deeds
+  pub refused : (r : Refusal) → c.status ≡ Refused r
+      → IsShownFirst (ShowsFault c.setting.run c.setting.user c.words (fault.Refused r)) deeds
+  pub locked : (place : Place) → c.status ≡ Locked place
+      → IsShownFirst (ShowsFault c.setting.run c.setting.user c.words (fault.Locked place)) deeds
+  pub meddled : (place : Place) (name : List ℕ) → c.status ≡ Meddled place name
+      → ShowsFault c.setting.run c.setting.user c.words (fault.Meddled place name) deeds × (Made IsFailed deeds → ⊥)
+  pub told : Adds c.before.out.told c.after.out.told []
+  pub out : c.status ≢ Faulted Out
+
 -- Where each answer comes from, by the answers to the call's own steps. Done comes only where no step failed. A fault
 -- comes only where the count of that which failed rose: of the files where a step failed; the input never fails,
 -- since no command that there is reads it. Each refusal, Locked and Meddled come only where own steps show them; and so
@@ -67,3 +88,4 @@ pub record IsCaused (c : Call) : Type 0 where
   pub out : c.status ≡ Faulted Out → Rose c.before.out.faults c.after.out.faults
   pub shown : LooksOnly c → IsShown c deeds
   pub begun : MayBegin c → IsShownBegun c deeds
+  pub refiled : Refiles c → IsShownRefiled c deeds
