@@ -58,7 +58,7 @@ fn line_len(
         current: false,
         unseen: false,
         message: Message::cut(message),
-        now: 1_780_394_400,
+        moment: 1_780_394_400,
         user,
     };
     let line = line(alloc, program, &view, 80)?;

@@ -11,10 +11,12 @@ mod CompletingSources
 mod CompletingTests
 mod CompletingTexts
 mod CompletingWords
+mod FormatOfLemmas
 mod GrammarLemmas
 mod LinkLemmas
 mod NoneBegins
 mod PartLemmas
+mod ShorterLemmas
 mod StandLemmas
 mod SteadyLemmas
 mod SteadyWords

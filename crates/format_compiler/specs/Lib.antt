@@ -2,6 +2,7 @@ pub mod Arguments
 pub mod Calls
 pub mod Code
 pub mod Components
+pub mod FormatOf
 pub mod Formats
 pub mod Fronts
 pub mod Functions

@@ -3,6 +3,7 @@ ghost use Rattle.std.specs.Prelude.{◌≡◌, ◌↔◌, IfOk, IfErr, IsTrue};
 ghost use Rattle.std.specs.Str.{chars, IsUtf8};
 ghost use Rattle.format_compiler.specs.Code.{IsCodeOf};
 ghost use Rattle.format_compiler.specs.Formats.{AreRefused, BeginsNone, Denote, Denotes, DenotesNone, FrontBeginsSome, IsBadAt, IsCompiledTo, IsProgramOf, IsRefused, StopsAt};
+ghost use Rattle.format_compiler.specs.FormatOf.{format_of, IsRead};
 ghost use Rattle.format_compiler.specs.Grammar.{Format};
 ghost use Rattle.format_compiler.specs.Texts.{characters_in, place_of, without_feed as without_feed_of};
 
@@ -127,6 +128,7 @@ pub fn compile(alloc: Global, text: &[u8]) -> Result<Program, FormatFault>
     ensures none { IfErr result (DenotesNone text.now) }
     ensures beyond { IfErr result (BeginsNone text.now) }
     ensures front { IfErr result (FrontBeginsSome text.now) }
+    ensures read { IsRead (format_of text.now) result }
 {
     let text = decode(alloc, without_feed(text))?;
     compile_characters(alloc, text.utf8, text.characters.as_slice())

@@ -16,7 +16,7 @@ use Rattle.format_run.specs.declared.answer.Answer.TheVariants as answers
 use Rattle.format_run.specs.declared.answer.Outcome.{Outcome}
 use Rattle.format_run.specs.declared.answer.Outcome.TheVariants as outcomes
 use Rattle.format_run.specs.declared.state.LineState.{LineState}
-use Rattle.format_run.specs.declared.view.View.{View}
+use Rattle.format_run.specs.Viewed.{Viewed}
 use Rattle.format_run.specs.Answers.{Seen, answer_of}
 use Rattle.format_run.specs.Columns.{Kept, empty_line, free, with_more}
 use Rattle.format_run.specs.Meaning.{Progress, takes_source, width_inside}
@@ -56,31 +56,31 @@ settled_at (answers.PrintNumber w) p = ap nothing_more (added_at _ p)
 settled_at answers.PrintAll p = ap nothing_more (added_at _ p)
 settled_at answers.Nothing p = refl
 
-sourced_at : (view : View) (a : Argument) (p : Progress) → sourced view a (at p) ≡ at (meant.sourced view a p)
+sourced_at : (view : Viewed) (a : Argument) (p : Progress) → sourced view a (at p) ≡ at (meant.sourced view a p)
 sourced_at view Nothing p = refl
 sourced_at view (Literal text) p = refl
 sourced_at view (Number n) p = refl
 sourced_at view (Component name) p = refl
 
-given_by : (t : Bool) (view : View) (a : Argument) (p : Progress) → (if t then sourced view a (at p) else at p) ≡ at (if t then meant.sourced view a p else p)
+given_by : (t : Bool) (view : Viewed) (a : Argument) (p : Progress) → (if t then sourced view a (at p) else at p) ≡ at (if t then meant.sourced view a p else p)
 given_by true view a p = sourced_at view a p
 given_by false view a p = refl
 
-applied_at : (view : View) (w : Option Width) (f : Function) (a : Argument) (p : Progress) → applied view w f a (at p) ≡ ended_at (meant.applied view w f a p)
+applied_at : (view : Viewed) (w : Option Width) (f : Function) (a : Argument) (p : Progress) → applied view w f a (at p) ≡ ended_at (meant.applied view w f a p)
 unfolding applied meant.applied
 applied_at view w f a p =
     let before = meant.given view f a p in
     ap (λ s. settled (answer_of view (seen s) w f a) s) (given_by (takes_source (kind_of f)) view a p)
     ∙ ap (λ x. settled (answer_of view x w f a) (at before)) (seen_at before) ∙ settled_at (answer_of view (meant.seen before) w f a) before
 
-around_at : (view : View) (w : Option Width) (around : List Function) (e : meant.Evaluated)
+around_at : (view : Viewed) (w : Option Width) (around : List Function) (e : meant.Evaluated)
     → evaluated_around view w around (ended_at e) ≡ ended_at (meant.evaluated_around view w around e)
 around_at view w [] e = refl
 around_at view w (f ∷ around) e =
     ap (evaluated_around view w around) (applied_at view (width_inside around w) f Nothing e.state)
     ∙ around_at view w around (meant.applied view (width_inside around w) f Nothing e.state)
 
-evaluated_at : (view : View) (w : Option Width) (call : Call) (p : Progress) → evaluated view w call (at p) ≡ ended_at (meant.evaluated view w call p)
+evaluated_at : (view : Viewed) (w : Option Width) (call : Call) (p : Progress) → evaluated view w call (at p) ≡ ended_at (meant.evaluated view w call p)
 evaluated_at view w call p =
     ap (evaluated_around view w call.around) (applied_at view (width_inside call.around w) call.function call.argument p)
     ∙ around_at view w call.around (meant.applied view (width_inside call.around w) call.function call.argument p)
@@ -95,7 +95,7 @@ judged_at outcomes.Number p = refl
 judged_at outcomes.Text p = refl
 judged_at outcomes.Nothing p = refl
 
-pub printed_at : (view : View) (piece : Piece) (p : Progress) → printed view piece (at p) ≡ at (meant.printed view piece p)
+pub printed_at : (view : Viewed) (piece : Piece) (p : Progress) → printed view piece (at p) ≡ at (meant.printed view piece p)
 unfolding printed meant.printed
 printed_at view (pieces.Character c) p = added_at (c ∷ []) p
 printed_at view (pieces.Component w name) p = added_at (printed_text w (value_of name view.message)) (meant.with_text (value_of name view.message) p)
@@ -103,7 +103,7 @@ printed_at view (pieces.Call w call) p =
     ap (λ (e : Evaluated). with_result w e.outcome e.state) (evaluated_at view w call p)
     ∙ result_at w (meant.evaluated view w call p).outcome (meant.evaluated view w call p).state
 
-pub tested_at : (view : View) (test : Test) (p : Progress) → tested view test (at p) ≡ at (meant.tested view test p)
+pub tested_at : (view : Viewed) (test : Test) (p : Progress) → tested view test (at p) ≡ at (meant.tested view test p)
 unfolding tested meant.tested
 tested_at view (tests.Component name) p = refl
 tested_at view (tests.Call call) p =

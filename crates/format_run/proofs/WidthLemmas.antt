@@ -17,7 +17,7 @@ use Rattle.format_run.specs.declared.answer.Answer.TheVariants as answers
 use Rattle.format_run.specs.declared.answer.Outcome.{Outcome}
 use Rattle.format_run.specs.declared.answer.Outcome.TheVariants as outcomes
 use Rattle.format_run.specs.declared.state.LineState.{LineState}
-use Rattle.format_run.specs.declared.view.View.{View}
+use Rattle.format_run.specs.Viewed.{Viewed}
 use Rattle.format_run.specs.Answers.{answer_of}
 use Rattle.format_run.specs.Meaning.{takes_source, width_inside}
 use Rattle.format_run.specs.Stepping.{Evaluated, adding, applied, evaluated, evaluated_around, given, holds, judged, printed, seen, settled, sourced, tested, with_result, with_text}
@@ -40,21 +40,21 @@ settled_wide (answers.PrintNumber w) s = added_wide _ s
 settled_wide answers.PrintAll s = added_wide _ s
 settled_wide answers.Nothing s = refl
 
-sourced_wide : (view : View) (a : Argument) (s : LineState) → wide (sourced view a s) ≡ wide s
+sourced_wide : (view : Viewed) (a : Argument) (s : LineState) → wide (sourced view a s) ≡ wide s
 sourced_wide view Nothing s = refl
 sourced_wide view (Literal text) s = refl
 sourced_wide view (Number n) s = refl
 sourced_wide view (Component name) s = refl
 
-given_by : (t : Bool) (view : View) (a : Argument) (s : LineState) → wide (if t then sourced view a s else s) ≡ wide s
+given_by : (t : Bool) (view : Viewed) (a : Argument) (s : LineState) → wide (if t then sourced view a s else s) ≡ wide s
 given_by true view a s = sourced_wide view a s
 given_by false view a s = refl
 
-applied_wide : (view : View) (w : Option Width) (f : Function) (a : Argument) (s : LineState) → wide (applied view w f a s).state ≡ wide s
+applied_wide : (view : Viewed) (w : Option Width) (f : Function) (a : Argument) (s : LineState) → wide (applied view w f a s).state ≡ wide s
 unfolding applied
 applied_wide view w f a s = settled_wide (answer_of view (seen (given view f a s)) w f a) (given view f a s) ∙ given_by (takes_source (kind_of f)) view a s
 
-around_wide : (view : View) (w : Option Width) (around : List Function) (e : Evaluated) → wide (evaluated_around view w around e).state ≡ wide e.state
+around_wide : (view : Viewed) (w : Option Width) (around : List Function) (e : Evaluated) → wide (evaluated_around view w around e).state ≡ wide e.state
 around_wide view w [] e = refl
 around_wide view w (f ∷ around) e =
     around_wide view w around (applied view (width_inside around w) f Nothing e.state) ∙ applied_wide view (width_inside around w) f Nothing e.state
@@ -69,7 +69,7 @@ judged_wide outcomes.Number s = refl
 judged_wide outcomes.Text s = refl
 judged_wide outcomes.Nothing s = refl
 
-printed_wide : (view : View) (piece : Piece) (s : LineState) → wide (printed view piece s) ≡ wide s
+printed_wide : (view : Viewed) (piece : Piece) (s : LineState) → wide (printed view piece s) ≡ wide s
 unfolding printed
 printed_wide view (pieces.Character c) s = added_wide _ s
 printed_wide view (pieces.Component w name) s = added_wide (printed_text w (value_of name view.message)) (with_text (value_of name view.message) s)
@@ -78,7 +78,7 @@ printed_wide view (pieces.Call w call) s =
     ∙ around_wide view w call.around (applied view (width_inside call.around w) call.function call.argument s)
     ∙ applied_wide view (width_inside call.around w) call.function call.argument s
 
-tested_wide : (view : View) (test : Test) (s : LineState) → wide (tested view test s) ≡ wide s
+tested_wide : (view : Viewed) (test : Test) (s : LineState) → wide (tested view test s) ≡ wide s
 unfolding tested
 tested_wide view (tests.Component name) s = refl
 tested_wide view (tests.Call call) s =
@@ -87,7 +87,7 @@ tested_wide view (tests.Call call) s =
     ∙ applied_wide view (width_inside call.around None) call.function call.argument s
 
 -- what is run keeps the width
-pub run_wide : (view : View) (skipped : ℕ) (code : List Instruction) (s : LineState) → wide (run view skipped code s) ≡ wide s
+pub run_wide : (view : Viewed) (skipped : ℕ) (code : List Instruction) (s : LineState) → wide (run view skipped code s) ≡ wide s
 unfolding run
 run_wide view zero [] s = refl
 run_wide view (suc skipped) [] s = refl

@@ -15,7 +15,7 @@ use Rattle.mail_text.specs.EncodedWords.{decoded}
 use Rattle.mail_text.specs.ShownAddress.{shown_address}
 use Rattle.format_run.specs.declared.answer.Answer.{Answer}
 use Rattle.format_run.specs.declared.answer.Answer.TheVariants as answers
-use Rattle.format_run.specs.declared.view.View.{View}
+use Rattle.format_run.specs.Viewed.{Viewed}
 use Rattle.format_run.specs.Addresses.{addr_in, friendly_in}
 use Rattle.format_run.specs.Dates.{date_number, date_text, long_month_name, long_weekday_name, month_of, weekday_of}
 use Rattle.format_run.specs.Numbers.{held, quotient, remainder, truth}
@@ -37,14 +37,14 @@ number_in (Number n) = n
 number_in (Component name) = pos 0
 
 -- the value of an argument that is a component
-abbrev pub value_in : View → Argument → List ℕ
+abbrev pub value_in : Viewed → Argument → List ℕ
 value_in view Nothing = []
 value_in view (Literal text) = []
 value_in view (Number n) = []
 value_in view (Component name) = value_of name view.message
 
 -- the date of an argument that is a component
-abbrev pub date_of : View → Argument → Option MailDate
+abbrev pub date_of : Viewed → Argument → Option MailDate
 date_of view a = date_in (encode_utf8_all (value_in view a))
 
 -- what a function sees of a format's state: its number, its text, the line's width, and the columns of it that are free
@@ -59,15 +59,15 @@ abbrev pub is_empty : List ℕ → Bool
 is_empty text = length text == 0
 
 -- what a function answers, with this width and argument in this state: a number or a text, or what is to be printed
-abbrev pub answer_of : View → Seen → Option Width → Function → Argument → Answer
+abbrev pub answer_of : Viewed → Seen → Option Width → Function → Argument → Answer
 answer_of view s w functions.Msg a = answers.Number (pos view.number)
 answer_of view s w functions.Size a = answers.Number (pos (length view.message))
 answer_of view s w functions.Cur a = answers.Number (truth view.current)
 answer_of view s w functions.Unseen a = answers.Number (truth view.unseen)
 answer_of view s w functions.Width a = answers.Number (pos s.width)
 answer_of view s w functions.Charleft a = answers.Number (pos s.free)
-answer_of view s w functions.Timenow a = answers.Number view.now
-answer_of view s w functions.Me a = answers.Text view.user.now
+answer_of view s w functions.Timenow a = answers.Number view.moment
+answer_of view s w functions.Me a = answers.Text view.user
 answer_of view s w functions.Num a = answers.Number (number_in a)
 answer_of view s w functions.Lit a = answers.Text (literal_in a)
 answer_of view s w functions.Eq a = answers.Number (truth (int_eq s.number (number_in a)))
@@ -107,7 +107,7 @@ answer_of view s w functions.Month a = answers.Text (date_text (λ d. month_name
 answer_of view s w functions.Lmonth a = answers.Text (date_text (λ d. long_month_name (month_of d)) (date_of view a))
 answer_of view s w functions.Tzone a = answers.Text (date_text (λ d. zone_text d.offset) (date_of view a))
 answer_of view s w functions.Clock a = answers.Number (date_number clock_of (date_of view a))
-answer_of view s w functions.Rclock a = answers.Number (date_number (λ d. held (view.now -ℤ clock_of d)) (date_of view a))
+answer_of view s w functions.Rclock a = answers.Number (date_number (λ d. held (view.moment -ℤ clock_of d)) (date_of view a))
 answer_of view s w functions.Tws a = answers.Text (date_text tws_of (date_of view a))
 answer_of view s w functions.Nodate a = answers.Number (truth (is_none (date_of view a)))
 answer_of view s w functions.Friendly a = answers.Text (friendly_in (value_in view a))

@@ -9,3 +9,4 @@ pub mod Running
 pub mod Stepping
 pub mod Texts
 pub mod Values
+pub mod Viewed

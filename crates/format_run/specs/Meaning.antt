@@ -17,7 +17,7 @@ use Rattle.format_run.specs.declared.answer.Answer.{Answer}
 use Rattle.format_run.specs.declared.answer.Answer.TheVariants as answers
 use Rattle.format_run.specs.declared.answer.Outcome.{Outcome}
 use Rattle.format_run.specs.declared.answer.Outcome.TheVariants as outcomes
-use Rattle.format_run.specs.declared.view.View.{View}
+use Rattle.format_run.specs.Viewed.{Viewed}
 use Rattle.format_run.specs.Answers.{Seen, answer_of, is_empty}
 use Rattle.format_run.specs.Columns.{columns_of, fit}
 use Rattle.format_run.specs.Decimals.{printed_number}
@@ -71,14 +71,14 @@ takes_source kinds.Source = true
 takes_source kinds.SourceOrNothing = true
 
 -- the text is the value of an argument that is a component
-abbrev pub sourced : View → Argument → Progress → Progress
+abbrev pub sourced : Viewed → Argument → Progress → Progress
 sourced view Nothing s = s
 sourced view (Literal text) s = s
 sourced view (Number n) s = s
 sourced view (Component name) s = with_text (value_of name view.message) s
 
 -- the state in which a function of this argument answers
-abbrev pub given : View → Function → Argument → Progress → Progress
+abbrev pub given : Viewed → Function → Argument → Progress → Progress
 given view f a s = if takes_source (kind_of f) then sourced view a s else s
 
 -- what a function sees of a state: free are the columns that what was written doesn't take
@@ -86,7 +86,7 @@ abbrev pub seen : Progress → Seen
 seen s = record { number = s.number; text = s.text; width = s.width; free = s.width - columns_of s.written }
 
 -- a function of this argument
-unfoldable pub applied : View → Option Width → Function → Argument → Progress → Evaluated
+unfoldable pub applied : Viewed → Option Width → Function → Argument → Progress → Evaluated
 applied view w f a s = settled (answer_of view (seen (given view f a s)) w f a) (given view f a s)
 
 -- the width belongs to the function that has none around it
@@ -95,12 +95,12 @@ width_inside [] w = w
 width_inside (f ∷ around) w = None
 
 -- the functions around a call, from the inside on
-abbrev pub evaluated_around : View → Option Width → List Function → Evaluated → Evaluated
+abbrev pub evaluated_around : Viewed → Option Width → List Function → Evaluated → Evaluated
 evaluated_around view w [] e = e
 evaluated_around view w (f ∷ around) e = evaluated_around view w around (applied view (width_inside around w) f Nothing e.state)
 
 -- a call
-abbrev pub evaluated : View → Option Width → Call → Progress → Evaluated
+abbrev pub evaluated : Viewed → Option Width → Call → Progress → Evaluated
 evaluated view w call s =
     evaluated_around view w call.around (applied view (width_inside call.around w) call.function call.argument s)
 
@@ -114,7 +114,7 @@ abbrev pub printed_result : Option Width → Evaluated → Progress
 printed_result w e = with_result w e.outcome e.state
 
 -- a part of a format that is printed
-unfoldable pub printed : View → Piece → Progress → Progress
+unfoldable pub printed : Viewed → Piece → Progress → Progress
 printed view (pieces.Character c) s = adding (c ∷ []) s
 printed view (pieces.Component w name) s =
     adding (printed_text w (value_of name view.message)) (with_text (value_of name view.message) s)
@@ -134,7 +134,7 @@ abbrev pub judged_result : Evaluated → Progress
 judged_result e = judged e.outcome e.state
 
 -- a test
-unfoldable pub tested : View → Test → Progress → Progress
+unfoldable pub tested : Viewed → Test → Progress → Progress
 tested view (tests.Component name) s = weighed (with_text (value_of name view.message) s)
 tested view (tests.Call call) s = judged_result (evaluated view None call s)
 
@@ -143,7 +143,7 @@ abbrev pub holds : Progress → Bool
 holds s = is_not_zero s.number
 
 -- a format: its parts in order; of a conditional, what counts where its test holds, or else what counts where it doesn't
-abbrev pub meaning : View → Format → Progress → Progress
+abbrev pub meaning : Viewed → Format → Progress → Progress
 meaning view Done s = s
 meaning view (Then piece f) s = meaning view f (printed view piece s)
 meaning view (Choice test taken other f) s =
@@ -151,9 +151,9 @@ meaning view (Choice test taken other f) s =
     meaning view f (if holds after then meaning view taken after else meaning view other after)
 
 -- all that a format writes, if nothing is cut
-abbrev pub written_by : View → ℕ → Format → List ℕ
+abbrev pub written_by : Viewed → ℕ → Format → List ℕ
 written_by view width f = (meaning view f (start_of width)).written
 
 -- the line of a format, in this width: the longest front that fits of what the format writes
-abbrev pub line_of : View → ℕ → Format → List ℕ
+abbrev pub line_of : Viewed → ℕ → Format → List ℕ
 line_of view width f = fit width (written_by view width f)

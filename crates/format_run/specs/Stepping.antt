@@ -15,7 +15,7 @@ use Rattle.format_run.specs.declared.answer.Answer.TheVariants as answers
 use Rattle.format_run.specs.declared.answer.Outcome.{Outcome}
 use Rattle.format_run.specs.declared.answer.Outcome.TheVariants as outcomes
 use Rattle.format_run.specs.declared.state.LineState.{LineState}
-use Rattle.format_run.specs.declared.view.View.{View}
+use Rattle.format_run.specs.Viewed.{Viewed}
 use Rattle.format_run.specs.Answers.{Seen, answer_of, is_empty}
 use Rattle.format_run.specs.Columns.{empty_line, free, with_more}
 use Rattle.format_run.specs.Decimals.{printed_number}
@@ -53,14 +53,14 @@ settled answers.PrintAll s = record { state = adding s.text s; outcome = outcome
 settled answers.Nothing s = record { state = s; outcome = outcomes.Nothing }
 
 -- the text is the value of an argument that is a component
-abbrev pub sourced : View → Argument → LineState → LineState
+abbrev pub sourced : Viewed → Argument → LineState → LineState
 sourced view Nothing s = s
 sourced view (Literal text) s = s
 sourced view (Number n) s = s
 sourced view (Component name) s = with_text (value_of name view.message) s
 
 -- the state in which a function of this argument answers
-abbrev pub given : View → Function → Argument → LineState → LineState
+abbrev pub given : Viewed → Function → Argument → LineState → LineState
 given view f a s = if takes_source (kind_of f) then sourced view a s else s
 
 -- what a function sees of a state
@@ -68,16 +68,16 @@ abbrev pub seen : LineState → Seen
 seen s = record { number = s.number; text = s.text; width = s.row.width; free = free s.row }
 
 -- a function of this argument
-unfoldable pub applied : View → Option Width → Function → Argument → LineState → Evaluated
+unfoldable pub applied : Viewed → Option Width → Function → Argument → LineState → Evaluated
 applied view w f a s = settled (answer_of view (seen (given view f a s)) w f a) (given view f a s)
 
 -- the functions around a call, from the inside on
-abbrev pub evaluated_around : View → Option Width → List Function → Evaluated → Evaluated
+abbrev pub evaluated_around : Viewed → Option Width → List Function → Evaluated → Evaluated
 evaluated_around view w [] e = e
 evaluated_around view w (f ∷ around) e = evaluated_around view w around (applied view (width_inside around w) f Nothing e.state)
 
 -- a call
-abbrev pub evaluated : View → Option Width → Call → LineState → Evaluated
+abbrev pub evaluated : Viewed → Option Width → Call → LineState → Evaluated
 evaluated view w call s =
     evaluated_around view w call.around (applied view (width_inside call.around w) call.function call.argument s)
 
@@ -91,7 +91,7 @@ abbrev pub printed_result : Option Width → Evaluated → LineState
 printed_result w e = with_result w e.outcome e.state
 
 -- a part of a format that is printed
-unfoldable pub printed : View → Piece → LineState → LineState
+unfoldable pub printed : Viewed → Piece → LineState → LineState
 printed view (pieces.Character c) s = adding (c ∷ []) s
 printed view (pieces.Component w name) s =
     adding (printed_text w (value_of name view.message)) (with_text (value_of name view.message) s)
@@ -111,7 +111,7 @@ abbrev pub judged_result : Evaluated → LineState
 judged_result e = judged e.outcome e.state
 
 -- a test
-unfoldable pub tested : View → Test → LineState → LineState
+unfoldable pub tested : Viewed → Test → LineState → LineState
 tested view (tests.Component name) s = weighed (with_text (value_of name view.message) s)
 tested view (tests.Call call) s = judged_result (evaluated view None call s)
 

@@ -1,8 +1,10 @@
 // The functions of formats.
-ghost use Rattle.std.specs.Prelude.{◌≡◌, length, pos, IfOk, IfSome};
+ghost use Rattle.std.specs.Prelude.{◌≡◌, ◌-ℤ◌, length, pos, IfOk, IfSome};
 ghost use Rattle.std.specs.Str.{encode_utf8_all};
-ghost use Rattle.mail_dates.specs.Clocks.{IsMailDate};
+ghost use Rattle.mail_dates.specs.Clocks.{clock_of, IsMailDate};
 ghost use Rattle.format_run.specs.Answers.{answer_of, date_of, literal_in, number_in, value_in};
+ghost use Rattle.format_run.specs.Dates.{date_number};
+ghost use Rattle.format_run.specs.Numbers.{held};
 ghost use Rattle.format_run.specs.Stepping.{seen};
 
 use crate::answer::Answer;
@@ -48,7 +50,7 @@ fn number(argument: &Argument) -> i64
 
 /// The value of an argument that is a component.
 fn value(alloc: Global, view: &View, argument: &Argument) -> Result<Text, AllocError>
-    ensures { IfOk result (λ text. text ≡ value_in view.entry.now argument.now) }
+    ensures { IfOk result (λ text. text ≡ value_in view.now argument.now) }
 {
     match argument {
         Argument::Component(name) => component_value(alloc, &view.message, name),
@@ -58,11 +60,19 @@ fn value(alloc: Global, view: &View, argument: &Argument) -> Result<Text, AllocE
 
 /// The date of an argument that is a component.
 fn date(alloc: Global, view: &View, argument: &Argument) -> Result<Option<MailDate>, AllocError>
-    ensures value { IfOk result (λ d. d ≡ date_of view.entry.now argument.now) }
+    ensures value { IfOk result (λ d. d ≡ date_of view.now argument.now) }
     ensures valid { IfOk result (λ d. IfSome d IsMailDate) }
 {
     let value = value(alloc, view, argument)?;
     Ok(MailDate::read(value.as_str().as_bytes()))
+}
+
+/// The seconds from the date of an argument to the moment of the view.
+fn age(alloc: Global, view: &View, argument: &Argument) -> Result<i64, AllocError>
+    ensures { IfOk result (λ n. n ≡ date_number (λ d. held (view.now.moment -ℤ clock_of d)) (date_of view.now argument.now)) }
+{
+    let date = date(alloc, view, argument)?;
+    Ok(dates::age(date, view.moment))
 }
 
 /// How many characters a text has.
@@ -82,7 +92,7 @@ pub(crate) fn answer(
     function: Function,
     argument: &Argument,
 ) -> Result<Answer, AllocError>
-    ensures { IfOk result (λ a. a ≡ answer_of view.entry.now (seen state.now) width function argument.now) }
+    ensures { IfOk result (λ a. a ≡ answer_of view.now (seen state.now) width function argument.now) }
 {
     match function {
         Function::Msg => Ok(Answer::Number(i64::from(view.number.get()))),
@@ -91,7 +101,7 @@ pub(crate) fn answer(
         Function::Unseen => Ok(Answer::Number(truth(view.unseen))),
         Function::Width => Ok(Answer::Number(i64::from(state.row.width()))),
         Function::Charleft => Ok(Answer::Number(i64::from(state.row.free()))),
-        Function::Timenow => Ok(Answer::Number(view.now)),
+        Function::Timenow => Ok(Answer::Number(view.moment)),
         Function::Me => Ok(Answer::Text(view.user.duplicate(alloc)?)),
         Function::Num => Ok(Answer::Number(number(argument))),
         Function::Lit => Ok(Answer::Text(literal(alloc, argument)?)),
@@ -156,10 +166,7 @@ pub(crate) fn answer(
             Ok(Answer::Text(dates::zone_shown(alloc, date)?))
         }
         Function::Clock => Ok(Answer::Number(dates::clock(date(alloc, view, argument)?))),
-        Function::Rclock => {
-            let date = date(alloc, view, argument)?;
-            Ok(Answer::Number(dates::age(date, view.now)))
-        }
+        Function::Rclock => Ok(Answer::Number(age(alloc, view, argument)?)),
         Function::Tws => {
             let date = date(alloc, view, argument)?;
             Ok(Answer::Text(dates::whole_text(alloc, date)?))

@@ -56,7 +56,7 @@ fn set_text(
     state: &mut LineState,
     name: &Text,
 ) -> Result<(), AllocError>
-    ensures { OnOk result (state.new ≡ with_text (value_of name.now view.entry.now.message) state.old) }
+    ensures { OnOk result (state.new ≡ with_text (value_of name.now view.now.message) state.old) }
 {
     state.text = component_value(alloc, &view.message, name)?;
     Ok(())
@@ -69,7 +69,7 @@ fn source(
     state: &mut LineState,
     argument: &Argument,
 ) -> Result<(), AllocError>
-    ensures { OnOk result (state.new ≡ sourced view.entry.now argument.now state.old) }
+    ensures { OnOk result (state.new ≡ sourced view.now argument.now state.old) }
 {
     match argument {
         Argument::Component(name) => set_text(alloc, view, state, name),
@@ -84,7 +84,7 @@ fn give(
     function: Function,
     argument: &Argument,
 ) -> Result<(), AllocError>
-    ensures { OnOk result (state.new ≡ given view.entry.now function argument.now state.old) }
+    ensures { OnOk result (state.new ≡ given view.now function argument.now state.old) }
 {
     if takes_source(function.kind()) {
         source(alloc, view, state, argument)
@@ -103,7 +103,7 @@ fn apply(
     function: Function,
     argument: &Argument,
 ) -> Result<Outcome, AllocError>
-    ensures { IfOk result (λ o. record { state = state.new; outcome = o } ≡ applied view.entry.now width function argument.now state.old) }
+    ensures { IfOk result (λ o. record { state = state.new; outcome = o } ≡ applied view.now width function argument.now state.old) }
 {
     give(alloc, view, state, function, argument)?;
     let answer = answer(alloc, view, state, width, function, argument)?;
@@ -126,7 +126,7 @@ fn evaluate_around(
     around: &[Function],
     inner: Outcome,
 ) -> Result<Outcome, AllocError>
-    ensures { IfOk result (λ o. record { state = state.new; outcome = o } ≡ evaluated_around view.entry.now width around.now (record { state = state.old; outcome = inner })) }
+    ensures { IfOk result (λ o. record { state = state.new; outcome = o } ≡ evaluated_around view.now width around.now (record { state = state.old; outcome = inner })) }
 {
     let mut outcome = inner;
     let mut rest = around;
@@ -145,7 +145,7 @@ fn evaluate(
     width: Option<Width>,
     call: &Call,
 ) -> Result<Outcome, AllocError>
-    ensures { IfOk result (λ o. record { state = state.new; outcome = o } ≡ evaluated view.entry.now width call.now state.old) }
+    ensures { IfOk result (λ o. record { state = state.new; outcome = o } ≡ evaluated view.now width call.now state.old) }
 {
     let around = call.around.as_slice();
     let inside = width_inside(around, width);
@@ -180,7 +180,7 @@ impl LineState {
     /// Prints a part of a format.
     #[tactic(auto, unfolding(crate::specs::Stepping::printed))]
     pub fn print(&mut self, alloc: Global, view: &View, piece: &Piece) -> Result<(), AllocError>
-        ensures { OnOk result (self.new ≡ printed view.entry.now piece.now self.old) }
+        ensures { OnOk result (self.new ≡ printed view.now piece.now self.old) }
     {
         match piece {
             Piece::Character(c) => self.print_character(*c),
@@ -198,7 +198,7 @@ impl LineState {
     /// Evaluates a test, which sets the number.
     #[tactic(auto, unfolding(crate::specs::Stepping::tested))]
     fn evaluate_test(&mut self, alloc: Global, view: &View, test: &Test) -> Result<(), AllocError>
-        ensures { OnOk result (self.new ≡ tested view.entry.now test.now self.old) }
+        ensures { OnOk result (self.new ≡ tested view.now test.now self.old) }
     {
         match test {
             Test::Component(name) => {
@@ -216,8 +216,8 @@ impl LineState {
 
     /// Evaluates a test, and says whether it holds: whether the number isn't 0 then.
     pub fn test(&mut self, alloc: Global, view: &View, test: &Test) -> Result<bool, AllocError>
-        ensures state { IfOk result (λ _. self.new ≡ tested view.entry.now test.now self.old) }
-        ensures answer { IfOk result (λ is. is ≡ holds (tested view.entry.now test.now self.old)) }
+        ensures state { IfOk result (λ _. self.new ≡ tested view.now test.now self.old) }
+        ensures answer { IfOk result (λ is. is ≡ holds (tested view.now test.now self.old)) }
     {
         self.evaluate_test(alloc, view, test)?;
         Ok(is_not_zero(self.number))

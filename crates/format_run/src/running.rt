@@ -1,11 +1,11 @@
-// Lines of formats. A view has a field `now` of its own, so that in clauses `view.entry.now` is the view.
+// Lines of formats. A view has a field `now` of its own, so that in clauses `view.now` is the view.
 ghost use Rattle.std.specs.Prelude.{◌≡◌, ◌≤◌, ◌∷◌, List, drop, IfOk, OnOk};
 ghost use Rattle.format_compiler.specs.Code.{IsCodeOf};
 ghost use Rattle.format_compiler.specs.Grammar.{Format};
 ghost use Rattle.format_compiler.specs.declared.instruction.Instruction.{Instruction as InstructionOf};
 ghost use Rattle.format_run.specs.Columns.{IsLongestFit, columns_of};
 ghost use Rattle.format_run.specs.Meaning.{line_of, written_by};
-ghost use Rattle.format_run.specs.Running.{run as run_of};
+ghost use Rattle.format_run.specs.Running.{line_by, run as run_of};
 
 use crate::View;
 use crate::state::LineState;
@@ -21,7 +21,7 @@ fn step(
     state: &mut LineState,
     instruction: &Instruction,
 ) -> Result<usize, AllocError>
-    ensures { IfOk result (λ skipped. (code : List InstructionOf) → run_of view.entry.now 0 (instruction.now ∷ code) state.old ≡ run_of view.entry.now skipped code state.new) }
+    ensures { IfOk result (λ skipped. (code : List InstructionOf) → run_of view.now 0 (instruction.now ∷ code) state.old ≡ run_of view.now skipped code state.new) }
 {
     match instruction {
         Instruction::Print(piece) => {
@@ -50,7 +50,7 @@ fn run(
     state: &mut LineState,
     code: &[Instruction],
 ) -> Result<(), AllocError>
-    ensures { OnOk result (state.new ≡ run_of view.entry.now 0 code.now state.old) }
+    ensures { OnOk result (state.new ≡ run_of view.now 0 code.now state.old) }
 {
     let mut rest = code;
     while let Some((instruction, following)) = rest.split_first() {
@@ -62,8 +62,9 @@ fn run(
 
 /// The line that a format gives for a message, in so many columns at most.
 pub fn line(alloc: Global, program: &Program, view: &View, width: u32) -> Result<Text, AllocError>
-    ensures meaning { (f : Format) → IsCodeOf program.now f → IfOk result (λ text. text ≡ line_of view.entry.now width f) }
-    ensures longest { (f : Format) → IsCodeOf program.now f → IfOk result (IsLongestFit width (written_by view.entry.now width f)) }
+    ensures meaning { (f : Format) → IsCodeOf program.now f → IfOk result (λ text. text ≡ line_of view.now width f) }
+    ensures longest { (f : Format) → IsCodeOf program.now f → IfOk result (IsLongestFit width (written_by view.now width f)) }
+    ensures run { IfOk result (λ text. text ≡ line_by view.now width program.now) }
     ensures within { IfOk result (λ text. columns_of text ≤ width) }
 {
     let mut state = LineState::new(alloc, width);

@@ -2,6 +2,7 @@
 
 use mail_headers::Message;
 use mh_base::{MsgNum, Text};
+use std::marker::Model;
 
 /// A message of a folder, and who looks at it when.
 #[derive(Drop)]
@@ -13,6 +14,14 @@ pub struct View<'a> {
     pub unseen: bool,
     pub message: Message<'a>,
     /// Seconds from 1970-01-01 00:00:00 UTC.
-    pub now: i64,
+    pub moment: i64,
     pub user: &'a Text,
+}
+
+impl<'a> Model for View<'a> {
+    ghost use Rattle.format_run.specs.Viewed.{Viewed};
+
+    ghost Value = { Viewed };
+
+    ghost view = { λ v. record { number = v.number; current = v.current; unseen = v.unseen; message = v.message; moment = v.moment; user = v.user.now } };
 }

@@ -18,7 +18,7 @@ fn view<'a>(view: &'a [Bytes], user: &'a Text) -> Result<View<'a>, Fail> {
         current: stands == b"current".as_slice(),
         unseen: stands == b"unseen".as_slice(),
         message: Message::cut(word(view, 4)?),
-        now: NOW,
+        moment: NOW,
         user,
     })
 }

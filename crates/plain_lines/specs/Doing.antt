@@ -2,11 +2,11 @@
 use Rattle.std.specs.Prelude.{if◌then◌else◌}
 use Rattle.format_compiler.specs.Grammar.{Format, Done, Then, Choice}
 use Rattle.format_run.specs.declared.state.LineState.{LineState}
-use Rattle.format_run.specs.declared.view.View.{View}
+use Rattle.format_run.specs.Viewed.{Viewed}
 use Rattle.format_run.specs.Stepping.{holds, printed, tested}
 
 -- the state behind a format
-abbrev pub done : View → Format → LineState → LineState
+abbrev pub done : Viewed → Format → LineState → LineState
 done view Done s = s
 done view (Then piece f) s = done view f (printed view piece s)
 done view (Choice test taken other f) s =

@@ -85,7 +85,7 @@ fn compare_messages(
             current: number.get() == 23,
             unseen: number.get() == 456,
             message: Message::cut(message),
-            now: 1_780_394_400,
+            moment: 1_780_394_400,
             user,
         };
         compare_lines(alloc, found, program, parts, &view)?;

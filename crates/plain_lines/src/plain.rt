@@ -17,7 +17,7 @@ fn print_part(
     state: &mut LineState,
     part: &Part,
 ) -> Result<(), AllocError>
-    ensures { OnOk result (state.new ≡ done view.entry.now (part_before part.now Done) state.old) }
+    ensures { OnOk result (state.new ≡ done view.now (part_before part.now Done) state.old) }
 {
     match part {
         Part::Print(piece) => state.print(alloc, view, piece),
@@ -38,7 +38,7 @@ fn print_parts(
     state: &mut LineState,
     parts: &[Part],
 ) -> Result<(), AllocError>
-    ensures { OnOk result (state.new ≡ done view.entry.now (format_of parts.now) state.old) }
+    ensures { OnOk result (state.new ≡ done view.now (format_of parts.now) state.old) }
 {
     for part in parts {
         print_part(alloc, view, state, part)?;
@@ -53,7 +53,7 @@ pub fn plain_line(
     view: &View,
     width: u32,
 ) -> Result<Text, AllocError>
-    ensures { IfOk result (λ text. text ≡ line_of view.entry.now width (format_of parts.now)) }
+    ensures { IfOk result (λ text. text ≡ line_of view.now width (format_of parts.now)) }
 {
     let mut state = LineState::new(alloc, width);
     print_parts(alloc, view, &mut state, parts)?;

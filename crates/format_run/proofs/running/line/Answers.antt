@@ -3,6 +3,7 @@ use Rattle.format_run.specs.declared.state.LineState.{LineState}
 use Rattle.format_run.specs.Columns.{IsLongestFit}
 use Rattle.format_run.specs.Meaning.{written_by}
 use Rattle.format_run.proofs.LongestLemmas.{longest_fit}
+use Rattle.format_run.specs.Running.{run}
 use Rattle.format_run.proofs.LineLemmas.{line_shown}
 use Rattle.format_run.proofs.WidthLemmas.{run_wide}
 use Rattle.format_run.proofs.running.line.Goals as goal
@@ -21,3 +22,9 @@ returns-clause-within c =
     let ran = ap (λ (s : LineState). s.row.width) c.in_ok-run.ensures in
     let start = ap (λ (s : LineState). s.row.width) c.new-state.ensures in
     omega (arith, c.into_text.ensures.within)
+
+pub returns-clause-run : goal.returns-clause-run
+returns-clause-run c =
+    c.into_text.ensures.value
+    ∙ ap (λ (s : LineState). s.row.characters)
+    (c.in_ok-run.ensures ∙ ap (λ code. run c.args.view.now 0 code c.new-state.result) c.instructions.ensures ∙ ap (run c.args.view.now 0 c.args.program.now) c.new-state.ensures)
