@@ -57,7 +57,7 @@ def stored():
 
 def told(out):
     """The numbers and subjects of the lines that were written whole."""
-    return re.findall(r"^ *(\d+) (message \d+)$", out, re.M)
+    return re.findall(r"^ *(\d+)[ +] .{25}(message \d+)<<.*$", out, re.M)
 
 
 def calls():
@@ -74,7 +74,7 @@ def calls():
     at = lambda words: [k for k, it in enumerate(lines) if all(word in it for word in words)]
     links = [at(["link(", f"/{n}\")"]) for n in (1, 2, 3)]
     syncs = [k for k in at(["sync("]) if f"<{os.path.realpath(INBOX)}>" in lines[k]]
-    writes = [k for k in at(["write(1<"]) if "message " in lines[k]]
+    writes = [k for k in at(["write(1<"]) if "@many" in lines[k]]
     cuts = at(["truncate"])
     every_sync = at(["sync("])
     check("a link for each message", all(len(it) == 1 for it in links))
@@ -96,8 +96,9 @@ def deaths(times=50, count=50):
     random.seed(1)
     fill(count)
     start = time.monotonic()
-    inc()
+    undisturbed = inc()
     whole = time.monotonic() - start
+    check("a line for each message of an undisturbed inc", len(told(undisturbed.stdout)) == count)
     midst = 0
     for k in range(times):
         fill(count)

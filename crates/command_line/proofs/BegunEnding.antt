@@ -47,7 +47,7 @@ use Rattle.mark_command.proofs.MarkSays.{changes_say}
 use Rattle.mark_command.proofs.ListingSays.{listing_says}
 use Rattle.inc_command.specs.Inc.{inc}
 use Rattle.inc_command.specs.IncAnswers.{ShowsInc, ShowsIncorporating}
-use Rattle.inc_command.specs.declared.job.IncJob.{IncJob}
+use Rattle.inc_command.specs.IncJob.{IncJob}
 use Rattle.refile_command.specs.Rmm.{rmm}
 use Rattle.refile_command.specs.RmmAnswers.{HasRemovedChosen, rmm_answers}
 use Rattle.refile_command.proofs.RmmEnds.{rmm_ends}
@@ -69,37 +69,42 @@ use Rattle.command_words.specs.declared.ended.Ended.{Ended}
 use Rattle.command_words.specs.declared.inc.IncWords.{IncWords}
 use Rattle.command_words.specs.declared.mark.MarkWords.{MarkWords}
 use Rattle.command_words.specs.declared.rmm.RmmWords.{RmmWords}
-use Rattle.command_line.specs.BegunCauses.{ShowsEarly, ShowsFault, TakesInBy, TellsOnFolder, ShowsIncJob, ShowsMark, ShowsMarking, ShowsNamed, ShowsOnFolder, ShowsRemoving, ShowsRmm, long_context, long_profile, wrong_folder, wrong_name, wrong_stored, wrong_word}
+use Rattle.command_line.specs.BegunCauses.{ShowsEarly, ShowsFault, TakesInBy, TellsOnFolder, ShowsIncJob, ShowsMark, ShowsMarking, ShowsNamed, ShowsOnFolder, ShowsRemoving, ShowsRmm, long_context, long_profile, wrong_folder, wrong_name, wrong_stored, wrong_word, wide_format, wrong_format}
 use Rattle.command_line.specs.Causes.{ShowsCommandFault}
 use Rattle.command_line.specs.Command.{command, command_by, context_entered, folder_found, inc_begun, inc_by, mark_begun, mark_by, mark_job, rmm_begun, rmm_by, rmm_job, word_by}
 use Rattle.command_line.specs.CommandNames.{shows_ends, command_of, named}
 use Rattle.command_line.specs.CommandPledge.{entries_by, text_of}
-use Rattle.command_line.specs.Incorporating.{job_by, job_on, job_with, plain_job}
+use Rattle.format_compiler.specs.Grammar.{Format}
+use Rattle.message_lines.specs.Finding.{format_named}
+use Rattle.command_words.specs.LookWords.{unless_wide, wrong_widths}
+use Rattle.command_line.specs.Incorporating.{job_by, job_looked, job_on, job_with, plain_job}
+use Rattle.command_line.proofs.FormatRefuses.{format_refuses, IsFormatRefusal}
 use Rattle.command_line.specs.Profile.{folder_of, path_of, profile_name, stored_of}
 use Rattle.command_line.specs.declared.name.CommandName.{CommandName}
 use Rattle.command_line.specs.declared.name.CommandName.TheVariants.{Inc, Mark, Refile, Rmm, Scan}
+use Rattle.command_line.specs.declared.caller.Caller.{Caller}
 use Rattle.command_line.proofs.Ending.{scan_shows}
 use Rattle.command_line.proofs.IncEnding.{TakesIn, ToldSo, inc_comes}
 use Rattle.command_line.proofs.BegunParts.{Behind, Enters, Found, after_context, after_profile, behind_kept, clean_there, ended_more, entered_comes, entered_silent, found_comes, found_silent, in_silence, long_first, none_lasts, none_made, none_put, none_taken, none_told, numbered_there, profile_silent, told_comes, Tells}
 
-module _ (run : ℕ) (few : run < 2 ^ 128) (user : List ℕ) (words_ : List (List ℕ)) where
+module _ (run : ℕ) (few : run < 2 ^ 128) (caller : Caller) (words_ : List (List ℕ)) where
   abbrev Shows : CommandFault → List Deed → Type 0
-  Shows e own = ShowsFault run user words_ e own
+  Shows e own = ShowsFault run caller words_ e own
 
   -- what it may say
   abbrev Spoken : List ℕ → List Deed → Type 0
-  Spoken text own = TellsOnFolder run user words_ text own
+  Spoken text own = TellsOnFolder run caller words_ text own
 
   abbrev pub Speech : Rules
   Speech = speaking Spoken
 
   -- how the command ends
   abbrev pub EndsBy : List runs.Deed → Hand → Result Unit Ended → Type 0
-  EndsBy past h (Ok u) = ShowsOnFolder run user words_ (Ok (said_of past)) (acts past)
+  EndsBy past h (Ok u) = ShowsOnFolder run caller words_ (Ok (said_of past)) (acts past)
   EndsBy past h (Err x) = IsEndedBy Shows x.fault (acts past)
 
   abbrev Plainly : List runs.Deed → Hand → Result Unit CommandFault → Type 0
-  Plainly past h (Ok u) = ShowsOnFolder run user words_ (Ok (said_of past)) (acts past)
+  Plainly past h (Ok u) = ShowsOnFolder run caller words_ (Ok (said_of past)) (acts past)
   Plainly past h (Err e) = IsEndedBy Shows e (acts past)
 
   -- an end before the command came to a folder
@@ -107,6 +112,8 @@ module _ (run : ℕ) (few : run < 2 ^ 128) (user : List ℕ) (words_ : List (Lis
   early _ own (wrong_word f) clean = at_once (inl (wrong_word f)) clean
   early _ own (wrong_folder f) clean = at_once (inl (wrong_folder f)) clean
   early _ own (wrong_name f) clean = at_once (inl (wrong_name f)) clean
+  early _ own (wrong_format f) clean = at_once (inl (wrong_format f)) clean
+  early _ own (wide_format f) clean = at_once (inl (wide_format f)) clean
   early _ own (wrong_stored f) clean = at_once (inl (wrong_stored f)) clean
   early _ _ long_profile clean = at_once (inl long_profile) clean
   early _ _ long_context clean = at_once (inl long_context) clean
@@ -156,17 +163,17 @@ module _ (run : ℕ) (few : run < 2 ^ 128) (user : List ℕ) (words_ : List (Lis
 
     -- the command on it
     pub on_folder : (word : List ℕ) (rest : List (List ℕ)) → words_ ≡ word ∷ rest → (b : Answer) (folder : List ℕ) (r : Result (List ℕ) CommandFault) (own : List Deed) → Behind a b own
-        → ShowsNamed run user profile (entries_by b) folder r own rest (named word) → ShowsOnFolder run user words_ r own
+        → ShowsNamed run caller profile (entries_by b) folder r own rest (named word) → ShowsOnFolder run caller words_ r own
     on_folder word rest is b folder r own f s = record { profile = a; context = b; folder = folder; newer = f.0; begun = f.1; shows = rw is s }
 
     module _ (word : List ℕ) (rest : List (List ℕ)) (is_words : words_ ≡ word ∷ rest) where
       -- `mark`
       module _ (name : named word ≡ Some Mark) (words : MarkWords) (said : mark_said profile (map chars rest) ≡ Ok words) where
         mark_on : (b : Answer) (folder : List ℕ) → folder_of words.folder (entries_by b) profile ≡ Ok folder → (r : Result (List ℕ) CommandFault) (own : List Deed)
-            → Behind a b own × ShowsMarking run path (mark_job folder words profile) (entries_by b) r own words.act → ShowsOnFolder run user words_ r own
+            → Behind a b own × ShowsMarking run path (mark_job folder words profile) (entries_by b) r own words.act → ShowsOnFolder run caller words_ r own
         mark_on b folder there r own s =
             on_folder word rest is_words b folder r own s.0
-            (subst (λ n. ShowsNamed run user profile (entries_by b) folder r own rest n) (sym name)
+            (subst (λ n. ShowsNamed run caller profile (entries_by b) folder r own rest n) (sym name)
             (subst (λ m. ShowsMark run profile (entries_by b) folder r own m) (sym said) (there, s.1)))
 
         module _ (past : List runs.Deed) (j : Hand) (folder : List ℕ) (b : Answer) (is : acts past ≡ after_context path a b) (first : j ≡ knowing (entries_by b) fresh) (there : folder_of words.folder (entries_by b) profile ≡ Ok folder) (clean : NoneFailed (acts past)) (silent : said_of past ≡ []) where
@@ -194,7 +201,7 @@ module _ (run : ℕ) (few : run < 2 ^ 128) (user : List ℕ) (words_ : List (Lis
               Both : List runs.Deed → Hand → Result Unit CommandFault → Type 0
               Both later i r = Says later i r × EndsSo run few path folder (mark_answers job act) (Behind a b) (λ own. Unit {0}) later i r
 
-              tells : (text : List ℕ) (own : List Deed) → T text own → ShowsOnFolder run user words_ (Ok text) own
+              tells : (text : List ℕ) (own : List Deed) → T text own → ShowsOnFolder run caller words_ (Ok text) own
               tells text own t = mark_on b folder there (Ok text) own (t.0, subst (λ z. ShowsMarking run path job (entries_by b) (Ok text) own z) (sym is_act) t.1)
 
               more : (later : List runs.Deed) (i : Hand) (r : Result Unit CommandFault) → Both later i r → Plainly later i r
@@ -223,7 +230,7 @@ module _ (run : ℕ) (few : run < 2 ^ 128) (user : List ℕ) (words_ : List (Lis
               Says : List runs.Deed → Hand → Result Unit CommandFault → Type 0
               Says later i r = IfOkay (λ last k u. T (said_of last) (acts last)) later i r
 
-              tells : (text : List ℕ) (own : List Deed) → T text own → ShowsOnFolder run user words_ (Ok text) own
+              tells : (text : List ℕ) (own : List Deed) → T text own → ShowsOnFolder run caller words_ (Ok text) own
               tells text own t =
                   mark_on b folder there (Ok text) own
                   (t.0, subst (λ z. ShowsMarking run path job (entries_by b) (Ok text) own z) (sym is_act) (subst (λ i. TellsMarks path job (entries_seen i.context) text own) first t.1))
@@ -266,10 +273,10 @@ module _ (run : ℕ) (few : run < 2 ^ 128) (user : List ℕ) (words_ : List (Lis
       -- `rmm`
       module _ (name : named word ≡ Some Rmm) (words : RmmWords) (said : rmm_said profile (map chars rest) ≡ Ok words) where
         rmm_on : (b : Answer) (folder : List ℕ) → folder_of words.folder (entries_by b) profile ≡ Ok folder → (r : Result (List ℕ) CommandFault) (own : List Deed)
-            → Behind a b own × ShowsRemoving run path (rmm_job folder words profile) r own → ShowsOnFolder run user words_ r own
+            → Behind a b own × ShowsRemoving run path (rmm_job folder words profile) r own → ShowsOnFolder run caller words_ r own
         rmm_on b folder there r own s =
             on_folder word rest is_words b folder r own s.0
-            (subst (λ n. ShowsNamed run user profile (entries_by b) folder r own rest n) (sym name)
+            (subst (λ n. ShowsNamed run caller profile (entries_by b) folder r own rest n) (sym name)
             (subst (λ m. ShowsRmm run profile (entries_by b) folder r own m) (sym said) (there, s.1)))
 
         module _ (past : List runs.Deed) (j : Hand) (folder : List ℕ) (b : Answer) (is : acts past ≡ after_context path a b) (first : j ≡ knowing (entries_by b) fresh) (there : folder_of words.folder (entries_by b) profile ≡ Ok folder) (clean : NoneFailed (acts past)) (silent : said_of past ≡ []) where
@@ -312,11 +319,11 @@ module _ (run : ℕ) (few : run < 2 ^ 128) (user : List ℕ) (words_ : List (Lis
             go later j (Err e) q = stops_plainly later j e q.0 (early e (acts later) q.1.1 q.1.0)
 
       -- `inc`
-      module _ (name : named word ≡ Some Inc) (job : IncJob) (said : job_by user profile (inc_said profile (map chars rest)) ≡ Ok job) where
-        inc_on : (b : Answer) (r : Result (List ℕ) CommandFault) (own : List Deed) → Behind a b own × ShowsIncorporating run path job r own → ShowsOnFolder run user words_ r own
+      module _ (name : named word ≡ Some Inc) (job : IncJob) (said : job_by caller profile (inc_said profile (map chars rest)) ≡ Ok job) where
+        inc_on : (b : Answer) (r : Result (List ℕ) CommandFault) (own : List Deed) → Behind a b own × ShowsIncorporating run path job r own → ShowsOnFolder run caller words_ r own
         inc_on b r own s =
             on_folder word rest is_words b job.folder r own s.0
-            (subst (λ n. ShowsNamed run user profile (entries_by b) job.folder r own rest n) (sym name) (subst (λ j. ShowsIncJob run profile job.folder r own j) (sym said) (refl, s.1)))
+            (subst (λ n. ShowsNamed run caller profile (entries_by b) job.folder r own rest n) (sym name) (subst (λ j. ShowsIncJob run profile job.folder r own j) (sym said) (refl, s.1)))
 
         module _ (past : List runs.Deed) (j : Hand) (b : Answer) (is : acts past ≡ after_context path a b) (first : j ≡ knowing (entries_by b) fresh) (clean : NoneFailed (acts past)) (silent : said_of past ≡ []) where
           taken_in : Keeps Speech past j (inc run path job) Plainly
@@ -326,7 +333,7 @@ module _ (run : ℕ) (few : run < 2 ^ 128) (user : List ℕ) (words_ : List (Lis
             where
               tells : (text : List ℕ) (own : List Deed) → ToldSo run few a job b text own → Spoken text own
               tells text own t =
-                  inr (record { profile = a; context = b; newer = t.0.0; begun = t.0.1; job = job; by_words = subst (λ ws. TakesInBy user profile ws job) (sym is_words) (name, said); told = t.1 })
+                  inr (record { profile = a; context = b; newer = t.0.0; begun = t.0.1; job = job; by_words = subst (λ ws. TakesInBy caller profile ws job) (sym is_words) (name, said); told = t.1 })
 
               more : (later : List runs.Deed) (i : Hand) (r : Result Unit CommandFault) → TakesIn run few a job b later i r → Plainly later i r
               more later i (Ok u) q = inc_on b (Ok (said_of later)) (acts later) (q.0.0, (q.1.1, q.0.1))
@@ -430,34 +437,42 @@ module _ (run : ℕ) (few : run < 2 ^ 128) (user : List ℕ) (words_ : List (Lis
       alone_shown words items (Err w) = wrong w None
 
       said_shown : (words : List (List ℕ)) (r : Result (List Item) Wrong) → IncShown (inc_words.items_said words r)
-      said_shown words (Ok items) = alone_shown words items (inc_words.folder_alone items)
+      said_shown words (Ok items) = alone_shown words items (unless_wide (wrong_widths items) (inc_words.folder_alone items))
       said_shown words (Err w) = wrong w None
 
-      job_shown : (words : IncWords) (unseen : List (List ℕ)) (stored : List ℕ) (said : Option (List ℕ)) → IncShown (plain_job (job_on user profile words unseen (folder_of said [] profile)))
-      job_shown words unseen stored (Some name) = tt
+      by_format : (e : CommandFault) → IsFormatRefusal e → IsEndedBy Shows e (acts past)
+      by_format e (inl r) = subst (λ z. IsEndedBy Shows z (acts past)) (sym r.1) (at_once (inl (wrong_format (a, is))) clean)
+      by_format e (inr r) = subst (λ z. IsEndedBy Shows z (acts past)) (sym r.1) (at_once (inl (wide_format (a, is))) clean)
+
+      format_shown : (words : IncWords) (unseen : List (List ℕ)) (folder : List ℕ) (r : Result Format CommandFault) → format_named words.look.format ≡ r → IncShown (plain_job (job_looked caller profile words unseen folder r))
+      format_shown words unseen folder (Ok f) same = tt
+      format_shown words unseen folder (Err e) same = by_format e (format_refuses words.look.format (Err e) e same refl)
+
+      job_shown : (words : IncWords) (unseen : List (List ℕ)) (stored : List ℕ) (said : Option (List ℕ)) → IncShown (plain_job (job_on caller profile words unseen (folder_of said [] profile)))
+      job_shown words unseen stored (Some name) = format_shown words unseen name (format_named words.look.format) refl
       job_shown words unseen stored None = go (is_folder_name (without_plus (stored_of [] profile)))
         where
-          go : (c : Bool) → IncShown (plain_job (job_on user profile words unseen (if c then Ok (without_plus (stored_of [] profile)) else Err (fault.Refused (refusal.BadFolder (stored_of [] profile))))))
-          go true = tt
+          go : (c : Bool) → IncShown (plain_job (job_on caller profile words unseen (if c then Ok (without_plus (stored_of [] profile)) else Err (fault.Refused (refusal.BadFolder (stored_of [] profile))))))
+          go true = format_shown words unseen (without_plus (stored_of [] profile)) (format_named words.look.format) refl
           go false = at_once (inl (wrong_folder (a, is))) clean
 
-      unseen_shown : (words : IncWords) (names wrongs : List (List ℕ)) → IncShown (plain_job (job_with user profile words (unless_wrong names wrongs)))
+      unseen_shown : (words : IncWords) (names wrongs : List (List ℕ)) → IncShown (plain_job (job_with caller profile words (unless_wrong names wrongs)))
       unseen_shown words names [] = job_shown words names [] words.folder
       unseen_shown words names (word ∷ wrongs) = at_once (inl (wrong_name (a, is))) clean
 
-      by_said : (r : Result IncWords Ended) → IncShown r → IncShown (job_by user profile r)
+      by_said : (r : Result IncWords Ended) → IncShown r → IncShown (job_by caller profile r)
       by_said (Ok words) f = unseen_shown words _ _
       by_said (Err x) f = f
 
-      inc_refused : (words : List (List ℕ)) (x : Ended) → job_by user profile (inc_said profile words) ≡ Err x → IsEndedBy Shows x.fault (acts past)
+      inc_refused : (words : List (List ℕ)) (x : Ended) → job_by caller profile (inc_said profile words) ≡ Err x → IsEndedBy Shows x.fault (acts past)
       inc_refused words x e =
           subst IncShown e (by_said (inc_said profile words) (said_shown (profile_words (codes "inc") profile ++ words) (read_in inc_table 0 (profile_words (codes "inc") profile ++ words))))
 
-      by_word : (word : List ℕ) (rest : List (List ℕ)) → words_ ≡ word ∷ rest → (n : Option CommandName) → named word ≡ n → shows_ends n ≡ true → Keeps Speech past fresh (word_by run user profile word rest n) EndsBy
+      by_word : (word : List ℕ) (rest : List (List ℕ)) → words_ ≡ word ∷ rest → (n : Option CommandName) → named word ≡ n → shows_ends n ≡ true → Keeps Speech past fresh (word_by run caller profile word rest n) EndsBy
       by_word word rest is_words None name begins = cc (begins)
-      by_word word rest is_words (Some Inc) name begins = go (job_by user profile (inc_said profile (map chars rest))) refl
+      by_word word rest is_words (Some Inc) name begins = go (job_by caller profile (inc_said profile (map chars rest))) refl
         where
-          go : (r : Result IncJob Ended) → job_by user profile (inc_said profile (map chars rest)) ≡ r → Keeps Speech past fresh (inc_by run profile r) EndsBy
+          go : (r : Result IncJob Ended) → job_by caller profile (inc_said profile (map chars rest)) ≡ r → Keeps Speech past fresh (inc_by run profile r) EndsBy
           go (Ok job) said = plain_keeps past fresh (inc_begun run path job) (inc_begun_keeps word rest is_words name job said past is clean silent)
           go (Err x) said = stops past fresh x silent (inc_refused (map chars rest) x said)
       by_word word rest is_words (Some Scan) name begins = cc (begins)
@@ -473,7 +488,7 @@ module _ (run : ℕ) (few : run < 2 ^ 128) (user : List ℕ) (words_ : List (Lis
           go (Ok words) said = plain_keeps past fresh (rmm_begun run profile words) (rmm_begun_keeps word rest is_words name words said past is clean silent)
           go (Err x) said = stops past fresh x silent (rmm_refused (map chars rest) x said)
 
-      by_words : (words : List (List ℕ)) → words_ ≡ words → shows_ends (command_of words) ≡ true → Keeps Speech past fresh (command_by run user profile words) EndsBy
+      by_words : (words : List (List ℕ)) → words_ ≡ words → shows_ends (command_of words) ≡ true → Keeps Speech past fresh (command_by run caller profile words) EndsBy
       by_words [] is_words begins = cc (begins)
       by_words (word ∷ rest) is_words begins = by_word word rest is_words (named word) refl begins
 
@@ -487,10 +502,10 @@ module _ (run : ℕ) (few : run < 2 ^ 128) (user : List ℕ) (words_ : List (Lis
       comes_lifted [] fresh plain (text_read Home profile_name) (Tells Home profile_name [] fresh) Profile (told_comes Home profile_name [] fresh) (λ later j text q. q) (λ later j e q. long_first later q.0 e q.1 q.2)
 
   -- a command whose words name one that begins folders: how it ends, and what shows it
-  pub begun_ends_by : shows_ends (command_of words_) ≡ true → Keeps Speech [] fresh (command run user words_) EndsBy
+  pub begun_ends_by : shows_ends (command_of words_) ≡ true → Keeps Speech [] fresh (command run caller words_) EndsBy
   unfolding command ◌>>=◌
   begun_ends_by begins =
-      keeps_bind Speech [] fresh (lifted plain (text_read Home profile_name)) (after (λ text. command_by run user (entries_in text) words_)) _ EndsBy
+      keeps_bind Speech [] fresh (lifted plain (text_read Home profile_name)) (after (λ text. command_by run caller (entries_in text) words_)) _ EndsBy
       (in_silence Spoken [] fresh (lifted plain (text_read Home profile_name)) (OfActs Reads) refl (profile_silent [] fresh)
       (comes_keeps [] [] fresh (lifted plain (text_read Home profile_name)) Reads refl (comes_clean [] fresh (lifted plain (text_read Home profile_name)) Profile (λ m. m) profile_comes)))
       go
@@ -498,17 +513,17 @@ module _ (run : ℕ) (few : run < 2 ^ 128) (user : List ℕ) (words_ : List (Lis
       Reads : Outcome (Result (List ℕ) Ended)
       Reads later j r = NoneFailed later × Profile later j r
 
-      go : (later : List runs.Deed) (j : Hand) (r : Result (List ℕ) Ended) → (said_of later ≡ []) × OfActs Reads later j r → Keeps Speech later j (after (λ text. command_by run user (entries_in text) words_) r) EndsBy
+      go : (later : List runs.Deed) (j : Hand) (r : Result (List ℕ) Ended) → (said_of later ≡ []) × OfActs Reads later j r → Keeps Speech later j (after (λ text. command_by run caller (entries_in text) words_) r) EndsBy
       go later j (Ok text) q =
-          subst (λ i. Keeps Speech later i (command_by run user (entries_in text) words_) EndsBy) (sym q.1.1.2)
-          (subst (λ t. Keeps Speech later fresh (command_by run user (entries_in t) words_) EndsBy) (sym q.1.1.3) (by_words q.1.1.0 later q.1.1.1 q.1.0 q.0 words_ refl begins))
+          subst (λ i. Keeps Speech later i (command_by run caller (entries_in text) words_) EndsBy) (sym q.1.1.2)
+          (subst (λ t. Keeps Speech later fresh (command_by run caller (entries_in t) words_) EndsBy) (sym q.1.1.3) (by_words q.1.1.0 later q.1.1.1 q.1.0 q.0 words_ refl begins))
       go later j (Err x) q = stops later j x q.0 (early x.fault (acts later) q.1.1 q.1.0)
 
   -- so does each run of it
-  pub run_ends_by : shows_ends (command_of words_) ≡ true → (ds : List runs.Deed) (j : Hand) (r : Result Unit Ended) → Runs (command run user words_) fresh ds j (Returned r) → EndsBy ds j r
-  run_ends_by begins ds j r f = (run_keeps Speech [] fresh (command run user words_) ds j (Returned r) EndsBy (begun_ends_by begins) f).gave
+  pub run_ends_by : shows_ends (command_of words_) ≡ true → (ds : List runs.Deed) (j : Hand) (r : Result Unit Ended) → Runs (command run caller words_) fresh ds j (Returned r) → EndsBy ds j r
+  run_ends_by begins ds j r f = (run_keeps Speech [] fresh (command run caller words_) ds j (Returned r) EndsBy (begun_ends_by begins) f).gave
 
   -- and what it says however it ends
-  pub run_tells : shows_ends (command_of words_) ≡ true → (ds : List runs.Deed) (j : Hand) (x : Exit (Result Unit Ended)) → Runs (command run user words_) fresh ds j x
+  pub run_tells : shows_ends (command_of words_) ≡ true → (ds : List runs.Deed) (j : Hand) (x : Exit (Result Unit Ended)) → Runs (command run caller words_) fresh ds j x
       → IsToldBy Spoken (said_of ds) (acts ds) × (x ≡ OutFailed → (text : List ℕ) × Spoken text (acts ds) × (text ≢ []))
-  run_tells begins ds j x f = run_speaks Spoken (command run user words_) fresh ds j x EndsBy (begun_ends_by begins) f
+  run_tells begins ds j x f = run_speaks Spoken (command run caller words_) fresh ds j x EndsBy (begun_ends_by begins) f

@@ -1,5 +1,5 @@
 -- How a command ends, and what shows it.
-use Rattle.std.proofs.Common.{◌≡◌, ◌++◌, inl, inr, ◌^◌, ◌∷◌, [], ℕ, Bool, true, false, List, Option, Some, None, Result, Ok, Err, nat_lt, refl, subst}
+use Rattle.std.proofs.Common.{◌≡◌, ◌++◌, inl, inr, ◌^◌, ◌∷◌, [], ℕ, Bool, true, false, List, Option, Some, None, Result, Ok, Err, nat_lt, refl, sym, subst}
 use Rattle.std.specs.Prelude.{codes, map, if◌then◌else◌}
 use Rattle.std.specs.Str.{chars}
 use Rattle.mh_base.specs.Folders.{is_folder_name, without_plus}
@@ -39,6 +39,12 @@ use Rattle.command_line.specs.CommandNames.{begins_folders, command_of, named}
 use Rattle.command_line.specs.Profile.{folder_of, path_of, profile_name, stored_of}
 use Rattle.command_line.specs.declared.name.CommandName.{CommandName}
 use Rattle.command_line.specs.declared.name.CommandName.TheVariants.{Inc, Mark, Refile, Rmm, Scan}
+use Rattle.format_compiler.specs.Grammar.{Format}
+use Rattle.message_lines.specs.Finding.{format_named}
+use Rattle.command_words.specs.LookWords.{unless_wide, wrong_widths}
+use Rattle.command_line.specs.Looking.{asked_by, ScanAsked, scan_asked, spoken_by}
+use Rattle.command_line.specs.declared.caller.Caller.{Caller}
+use Rattle.command_line.proofs.FormatRefuses.{format_refuses, IsFormatRefusal}
 use Rattle.command_words.specs.Ended.{plain, wrong_word}
 use Rattle.command_words.specs.FolderWords.{one_folder, folders}
 use Rattle.command_words.specs.ScanWords.{with_folder, folder_said, words_of, items_said}
@@ -54,8 +60,8 @@ scan_shows run mail folder _ _ (bad_spec {names = names} {a = a} {older = older}
 scan_shows run mail folder _ _ (absent {names = names} {a = a} {older = older}) = (mail, folder, names, a, older, refl)
 scan_shows run mail folder _ _ (empty_range {names = names} {a = a} {older = older}) = (mail, folder, names, a, older, refl)
 scan_shows run mail folder _ _ (empty_sequence {names = names} {a = a} {older = older}) = (mail, folder, names, a, older, refl)
-scan_shows run mail folder _ _ (long_file {place = place} {name = name} {older = older}) = (refl, inl (place, name, (older, refl)))
-scan_shows run mail folder _ _ (long_text is) = (refl, inr (mail, folder, is))
+scan_shows run mail folder _ _ (long_file {place = place} {name = name} {older = older}) = inl (refl, inl (place, name, (older, refl)))
+scan_shows run mail folder _ _ (long_text is) = inl (refl, inr (mail, folder, is))
 scan_shows run mail folder _ _ (held is) = (mail, refl, is)
 scan_shows run mail folder _ _ (meddled is) = is
 
@@ -95,7 +101,7 @@ module _ (run : ℕ) where
   CommandEnds later j (Err e) = ShowsCommandFault run e.fault later
 
   long_shows : (p : Place) (x : List ℕ) (own later : List Deed) (l : ℕ) (e : CommandFault) → e ≡ too_large l → later ≡ did (step.Read p x LIMIT_BYTES) (answer.Long l) ∷ own → ShowsCommandFault run e later
-  long_shows p x own later l e is at = rw (is, at) (refl, inl (p, x, (own, refl)))
+  long_shows p x own later l e is at = rw (is, at) (inl (refl, inl (p, x, (own, refl))))
 
   -- the context is read
   abbrev EnterEnds : List ℕ → Answer → Outcome (Result Unit CommandFault)
@@ -141,7 +147,7 @@ module _ (run : ℕ) where
       (λ later j u q. comes_at later (after_context (path_of profile) a q.0) j j _ (NamedEnds (path_of profile) a) q.1 refl (folder_comes profile said a q.0 j q.2)) (λ later j e q. q)
 
   -- `scan` on it
-  scanned_comes : (profile : List NamedValue) (words : ScanWords) (a b : Answer) (j : Hand) → j.next ≡ 0 → (folder : List ℕ) → Comes (after_context (path_of profile) a b) j (scan run (path_of profile) (job_of folder words profile)) Faults
+  scanned_comes : (profile : List NamedValue) (words : ScanAsked) (a b : Answer) (j : Hand) → j.next ≡ 0 → (folder : List ℕ) → Comes (after_context (path_of profile) a b) j (scan run (path_of profile) (job_of folder words profile)) Faults
   scanned_comes profile words a b j first folder =
       comes_more own j (scan run (path_of profile) (job_of folder words profile)) (ScanEnds run (path_of profile) (job_of folder words profile) j numbered) Faults shows
       (scan_comes run (path_of profile) (job_of folder words profile) j numbered own (λ z. none_made (Mail (path_of profile)) (temp_name run j.next) (path_of profile) a b z))
@@ -156,47 +162,57 @@ module _ (run : ℕ) where
       shows later i (Ok u) q = tt
       shows later i (Err e) q = scan_shows run (path_of profile) folder e later q
 
-  scan_begun_comes : (profile : List NamedValue) (words : ScanWords) (a : Answer) → Comes (after_profile a) fresh (scan_begun run profile words) Faults
+  scan_begun_comes : (profile : List NamedValue) (words : ScanAsked) (a : Answer) → Comes (after_profile a) fresh (scan_begun run profile words) Faults
   unfolding scan_begun
   scan_begun_comes profile words a =
       comes_then (after_profile a) fresh (folder_found profile words.folder) (λ folder. scan run (path_of profile) (job_of folder words profile)) (NamedEnds (path_of profile) a) Faults (named_comes profile words.folder a)
       (λ later j folder q. comes_at later (after_context (path_of profile) a q.0) j j _ Faults q.1 refl (scanned_comes profile words a q.0 j q.2 folder)) (λ later j e q. q)
 
   -- the words
-  module _ (profile : List NamedValue) (a : Answer) where
+  module _ (profile : List NamedValue) (a : Answer) (caller : Caller) where
     abbrev own : List Deed
     own = after_profile a
 
     refused : (wrong : Wrong) (word : Option (List ℕ)) → Comes own fresh (Return (Err (wrong_word wrong word))) CommandEnds
     refused wrong word = comes_to own fresh (Err (wrong_word wrong word)) CommandEnds (a, refl)
 
-    begun : (words : ScanWords) → Comes own fresh (scan_by run profile (Ok words)) CommandEnds
-    begun words = comes_lifted own fresh plain (scan_begun run profile words) Faults CommandEnds (scan_begun_comes profile words a) (λ later j u q. tt) (λ later j e q. q)
+    by_format : (e : CommandFault) → IsFormatRefusal e → ShowsCommandFault run e own
+    by_format e (inl r) = subst (λ z. ShowsCommandFault run z own) (sym r.1) (a, refl)
+    by_format e (inr r) = subst (λ z. ShowsCommandFault run z own) (sym r.1) (inr (refl, (a, refl)))
 
-    with_word : (items : List Item) (word : List ℕ) (b : Bool) → Comes own fresh (scan_by run profile (with_folder items (if b then Ok (without_plus word) else Err (fault.Refused (refusal.BadFolder word))))) CommandEnds
+    looked : (words : ScanWords) (r : Result Format CommandFault) → format_named words.look.format ≡ r → Comes own fresh (scan_by run profile (asked_by caller words r)) CommandEnds
+    looked words (Ok f) is =
+        let asked : ScanAsked = record { folder = words.folder; specs = words.specs; reverse = words.reverse; spoken = spoken_by caller words.look f } in
+        comes_lifted own fresh plain (scan_begun run profile asked) Faults CommandEnds (scan_begun_comes profile asked a) (λ later j u q. tt) (λ later j e q. q)
+    looked words (Err e) is = comes_to own fresh (Err (plain e)) CommandEnds (by_format e (format_refuses words.look.format (Err e) e is refl))
+
+    begun : (words : ScanWords) → Comes own fresh (scan_by run profile (scan_asked caller (Ok words))) CommandEnds
+    begun words = looked words (format_named words.look.format) refl
+
+    with_word : (items : List Item) (word : List ℕ) (b : Bool) → Comes own fresh (scan_by run profile (scan_asked caller (with_folder items (if b then Ok (without_plus word) else Err (fault.Refused (refusal.BadFolder word)))))) CommandEnds
     with_word items word true = begun (words_of (Some (without_plus word)) items)
     with_word items word false = comes_to own fresh (Err (plain (fault.Refused (refusal.BadFolder word)))) CommandEnds (inl (a, refl))
 
-    with_one : (words : List (List ℕ)) (items : List Item) (r : Result (Option (List ℕ)) Wrong) → Comes own fresh (scan_by run profile (folder_said words items r)) CommandEnds
+    with_one : (words : List (List ℕ)) (items : List Item) (r : Result (Option (List ℕ)) Wrong) → Comes own fresh (scan_by run profile (scan_asked caller (folder_said words items r))) CommandEnds
     with_one words items (Ok None) = begun (words_of None items)
     with_one words items (Ok (Some word)) = with_word items word (is_folder_name (without_plus word))
     with_one words items (Err wrong) = refused wrong _
 
-    with_items : (words : List (List ℕ)) (r : Result (List Item) Wrong) → Comes own fresh (scan_by run profile (items_said words r)) CommandEnds
-    with_items words (Ok items) = with_one words items (one_folder (folders items))
+    with_items : (words : List (List ℕ)) (r : Result (List Item) Wrong) → Comes own fresh (scan_by run profile (scan_asked caller (items_said words r))) CommandEnds
+    with_items words (Ok items) = with_one words items (unless_wide (wrong_widths items) (one_folder (folders items)))
     with_items words (Err wrong) = refused wrong _
 
-    by_word : (user : List ℕ) (word : List ℕ) (words : List (List ℕ)) (name : Option CommandName) → (begins_folders name ≡ false) → Comes own fresh (word_by run user profile word words name) CommandEnds
-    by_word user word words None other = refused _ (Some word)
-    by_word user word words (Some Inc) other = cc (other)
-    by_word user word words (Some Scan) other = with_items (profile_words (codes "scan") profile ++ map chars words) (read_in scan_table 0 (profile_words (codes "scan") profile ++ map chars words))
-    by_word user word words (Some Mark) other = cc (other)
-    by_word user word words (Some Refile) other = cc (other)
-    by_word user word words (Some Rmm) other = cc (other)
+    by_word : (word : List ℕ) (words : List (List ℕ)) (name : Option CommandName) → (begins_folders name ≡ false) → Comes own fresh (word_by run caller profile word words name) CommandEnds
+    by_word word words None other = refused _ (Some word)
+    by_word word words (Some Inc) other = cc (other)
+    by_word word words (Some Scan) other = with_items (profile_words (codes "scan") profile ++ map chars words) (read_in scan_table 0 (profile_words (codes "scan") profile ++ map chars words))
+    by_word word words (Some Mark) other = cc (other)
+    by_word word words (Some Refile) other = cc (other)
+    by_word word words (Some Rmm) other = cc (other)
 
-    by_words : (user : List ℕ) (words : List (List ℕ)) → (begins_folders (command_of words) ≡ false) → Comes own fresh (command_by run user profile words) CommandEnds
-    by_words user [] other = refused _ None
-    by_words user (word ∷ words) other = by_word user word words (named word) other
+    by_words : (words : List (List ℕ)) → (begins_folders (command_of words) ≡ false) → Comes own fresh (command_by run caller profile words) CommandEnds
+    by_words [] other = refused _ None
+    by_words (word ∷ words) other = by_word word words (named word) other
 
   -- the profile
   abbrev ProfileEnds : Outcome (Result (List ℕ) Ended)
@@ -208,20 +224,20 @@ module _ (run : ℕ) where
       comes_lifted [] fresh plain (text_read Home profile_name) (TextEnds Home profile_name [] fresh) ProfileEnds (text_comes Home profile_name [] fresh) (λ later j text q. q)
       (λ later j e q. long_shows Home profile_name [] later q.0 e q.1 q.2)
 
-  command_comes : (user : List ℕ) (words : List (List ℕ)) → (begins_folders (command_of words) ≡ false) → Comes [] fresh (command run user words) CommandEnds
+  command_comes : (caller : Caller) (words : List (List ℕ)) → (begins_folders (command_of words) ≡ false) → Comes [] fresh (command run caller words) CommandEnds
   unfolding command
-  command_comes user words other =
-      comes_then [] fresh (lifted plain (text_read Home profile_name)) (λ text. command_by run user (entries_in text) words) ProfileEnds CommandEnds profile_comes
-      (λ later j text q. comes_at later (after_profile q.0) j fresh (command_by run user (entries_in text) words) CommandEnds q.1 q.2 (by_words (entries_in text) q.0 user words other)) (λ later j e q. q)
+  command_comes caller words other =
+      comes_then [] fresh (lifted plain (text_read Home profile_name)) (λ text. command_by run caller (entries_in text) words) ProfileEnds CommandEnds profile_comes
+      (λ later j text q. comes_at later (after_profile q.0) j fresh (command_by run caller (entries_in text) words) CommandEnds q.1 q.2 (by_words (entries_in text) q.0 caller words other)) (λ later j e q. q)
 
   -- where the plan of a command that looks returns, no step of the call has failed, and its deeds show the fault, if there is one
   abbrev pub EndsAs : List runs.Deed → Hand → Result Unit Ended → Type 0
   EndsAs past h (Ok u) = NoneFailed (acts past)
   EndsAs past h (Err e) = ShowsCommandFault run e.fault (acts past) × NoneFailed (acts past)
 
-  pub command_ends : (user : List ℕ) (words : List (List ℕ)) → (begins_folders (command_of words) ≡ false) → Keeps anything [] fresh (command run user words) EndsAs
-  command_ends user words other =
-      comes_keeps [] [] fresh (command run user words) Ends refl (comes_more [] fresh (command run user words) (λ later j r. NoneFailed later × CommandEnds later j r) Ends both (comes_clean [] fresh (command run user words) CommandEnds (λ m. m) (command_comes user words other)))
+  pub command_ends : (caller : Caller) (words : List (List ℕ)) → (begins_folders (command_of words) ≡ false) → Keeps anything [] fresh (command run caller words) EndsAs
+  command_ends caller words other =
+      comes_keeps [] [] fresh (command run caller words) Ends refl (comes_more [] fresh (command run caller words) (λ later j r. NoneFailed later × CommandEnds later j r) Ends both (comes_clean [] fresh (command run caller words) CommandEnds (λ m. m) (command_comes caller words other)))
     where
       Ends : Outcome (Result Unit Ended)
       Ends later j (Ok u) = NoneFailed later
@@ -232,5 +248,5 @@ module _ (run : ℕ) where
       both later j (Err e) q = (q.1, q.0)
 
   -- so does each run of it
-  pub run_ends : (user : List ℕ) (words : List (List ℕ)) → (begins_folders (command_of words) ≡ false) → (ds : List runs.Deed) (j : Hand) (r : Result Unit Ended) → Runs (command run user words) fresh ds j (Returned r) → EndsAs ds j r
-  run_ends user words other ds j r f = (run_keeps anything [] fresh (command run user words) ds j (Returned r) EndsAs (command_ends user words other) f).gave
+  pub run_ends : (caller : Caller) (words : List (List ℕ)) → (begins_folders (command_of words) ≡ false) → (ds : List runs.Deed) (j : Hand) (r : Result Unit Ended) → Runs (command run caller words) fresh ds j (Returned r) → EndsAs ds j r
+  run_ends caller words other ds j r f = (run_keeps anything [] fresh (command run caller words) ds j (Returned r) EndsAs (command_ends caller words other) f).gave

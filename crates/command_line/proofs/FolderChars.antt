@@ -28,6 +28,7 @@ use Rattle.command_words.specs.Ended.{wrong_at}
 use Rattle.command_words.specs.FolderWords.{FolderWord, folder_named, folders, named_folder, one_folder, some_named}
 use Rattle.command_words.specs.IncWords as inc_words
 use Rattle.command_words.specs.IncWords.{inc_said}
+use Rattle.command_words.specs.LookWords.{unless_wide, wrong_widths}
 use Rattle.command_words.specs.MarkWords.{folder_said as mark_words_said, items_said as mark_items, lacks_sequence, mark_said, with_folder as mark_folder, with_names, word_said}
 use Rattle.command_words.specs.RefileWords.{items_said as refile_items, last_or, refile_said, source_of, targets, targets_said, unless_wrong, words_of, wrong_names}
 use Rattle.command_words.specs.RmmWords.{folder_said as rmm_words_said, items_said as rmm_items, rmm_said, said_folder as rmm_said_folder, with_folder as rmm_folder}
@@ -321,13 +322,18 @@ alone_chars (Ok word) (Some place) f = tt
 alone_chars (Err wrong) None f = tt
 alone_chars (Err wrong) (Some place) f = tt
 
+wide_chars : (places : List ℕ) (r : Result (Option (List ℕ)) Wrong) → OneChars r → OneChars (unless_wide places r)
+wide_chars places (Err wrong) f = tt
+wide_chars [] (Ok word) f = f
+wide_chars (place ∷ places) (Ok word) f = tt
+
 inc_one_chars : (words : List (List ℕ)) (items : List Item) (r : Result (Option (List ℕ)) Wrong) → OneChars r → IncChars (inc_words.folder_said words items r)
 inc_one_chars words items (Ok word) f = inc_folder_chars items word f
 inc_one_chars words items (Err wrong) f = tt
 
 inc_items_chars : (words : List (List ℕ)) (r : Result (List Item) Wrong) → Textual r → IncChars (inc_words.items_said words r)
 inc_items_chars words (Ok items) f =
-    inc_one_chars words items (inc_words.folder_alone items) (alone_chars (one_folder (folders items)) (inc_words.first_of (inc_words.message_places items)) (one_chars (folders items) (folder_texts items f)))
+    inc_one_chars words items (unless_wide (wrong_widths items) (inc_words.folder_alone items)) (wide_chars (wrong_widths items) (inc_words.folder_alone items) (alone_chars (one_folder (folders items)) (inc_words.first_of (inc_words.message_places items)) (one_chars (folders items) (folder_texts items f))))
 inc_items_chars words (Err wrong) f = tt
 
 pub inc_chars : (profile : List NamedValue) (words : List (List ℕ)) (said : IncWords) → AreTexts words → inc_said profile words ≡ Ok said → HasChars said.folder

@@ -35,7 +35,7 @@ use Rattle.opened_folders.specs.Making.{IsBare}
 use Rattle.opened_folders.proofs.HomesFound.{homes_there}
 use Rattle.inc_command.specs.Inc.{inc}
 use Rattle.inc_command.specs.IncOutcome.{inc_work, with_folder_made}
-use Rattle.inc_command.specs.declared.job.IncJob.{IncJob}
+use Rattle.inc_command.specs.IncJob.{IncJob}
 use Rattle.inc_command.proofs.IncGiven.{inc_gives, shows_folder_made}
 use Rattle.mark_command.specs.Mark.{mark}
 use Rattle.opened_folders.proofs.WorkGiven.{WorkEnds}
@@ -56,7 +56,7 @@ use Rattle.command_words.specs.declared.ended.Ended.{Ended}
 use Rattle.command_words.specs.declared.mark.MarkWords.{MarkWords}
 use Rattle.command_words.specs.declared.refile.RefileWords.{RefileWords}
 use Rattle.command_words.specs.declared.rmm.RmmWords.{RmmWords}
-use Rattle.command_words.specs.declared.scan.ScanWords.{ScanWords}
+use Rattle.command_line.specs.Looking.{ScanAsked, scan_asked}
 use Rattle.command_words.proofs.SaidFolder.{IsValid}
 use Rattle.command_line.specs.Command.{context_seen, context_entered, folder_found, inc_begun, inc_by, job_of, mark_job, scan_begun, scan_by, mark_begun, mark_by, refile_begun, refile_by, refile_job, rmm_begun, rmm_by, rmm_job, word_by, command_by, command}
 use Rattle.command_line.specs.CommandNames.{begins_folders, command_of, makes_folders, named}
@@ -65,7 +65,8 @@ use Rattle.command_line.specs.Outcomes.{FolderWork, inc_job_work, incs, plainly,
 use Rattle.command_line.specs.Profile.{folder_of, path_of, profile_name}
 use Rattle.command_line.specs.declared.name.CommandName.{CommandName}
 use Rattle.command_line.specs.declared.name.CommandName.TheVariants.{Inc, Mark, Refile, Rmm, Scan}
-use Rattle.command_line.proofs.Refusals.{IsRefusal, folder_refuses, job_refuses, mark_refuses, refile_refuses, rmm_refuses, scan_refuses}
+use Rattle.command_line.specs.declared.caller.Caller.{Caller}
+use Rattle.command_line.proofs.Refusals.{IsRefusal, folder_refuses, job_refuses, mark_refuses, refile_refuses, rmm_refuses, asked_refuses}
 use Rattle.command_line.proofs.SaidInc.{job_valid}
 use Rattle.command_line.proofs.SaidFolder.{acted_valid, mark_valid, refile_words_valid, rmm_words_valid}
 
@@ -266,7 +267,7 @@ module _ (alone : Bool) (c : Contents) (profile : List NamedValue) (said : Optio
           gives_on (by_view alone) v h stage.text (folder_found profile said) act NamedBy (Q stage) named_gives (λ z j left folder n. goes_on z j left folder n) (λ z j left e n. ends_there z j left e n)
 
 -- `scan`, from the context on
-scan_stage : (alone : Bool) (run : ℕ) (c : Contents) → run < 2 ^ 128 → (profile : List NamedValue) (words : ScanWords) (v : View) (h : Hand) (same : v.contents ≡ c) → nat_lt h.next (2 ^ 64) ≡ true → (begun : alone ≡ false → IsBegun v)
+scan_stage : (alone : Bool) (run : ℕ) (c : Contents) → run < 2 ^ 128 → (profile : List NamedValue) (words : ScanAsked) (v : View) (h : Hand) (same : v.contents ≡ c) → nat_lt h.next (2 ^ 64) ≡ true → (begun : alone ≡ false → IsBegun v)
     → Gives (by_view alone) v h (stage alone c profile words.folder v h same begun (scans (mailbox_in c) profile words)).text (scan_begun run profile words) (ScanEnds alone (stage alone c profile words.folder v h same begun (scans (mailbox_in c) profile words)))
 unfolding scan_begun
 scan_stage alone run c few profile words v h same next begun =
@@ -398,7 +399,7 @@ module _ (alone : Bool) (run : ℕ) (c : Contents) (few : run < 2 ^ 128) (homes 
 
   -- the words of the commands
   module _ (profile : List NamedValue) (z : View) (same : z.contents ≡ c) (unmet : (p : Place) (x : List ℕ) → z.met p x ≡ false) (begun : IsBegun z) where
-    scan_words_give : (value : Result ScanWords Ended) → ((e : Ended) → value ≡ Err e → IsRefusal e.fault) → Gives (by_view alone) z fresh (scan_words_work box profile value).text (scan_by run profile value) (CommandEnds alone (scan_words_work box profile value))
+    scan_words_give : (value : Result ScanAsked Ended) → ((e : Ended) → value ≡ Err e → IsRefusal e.fault) → Gives (by_view alone) z fresh (scan_words_work box profile value).text (scan_by run profile value) (CommandEnds alone (scan_words_work box profile value))
     unfolding Gives lifted mailbox_in
     scan_words_give (Ok words) r =
         gives_bind (by_view alone) z fresh (scan_words_work box profile (Ok words)).text (scan_begun run profile words) (λ q. Return (converted plain q)) (ScanEnds alone (stage alone c profile words.folder z fresh same (λ beside. begun) (scans box profile words)))
@@ -462,53 +463,53 @@ module _ (alone : Bool) (run : ℕ) (c : Contents) (few : run < 2 ^ 128) (homes 
         (λ y j left q e. mark_ends (inc_stage run c few bare profile job (valid job refl) z fresh same unmet begun) y j left q e)
     inc_words_true bare (Err e) valid r = let is = r e refl in plain_refused true c e is.0 z fresh [] is.1 refl same
 
-    inc_words_give : alone ≡ true → IsBare c → (user : List ℕ) (words : List (List ℕ))
-        → Gives (by_view alone) z fresh (inc_job_work (alone_meeting run) box profile (job_by user profile (inc_said profile words))).text (inc_by run profile (job_by user profile (inc_said profile words))) (CommandEnds alone (inc_job_work (alone_meeting run) box profile (job_by user profile (inc_said profile words))))
-    inc_words_give only bare user words =
-        subst (λ b. Gives (by_view b) z fresh (inc_job_work (alone_meeting run) box profile (job_by user profile (inc_said profile words))).text (inc_by run profile (job_by user profile (inc_said profile words))) (CommandEnds b (inc_job_work (alone_meeting run) box profile (job_by user profile (inc_said profile words))))) (sym only)
-        (inc_words_true bare (job_by user profile (inc_said profile words)) (λ job e. job_valid user profile words job e) (λ e is. job_refuses user profile words e is))
+    inc_words_give : alone ≡ true → IsBare c → (caller : Caller) (words : List (List ℕ))
+        → Gives (by_view alone) z fresh (inc_job_work (alone_meeting run) box profile (job_by caller profile (inc_said profile words))).text (inc_by run profile (job_by caller profile (inc_said profile words))) (CommandEnds alone (inc_job_work (alone_meeting run) box profile (job_by caller profile (inc_said profile words))))
+    inc_words_give only bare caller words =
+        subst (λ b. Gives (by_view b) z fresh (inc_job_work (alone_meeting run) box profile (job_by caller profile (inc_said profile words))).text (inc_by run profile (job_by caller profile (inc_said profile words))) (CommandEnds b (inc_job_work (alone_meeting run) box profile (job_by caller profile (inc_said profile words))))) (sym only)
+        (inc_words_true bare (job_by caller profile (inc_said profile words)) (λ job e. job_valid caller profile words job e) (λ e is. job_refuses caller profile words e is))
 
-    by_word : (user : List ℕ) (word : List ℕ) (words : List (List ℕ)) (name : Option CommandName) → (begins_folders name ≡ true → alone ≡ true) → (makes_folders name ≡ true → IsBare c) → Gives (by_view alone) z fresh (word_work (alone_meeting run) box user profile word words name).text (word_by run user profile word words name) (CommandEnds alone (word_work (alone_meeting run) box user profile word words name))
+    by_word : (caller : Caller) (word : List ℕ) (words : List (List ℕ)) (name : Option CommandName) → (begins_folders name ≡ true → alone ≡ true) → (makes_folders name ≡ true → IsBare c) → Gives (by_view alone) z fresh (word_work (alone_meeting run) box caller profile word words name).text (word_by run caller profile word words name) (CommandEnds alone (word_work (alone_meeting run) box caller profile word words name))
     unfolding Gives
-    by_word user word words None only bare = (refl, inl (refl, λ a. ap mailbox_in same))
-    by_word user word words (Some Inc) only bare = inc_words_give (only refl) (bare refl) user (map chars words)
-    by_word user word words (Some Scan) only bare = scan_words_give (scan_said profile (map chars words)) (λ e is. scan_refuses profile (map chars words) e is)
-    by_word user word words (Some Mark) only bare = mark_words_give (only refl) (map chars words)
-    by_word user word words (Some Refile) only bare = refile_words_give (only refl) (bare refl) (map chars words)
-    by_word user word words (Some Rmm) only bare = rmm_words_give (only refl) (map chars words)
+    by_word caller word words None only bare = (refl, inl (refl, λ a. ap mailbox_in same))
+    by_word caller word words (Some Inc) only bare = inc_words_give (only refl) (bare refl) caller (map chars words)
+    by_word caller word words (Some Scan) only bare = scan_words_give (scan_asked caller (scan_said profile (map chars words))) (λ e is. asked_refuses caller profile (map chars words) e is)
+    by_word caller word words (Some Mark) only bare = mark_words_give (only refl) (map chars words)
+    by_word caller word words (Some Refile) only bare = refile_words_give (only refl) (bare refl) (map chars words)
+    by_word caller word words (Some Rmm) only bare = rmm_words_give (only refl) (map chars words)
 
-    by_name : (user : List ℕ) (words : List (List ℕ)) → (begins_folders (command_of words) ≡ true → alone ≡ true) → (makes_folders (command_of words) ≡ true → IsBare c) → Gives (by_view alone) z fresh (named_work (alone_meeting run) box user profile words).text (command_by run user profile words) (CommandEnds alone (named_work (alone_meeting run) box user profile words))
+    by_name : (caller : Caller) (words : List (List ℕ)) → (begins_folders (command_of words) ≡ true → alone ≡ true) → (makes_folders (command_of words) ≡ true → IsBare c) → Gives (by_view alone) z fresh (named_work (alone_meeting run) box caller profile words).text (command_by run caller profile words) (CommandEnds alone (named_work (alone_meeting run) box caller profile words))
     unfolding Gives
-    by_name user [] only bare = (refl, inl (refl, λ a. ap mailbox_in same))
-    by_name user (word ∷ words) only bare = by_word user word words (named word) only bare
+    by_name caller [] only bare = (refl, inl (refl, λ a. ap mailbox_in same))
+    by_name caller (word ∷ words) only bare = by_word caller word words (named word) only bare
 
   -- the whole; beside others, of commands that look
-  module _ (user : List ℕ) (words : List (List ℕ)) (only : begins_folders (command_of words) ≡ true → alone ≡ true) (bare : makes_folders (command_of words) ≡ true → IsBare c) where
+  module _ (caller : Caller) (words : List (List ℕ)) (only : begins_folders (command_of words) ≡ true → alone ≡ true) (bare : makes_folders (command_of words) ≡ true → IsBare c) where
     abbrev pub whole_work : Work Ended
-    whole_work = work_of run user words box
+    whole_work = work_of run caller words box
 
     module _ (v : View) (same : v.contents ≡ c) (first : IsFirst v) where
       profile_at : (o : Result (List ℕ) CommandFault) → o ≡ readable (v.contents.texts Home profile_name) → readable (c.texts Home profile_name) ≡ o
       profile_at o is = ap (λ d. readable (d.texts Home profile_name)) (sym same) ∙ sym is
 
-      works_by : (o : Result (List ℕ) CommandFault) → readable (c.texts Home profile_name) ≡ o → whole_work ≡ with_profile (alone_meeting run) box user words o
+      works_by : (o : Result (List ℕ) CommandFault) → readable (c.texts Home profile_name) ≡ o → whole_work ≡ with_profile (alone_meeting run) box caller words o
       unfolding work_by mailbox_in
-      works_by o is = ap (with_profile (alone_meeting run) box user words) is
+      works_by o is = ap (with_profile (alone_meeting run) box caller words) is
 
-      after_profile : (z : View) (j : Hand) (left : List ℕ) (r : Result (List ℕ) CommandFault) → TextRead v Home profile_name fresh whole_work.text z j left r → Gives (by_view alone) z j left (after (λ text. command_by run user (entries_in text) words) (converted plain r)) (CommandEnds alone whole_work)
+      after_profile : (z : View) (j : Hand) (left : List ℕ) (r : Result (List ℕ) CommandFault) → TextRead v Home profile_name fresh whole_work.text z j left r → Gives (by_view alone) z j left (after (λ text. command_by run caller (entries_in text) words) (converted plain r)) (CommandEnds alone whole_work)
       unfolding Gives
       after_profile z j left (Ok text) t =
           let w = works_by (Ok text) (profile_at (Ok text) t.value) in
-          rw (t.view, t.hand, t.rest) (subst (λ x. Gives (by_view alone) (after_read v Home profile_name) fresh x.text (command_by run user (entries_in text) words) (CommandEnds alone x)) (sym w)
-          (by_name (entries_in text) (after_read v Home profile_name) same (λ p x. first.unmet p x) (begun_first v first) user words only bare))
+          rw (t.view, t.hand, t.rest) (subst (λ x. Gives (by_view alone) (after_read v Home profile_name) fresh x.text (command_by run caller (entries_in text) words) (CommandEnds alone x)) (sym w)
+          (by_name (entries_in text) (after_read v Home profile_name) same (λ p x. first.unmet p x) (begun_first v first) caller words only bare))
       after_profile z j left (Err e) t =
           let is = profile_at (Err e) t.value in
           let w = works_by (Err e) is in
           let l = unreadable (c.texts Home profile_name) e is in
           subst (λ x. CommandEnds alone x z j left (Err (plain e))) (sym w) (plain_refused alone c (plain e) (refusal.TooLarge l.0 LIMIT_BYTES) z j left l.1 (t.rest ∙ ap (λ x. x.text) w) (ap (λ y. y.contents) t.view ∙ same))
 
-      pub command_gives : Gives (by_view alone) v fresh whole_work.text (command run user words) (CommandEnds alone whole_work)
+      pub command_gives : Gives (by_view alone) v fresh whole_work.text (command run caller words) (CommandEnds alone whole_work)
       unfolding command
       command_gives =
-          gives_then (by_view alone) v fresh whole_work.text plain (text_read Home profile_name) (λ text. command_by run user (entries_in text) words) (TextRead v Home profile_name fresh whole_work.text) (CommandEnds alone whole_work)
+          gives_then (by_view alone) v fresh whole_work.text plain (text_read Home profile_name) (λ text. command_by run caller (entries_in text) words) (TextRead v Home profile_name fresh whole_work.text) (CommandEnds alone whole_work)
           (text_gives alone v Home profile_name fresh whole_work.text (λ beside. ap (λ s. s.names Home profile_name) first.seen)) after_profile

@@ -22,7 +22,7 @@ use Rattle.message_puts.proofs.FirstPuts.{AreOnce}
 use Rattle.inc_command.specs.Inc.{inc}
 use Rattle.inc_command.specs.IncAnswers.{HasTakenMail, ShowsInc, IsTextOfNew, nothing}
 use Rattle.inc_command.specs.IncPledge.{inc_pledge}
-use Rattle.inc_command.specs.declared.job.IncJob.{IncJob}
+use Rattle.inc_command.specs.IncJob.{IncJob}
 use Rattle.inc_command.proofs.IncEnds.{inc_ends}
 use Rattle.inc_command.proofs.IncPledged.{inc_keeps}
 use Rattle.inc_command.proofs.IncSays.{HasTold, TellsSo, says}

@@ -33,7 +33,7 @@ use Rattle.opened_folders.proofs.Meeting.{keeps_met, with_step}
 use Rattle.opened_folders.proofs.WorkMinds.{Anyhow}
 use Rattle.inc_command.specs.Inc.{inc}
 use Rattle.inc_command.specs.IncPledge.{inc_pledge}
-use Rattle.inc_command.specs.declared.job.IncJob.{IncJob}
+use Rattle.inc_command.specs.IncJob.{IncJob}
 use Rattle.inc_command.proofs.IncMinds.{inc_meets}
 use Rattle.inc_command.proofs.IncPledged.{inc_keeps}
 use Rattle.command_words.specs.Ended.{ended_cause, plain}
@@ -47,6 +47,7 @@ use Rattle.command_line.specs.Incorporating.{job_by}
 use Rattle.command_line.specs.Profile.{path_of, profile_name}
 use Rattle.command_line.specs.declared.name.CommandName.{CommandName}
 use Rattle.command_line.specs.declared.name.CommandName.TheVariants.{Inc}
+use Rattle.command_line.specs.declared.caller.Caller.{Caller}
 use Rattle.command_line.proofs.Begun.{Any, any_so, none_read, start_same}
 use Rattle.command_line.proofs.FolderChars.{AreUtf8, chars_texts}
 use Rattle.command_line.proofs.MindingPlans.{Minding, NothingMore, minding_kept, minds_own, minds_with}
@@ -99,11 +100,11 @@ module _ (run : ℕ) (few : run < 2 ^ 128) (profile : List NamedValue) (h : Hand
   }
 
 -- after a profile that is too long the command does nothing
-module _ (run : ℕ) (few : run < 2 ^ 128) (user : List ℕ) (word : List ℕ) (words : List (List ℕ)) (texts : AreUtf8 words) (h : Hand) (b : Answer) where
+module _ (run : ℕ) (few : run < 2 ^ 128) (caller : Caller) (word : List ℕ) (words : List (List ℕ)) (texts : AreUtf8 words) (h : Hand) (b : Answer) where
   abbrev all : List (List ℕ)
   all = word ∷ words
 
-  long_minding : (l : ℕ) → Minding run NothingMore h (plan_by run few user all (reading.Long l) b)
+  long_minding : (l : ℕ) → Minding run NothingMore h (plan_by run few caller all (reading.Long l) b)
   unfolding onward_by lifted bind ◌>>=◌
   long_minding l = record {
     pledge = scan_pledge run (path_of (entries_in []));
@@ -113,25 +114,25 @@ module _ (run : ℕ) (few : run < 2 ^ 128) (user : List ℕ) (word : List ℕ) (
     keeps = keeps_ended (scan_pledge run (path_of (entries_in []))) Home profile_name LIMIT_BYTES h (Err (plain (too_large l))) (IfOkay Any) (λ c. tt);
   }
 
-  inc_named : (profile : List NamedValue) (name : Option CommandName) → name ≡ Some Inc → Minding run NothingMore h (Ask profile_step (λ c. rest_by (context_step profile) (word_by run user profile word words name) (word_onward run profile user word words name) b))
+  inc_named : (profile : List NamedValue) (name : Option CommandName) → name ≡ Some Inc → Minding run NothingMore h (Ask profile_step (λ c. rest_by (context_step profile) (word_by run caller profile word words name) (word_onward run profile caller word words name) b))
   unfolding word_onward
   inc_named profile name is =
-      subst (λ z. Minding run NothingMore h (Ask profile_step (λ c. rest_by (context_step profile) (word_by run user profile word words z) (word_onward run profile user word words z) b))) (sym is)
-      (minding run few profile h b (job_by user profile (inc_said profile (map chars words)))
-      (λ job e. (job_valid user profile (map chars words) job e, job_chars user profile (map chars words) job (chars_texts words texts) e)))
+      subst (λ z. Minding run NothingMore h (Ask profile_step (λ c. rest_by (context_step profile) (word_by run caller profile word words z) (word_onward run profile caller word words z) b))) (sym is)
+      (minding run few profile h b (job_by caller profile (inc_said profile (map chars words)))
+      (λ job e. (job_valid caller profile (map chars words) job e, job_chars caller profile (map chars words) job (chars_texts words texts) e)))
 
-  inc_read : (r : Reading) → named word ≡ Some Inc → Minding run NothingMore h (plan_by run few user all r b)
+  inc_read : (r : Reading) → named word ≡ Some Inc → Minding run NothingMore h (plan_by run few caller all r b)
   unfolding onward_by named_onward lifted bind ◌>>=◌
   inc_read (reading.Content bytes) is = inc_named (entries_in bytes) (named word) is
   inc_read (reading.Long l) is = long_minding l
   inc_read reading.Gone is = inc_named (entries_in []) (named word) is
 
-module _ (run : ℕ) (few : run < 2 ^ 128) (user : List ℕ) (x y : State) (result : Result Unit Ended) where
-  pub inc_kept : (word : List ℕ) (words : List (List ℕ)) → AreUtf8 words → named word ≡ Some Inc → Follows run ended_cause (command run user (word ∷ words)) x y result → KeepsSequencesOf IsTextName run x.files.story y.files.story
-  inc_kept word words texts is f = go (answers run few user (word ∷ words) x y result f)
+module _ (run : ℕ) (few : run < 2 ^ 128) (caller : Caller) (x y : State) (result : Result Unit Ended) where
+  pub inc_kept : (word : List ℕ) (words : List (List ℕ)) → AreUtf8 words → named word ≡ Some Inc → Follows run ended_cause (command run caller (word ∷ words)) x y result → KeepsSequencesOf IsTextName run x.files.story y.files.story
+  inc_kept word words texts is f = go (answers run few caller (word ∷ words) x y result f)
     where
-      go : Answered run few user (word ∷ words) x.hand y.hand (deeds_in f.went.log) (exit_of ended_cause result) → KeepsSequencesOf IsTextName run x.files.story y.files.story
+      go : Answered run few caller (word ∷ words) x.hand y.hand (deeds_in f.went.log) (exit_of ended_cause result) → KeepsSequencesOf IsTextName run x.files.story y.files.story
       go t =
-          let m = inc_read run few user word words texts x.hand t.second (reading_of t.first) is in
-          minding_kept run ended_cause (plan_by run few user (word ∷ words) (reading_of t.first) t.second) x y result m
-          (follows_so run ended_cause (command run user (word ∷ words)) (plan_by run few user (word ∷ words) (reading_of t.first) t.second) x y result f t.runs) (start_same run ended_cause (command run user (word ∷ words)) x y result f)
+          let m = inc_read run few caller word words texts x.hand t.second (reading_of t.first) is in
+          minding_kept run ended_cause (plan_by run few caller (word ∷ words) (reading_of t.first) t.second) x y result m
+          (follows_so run ended_cause (command run caller (word ∷ words)) (plan_by run few caller (word ∷ words) (reading_of t.first) t.second) x y result f t.runs) (start_same run ended_cause (command run caller (word ∷ words)) x y result f)

@@ -3,9 +3,11 @@ pub mod BegunEnding
 pub mod BegunParts
 pub mod Ending
 pub mod FolderChars
+pub mod FormatRefuses
 pub mod Giving
 pub mod IncEnding
 pub mod IncKept
+pub mod Looked
 pub mod MarksKept
 pub mod MindingPlans
 pub mod MindsMarks

@@ -5,8 +5,6 @@ use Rattle.mh_base.specs.Folders.{is_folder_name}
 use Rattle.mh_profile.specs.declared.named_value.NamedValue.{NamedValue}
 use Rattle.mh_profile.specs.Reading.{entries_in}
 use Rattle.folder_files.specs.Deeds.{Deed}
-use Rattle.folder_files.specs.Histories.{past_of}
-use Rattle.folder_files.specs.Story.{Story}
 use Rattle.folder_files.specs.declared.place.Place.TheVariants.{Home, Mail}
 use Rattle.folder_files.specs.declared.step.Answer.{Answer}
 use Rattle.folder_files.specs.declared.step.Step.{Step}
@@ -25,10 +23,9 @@ use Rattle.step_plans.specs.Pledges.{Marks, MayAsk, Pledge}
 use Rattle.step_plans.specs.declared.command_fault.CommandFault.{CommandFault}
 use Rattle.step_plans.proofs.Going.{Sound}
 use Rattle.step_plans.proofs.Ruling.{rules_of}
-use Rattle.step_plans.proofs.StoryMay.{StoryMay}
 use Rattle.sequence_marks.specs.KeepsSequencesOf.{KeepsSequencesOf}
-use Rattle.sequence_marks.proofs.Sequences.{MindsSequences, SameStart}
-use Rattle.sequence_marks.proofs.SequencesOf.{MindsSequencesOf, sequences_kept_of}
+use Rattle.sequence_marks.proofs.Sequences.{MindsSequences}
+use Rattle.sequence_marks.proofs.SequencesOf.{MindsSequencesOf}
 use Rattle.command_stages.specs.Texts.{too_large}
 use Rattle.command_stages.proofs.FolderLines.{current_valid}
 use Rattle.mh_looks.specs.ScanPledge.{scan_pledge}
@@ -65,6 +62,7 @@ use Rattle.command_line.specs.CommandPledge.{entries_by, marks_pledge, on_named,
 use Rattle.command_line.specs.Profile.{folder_of, path_of, profile_name}
 use Rattle.command_line.specs.declared.name.CommandName.{CommandName}
 use Rattle.command_line.specs.declared.name.CommandName.TheVariants.{Inc, Mark, Refile, Rmm, Scan}
+use Rattle.command_line.specs.declared.caller.Caller.{Caller}
 use Rattle.command_line.proofs.IncKept.{inc_kept}
 use Rattle.command_line.proofs.MindingPlans.{Minding, NothingMore, minding_kept, minding_where, minds_own, minds_with, ok_one, sound_so}
 use Rattle.command_line.proofs.MindsMarks.{command_keeps_sequences, minds_sequences}
@@ -241,11 +239,11 @@ abbrev TakesSo : List Deed → Step → Type 0
 TakesSo own s = TakesUnheld own s
 
 -- after a profile that is too long a command does nothing
-module _ (run : ℕ) (few : run < 2 ^ 128) (user : List ℕ) (word : List ℕ) (words : List (List ℕ)) (texts : AreUtf8 words) (h : Hand) (b : Answer) where
+module _ (run : ℕ) (few : run < 2 ^ 128) (caller : Caller) (word : List ℕ) (words : List (List ℕ)) (texts : AreUtf8 words) (h : Hand) (b : Answer) where
   abbrev all : List (List ℕ)
   all = word ∷ words
 
-  long_minding : (B : List Deed → Step → Type 0) (l : ℕ) → Minding run B h (plan_by run few user all (reading.Long l) b)
+  long_minding : (B : List Deed → Step → Type 0) (l : ℕ) → Minding run B h (plan_by run few caller all (reading.Long l) b)
   unfolding onward_by lifted bind ◌>>=◌
   long_minding B l = record {
     pledge = scan_pledge run (path_of (entries_in []));
@@ -255,77 +253,77 @@ module _ (run : ℕ) (few : run < 2 ^ 128) (user : List ℕ) (word : List ℕ) (
     keeps = keeps_ended (scan_pledge run (path_of (entries_in []))) Home profile_name LIMIT_BYTES h (Err (plain (too_large l))) (IfOkay Any) (λ c. tt);
   }
 
-  mark_named : (profile : List NamedValue) (name : Option CommandName) → name ≡ Some Mark → Minding run NothingMore h (Ask profile_step (λ c. rest_by (context_step profile) (word_by run user profile word words name) (word_onward run profile user word words name) b))
+  mark_named : (profile : List NamedValue) (name : Option CommandName) → name ≡ Some Mark → Minding run NothingMore h (Ask profile_step (λ c. rest_by (context_step profile) (word_by run caller profile word words name) (word_onward run profile caller word words name) b))
   unfolding word_onward
   mark_named profile name is =
-      subst (λ z. Minding run NothingMore h (Ask profile_step (λ c. rest_by (context_step profile) (word_by run user profile word words z) (word_onward run profile user word words z) b))) (sym is)
+      subst (λ z. Minding run NothingMore h (Ask profile_step (λ c. rest_by (context_step profile) (word_by run caller profile word words z) (word_onward run profile caller word words z) b))) (sym is)
       (mark_minding run few profile h b (mark_said profile (map chars words)) (λ said e. (mark_valid profile (map chars words) said e, mark_chars profile (map chars words) said (chars_texts words texts) e)))
 
-  rmm_named : (profile : List NamedValue) (name : Option CommandName) → name ≡ Some Rmm → Minding run RemovesSo h (Ask profile_step (λ c. rest_by (context_step profile) (word_by run user profile word words name) (word_onward run profile user word words name) b))
+  rmm_named : (profile : List NamedValue) (name : Option CommandName) → name ≡ Some Rmm → Minding run RemovesSo h (Ask profile_step (λ c. rest_by (context_step profile) (word_by run caller profile word words name) (word_onward run profile caller word words name) b))
   unfolding word_onward
   rmm_named profile name is =
-      subst (λ z. Minding run RemovesSo h (Ask profile_step (λ c. rest_by (context_step profile) (word_by run user profile word words z) (word_onward run profile user word words z) b))) (sym is)
+      subst (λ z. Minding run RemovesSo h (Ask profile_step (λ c. rest_by (context_step profile) (word_by run caller profile word words z) (word_onward run profile caller word words z) b))) (sym is)
       (rmm_minding run few profile h b (rmm_said profile (map chars words)) (λ said e. (rmm_words_valid profile (map chars words) said e, rmm_chars profile (map chars words) said (chars_texts words texts) e)))
 
-  refile_named : (profile : List NamedValue) (name : Option CommandName) → name ≡ Some Refile → Minding run TakesSo h (Ask profile_step (λ c. rest_by (context_step profile) (word_by run user profile word words name) (word_onward run profile user word words name) b))
+  refile_named : (profile : List NamedValue) (name : Option CommandName) → name ≡ Some Refile → Minding run TakesSo h (Ask profile_step (λ c. rest_by (context_step profile) (word_by run caller profile word words name) (word_onward run profile caller word words name) b))
   unfolding word_onward
   refile_named profile name is =
-      subst (λ z. Minding run TakesSo h (Ask profile_step (λ c. rest_by (context_step profile) (word_by run user profile word words z) (word_onward run profile user word words z) b))) (sym is)
+      subst (λ z. Minding run TakesSo h (Ask profile_step (λ c. rest_by (context_step profile) (word_by run caller profile word words z) (word_onward run profile caller word words z) b))) (sym is)
       (refile_minding run few profile h b (refile_said profile (map chars words)) (λ said e. ((refile_words_valid profile (map chars words) said e).0, refile_chars profile (map chars words) said (chars_texts words texts) e)))
 
-  mark_read : (r : Reading) → named word ≡ Some Mark → Minding run NothingMore h (plan_by run few user all r b)
+  mark_read : (r : Reading) → named word ≡ Some Mark → Minding run NothingMore h (plan_by run few caller all r b)
   unfolding onward_by named_onward lifted bind ◌>>=◌
   mark_read (reading.Content bytes) is = mark_named (entries_in bytes) (named word) is
   mark_read (reading.Long l) is = long_minding NothingMore l
   mark_read reading.Gone is = mark_named (entries_in []) (named word) is
 
-  rmm_read : (r : Reading) → named word ≡ Some Rmm → Minding run RemovesSo h (plan_by run few user all r b)
+  rmm_read : (r : Reading) → named word ≡ Some Rmm → Minding run RemovesSo h (plan_by run few caller all r b)
   unfolding onward_by named_onward lifted bind ◌>>=◌
   rmm_read (reading.Content bytes) is = rmm_named (entries_in bytes) (named word) is
   rmm_read (reading.Long l) is = long_minding RemovesSo l
   rmm_read reading.Gone is = rmm_named (entries_in []) (named word) is
 
-  refile_read : (r : Reading) → named word ≡ Some Refile → Minding run TakesSo h (plan_by run few user all r b)
+  refile_read : (r : Reading) → named word ≡ Some Refile → Minding run TakesSo h (plan_by run few caller all r b)
   unfolding onward_by named_onward lifted bind ◌>>=◌
   refile_read (reading.Content bytes) is = refile_named (entries_in bytes) (named word) is
   refile_read (reading.Long l) is = long_minding TakesSo l
   refile_read reading.Gone is = refile_named (entries_in []) (named word) is
 
 -- a call that follows a command keeps the marks of messages
-module _ (run : ℕ) (few : run < 2 ^ 128) (user : List ℕ) (x y : State) (result : Result Unit Ended) where
-  mark_kept : (word : List ℕ) (words : List (List ℕ)) → AreUtf8 words → named word ≡ Some Mark → Follows run ended_cause (command run user (word ∷ words)) x y result → KeepsSequencesOf IsTextName run x.files.story y.files.story
-  mark_kept word words texts is f = go (answers run few user (word ∷ words) x y result f)
+module _ (run : ℕ) (few : run < 2 ^ 128) (caller : Caller) (x y : State) (result : Result Unit Ended) where
+  mark_kept : (word : List ℕ) (words : List (List ℕ)) → AreUtf8 words → named word ≡ Some Mark → Follows run ended_cause (command run caller (word ∷ words)) x y result → KeepsSequencesOf IsTextName run x.files.story y.files.story
+  mark_kept word words texts is f = go (answers run few caller (word ∷ words) x y result f)
     where
-      go : Answered run few user (word ∷ words) x.hand y.hand (deeds_in f.went.log) (exit_of ended_cause result) → KeepsSequencesOf IsTextName run x.files.story y.files.story
+      go : Answered run few caller (word ∷ words) x.hand y.hand (deeds_in f.went.log) (exit_of ended_cause result) → KeepsSequencesOf IsTextName run x.files.story y.files.story
       go t =
-          let m = mark_read run few user word words texts x.hand t.second (reading_of t.first) is in
-          minding_kept run ended_cause (plan_by run few user (word ∷ words) (reading_of t.first) t.second) x y result m
-          (follows_so run ended_cause (command run user (word ∷ words)) (plan_by run few user (word ∷ words) (reading_of t.first) t.second) x y result f t.runs) (start_same run ended_cause (command run user (word ∷ words)) x y result f)
+          let m = mark_read run few caller word words texts x.hand t.second (reading_of t.first) is in
+          minding_kept run ended_cause (plan_by run few caller (word ∷ words) (reading_of t.first) t.second) x y result m
+          (follows_so run ended_cause (command run caller (word ∷ words)) (plan_by run few caller (word ∷ words) (reading_of t.first) t.second) x y result f t.runs) (start_same run ended_cause (command run caller (word ∷ words)) x y result f)
 
-  rmm_kept : (word : List ℕ) (words : List (List ℕ)) → AreUtf8 words → named word ≡ Some Rmm → Follows run ended_cause (command run user (word ∷ words)) x y result → KeepsWhere RemovesUnheld run x.files.story y.files.story
-  rmm_kept word words texts is f = go (answers run few user (word ∷ words) x y result f)
+  rmm_kept : (word : List ℕ) (words : List (List ℕ)) → AreUtf8 words → named word ≡ Some Rmm → Follows run ended_cause (command run caller (word ∷ words)) x y result → KeepsWhere RemovesUnheld run x.files.story y.files.story
+  rmm_kept word words texts is f = go (answers run few caller (word ∷ words) x y result f)
     where
-      go : Answered run few user (word ∷ words) x.hand y.hand (deeds_in f.went.log) (exit_of ended_cause result) → KeepsWhere RemovesUnheld run x.files.story y.files.story
+      go : Answered run few caller (word ∷ words) x.hand y.hand (deeds_in f.went.log) (exit_of ended_cause result) → KeepsWhere RemovesUnheld run x.files.story y.files.story
       go t =
-          minding_where run ended_cause (plan_by run few user (word ∷ words) (reading_of t.first) t.second) x y result RemovesSo (rmm_read run few user word words texts x.hand t.second (reading_of t.first) is)
-          (follows_so run ended_cause (command run user (word ∷ words)) (plan_by run few user (word ∷ words) (reading_of t.first) t.second) x y result f t.runs) (start_same run ended_cause (command run user (word ∷ words)) x y result f)
+          minding_where run ended_cause (plan_by run few caller (word ∷ words) (reading_of t.first) t.second) x y result RemovesSo (rmm_read run few caller word words texts x.hand t.second (reading_of t.first) is)
+          (follows_so run ended_cause (command run caller (word ∷ words)) (plan_by run few caller (word ∷ words) (reading_of t.first) t.second) x y result f t.runs) (start_same run ended_cause (command run caller (word ∷ words)) x y result f)
 
-  refile_kept : (word : List ℕ) (words : List (List ℕ)) → AreUtf8 words → named word ≡ Some Refile → Follows run ended_cause (command run user (word ∷ words)) x y result → KeepsWhere TakesUnheld run x.files.story y.files.story
-  refile_kept word words texts is f = go (answers run few user (word ∷ words) x y result f)
+  refile_kept : (word : List ℕ) (words : List (List ℕ)) → AreUtf8 words → named word ≡ Some Refile → Follows run ended_cause (command run caller (word ∷ words)) x y result → KeepsWhere TakesUnheld run x.files.story y.files.story
+  refile_kept word words texts is f = go (answers run few caller (word ∷ words) x y result f)
     where
-      go : Answered run few user (word ∷ words) x.hand y.hand (deeds_in f.went.log) (exit_of ended_cause result) → KeepsWhere TakesUnheld run x.files.story y.files.story
+      go : Answered run few caller (word ∷ words) x.hand y.hand (deeds_in f.went.log) (exit_of ended_cause result) → KeepsWhere TakesUnheld run x.files.story y.files.story
       go t =
-          minding_where run ended_cause (plan_by run few user (word ∷ words) (reading_of t.first) t.second) x y result TakesSo (refile_read run few user word words texts x.hand t.second (reading_of t.first) is)
-          (follows_so run ended_cause (command run user (word ∷ words)) (plan_by run few user (word ∷ words) (reading_of t.first) t.second) x y result f t.runs) (start_same run ended_cause (command run user (word ∷ words)) x y result f)
+          minding_where run ended_cause (plan_by run few caller (word ∷ words) (reading_of t.first) t.second) x y result TakesSo (refile_read run few caller word words texts x.hand t.second (reading_of t.first) is)
+          (follows_so run ended_cause (command run caller (word ∷ words)) (plan_by run few caller (word ∷ words) (reading_of t.first) t.second) x y result f t.runs) (start_same run ended_cause (command run caller (word ∷ words)) x y result f)
 
-  by_name : (word : List ℕ) (words : List (List ℕ)) → AreUtf8 words → Follows run ended_cause (command run user (word ∷ words)) x y result → (name : Option CommandName) → named word ≡ name → KeepsCommandMarks name run x.files.story y.files.story
-  by_name word words texts f None is = command_keeps_sequences run few user (word ∷ words) (ap begins_folders is) x y result f
-  by_name word words texts f (Some Inc) is = inc_kept run few user x y result word words texts is f
-  by_name word words texts f (Some Scan) is = command_keeps_sequences run few user (word ∷ words) (ap begins_folders is) x y result f
+  by_name : (word : List ℕ) (words : List (List ℕ)) → AreUtf8 words → Follows run ended_cause (command run caller (word ∷ words)) x y result → (name : Option CommandName) → named word ≡ name → KeepsCommandMarks name run x.files.story y.files.story
+  by_name word words texts f None is = command_keeps_sequences run few caller (word ∷ words) (ap begins_folders is) x y result f
+  by_name word words texts f (Some Inc) is = inc_kept run few caller x y result word words texts is f
+  by_name word words texts f (Some Scan) is = command_keeps_sequences run few caller (word ∷ words) (ap begins_folders is) x y result f
   by_name word words texts f (Some Mark) is = mark_kept word words texts is f
   by_name word words texts f (Some Refile) is = refile_kept word words texts is f
   by_name word words texts f (Some Rmm) is = rmm_kept word words texts is f
 
-  pub command_keeps_marks : (words : List (List ℕ)) → AreUtf8 words → Follows run ended_cause (command run user words) x y result → KeepsCommandMarks (command_of words) run x.files.story y.files.story
-  command_keeps_marks [] texts f = command_keeps_sequences run few user [] refl x y result f
+  pub command_keeps_marks : (words : List (List ℕ)) → AreUtf8 words → Follows run ended_cause (command run caller words) x y result → KeepsCommandMarks (command_of words) run x.files.story y.files.story
+  command_keeps_marks [] texts f = command_keeps_sequences run few caller [] refl x y result f
   command_keeps_marks (word ∷ words) texts f = by_name word words texts.1 f (named word) refl

@@ -41,6 +41,7 @@ use Rattle.command_line.specs.CommandPledge.{command_pledge, entries_by, path_by
 use Rattle.command_line.specs.Profile.{path_of}
 use Rattle.command_line.specs.declared.name.CommandName.{CommandName}
 use Rattle.command_line.specs.declared.name.CommandName.TheVariants.{Inc, Mark, Refile, Rmm, Scan}
+use Rattle.command_line.specs.declared.caller.Caller.{Caller}
 use Rattle.command_words.specs.Ended.{ended_cause}
 use Rattle.command_words.specs.declared.ended.Ended.{Ended}
 use Rattle.command_line.proofs.Begun.{start_same}
@@ -112,11 +113,11 @@ module _ (run : ℕ) (mail : List ℕ) where
   }
 
 -- a command that looks pledges so
-pledge_looks : (run : ℕ) (user : List ℕ) (words : List (List ℕ)) (profile context : List NamedValue) → (begins_folders (command_of words) ≡ false) → command_pledge run user words profile context ≡ scan_pledge run (path_of profile)
-pledge_looks run user [] profile context other = refl
-pledge_looks run user (word ∷ words) profile context other = go (named word) other
+pledge_looks : (run : ℕ) (caller : Caller) (words : List (List ℕ)) (profile context : List NamedValue) → (begins_folders (command_of words) ≡ false) → command_pledge run caller words profile context ≡ scan_pledge run (path_of profile)
+pledge_looks run caller [] profile context other = refl
+pledge_looks run caller (word ∷ words) profile context other = go (named word) other
   where
-    go : (name : Option CommandName) → (begins_folders name ≡ false) → word_pledge run user profile context words name ≡ scan_pledge run (path_of profile)
+    go : (name : Option CommandName) → (begins_folders name ≡ false) → word_pledge run caller profile context words name ≡ scan_pledge run (path_of profile)
     go None other = refl
     go (Some Inc) other = cc (other)
     go (Some Scan) other = refl
@@ -135,17 +136,17 @@ keeps_may w cause plan x y result Q k f = told x.files.story y.files.story f.wen
     told (Some old) None g l = absurd g
 
 -- a call that follows a command that looks keeps the marks of all sequences
-pub command_keeps_sequences : (run : ℕ) → run < 2 ^ 128 → (user : List ℕ) (words : List (List ℕ)) → (begins_folders (command_of words) ≡ false) → (x y : State) (result : Result Unit Ended) → Follows run ended_cause (command run user words) x y result
+pub command_keeps_sequences : (run : ℕ) → run < 2 ^ 128 → (caller : Caller) (words : List (List ℕ)) → (begins_folders (command_of words) ≡ false) → (x y : State) (result : Result Unit Ended) → Follows run ended_cause (command run caller words) x y result
     → KeepsSequences run x.files.story y.files.story
-command_keeps_sequences run few user words other x y result f =
-    sequences_kept (scan_pledge run path) (minds_sequences run path) x.files.story y.files.story (start_same run ended_cause (command run user words) x y result f)
-    (may_by (answers run few user words x y result f))
+command_keeps_sequences run few caller words other x y result f =
+    sequences_kept (scan_pledge run path) (minds_sequences run path) x.files.story y.files.story (start_same run ended_cause (command run caller words) x y result f)
+    (may_by (answers run few caller words x y result f))
   where
     path : List ℕ
-    path = path_by (answers run few user words x y result f).first
+    path = path_by (answers run few caller words x y result f).first
 
-    may_by : (t : Answered run few user words x.hand y.hand (deeds_in f.went.log) (exit_of ended_cause result)) → StoryMay (scan_pledge run (path_by t.first)) x.files.story y.files.story
+    may_by : (t : Answered run few caller words x.hand y.hand (deeds_in f.went.log) (exit_of ended_cause result)) → StoryMay (scan_pledge run (path_by t.first)) x.files.story y.files.story
     may_by t =
-        subst (λ w. StoryMay w x.files.story y.files.story) (pledge_looks run user words (entries_by t.first) (entries_by t.second) other)
-        (keeps_may (pledge_at run few user words t.first t.second) ended_cause (plan_by run few user words (reading_of t.first) t.second) x y result (IfOkay (End run few user words t.first)) (read_keeps run few user words x.hand (reading_of t.first) t.second)
-        (follows_pledged run few user words x y result f t))
+        subst (λ w. StoryMay w x.files.story y.files.story) (pledge_looks run caller words (entries_by t.first) (entries_by t.second) other)
+        (keeps_may (pledge_at run few caller words t.first t.second) ended_cause (plan_by run few caller words (reading_of t.first) t.second) x y result (IfOkay (End run few caller words t.first)) (read_keeps run few caller words x.hand (reading_of t.first) t.second)
+        (follows_pledged run few caller words x y result f t))

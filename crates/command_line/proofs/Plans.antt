@@ -18,6 +18,7 @@ use Rattle.command_line.specs.Command.{context_seen, command_by, no_command, wor
 use Rattle.command_line.specs.CommandNames.{named}
 use Rattle.command_line.specs.Profile.{value_or}
 use Rattle.command_line.specs.declared.name.CommandName.{CommandName}
+use Rattle.command_line.specs.declared.caller.Caller.{Caller}
 use Rattle.command_line.proofs.Refusals.{IsRefusal}
 
 plain_each : (e : CommandFault) → ended_cause (plain e) ≡ command_cause e
@@ -65,15 +66,15 @@ pub ends_off : {A E F : Type 0} {run : ℕ} {cause : E → Cause} {other : F →
 ends_off from (Ok a) keeps f is = absurd (let no = is.0 in cc)
 ends_off {run = run} {cause = cause} {other = other} from {p = p} {x = x} {y = y} {e = e} (Err g) keeps f is = lift_err run cause other from p x y e g keeps is.1 f
 
-pub named_none : {A : Type 0} {run : ℕ} (user : List ℕ) (profile : List NamedValue) (f : A → List ℕ) (words : List A) (e : Ended) {x : State} → length words ≡ 0 → e ≡ no_command None → Follows run ended_cause (command_by run user profile (map f words)) x x (Err e)
-named_none user profile f [] e is same = rw same (refuses _ refl)
-named_none user profile f (w ∷ words) e is same = cc
+pub named_none : {A : Type 0} {run : ℕ} (caller : Caller) (profile : List NamedValue) (f : A → List ℕ) (words : List A) (e : Ended) {x : State} → length words ≡ 0 → e ≡ no_command None → Follows run ended_cause (command_by run caller profile (map f words)) x x (Err e)
+named_none caller profile f [] e is same = rw same (refuses _ refl)
+named_none caller profile f (w ∷ words) e is same = cc
 
-pub named_some : {run : ℕ} (user : List ℕ) (profile : List NamedValue) (words rest : List (List ℕ)) (word : List ℕ) {x y : State} {r : Result Unit Ended} → words ≡ word ∷ rest → Follows run ended_cause (word_by run user profile word rest (named word)) x y r → Follows run ended_cause (command_by run user profile words) x y r
-named_some user profile words rest word is f = rw is f
+pub named_some : {run : ℕ} (caller : Caller) (profile : List NamedValue) (words rest : List (List ℕ)) (word : List ℕ) {x y : State} {r : Result Unit Ended} → words ≡ word ∷ rest → Follows run ended_cause (word_by run caller profile word rest (named word)) x y r → Follows run ended_cause (command_by run caller profile words) x y r
+named_some caller profile words rest word is f = rw is f
 
-pub word_on : {run : ℕ} (user : List ℕ) (profile : List NamedValue) (word : List ℕ) (words : List (List ℕ)) (value name : Option CommandName) {x y : State} {r : Result Unit Ended} → value ≡ name → Follows run ended_cause (word_by run user profile word words name) x y r → Follows run ended_cause (word_by run user profile word words value) x y r
-word_on user profile word words value name is f = rw is f
+pub word_on : {run : ℕ} (caller : Caller) (profile : List NamedValue) (word : List ℕ) (words : List (List ℕ)) (value name : Option CommandName) {x y : State} {r : Result Unit Ended} → value ≡ name → Follows run ended_cause (word_by run caller profile word words name) x y r → Follows run ended_cause (word_by run caller profile word words value) x y r
+word_on caller profile word words value name is f = rw is f
 
-pub word_none : {run : ℕ} (user : List ℕ) (profile : List NamedValue) (word : List ℕ) (words : List (List ℕ)) (value : Option CommandName) (e : Ended) {x : State} → value ≡ None → e ≡ no_command (Some word) → Follows run ended_cause (word_by run user profile word words value) x x (Err e)
-word_none user profile word words value e is same = rw (is, same) (refuses _ refl)
+pub word_none : {run : ℕ} (caller : Caller) (profile : List NamedValue) (word : List ℕ) (words : List (List ℕ)) (value : Option CommandName) (e : Ended) {x : State} → value ≡ None → e ≡ no_command (Some word) → Follows run ended_cause (word_by run caller profile word words value) x x (Err e)
+word_none caller profile word words value e is same = rw (is, same) (refuses _ refl)

@@ -36,7 +36,7 @@ use Rattle.message_puts.proofs.FirstPuts.{AreOnce, none_once, once_asked}
 use Rattle.opened_folders.proofs.EndedKept.{Still, keeps_more}
 use Rattle.inc_command.specs.Inc.{inc}
 use Rattle.inc_command.specs.IncPledge.{inc_pledge}
-use Rattle.inc_command.specs.declared.job.IncJob.{IncJob}
+use Rattle.inc_command.specs.IncJob.{IncJob}
 use Rattle.inc_command.proofs.IncPledged.{inc_keeps}
 use Rattle.mark_command.specs.Mark.{mark}
 use Rattle.mark_command.specs.MarkPledge.{pledge_by}
@@ -52,7 +52,7 @@ use Rattle.command_words.specs.declared.ended.Ended.{Ended}
 use Rattle.command_words.specs.declared.mark.MarkWords.{MarkWords}
 use Rattle.command_words.specs.declared.refile.RefileWords.{RefileWords}
 use Rattle.command_words.specs.declared.rmm.RmmWords.{RmmWords}
-use Rattle.command_words.specs.declared.scan.ScanWords.{ScanWords}
+use Rattle.command_line.specs.Looking.{ScanAsked, scan_asked}
 use Rattle.command_words.proofs.SaidFolder.{IsValid}
 use Rattle.refile_command.specs.Refile.{refile}
 use Rattle.refile_command.specs.Rmm.{rmm}
@@ -67,7 +67,8 @@ use Rattle.command_line.specs.Incorporating.{job_by}
 use Rattle.command_line.specs.Profile.{folder_of, path_of, profile_name}
 use Rattle.command_line.specs.declared.name.CommandName.{CommandName}
 use Rattle.command_line.specs.declared.name.CommandName.TheVariants.{Inc, Mark, Refile, Rmm, Scan}
-use Rattle.command_line.proofs.SaidFolder.{acted_valid, scan_valid}
+use Rattle.command_line.specs.declared.caller.Caller.{Caller}
+use Rattle.command_line.proofs.SaidFolder.{acted_valid, asked_valid}
 use Rattle.command_line.proofs.TwoAnswers.{Onward, TwoAnswers, acts_begin_with, follows_so, keeps_after, keeps_ended, may_read, rest_by, two_answers}
 
 abbrev pub profile_step : Step
@@ -100,7 +101,7 @@ entries_asked profile act = refl
 
 -- what is done next, by the words: the context is read, or the command ends
 module _ (run : ℕ) (profile : List NamedValue) where
-  abbrev pub scan_acts : ScanWords → List ℕ → Commanded Unit
+  abbrev pub scan_acts : ScanAsked → List ℕ → Commanded Unit
   scan_acts words folder = scan run (path_of profile) (job_of folder words profile)
 
   abbrev pub mark_acts : MarkWords → List ℕ → Commanded Unit
@@ -112,7 +113,7 @@ module _ (run : ℕ) (profile : List NamedValue) where
   abbrev pub rmm_acts : RmmWords → List ℕ → Commanded Unit
   rmm_acts words folder = rmm run (path_of profile) (rmm_job folder words profile)
 
-  unfoldable pub scan_onward : (value : Result ScanWords Ended) → Onward (context_step profile) (scan_by run profile value)
+  unfoldable pub scan_onward : (value : Result ScanAsked Ended) → Onward (context_step profile) (scan_by run profile value)
   unfolding scan_begun
   scan_onward (Ok words) = inr (λ b. on_context profile words.folder (scan_acts words) (reading_of b), context_asked profile words.folder (scan_acts words))
   scan_onward (Err e) = inl (Err e, refl)
@@ -137,17 +138,17 @@ module _ (run : ℕ) (profile : List NamedValue) where
   inc_onward (Ok job) = inr (λ b. on_entries (inc run (path_of profile) job) (reading_of b), entries_asked profile (inc run (path_of profile) job))
   inc_onward (Err e) = inl (Err e, refl)
 
-  unfoldable pub word_onward : (user : List ℕ) (word : List ℕ) (words : List (List ℕ)) (name : Option CommandName) → Onward (context_step profile) (word_by run user profile word words name)
-  word_onward user word words None = inl (Err (no_command (Some word)), refl)
-  word_onward user word words (Some Inc) = inc_onward (job_by user profile (inc_said profile (map chars words)))
-  word_onward user word words (Some Scan) = scan_onward (scan_said profile (map chars words))
-  word_onward user word words (Some Mark) = mark_onward (mark_said profile (map chars words))
-  word_onward user word words (Some Refile) = refile_onward (refile_said profile (map chars words))
-  word_onward user word words (Some Rmm) = rmm_onward (rmm_said profile (map chars words))
+  unfoldable pub word_onward : (caller : Caller) (word : List ℕ) (words : List (List ℕ)) (name : Option CommandName) → Onward (context_step profile) (word_by run caller profile word words name)
+  word_onward caller word words None = inl (Err (no_command (Some word)), refl)
+  word_onward caller word words (Some Inc) = inc_onward (job_by caller profile (inc_said profile (map chars words)))
+  word_onward caller word words (Some Scan) = scan_onward (scan_asked caller (scan_said profile (map chars words)))
+  word_onward caller word words (Some Mark) = mark_onward (mark_said profile (map chars words))
+  word_onward caller word words (Some Refile) = refile_onward (refile_said profile (map chars words))
+  word_onward caller word words (Some Rmm) = rmm_onward (rmm_said profile (map chars words))
 
-  unfoldable pub named_onward : (user : List ℕ) (words : List (List ℕ)) → Onward (context_step profile) (command_by run user profile words)
-  named_onward user [] = inl (Err (no_command None), refl)
-  named_onward user (word ∷ words) = word_onward user word words (named word)
+  unfoldable pub named_onward : (caller : Caller) (words : List (List ℕ)) → Onward (context_step profile) (command_by run caller profile words)
+  named_onward caller [] = inl (Err (no_command None), refl)
+  named_onward caller (word ∷ words) = word_onward caller word words (named word)
 
 -- a command is done so
 pub record Finished (name : Option CommandName) (path : List ℕ) (past : List Done) (h : Hand) (u : Unit {0}) : Type 0 where
@@ -220,7 +221,7 @@ module _ (run : ℕ) (few : run < 2 ^ 128) (profile : List NamedValue) (h : Hand
       parts (inr o) = inr (o (tt, (tt, tt)))
   scan_done a b later j (Err e) s f = tt
 
-  scan_keeps : (words : ScanWords) → IsValid words.folder → (a b : Answer) (es : List NamedValue) (folder : List ℕ) → folder_of words.folder es profile ≡ Ok folder → Sound look (acts (two_readings profile a b)) h
+  scan_keeps : (words : ScanAsked) → IsValid words.folder → (a b : Answer) (es : List NamedValue) (folder : List ℕ) → folder_of words.folder es profile ≡ Ok folder → Sound look (acts (two_readings profile a b)) h
       → Keeps (rules_of look) (two_readings profile a b) (knowing es h) (scan_acts run profile words folder) (IfOkay (Finished (Some Scan) path))
   scan_keeps words valid a b es folder is sound =
       keeps_more (rules_of look) past j plan (ByActs (Soundly look (okay (Of (Noted path (acts past)))))) (IfOkay (Finished (Some Scan) path)) (λ later i r q. scan_done a b later i r q.0 q.1)
@@ -236,7 +237,7 @@ module _ (run : ℕ) (few : run < 2 ^ 128) (profile : List NamedValue) (h : Hand
       plan : Plan (Result Unit CommandFault)
       plan = scan_acts run profile words folder
 
-  scan_words_keep : (b : Answer) (value : Result ScanWords Ended) → ((words : ScanWords) → value ≡ Ok words → IsValid words.folder)
+  scan_words_keep : (b : Answer) (value : Result ScanAsked Ended) → ((words : ScanAsked) → value ≡ Ok words → IsValid words.folder)
       → Keeps (rules_of look) [] h (Ask profile_step (λ c. rest_by (context_step profile) (scan_by run profile value) (scan_onward run profile value) b)) (IfOkay (Finished (Some Scan) path))
   unfolding scan_onward
   scan_words_keep b (Ok words) valid =
@@ -358,26 +359,26 @@ module _ (run : ℕ) (few : run < 2 ^ 128) (profile : List NamedValue) (h : Hand
   inc_job_keeps b (Err e) = keeps_ended look Home profile_name LIMIT_BYTES h (Err e) (IfOkay (Finished (Some Inc) path)) (λ c. tt)
 
   -- the command that the words name
-  word_keeps : (user : List ℕ) (b : Answer) (word : List ℕ) (words : List (List ℕ)) (name : Option CommandName)
-      → Keeps (rules_of (word_pledge run user profile (entries_by b) words name)) [] h (Ask profile_step (λ c. rest_by (context_step profile) (word_by run user profile word words name) (word_onward run profile user word words name) b)) (IfOkay (Finished name path))
+  word_keeps : (caller : Caller) (b : Answer) (word : List ℕ) (words : List (List ℕ)) (name : Option CommandName)
+      → Keeps (rules_of (word_pledge run caller profile (entries_by b) words name)) [] h (Ask profile_step (λ c. rest_by (context_step profile) (word_by run caller profile word words name) (word_onward run profile caller word words name) b)) (IfOkay (Finished name path))
   unfolding word_onward
-  word_keeps user b word words None = keeps_ended look Home profile_name LIMIT_BYTES h (Err (no_command (Some word))) (IfOkay (Finished None path)) (λ c. tt)
-  word_keeps user b word words (Some Inc) = inc_job_keeps b (job_by user profile (inc_said profile (map chars words)))
-  word_keeps user b word words (Some Scan) = scan_words_keep b (scan_said profile (map chars words)) (λ said e. scan_valid profile (map chars words) said e)
-  word_keeps user b word words (Some Mark) = mark_words_keep b (mark_said profile (map chars words))
-  word_keeps user b word words (Some Refile) = refile_words_keep b (refile_said profile (map chars words))
-  word_keeps user b word words (Some Rmm) = rmm_words_keep b (rmm_said profile (map chars words))
+  word_keeps caller b word words None = keeps_ended look Home profile_name LIMIT_BYTES h (Err (no_command (Some word))) (IfOkay (Finished None path)) (λ c. tt)
+  word_keeps caller b word words (Some Inc) = inc_job_keeps b (job_by caller profile (inc_said profile (map chars words)))
+  word_keeps caller b word words (Some Scan) = scan_words_keep b (scan_asked caller (scan_said profile (map chars words))) (λ said e. asked_valid caller profile (map chars words) said e)
+  word_keeps caller b word words (Some Mark) = mark_words_keep b (mark_said profile (map chars words))
+  word_keeps caller b word words (Some Refile) = refile_words_keep b (refile_said profile (map chars words))
+  word_keeps caller b word words (Some Rmm) = rmm_words_keep b (rmm_said profile (map chars words))
 
-  named_keeps : (user : List ℕ) (b : Answer) (words : List (List ℕ))
-      → Keeps (rules_of (command_pledge run user words profile (entries_by b))) [] h (Ask profile_step (λ c. rest_by (context_step profile) (command_by run user profile words) (named_onward run profile user words) b)) (IfOkay (Finished (command_of words) path))
+  named_keeps : (caller : Caller) (b : Answer) (words : List (List ℕ))
+      → Keeps (rules_of (command_pledge run caller words profile (entries_by b))) [] h (Ask profile_step (λ c. rest_by (context_step profile) (command_by run caller profile words) (named_onward run profile caller words) b)) (IfOkay (Finished (command_of words) path))
   unfolding named_onward
-  named_keeps user b [] = keeps_ended look Home profile_name LIMIT_BYTES h (Err (no_command None)) (IfOkay (Finished None path)) (λ c. tt)
-  named_keeps user b (word ∷ words) = word_keeps user b word words (named word)
+  named_keeps caller b [] = keeps_ended look Home profile_name LIMIT_BYTES h (Err (no_command None)) (IfOkay (Finished None path)) (λ c. tt)
+  named_keeps caller b (word ∷ words) = word_keeps caller b word words (named word)
 
 -- whose pledge it is
-pub pledge_run : (run : ℕ) (user : List ℕ) (words : List (List ℕ)) (profile context : List NamedValue) → (command_pledge run user words profile context).run ≡ run
-pledge_run run user [] profile context = refl
-pledge_run run user (word ∷ words) profile context = go (named word)
+pub pledge_run : (run : ℕ) (caller : Caller) (words : List (List ℕ)) (profile context : List NamedValue) → (command_pledge run caller words profile context).run ≡ run
+pledge_run run caller [] profile context = refl
+pledge_run run caller (word ∷ words) profile context = go (named word)
   where
     on : (said : MarkWords) (value : Result (List ℕ) CommandFault) → (on_named run profile said value).run ≡ run
     on said (Err e) = refl
@@ -411,20 +412,20 @@ pledge_run run user (word ∷ words) profile context = go (named word)
     takes_by (Ok job) = refl
     takes_by (Err e) = refl
 
-    go : (name : Option CommandName) → (word_pledge run user profile context words name).run ≡ run
+    go : (name : Option CommandName) → (word_pledge run caller profile context words name).run ≡ run
     go None = refl
-    go (Some Inc) = takes_by (job_by user profile (inc_said profile (map chars words)))
+    go (Some Inc) = takes_by (job_by caller profile (inc_said profile (map chars words)))
     go (Some Scan) = refl
     go (Some Mark) = marks_by (mark_said profile (map chars words))
     go (Some Refile) = refiles_by (refile_said profile (map chars words))
     go (Some Rmm) = removes_by (rmm_said profile (map chars words))
 
-module _ (run : ℕ) (few : run < 2 ^ 128) (user : List ℕ) (words : List (List ℕ)) where
+module _ (run : ℕ) (few : run < 2 ^ 128) (caller : Caller) (words : List (List ℕ)) where
   -- the command, by what reading the profile gave
   abbrev pub next_by : Reading → Ending Unit
-  next_by r = lifted plain (text_by r) >>= (λ text. command_by run user (entries_in text) words)
+  next_by r = lifted plain (text_by r) >>= (λ text. command_by run caller (entries_in text) words)
 
-  command_is : command run user words ≡ Ask profile_step (λ a. next_by (reading_of a))
+  command_is : command run caller words ≡ Ask profile_step (λ a. next_by (reading_of a))
   unfolding command text_read read ask lifted bind ◌>>=◌
   command_is = refl
 
@@ -433,25 +434,25 @@ module _ (run : ℕ) (few : run < 2 ^ 128) (user : List ℕ) (words : List (List
 
   unfoldable pub onward_by : (r : Reading) → Onward (step_by r) (next_by r)
   unfolding lifted bind ◌>>=◌
-  onward_by (reading.Content bytes) = named_onward run (entries_in bytes) user words
+  onward_by (reading.Content bytes) = named_onward run (entries_in bytes) caller words
   onward_by (reading.Long l) = inl (Err (plain (too_large l)), refl)
-  onward_by reading.Gone = named_onward run (entries_in []) user words
+  onward_by reading.Gone = named_onward run (entries_in []) caller words
 
   abbrev pub plan_by : Reading → Answer → Ending Unit
   plan_by r b = Ask profile_step (λ c. rest_by (step_by r) (next_by r) (onward_by r) b)
 
   -- whatever the profile and the context were, the call keeps the rules of its pledge
-  pub read_keeps : (h : Hand) (r : Reading) (b : Answer) → Keeps (rules_of (command_pledge run user words (entries_in (text_of r)) (entries_by b))) [] h (plan_by r b) (IfOkay (Finished (command_of words) (path_of (entries_in (text_of r)))))
+  pub read_keeps : (h : Hand) (r : Reading) (b : Answer) → Keeps (rules_of (command_pledge run caller words (entries_in (text_of r)) (entries_by b))) [] h (plan_by r b) (IfOkay (Finished (command_of words) (path_of (entries_in (text_of r)))))
   unfolding onward_by lifted bind ◌>>=◌
-  read_keeps h (reading.Content bytes) b = named_keeps run few (entries_in bytes) h user b words
-  read_keeps h (reading.Long l) b = keeps_ended (command_pledge run user words (entries_in []) (entries_by b)) Home profile_name LIMIT_BYTES h (Err (plain (too_large l))) (IfOkay (Finished (command_of words) (path_of (entries_in [])))) (λ c. tt)
-  read_keeps h reading.Gone b = named_keeps run few (entries_in []) h user b words
+  read_keeps h (reading.Content bytes) b = named_keeps run few (entries_in bytes) h caller b words
+  read_keeps h (reading.Long l) b = keeps_ended (command_pledge run caller words (entries_in []) (entries_by b)) Home profile_name LIMIT_BYTES h (Err (plain (too_large l))) (IfOkay (Finished (command_of words) (path_of (entries_in [])))) (λ c. tt)
+  read_keeps h reading.Gone b = named_keeps run few (entries_in []) h caller b words
 
   -- the answers to the first two steps of a run of the command
   abbrev pub Answered : Hand → Hand → List Done → Exit (Result Unit Ended) → Type 0
   Answered h j ds exit = TwoAnswers profile_step (λ a. step_by (reading_of a)) (λ a. next_by (reading_of a)) (λ a. onward_by (reading_of a)) h j ds exit
 
-  pub answers_of : (h j : Hand) (ds : List Done) (exit : Exit (Result Unit Ended)) → Runs (command run user words) h ds j exit → Answered h j ds exit
+  pub answers_of : (h j : Hand) (ds : List Done) (exit : Exit (Result Unit Ended)) → Runs (command run caller words) h ds j exit → Answered h j ds exit
   answers_of h j ds exit f =
       two_answers profile_step (λ a. step_by (reading_of a)) (λ a. next_by (reading_of a)) h j ds exit (λ a. onward_by (reading_of a)) (subst (λ p. Runs p h ds j exit) command_is f)
 
@@ -459,7 +460,7 @@ module _ (run : ℕ) (few : run < 2 ^ 128) (user : List ℕ) (words : List (List
   End a = Finished (command_of words) (path_by a)
 
   abbrev pub pledge_at : Answer → Answer → Pledge
-  pledge_at a b = command_pledge run user words (entries_by a) (entries_by b)
+  pledge_at a b = command_pledge run caller words (entries_by a) (entries_by b)
 
   -- where the command is Done, no step has failed, and it is done as it pledged
   ended_so : (h j : Hand) (ds : List Done) (result : Result Unit Ended) → (t : Answered h j ds (exit_of ended_cause result)) → result ≡ Ok tt → Finished (command_of words) (path_by t.first) ds j tt
@@ -467,7 +468,7 @@ module _ (run : ℕ) (few : run < 2 ^ 128) (user : List ℕ) (words : List (List
       let kept = run_keeps (rules_of (pledge_at t.first t.second)) [] h (plan_by (reading_of t.first) t.second) ds j (exit_of ended_cause result) (IfOkay (End t.first)) (read_keeps h (reading_of t.first) t.second) t.runs in
       subst (λ r. Gave (rules_of (pledge_at t.first t.second)) (IfOkay (End t.first)) ds j (exit_of ended_cause r)) e kept.gave
 
-  module _ (x y : State) (result : Result Unit Ended) (f : Follows run ended_cause (command run user words) x y result) where
+  module _ (x y : State) (result : Result Unit Ended) (f : Follows run ended_cause (command run caller words) x y result) where
     abbrev pub deeds : List Done
     deeds = deeds_in f.went.log
 
@@ -477,17 +478,17 @@ module _ (run : ℕ) (few : run < 2 ^ 128) (user : List ℕ) (words : List (List
     -- it follows the plan with the answers that it got
     pub follows_pledged : (t : Answered x.hand y.hand deeds (exit_of ended_cause result)) → Follows (pledge_at t.first t.second).run ended_cause (plan_by (reading_of t.first) t.second) x y result
     follows_pledged t =
-        subst (λ n. Follows n ended_cause (plan_by (reading_of t.first) t.second) x y result) (sym (pledge_run run user words (entries_by t.first) (entries_by t.second)))
-        (follows_so run ended_cause (command run user words) (plan_by (reading_of t.first) t.second) x y result f t.runs)
+        subst (λ n. Follows n ended_cause (plan_by (reading_of t.first) t.second) x y result) (sym (pledge_run run caller words (entries_by t.first) (entries_by t.second)))
+        (follows_so run ended_cause (command run caller words) (plan_by (reading_of t.first) t.second) x y result f t.runs)
 
     pub command_clean : result ≡ Ok tt → HasFailed (acts deeds) → ⊥
     command_clean e = (ended_so x.hand y.hand deeds result answers e).unfailed
 
     -- a call that follows a command keeps the pledge that its profile, its words and the context make
-    pub command_keeps : KeepsPledge run user words x y result
+    pub command_keeps : KeepsPledge run caller words x y result
     command_keeps = kept_by answers
       where
-        kept_by : Answered x.hand y.hand deeds (exit_of ended_cause result) → KeepsPledge run user words x y result
+        kept_by : Answered x.hand y.hand deeds (exit_of ended_cause result) → KeepsPledge run caller words x y result
         kept_by t = record {
           profile = t.first;
           context = t.second;

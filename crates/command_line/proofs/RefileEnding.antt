@@ -47,6 +47,7 @@ use Rattle.command_line.specs.CommandNames.{command_of, named}
 use Rattle.command_line.specs.CommandPledge.{entries_by}
 use Rattle.command_line.specs.Profile.{folder_of, path_of, profile_name}
 use Rattle.command_line.specs.declared.name.CommandName.TheVariants.{Refile}
+use Rattle.command_line.specs.declared.caller.Caller.{Caller}
 use Rattle.command_line.proofs.BegunEnding.{Profile, early, on_folder, profile_comes}
 use Rattle.command_line.proofs.BegunParts.{Behind, Found, after_context, after_profile, behind_kept, clean_there, found_comes, found_silent, in_silence, none_lasts, none_put, none_taken, none_told, profile_silent}
 
@@ -54,9 +55,9 @@ use Rattle.command_line.proofs.BegunParts.{Behind, Found, after_context, after_p
 none_held : (run : ℕ) (path folder : List ℕ) (a b : Answer) → HasHeldNone run (Folder path folder) (after_context path a b)
 none_held run path folder a b = λ n ok. ((λ e f. cc (e)), ((λ e f. cc (e)), tt))
 
-module _ (run : ℕ) (few : run < 2 ^ 128) (user : List ℕ) (words_ : List (List ℕ)) where
+module _ (run : ℕ) (few : run < 2 ^ 128) (caller : Caller) (words_ : List (List ℕ)) where
   abbrev Shows : CommandFault → List Deed → Type 0
-  Shows e own = ShowsFault run user words_ e own
+  Shows e own = ShowsFault run caller words_ e own
 
   -- nothing may be said
   abbrev Silence : Rules
@@ -64,17 +65,17 @@ module _ (run : ℕ) (few : run < 2 ^ 128) (user : List ℕ) (words_ : List (Lis
 
   -- how the command ends: nothing was said, and own steps show that it is done, or its fault
   abbrev pub EndsFirst : List runs.Deed → Hand → Result Unit Ended → Type 0
-  EndsFirst past h (Ok u) = (said_of past ≡ []) × ShowsOnFolder run user words_ (Ok []) (acts past)
+  EndsFirst past h (Ok u) = (said_of past ≡ []) × ShowsOnFolder run caller words_ (Ok []) (acts past)
   EndsFirst past h (Err x) = (said_of past ≡ []) × IsEndedFirst Shows x.fault (acts past)
 
   -- the same of a plan whose faults speak of no word
   abbrev Plainly : List runs.Deed → Hand → Result Unit CommandFault → Type 0
-  Plainly past h (Ok u) = (said_of past ≡ []) × ShowsOnFolder run user words_ (Ok []) (acts past)
+  Plainly past h (Ok u) = (said_of past ≡ []) × ShowsOnFolder run caller words_ (Ok []) (acts past)
   Plainly past h (Err e) = (said_of past ≡ []) × IsEndedFirst Shows e (acts past)
 
   -- an end before the command came to a folder
   early_first : (e : CommandFault) (own : List Deed) → ShowsEarly e own → NoneFailed own → IsEndedFirst Shows e own
-  early_first e own s clean = ended_first Shows e own (early run few user words_ e own s clean)
+  early_first e own s clean = ended_first Shows e own (early run few caller words_ e own s clean)
 
   -- a plan that ends so at once
   stops : (past : List runs.Deed) (h : Hand) (x : Ended) → said_of past ≡ [] → IsEndedFirst Shows x.fault (acts past) → Keeps Silence past h (Return (Err x)) EndsFirst
@@ -117,10 +118,10 @@ module _ (run : ℕ) (few : run < 2 ^ 128) (user : List ℕ) (words_ : List (Lis
     module _ (word : List ℕ) (rest : List (List ℕ)) (is_words : words_ ≡ word ∷ rest) (name : named word ≡ Some Refile) (words : RefileWords) (said : refile_said profile (map chars rest) ≡ Ok words) where
       -- what is shown of the job of these words, is shown of the command on its folder
       refile_on : (b : Answer) (folder : List ℕ) → folder_of words.source (entries_by b) profile ≡ Ok folder → (r : Result (List ℕ) CommandFault) (own : List Deed)
-          → Behind a b own × ShowsRefiling run path (refile_job folder words profile) r own → ShowsOnFolder run user words_ r own
+          → Behind a b own × ShowsRefiling run path (refile_job folder words profile) r own → ShowsOnFolder run caller words_ r own
       refile_on b folder there r own s =
-          on_folder run few user words_ a word rest is_words b folder r own s.0
-          (subst (λ n. ShowsNamed run user profile (entries_by b) folder r own rest n) (sym name)
+          on_folder run few caller words_ a word rest is_words b folder r own s.0
+          (subst (λ n. ShowsNamed run caller profile (entries_by b) folder r own rest n) (sym name)
           (subst (λ m. ShowsRefileWords run profile (entries_by b) folder r own m) (sym said) (there, s.1)))
 
       module _ (past : List runs.Deed) (j : Hand) (folder : List ℕ) (b : Answer) (is : acts past ≡ after_context path a b) (first : j ≡ knowing (entries_by b) fresh) (there : folder_of words.source (entries_by b) profile ≡ Ok folder) (clean : NoneFailed (acts past)) (silent : said_of past ≡ []) where
@@ -204,35 +205,35 @@ module _ (run : ℕ) (few : run < 2 ^ 128) (user : List ℕ) (words_ : List (Lis
           go (Ok words) said = plain_keeps past fresh (refile_begun run profile words) (refile_begun_keeps word rest is_words name words said past is clean silent)
           go (Err x) said = stops past fresh x silent (refile_refused (map chars rest) x said)
 
-      by_words : (words : List (List ℕ)) → words_ ≡ words → command_of words ≡ Some Refile → Keeps Silence past fresh (command_by run user profile words) EndsFirst
+      by_words : (words : List (List ℕ)) → words_ ≡ words → command_of words ≡ Some Refile → Keeps Silence past fresh (command_by run caller profile words) EndsFirst
       by_words [] is_words name = cc (name)
-      by_words (word ∷ rest) is_words name = subst (λ n. Keeps Silence past fresh (word_by run user profile word rest n) EndsFirst) (sym name) (by_refile word rest is_words name)
+      by_words (word ∷ rest) is_words name = subst (λ n. Keeps Silence past fresh (word_by run caller profile word rest n) EndsFirst) (sym name) (by_refile word rest is_words name)
 
   -- a command whose words name `refile`: how it ends, and what shows it
-  pub refile_ends_by : command_of words_ ≡ Some Refile → Keeps Silence [] fresh (command run user words_) EndsFirst
+  pub refile_ends_by : command_of words_ ≡ Some Refile → Keeps Silence [] fresh (command run caller words_) EndsFirst
   unfolding command ◌>>=◌
   refile_ends_by refiles =
-      keeps_bind Silence [] fresh (lifted plain (text_read Home profile_name)) (after (λ text. command_by run user (entries_in text) words_)) _ EndsFirst
+      keeps_bind Silence [] fresh (lifted plain (text_read Home profile_name)) (after (λ text. command_by run caller (entries_in text) words_)) _ EndsFirst
       (in_silence none_told [] fresh (lifted plain (text_read Home profile_name)) (OfActs Reads) refl (profile_silent [] fresh)
-      (comes_keeps [] [] fresh (lifted plain (text_read Home profile_name)) Reads refl (comes_clean [] fresh (lifted plain (text_read Home profile_name)) (Profile run few user words_) (λ m. m) (profile_comes run few user words_))))
+      (comes_keeps [] [] fresh (lifted plain (text_read Home profile_name)) Reads refl (comes_clean [] fresh (lifted plain (text_read Home profile_name)) (Profile run few caller words_) (λ m. m) (profile_comes run few caller words_))))
       go
     where
       Reads : Outcome (Result (List ℕ) Ended)
-      Reads later j r = NoneFailed later × Profile run few user words_ later j r
+      Reads later j r = NoneFailed later × Profile run few caller words_ later j r
 
-      go : (later : List runs.Deed) (j : Hand) (r : Result (List ℕ) Ended) → (said_of later ≡ []) × OfActs Reads later j r → Keeps Silence later j (after (λ text. command_by run user (entries_in text) words_) r) EndsFirst
+      go : (later : List runs.Deed) (j : Hand) (r : Result (List ℕ) Ended) → (said_of later ≡ []) × OfActs Reads later j r → Keeps Silence later j (after (λ text. command_by run caller (entries_in text) words_) r) EndsFirst
       go later j (Ok text) q =
-          subst (λ i. Keeps Silence later i (command_by run user (entries_in text) words_) EndsFirst) (sym q.1.1.2)
-          (subst (λ t. Keeps Silence later fresh (command_by run user (entries_in t) words_) EndsFirst) (sym q.1.1.3) (by_words q.1.1.0 later q.1.1.1 q.1.0 q.0 words_ refl refiles))
+          subst (λ i. Keeps Silence later i (command_by run caller (entries_in text) words_) EndsFirst) (sym q.1.1.2)
+          (subst (λ t. Keeps Silence later fresh (command_by run caller (entries_in t) words_) EndsFirst) (sym q.1.1.3) (by_words q.1.1.0 later q.1.1.1 q.1.0 q.0 words_ refl refiles))
       go later j (Err x) q = stops later j x q.0 (early_first x.fault (acts later) q.1.1 q.1.0)
 
   -- so does each run of it
-  pub run_refile_ends_by : command_of words_ ≡ Some Refile → (ds : List runs.Deed) (j : Hand) (r : Result Unit Ended) → Runs (command run user words_) fresh ds j (Returned r) → EndsFirst ds j r
-  run_refile_ends_by refiles ds j r f = (run_keeps Silence [] fresh (command run user words_) ds j (Returned r) EndsFirst (refile_ends_by refiles) f).gave
+  pub run_refile_ends_by : command_of words_ ≡ Some Refile → (ds : List runs.Deed) (j : Hand) (r : Result Unit Ended) → Runs (command run caller words_) fresh ds j (Returned r) → EndsFirst ds j r
+  run_refile_ends_by refiles ds j r f = (run_keeps Silence [] fresh (command run caller words_) ds j (Returned r) EndsFirst (refile_ends_by refiles) f).gave
 
   -- and it says nothing however it ends; and its output never fails
-  pub run_refile_silent : command_of words_ ≡ Some Refile → (ds : List runs.Deed) (j : Hand) (x : Exit (Result Unit Ended)) → Runs (command run user words_) fresh ds j x → (said_of ds ≡ []) × (x ≡ OutFailed → ⊥)
-  run_refile_silent refiles ds j x f = go (run_speaks none_told (command run user words_) fresh ds j x EndsFirst (refile_ends_by refiles) f)
+  pub run_refile_silent : command_of words_ ≡ Some Refile → (ds : List runs.Deed) (j : Hand) (x : Exit (Result Unit Ended)) → Runs (command run caller words_) fresh ds j x → (said_of ds ≡ []) × (x ≡ OutFailed → ⊥)
+  run_refile_silent refiles ds j x f = go (run_speaks none_told (command run caller words_) fresh ds j x EndsFirst (refile_ends_by refiles) f)
     where
       nothing : IsToldBy none_told (said_of ds) (acts ds) → said_of ds ≡ []
       nothing (inl none) = none

@@ -1,5 +1,5 @@
 -- What words refuse is a refusal.
-use Rattle.std.proofs.Common.{◌≡◌, ◌++◌, ℕ, Bool, true, false, List, [], ◌∷◌, Option, Some, None, Result, Ok, Err, length, refl, subst}
+use Rattle.std.proofs.Common.{◌≡◌, ◌++◌, ℕ, Bool, true, false, List, [], ◌∷◌, Option, Some, None, Result, Ok, Err, inl, inr, length, refl, subst}
 use Rattle.std.specs.Prelude.{codes, if◌then◌else◌}
 use Rattle.mh_base.specs.Folders.{is_folder_name, without_plus}
 use Rattle.mh_base.specs.declared.word.WordWhy.TheVariants.{Missing}
@@ -12,7 +12,7 @@ use Rattle.step_plans.specs.declared.command_fault.CommandFault.{CommandFault}
 use Rattle.step_plans.specs.declared.command_fault.CommandFault.TheVariants as fault
 use Rattle.command_words.specs.Ended.{wrong_at}
 use Rattle.command_words.specs.FolderWords.{folder_named, folders, named_folder, one_folder, some_named}
-use Rattle.inc_command.specs.declared.job.IncJob.{IncJob}
+use Rattle.inc_command.specs.IncJob.{IncJob}
 use Rattle.command_words.specs.IncWords.{folder_alone, folder_said as inc_words_said, inc_said, items_said as inc_items, with_folder as inc_folder}
 use Rattle.command_words.specs.MarkWords.{folder_said as mark_words_said, items_said as mark_items, lacks_sequence, mark_said, with_folder as mark_folder, with_names, word_said}
 use Rattle.command_words.specs.RefileWords as refile_words
@@ -28,8 +28,14 @@ use Rattle.command_words.specs.declared.mark.MarkWords.{MarkWords}
 use Rattle.command_words.specs.declared.refile.RefileWords.{RefileWords}
 use Rattle.command_words.specs.declared.rmm.RmmWords.{RmmWords}
 use Rattle.command_words.specs.declared.scan.ScanWords.{ScanWords}
-use Rattle.command_line.specs.Incorporating.{job_by, job_on, job_with, plain_job}
+use Rattle.format_compiler.specs.Grammar.{Format}
+use Rattle.message_lines.specs.Finding.{format_named, LIMIT_FORMAT}
+use Rattle.command_words.specs.LookWords.{unless_wide, wrong_widths}
+use Rattle.command_line.specs.Incorporating.{job_by, job_looked, job_on, job_with, plain_job}
+use Rattle.command_line.specs.Looking.{asked_by, ScanAsked, scan_asked}
+use Rattle.command_line.proofs.FormatRefuses.{format_refuses, IsFormatRefusal}
 use Rattle.command_line.specs.Profile.{folder_of, stored_of}
+use Rattle.command_line.specs.declared.caller.Caller.{Caller}
 
 abbrev pub IsRefusal : CommandFault → Type 0
 IsRefusal e = (r : Refusal) × (e ≡ fault.Refused r)
@@ -51,12 +57,32 @@ one_refuses words items (Ok (Some word)) = named_refuses items word
 one_refuses words items (Err wrong) = (refusal.BadSwitch wrong.place wrong.why, refl)
 
 items_refuse : (words : List (List ℕ)) (r : Result (List Item) Wrong) → Refuses (items_said words r)
-items_refuse words (Ok items) = one_refuses words items (one_folder (folders items))
+items_refuse words (Ok items) = one_refuses words items (unless_wide (wrong_widths items) (one_folder (folders items)))
 items_refuse words (Err wrong) = (refusal.BadSwitch wrong.place wrong.why, refl)
 
 -- the words of `scan`
-pub scan_refuses : (profile : List NamedValue) (words : List (List ℕ)) (e : Ended) → scan_said profile words ≡ Err e → IsRefusal e.fault
+scan_refuses : (profile : List NamedValue) (words : List (List ℕ)) (e : Ended) → scan_said profile words ≡ Err e → IsRefusal e.fault
 scan_refuses profile words e is = subst Refuses is (items_refuse (profile_words (codes "scan") profile ++ words) (read_in scan_table 0 (profile_words (codes "scan") profile ++ words)))
+
+-- and of the format that they name
+format_refusal : (e : CommandFault) → IsFormatRefusal e → IsRefusal e
+format_refusal e (inl is) = (refusal.BadFormat is.0, is.1)
+format_refusal e (inr is) = (refusal.TooLarge is.0 LIMIT_FORMAT, is.1)
+
+abbrev AskedRefuses : Result ScanAsked Ended → Type 0
+AskedRefuses (Ok asked) = Unit {0}
+AskedRefuses (Err e) = IsRefusal e.fault
+
+format_asked : (caller : Caller) (said : ScanWords) (r : Result Format CommandFault) → format_named said.look.format ≡ r → AskedRefuses (asked_by caller said r)
+format_asked caller said (Ok f) is = tt
+format_asked caller said (Err e) is = format_refusal e (format_refuses said.look.format (Err e) e is refl)
+
+words_asked : (caller : Caller) (r : Result ScanWords Ended) → ((e : Ended) → r ≡ Err e → IsRefusal e.fault) → AskedRefuses (scan_asked caller r)
+words_asked caller (Ok said) f = format_asked caller said (format_named said.look.format) refl
+words_asked caller (Err e) f = f e refl
+
+pub asked_refuses : (caller : Caller) (profile : List NamedValue) (words : List (List ℕ)) (e : Ended) → scan_asked caller (scan_said profile words) ≡ Err e → IsRefusal e.fault
+asked_refuses caller profile words e is = subst AskedRefuses is (words_asked caller (scan_said profile words) (λ x same. scan_refuses profile words x same))
 
 -- the words of `mark`
 abbrev MarkRefuses : Result MarkWords Ended → Type 0
@@ -164,7 +190,7 @@ inc_one_refuses words items (Ok (Some word)) = inc_named_refuses items word
 inc_one_refuses words items (Err wrong) = (refusal.BadSwitch wrong.place wrong.why, refl)
 
 inc_items_refuse : (words : List (List ℕ)) (r : Result (List Item) Wrong) → IncRefuses (inc_items words r)
-inc_items_refuse words (Ok items) = inc_one_refuses words items (folder_alone items)
+inc_items_refuse words (Ok items) = inc_one_refuses words items (unless_wide (wrong_widths items) (folder_alone items))
 inc_items_refuse words (Err wrong) = (refusal.BadSwitch wrong.place wrong.why, refl)
 
 inc_refuse : (profile : List NamedValue) (words : List (List ℕ)) → IncRefuses (inc_said profile words)
@@ -175,18 +201,22 @@ abbrev JobRefuses : Result IncJob Ended → Type 0
 JobRefuses (Ok job) = Unit {0}
 JobRefuses (Err e) = IsRefusal e.fault
 
-module _ (user : List ℕ) (profile : List NamedValue) where
-  folder_on : (words : IncWords) (names : List (List ℕ)) (r : Result (List ℕ) CommandFault) → folder_of words.folder [] profile ≡ r → JobRefuses (plain_job (job_on user profile words names r))
-  folder_on words names (Ok folder) is = tt
+module _ (caller : Caller) (profile : List NamedValue) where
+  format_on : (words : IncWords) (names : List (List ℕ)) (folder : List ℕ) (r : Result Format CommandFault) → format_named words.look.format ≡ r → JobRefuses (plain_job (job_looked caller profile words names folder r))
+  format_on words names folder (Ok f) is = tt
+  format_on words names folder (Err e) is = format_refusal e (format_refuses words.look.format (Err e) e is refl)
+
+  folder_on : (words : IncWords) (names : List (List ℕ)) (r : Result (List ℕ) CommandFault) → folder_of words.folder [] profile ≡ r → JobRefuses (plain_job (job_on caller profile words names r))
+  folder_on words names (Ok folder) is = format_on words names folder (format_named words.look.format) refl
   folder_on words names (Err e) is = folder_refuses words.folder [] profile e is
 
-  names_on : (words : IncWords) (names wrong : List (List ℕ)) → JobRefuses (plain_job (job_with user profile words (unless_wrong names wrong)))
+  names_on : (words : IncWords) (names wrong : List (List ℕ)) → JobRefuses (plain_job (job_with caller profile words (unless_wrong names wrong)))
   names_on words names [] = folder_on words names (folder_of words.folder [] profile) refl
   names_on words names (word ∷ wrong) = (refusal.BadSequenceName word, refl)
 
-  job_refuses_by : (r : Result IncWords Ended) → IncRefuses r → JobRefuses (job_by user profile r)
+  job_refuses_by : (r : Result IncWords Ended) → IncRefuses r → JobRefuses (job_by caller profile r)
   job_refuses_by (Ok words) f = let names = profile_words (codes "Unseen-Sequence") profile in names_on words names (wrong_names names)
   job_refuses_by (Err e) f = f
 
-  pub job_refuses : (words : List (List ℕ)) (e : Ended) → job_by user profile (inc_said profile words) ≡ Err e → IsRefusal e.fault
+  pub job_refuses : (words : List (List ℕ)) (e : Ended) → job_by caller profile (inc_said profile words) ≡ Err e → IsRefusal e.fault
   job_refuses words e is = subst JobRefuses is (job_refuses_by (inc_said profile words) (inc_refuse profile words))

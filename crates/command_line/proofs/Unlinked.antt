@@ -33,17 +33,19 @@ use Rattle.command_stages.specs.Endings.{of_plan}
 use Rattle.command_stages.specs.Listed.{names_by, folder_listed}
 use Rattle.command_stages.specs.Texts.{text_by, text_read}
 use Rattle.command_stages.specs.Current.{current_change, made_current}
-use Rattle.mh_looks.specs.Scan.{shown_by, one_shown, all_shown, ordered, entries_seen, chosen_by, scan}
-use Rattle.mh_looks.specs.declared.job.ScanJob.{ScanJob}
+use Rattle.message_lines.specs.MessageText.{Writing}
+use Rattle.mh_looks.specs.Scan.{shown_by, one_shown, all_shown, ordered, entries_seen, chosen_by, lined_by, scan}
+use Rattle.mh_looks.specs.ScanJob.{ScanJob}
 use Rattle.command_line.specs.Command.{command, command_by, context_entered, context_seen, folder_found, job_of, no_command, scan_begun, scan_by, word_by}
 use Rattle.command_line.specs.CommandNames.{begins_folders, command_of, named}
 use Rattle.command_line.specs.Profile.{folder_of, path_of, profile_name}
 use Rattle.command_line.specs.declared.name.CommandName.{CommandName}
 use Rattle.command_line.specs.declared.name.CommandName.TheVariants.{Inc, Mark, Refile, Rmm, Scan}
+use Rattle.command_line.specs.declared.caller.Caller.{Caller}
 use Rattle.command_words.specs.Ended.{plain}
 use Rattle.command_words.specs.ScanWords.{scan_said}
 use Rattle.command_words.specs.declared.ended.Ended.{Ended}
-use Rattle.command_words.specs.declared.scan.ScanWords.{ScanWords}
+use Rattle.command_line.specs.Looking.{ScanAsked, scan_asked}
 use Rattle.command_line.proofs.Giving.{IsFirst}
 
 -- any step but a Link
@@ -93,20 +95,20 @@ folder_nothing : (p : Place) (folder : List ℕ) → LinksNothing (folder_listed
 unfolding folder_listed
 folder_nothing p folder = asks_then IsUnlinked (lifted of_stop (list p)) (names_by folder) (asks_lifted IsUnlinked of_stop (list p) (lists p)) (names_nothing folder)
 
-shown_nothing : (p : Place) (n : ℕ) (r : Reading) → LinksNothing (shown_by p n r)
+shown_nothing : (lined : Writing) (p : Place) (n : ℕ) (r : Reading) → LinksNothing (shown_by lined p n r)
 unfolding AsksOnly say lifted bind ◌>>=◌
-shown_nothing p n (reading.Content bytes) = tt
-shown_nothing p n (reading.Long l) = tt
-shown_nothing p n reading.Gone = tt
+shown_nothing lined p n (reading.Content bytes) = tt
+shown_nothing lined p n (reading.Long l) = tt
+shown_nothing lined p n reading.Gone = tt
 
-one_nothing : (p : Place) (n : ℕ) → LinksNothing (one_shown p n)
+one_nothing : (lined : Writing) (p : Place) (n : ℕ) → LinksNothing (one_shown lined p n)
 unfolding one_shown
-one_nothing p n = asks_then IsUnlinked (lifted of_stop (read p (entry_text (Number n)) LIMIT_BYTES)) (shown_by p n) (asks_lifted IsUnlinked of_stop (read p (entry_text (Number n)) LIMIT_BYTES) (reads p (entry_text (Number n)) LIMIT_BYTES)) (shown_nothing p n)
+one_nothing lined p n = asks_then IsUnlinked (lifted of_stop (read p (entry_text (Number n)) LIMIT_BYTES)) (shown_by lined p n) (asks_lifted IsUnlinked of_stop (read p (entry_text (Number n)) LIMIT_BYTES) (reads p (entry_text (Number n)) LIMIT_BYTES)) (shown_nothing lined p n)
 
-all_nothing : (p : Place) (ns : List ℕ) → LinksNothing (all_shown p ns)
+all_nothing : (lined : Writing) (p : Place) (ns : List ℕ) → LinksNothing (all_shown lined p ns)
 unfolding all_shown
-all_nothing p [] = asks_none IsUnlinked (Ok tt)
-all_nothing p (n ∷ ns) = asks_then IsUnlinked (one_shown p n) (λ u. all_shown p ns) (one_nothing p n) (λ u. all_nothing p ns)
+all_nothing lined p [] = asks_none IsUnlinked (Ok tt)
+all_nothing lined p (n ∷ ns) = asks_then IsUnlinked (one_shown lined p n) (λ u. all_shown lined p ns) (one_nothing lined p n) (λ u. all_nothing lined p ns)
 
 commits_nothing : (p : Place) → Commits IsUnlinked p context_name
 commits_nothing p = record { make = tt; lock = tt; list = tt; clear = λ temp is. tt; read = tt; create = λ temp bytes. tt; sync_file = λ temp. tt; rename = λ temp. tt; sync = tt; unlock = tt }
@@ -121,13 +123,18 @@ value_nothing : {A : Type 0} (value : Hand → A) → LinksNothing (Recall (λ h
 unfolding AsksOnly
 value_nothing value = λ h. tt
 
+recalls_nothing : {A : Type 0} (next : Hand → Plan A) → ((h : Hand) → LinksNothing (next h)) → LinksNothing (Recall next)
+unfolding AsksOnly
+recalls_nothing next f = f
+
 scan_nothing : (run : ℕ) (mail : List ℕ) (job : ScanJob) → LinksNothing (scan run mail job)
 unfolding scan
 scan_nothing run mail job =
     asks_then IsUnlinked (folder_listed (Folder mail job.folder) job.folder) _ (folder_nothing (Folder mail job.folder) job.folder) (λ names.
     asks_then IsUnlinked (text_read (Folder mail job.folder) (entry_text Sequences)) _ (text_nothing (Folder mail job.folder) (entry_text Sequences)) (λ text.
     asks_then IsUnlinked (Recall (λ h. Return (chosen_by job names text (entries_seen h.context)))) _ (value_nothing (λ h. chosen_by job names text (entries_seen h.context))) (λ numbers.
-    asks_then IsUnlinked (all_shown (Folder mail job.folder) (ordered job.reverse numbers)) _ (all_nothing (Folder mail job.folder) (ordered job.reverse numbers)) (λ u. current_nothing run mail job.folder))))
+    asks_then IsUnlinked (Recall (λ h. all_shown (lined_by job text (entries_seen h.context)) (Folder mail job.folder) (ordered job.reverse numbers))) _
+    (recalls_nothing (λ h. all_shown (lined_by job text (entries_seen h.context)) (Folder mail job.folder) (ordered job.reverse numbers)) (λ h. all_nothing (lined_by job text (entries_seen h.context)) (Folder mail job.folder) (ordered job.reverse numbers))) (λ u. current_nothing run mail job.folder))))
 
 seen_nothing : (es : List NamedValue) → LinksNothing (context_seen es)
 unfolding AsksOnly context_seen
@@ -142,30 +149,30 @@ unfolding folder_found
 found_nothing profile said =
     asks_then IsUnlinked (context_entered (Mail (path_of profile))) _ (entered_nothing (Mail (path_of profile))) (λ u. value_nothing (λ h. folder_of said (entries_seen h.context) profile))
 
-begun_nothing : (run : ℕ) (profile : List NamedValue) (words : ScanWords) → LinksNothing (scan_begun run profile words)
+begun_nothing : (run : ℕ) (profile : List NamedValue) (words : ScanAsked) → LinksNothing (scan_begun run profile words)
 unfolding scan_begun
 begun_nothing run profile words = asks_then IsUnlinked (folder_found profile words.folder) _ (found_nothing profile words.folder) (λ folder. scan_nothing run (path_of profile) (job_of folder words profile))
 
-by_nothing : (run : ℕ) (profile : List NamedValue) (value : Result ScanWords Ended) → LinksNothing (scan_by run profile value)
+by_nothing : (run : ℕ) (profile : List NamedValue) (value : Result ScanAsked Ended) → LinksNothing (scan_by run profile value)
 by_nothing run profile (Ok words) = asks_lifted IsUnlinked plain (scan_begun run profile words) (begun_nothing run profile words)
 by_nothing run profile (Err e) = asks_none IsUnlinked (Err e)
 
-word_nothing : (run : ℕ) (user : List ℕ) (profile : List NamedValue) (word : List ℕ) (words : List (List ℕ)) (name : Option CommandName) → (begins_folders name ≡ false) → LinksNothing (word_by run user profile word words name)
-word_nothing run user profile word words None other = asks_none IsUnlinked (Err (no_command (Some word)))
-word_nothing run user profile word words (Some Inc) other = cc (other)
-word_nothing run user profile word words (Some Scan) other = by_nothing run profile (scan_said profile (map chars words))
-word_nothing run user profile word words (Some Mark) other = cc (other)
-word_nothing run user profile word words (Some Refile) other = cc (other)
-word_nothing run user profile word words (Some Rmm) other = cc (other)
+word_nothing : (run : ℕ) (caller : Caller) (profile : List NamedValue) (word : List ℕ) (words : List (List ℕ)) (name : Option CommandName) → (begins_folders name ≡ false) → LinksNothing (word_by run caller profile word words name)
+word_nothing run caller profile word words None other = asks_none IsUnlinked (Err (no_command (Some word)))
+word_nothing run caller profile word words (Some Inc) other = cc (other)
+word_nothing run caller profile word words (Some Scan) other = by_nothing run profile (scan_asked caller (scan_said profile (map chars words)))
+word_nothing run caller profile word words (Some Mark) other = cc (other)
+word_nothing run caller profile word words (Some Refile) other = cc (other)
+word_nothing run caller profile word words (Some Rmm) other = cc (other)
 
-named_nothing : (run : ℕ) (user : List ℕ) (profile : List NamedValue) (words : List (List ℕ)) → (begins_folders (command_of words) ≡ false) → LinksNothing (command_by run user profile words)
-named_nothing run user profile [] other = asks_none IsUnlinked (Err (no_command None))
-named_nothing run user profile (word ∷ words) other = word_nothing run user profile word words (named word) other
+named_nothing : (run : ℕ) (caller : Caller) (profile : List NamedValue) (words : List (List ℕ)) → (begins_folders (command_of words) ≡ false) → LinksNothing (command_by run caller profile words)
+named_nothing run caller profile [] other = asks_none IsUnlinked (Err (no_command None))
+named_nothing run caller profile (word ∷ words) other = word_nothing run caller profile word words (named word) other
 
-pub command_nothing : (run : ℕ) (user : List ℕ) (words : List (List ℕ)) → (begins_folders (command_of words) ≡ false) → LinksNothing (command run user words)
+pub command_nothing : (run : ℕ) (caller : Caller) (words : List (List ℕ)) → (begins_folders (command_of words) ≡ false) → LinksNothing (command run caller words)
 unfolding command
-command_nothing run user words other =
-    asks_then IsUnlinked (lifted plain (text_read Home profile_name)) (λ text. command_by run user (entries_in text) words) (asks_lifted IsUnlinked plain (text_read Home profile_name) (text_nothing Home profile_name)) (λ text. named_nothing run user (entries_in text) words other)
+command_nothing run caller words other =
+    asks_then IsUnlinked (lifted plain (text_read Home profile_name)) (λ text. command_by run caller (entries_in text) words) (asks_lifted IsUnlinked plain (text_read Home profile_name) (text_nothing Home profile_name)) (λ text. named_nothing run caller (entries_in text) words other)
 
 -- so is each step of each run of it
 abbrev AreUnlinked : List Deed → Type 0
@@ -228,5 +235,5 @@ unmet_over past (Said piece ∷ ds) p x none f = unmet_over past ds p x none f
 unmet_over past (Heard piece ∷ ds) p x none f = unmet_over past ds p x none f
 
 -- a call that follows a command meets its contents as they are
-pub command_first : (run : ℕ) (user : List ℕ) (words : List (List ℕ)) → (begins_folders (command_of words) ≡ false) → (c : Contents) (ns : List ℕ) (h j : Hand) (ds : List Deed) (exit : Exit (Result Unit Ended)) → Runs (command run user words) h ds j exit → IsFirst (first_view c ns (is_first_met (acts ds)))
-command_first run user words other c ns h j ds exit runs = record { seen = refl; unmet = λ p x. unmet_over [] ds p x refl (run_unlinked (command run user words) h j ds exit (command_nothing run user words other) runs) }
+pub command_first : (run : ℕ) (caller : Caller) (words : List (List ℕ)) → (begins_folders (command_of words) ≡ false) → (c : Contents) (ns : List ℕ) (h j : Hand) (ds : List Deed) (exit : Exit (Result Unit Ended)) → Runs (command run caller words) h ds j exit → IsFirst (first_view c ns (is_first_met (acts ds)))
+command_first run caller words other c ns h j ds exit runs = record { seen = refl; unmet = λ p x. unmet_over [] ds p x refl (run_unlinked (command run caller words) h j ds exit (command_nothing run caller words other) runs) }

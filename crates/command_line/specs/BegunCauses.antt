@@ -14,12 +14,13 @@ use Rattle.step_plans.specs.ContextCommit.{LIMIT_BYTES, context_name}
 use Rattle.step_plans.specs.declared.command_fault.CommandFault.{CommandFault}
 use Rattle.step_plans.specs.declared.command_fault.CommandFault.TheVariants as fault
 use Rattle.command_stages.specs.Texts.{too_large}
+use Rattle.message_lines.specs.Finding.{long_format}
 use Rattle.opened_folders.specs.Endings.{ShowsEnd}
 use Rattle.mark_command.specs.MarkAnswers.{HasMarked, ShowsListing, TellsMarks, mark_answers}
 use Rattle.mark_command.specs.declared.job.MarkAct.{MarkAct}
 use Rattle.mark_command.specs.declared.job.MarkJob.{MarkJob}
 use Rattle.inc_command.specs.IncAnswers.{IsTextOfNew, ShowsIncorporating}
-use Rattle.inc_command.specs.declared.job.IncJob.{IncJob}
+use Rattle.inc_command.specs.IncJob.{IncJob}
 use Rattle.refile_command.specs.RefileAnswers.{ShowsRefile}
 use Rattle.refile_command.specs.RefileDone.{HasRefiledChosen}
 use Rattle.refile_command.specs.RmmAnswers.{HasRemovedChosen, rmm_answers}
@@ -41,6 +42,7 @@ use Rattle.command_line.specs.Incorporating.{job_by}
 use Rattle.command_line.specs.Profile.{folder_of, path_of, profile_name}
 use Rattle.command_line.specs.declared.name.CommandName.{CommandName}
 use Rattle.command_line.specs.declared.name.CommandName.TheVariants.{Inc, Mark, Refile, Rmm, Scan}
+use Rattle.command_line.specs.declared.caller.Caller.{Caller}
 
 -- what shows how it ended before it came to a folder
 pub data ShowsEarly : CommandFault → List Deed → Type 0 where
@@ -51,6 +53,9 @@ pub data ShowsEarly : CommandFault → List Deed → Type 0 where
       → ShowsEarly (fault.Refused (refusal.BadFolder word)) own
   wrong_name : {word : List ℕ} {own : List Deed} → ReadsProfile own
       → ShowsEarly (fault.Refused (refusal.BadSequenceName word)) own
+  -- the format that words name is wrong from this byte on, or too long
+  wrong_format : {at : ℕ} {own : List Deed} → ReadsProfile own → ShowsEarly (fault.Refused (refusal.BadFormat at)) own
+  wide_format : {l : ℕ} {own : List Deed} → ReadsProfile own → ShowsEarly (long_format l) own
   -- what is stored as the current folder is no folder's name
   wrong_stored : {word : List ℕ} {own : List Deed} → ReadsContext own
       → ShowsEarly (fault.Refused (refusal.BadFolder word)) own
@@ -119,30 +124,30 @@ ShowsIncJob run profile folder r own (Ok job) = (folder ≡ job.folder) × Shows
 ShowsIncJob run profile folder r own (Err x) = ⊥
 
 -- by the command's name
-abbrev pub ShowsNamed : ℕ → List ℕ → List NamedValue → List NamedValue → List ℕ → Result (List ℕ) CommandFault → List Deed
+abbrev pub ShowsNamed : ℕ → Caller → List NamedValue → List NamedValue → List ℕ → Result (List ℕ) CommandFault → List Deed
     → List (List ℕ) → Option CommandName → Type 0
-ShowsNamed run user profile context folder r own words None = ⊥
-ShowsNamed run user profile context folder r own words (Some Inc) =
-    ShowsIncJob run profile folder r own (job_by user profile (inc_said profile (map chars words)))
-ShowsNamed run user profile context folder r own words (Some Scan) = ⊥
-ShowsNamed run user profile context folder r own words (Some Mark) =
+ShowsNamed run caller profile context folder r own words None = ⊥
+ShowsNamed run caller profile context folder r own words (Some Inc) =
+    ShowsIncJob run profile folder r own (job_by caller profile (inc_said profile (map chars words)))
+ShowsNamed run caller profile context folder r own words (Some Scan) = ⊥
+ShowsNamed run caller profile context folder r own words (Some Mark) =
     ShowsMark run profile context folder r own (mark_said profile (map chars words))
-ShowsNamed run user profile context folder r own words (Some Refile) =
+ShowsNamed run caller profile context folder r own words (Some Refile) =
     ShowsRefileWords run profile context folder r own (refile_said profile (map chars words))
-ShowsNamed run user profile context folder r own words (Some Rmm) =
+ShowsNamed run caller profile context folder r own words (Some Rmm) =
     ShowsRmm run profile context folder r own (rmm_said profile (map chars words))
 
 -- by the command that the first word names
-abbrev pub ShowsWords : ℕ → List ℕ → List NamedValue → List NamedValue → List ℕ → Result (List ℕ) CommandFault → List Deed
+abbrev pub ShowsWords : ℕ → Caller → List NamedValue → List NamedValue → List ℕ → Result (List ℕ) CommandFault → List Deed
     → List (List ℕ) → Type 0
-ShowsWords run user profile context folder r own [] = ⊥
-ShowsWords run user profile context folder r own (word ∷ words) =
-    ShowsNamed run user profile context folder r own words (named word)
+ShowsWords run caller profile context folder r own [] = ⊥
+ShowsWords run caller profile context folder r own (word ∷ words) =
+    ShowsNamed run caller profile context folder r own words (named word)
 
 -- the call read the profile and then the context of the mail directory that it names; by these, the words and the user's
 -- name the command was on this folder, and the later deeds show how it ended there: done, with this output, or by this
 -- fault
-pub record ShowsOnFolder (run : ℕ) (user : List ℕ) (words : List (List ℕ)) (r : Result (List ℕ) CommandFault)
+pub record ShowsOnFolder (run : ℕ) (caller : Caller) (words : List (List ℕ)) (r : Result (List ℕ) CommandFault)
     (own : List Deed) : Type 0 where
   pub profile : Answer
   pub context : Answer
@@ -153,21 +158,21 @@ pub record ShowsOnFolder (run : ℕ) (user : List ℕ) (words : List (List ℕ))
       ≡ newer
       ++ did (Read (Mail (path_by profile)) context_name LIMIT_BYTES) context
       ∷ did (Read Home profile_name LIMIT_BYTES) profile ∷ []
-  pub shows : ShowsWords run user (entries_by profile) (entries_by context) folder r own words
+  pub shows : ShowsWords run caller (entries_by profile) (entries_by context) folder r own words
 
 -- what shows each fault of a command that may begin a folder
-abbrev pub ShowsFault : ℕ → List ℕ → List (List ℕ) → CommandFault → List Deed → Type 0
-ShowsFault run user words e own = ShowsEarly e own ⊎ ShowsOnFolder run user words (Err e) own
+abbrev pub ShowsFault : ℕ → Caller → List (List ℕ) → CommandFault → List Deed → Type 0
+ShowsFault run caller words e own = ShowsEarly e own ⊎ ShowsOnFolder run caller words (Err e) own
 
 -- the words name `inc`, and this is its job by them
-abbrev pub TakesInBy : List ℕ → List NamedValue → List (List ℕ) → IncJob → Type 0
-TakesInBy user profile [] job = ⊥
-TakesInBy user profile (word ∷ words) job =
-    (named word ≡ Some Inc) × (job_by user profile (inc_said profile (map chars words)) ≡ Ok job)
+abbrev pub TakesInBy : Caller → List NamedValue → List (List ℕ) → IncJob → Type 0
+TakesInBy caller profile [] job = ⊥
+TakesInBy caller profile (word ∷ words) job =
+    (named word ≡ Some Inc) × (job_by caller profile (inc_said profile (map chars words)) ≡ Ok job)
 
 -- `inc` tells while it goes on: the call read the profile and the context, and this is a text of the heading and of lines
 -- of messages that it has stored
-pub record TellsNewMail (run : ℕ) (user : List ℕ) (words : List (List ℕ)) (text : List ℕ) (own : List Deed) : Type 0 where
+pub record TellsNewMail (run : ℕ) (caller : Caller) (words : List (List ℕ)) (text : List ℕ) (own : List Deed) : Type 0 where
   pub profile : Answer
   pub context : Answer
   pub newer : List Deed
@@ -177,10 +182,10 @@ pub record TellsNewMail (run : ℕ) (user : List ℕ) (words : List (List ℕ)) 
       ++ did (Read (Mail (path_by profile)) context_name LIMIT_BYTES) context
       ∷ did (Read Home profile_name LIMIT_BYTES) profile ∷ []
   pub job : IncJob
-  pub by_words : TakesInBy user (entries_by profile) words job
+  pub by_words : TakesInBy caller (entries_by profile) words job
   pub told : IsTextOfNew run (path_by profile) job own text
 
 -- by what these deeds show, this is the text of the command on its folder: that of the sequences that `mark` made or read,
 -- where it lists; or what `inc` has told so far
-abbrev pub TellsOnFolder : ℕ → List ℕ → List (List ℕ) → List ℕ → List Deed → Type 0
-TellsOnFolder run user words text own = ShowsOnFolder run user words (Ok text) own ⊎ TellsNewMail run user words text own
+abbrev pub TellsOnFolder : ℕ → Caller → List (List ℕ) → List ℕ → List Deed → Type 0
+TellsOnFolder run caller words text own = ShowsOnFolder run caller words (Ok text) own ⊎ TellsNewMail run caller words text own

@@ -15,6 +15,7 @@ use Rattle.step_plans.specs.Endings.{IsHeld, IsMeddled, IsLongRead, IsLongText}
 use Rattle.step_plans.specs.declared.command_fault.CommandFault.{CommandFault}
 use Rattle.step_plans.specs.declared.command_fault.CommandFault.TheVariants as fault
 use Rattle.command_stages.specs.Current.{current_change}
+use Rattle.message_lines.specs.Finding.{LIMIT_FORMAT}
 use Rattle.command_line.specs.Profile.{profile_name}
 
 -- the profile was read, and that is all
@@ -49,7 +50,7 @@ ShowsRefusal (refusal.Absent s) own = IsFolderRead own
 ShowsRefusal (refusal.EmptyRange s) own = IsFolderRead own
 ShowsRefusal (refusal.EmptySequence s) own = IsFolderRead own
 ShowsRefusal (refusal.BadSequenceName s) own = ⊥
-ShowsRefusal (refusal.BadFormat n) own = ⊥
+ShowsRefusal (refusal.BadFormat n) own = ReadsProfile own
 ShowsRefusal (refusal.BadDate s) own = ⊥
 ShowsRefusal (refusal.BadExpr n) own = ⊥
 ShowsRefusal refusal.NoMatch own = ⊥
@@ -60,7 +61,7 @@ ShowsRefusal (refusal.Full s) own = ⊥
 ShowsRefusal (refusal.BadDraft n) own = ⊥
 ShowsRefusal (refusal.NoPart s) own = ⊥
 ShowsRefusal (refusal.WouldReplace s) own = ⊥
-ShowsRefusal (refusal.TooLarge l limit) own = (limit ≡ LIMIT_BYTES) × IsAboveLimit l own
+ShowsRefusal (refusal.TooLarge l limit) own = ((limit ≡ LIMIT_BYTES) × IsAboveLimit l own) ⊎ ((limit ≡ LIMIT_FORMAT) × ReadsProfile own)
 ShowsRefusal refusal.DropGrown own = ⊥
 ShowsRefusal (refusal.NoFile path) own = ⊥
 ShowsRefusal refusal.DropChanged own = ⊥

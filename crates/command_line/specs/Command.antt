@@ -11,11 +11,11 @@ use Rattle.step_plans.specs.ContextCommit.{context_name}
 use Rattle.step_plans.specs.Hands.{knowing}
 use Rattle.command_stages.specs.Texts.{Commanded, text_read}
 use Rattle.mh_looks.specs.Scan.{entries_seen, scan}
-use Rattle.mh_looks.specs.declared.job.ScanJob.{ScanJob}
+use Rattle.mh_looks.specs.ScanJob.{ScanJob}
 use Rattle.mark_command.specs.Mark.{mark}
 use Rattle.mark_command.specs.declared.job.MarkJob.{MarkJob}
 use Rattle.inc_command.specs.Inc.{inc}
-use Rattle.inc_command.specs.declared.job.IncJob.{IncJob}
+use Rattle.inc_command.specs.IncJob.{IncJob}
 use Rattle.refile_command.specs.Refile.{refile}
 use Rattle.refile_command.specs.Rmm.{rmm}
 use Rattle.refile_command.specs.declared.job.RefileJob.{RefileJob}
@@ -24,7 +24,6 @@ use Rattle.command_words.specs.declared.ended.Ended.{Ended}
 use Rattle.command_words.specs.declared.mark.MarkWords.{MarkWords}
 use Rattle.command_words.specs.declared.refile.RefileWords.{RefileWords}
 use Rattle.command_words.specs.declared.rmm.RmmWords.{RmmWords}
-use Rattle.command_words.specs.declared.scan.ScanWords.{ScanWords}
 use Rattle.command_words.specs.Ended.{plain, wrong_word, Ending}
 use Rattle.command_words.specs.IncWords.{inc_said}
 use Rattle.command_words.specs.MarkWords.{mark_said}
@@ -33,7 +32,9 @@ use Rattle.command_words.specs.RmmWords.{rmm_said}
 use Rattle.command_words.specs.ScanWords.{scan_said}
 use Rattle.command_line.specs.CommandNames.{named}
 use Rattle.command_line.specs.Incorporating.{job_by}
+use Rattle.command_line.specs.Looking.{ScanAsked, scan_asked, unseen_known}
 use Rattle.command_line.specs.Profile.{folder_of, negation_of, path_of, profile_name}
+use Rattle.command_line.specs.declared.caller.Caller.{Caller}
 use Rattle.command_line.specs.declared.name.CommandName.{CommandName}
 use Rattle.command_line.specs.declared.name.CommandName.TheVariants.{Inc, Mark, Refile, Rmm, Scan}
 
@@ -52,15 +53,22 @@ folder_found profile said = do
   entered ← context_entered (Mail (path_of profile))
   Recall (λ h. Return (folder_of said (entries_seen h.context) profile))
 
-abbrev pub job_of : List ℕ → ScanWords → List NamedValue → ScanJob
-job_of folder words profile = record { folder = folder; specs = words.specs; reverse = words.reverse; negation = negation_of profile }
+abbrev pub job_of : List ℕ → ScanAsked → List NamedValue → ScanJob
+job_of folder words profile = record {
+  folder = folder;
+  specs = words.specs;
+  reverse = words.reverse;
+  unseen = unseen_known profile;
+  negation = negation_of profile;
+  spoken = words.spoken;
+}
 
-unfoldable pub scan_begun : ℕ → List NamedValue → ScanWords → Commanded Unit
+unfoldable pub scan_begun : ℕ → List NamedValue → ScanAsked → Commanded Unit
 scan_begun run profile words = do
   folder ← folder_found profile words.folder
   scan run (path_of profile) (job_of folder words profile)
 
-abbrev pub scan_by : ℕ → List NamedValue → Result ScanWords Ended → Ending Unit
+abbrev pub scan_by : ℕ → List NamedValue → Result ScanAsked Ended → Ending Unit
 scan_by run profile (Ok words) = lifted plain (scan_begun run profile words)
 scan_by run profile (Err e) = Return (Err e)
 
@@ -124,21 +132,21 @@ inc_by run profile (Err e) = Return (Err e)
 abbrev pub no_command : Option (List ℕ) → Ended
 no_command word = wrong_word (record { place = 0; why = NoCommand }) word
 
--- by the command that the first word names, and the user's name
-abbrev pub word_by : ℕ → List ℕ → List NamedValue → List ℕ → List (List ℕ) → Option CommandName → Ending Unit
-word_by run user profile word words None = Return (Err (no_command (Some word)))
-word_by run user profile word words (Some Inc) = inc_by run profile (job_by user profile (inc_said profile (map chars words)))
-word_by run user profile word words (Some Scan) = scan_by run profile (scan_said profile (map chars words))
-word_by run user profile word words (Some Mark) = mark_by run profile (mark_said profile (map chars words))
-word_by run user profile word words (Some Refile) = refile_by run profile (refile_said profile (map chars words))
-word_by run user profile word words (Some Rmm) = rmm_by run profile (rmm_said profile (map chars words))
+-- by the command that the first word names, and who calls
+abbrev pub word_by : ℕ → Caller → List NamedValue → List ℕ → List (List ℕ) → Option CommandName → Ending Unit
+word_by run caller profile word words None = Return (Err (no_command (Some word)))
+word_by run caller profile word words (Some Inc) = inc_by run profile (job_by caller profile (inc_said profile (map chars words)))
+word_by run caller profile word words (Some Scan) = scan_by run profile (scan_asked caller (scan_said profile (map chars words)))
+word_by run caller profile word words (Some Mark) = mark_by run profile (mark_said profile (map chars words))
+word_by run caller profile word words (Some Refile) = refile_by run profile (refile_said profile (map chars words))
+word_by run caller profile word words (Some Rmm) = rmm_by run profile (rmm_said profile (map chars words))
 
-abbrev pub command_by : ℕ → List ℕ → List NamedValue → List (List ℕ) → Ending Unit
-command_by run user profile [] = Return (Err (no_command None))
-command_by run user profile (word ∷ words) = word_by run user profile word words (named word)
+abbrev pub command_by : ℕ → Caller → List NamedValue → List (List ℕ) → Ending Unit
+command_by run caller profile [] = Return (Err (no_command None))
+command_by run caller profile (word ∷ words) = word_by run caller profile word words (named word)
 
 -- the profile is read, and the command runs that the words name
-unfoldable pub command : ℕ → List ℕ → List (List ℕ) → Ending Unit
-command run user words = do
+unfoldable pub command : ℕ → Caller → List (List ℕ) → Ending Unit
+command run caller words = do
   text ← lifted plain (text_read Home profile_name)
-  command_by run user (entries_in text) words
+  command_by run caller (entries_in text) words

@@ -21,7 +21,7 @@ use Rattle.step_plans.specs.declared.command_fault.CommandFault.{CommandFault}
 use Rattle.mh_looks.specs.ScanPledge.{scan_pledge}
 use Rattle.mark_command.specs.MarkPledge.{pledge_by}
 use Rattle.inc_command.specs.IncPledge.{inc_pledge}
-use Rattle.inc_command.specs.declared.job.IncJob.{IncJob}
+use Rattle.inc_command.specs.IncJob.{IncJob}
 use Rattle.refile_command.specs.RefilePledge.{refile_pledge}
 use Rattle.refile_command.specs.RmmPledge.{rmm_pledge}
 use Rattle.command_words.specs.IncWords.{inc_said}
@@ -38,6 +38,7 @@ use Rattle.command_line.specs.Incorporating.{job_by}
 use Rattle.command_line.specs.Profile.{folder_of, path_of, profile_name}
 use Rattle.command_line.specs.declared.name.CommandName.{CommandName}
 use Rattle.command_line.specs.declared.name.CommandName.TheVariants.{Inc, Mark, Refile, Rmm, Scan}
+use Rattle.command_line.specs.declared.caller.Caller.{Caller}
 
 -- the text that was read; the empty one where there is none
 abbrev pub text_of : Reading → List ℕ
@@ -93,18 +94,18 @@ abbrev pub incs_pledge : ℕ → List NamedValue → Result IncJob Ended → Ple
 incs_pledge run profile (Ok job) = inc_pledge run (path_of profile) job
 incs_pledge run profile (Err e) = scan_pledge run (path_of profile)
 
-abbrev pub word_pledge : ℕ → List ℕ → List NamedValue → List NamedValue → List (List ℕ) → Option CommandName → Pledge
-word_pledge run user profile context words None = scan_pledge run (path_of profile)
-word_pledge run user profile context words (Some Inc) = incs_pledge run profile (job_by user profile (inc_said profile (map chars words)))
-word_pledge run user profile context words (Some Scan) = scan_pledge run (path_of profile)
-word_pledge run user profile context words (Some Mark) = marks_pledge run profile context (mark_said profile (map chars words))
-word_pledge run user profile context words (Some Refile) = refiles_pledge run profile context (refile_said profile (map chars words))
-word_pledge run user profile context words (Some Rmm) = rmms_pledge run profile context (rmm_said profile (map chars words))
+abbrev pub word_pledge : ℕ → Caller → List NamedValue → List NamedValue → List (List ℕ) → Option CommandName → Pledge
+word_pledge run caller profile context words None = scan_pledge run (path_of profile)
+word_pledge run caller profile context words (Some Inc) = incs_pledge run profile (job_by caller profile (inc_said profile (map chars words)))
+word_pledge run caller profile context words (Some Scan) = scan_pledge run (path_of profile)
+word_pledge run caller profile context words (Some Mark) = marks_pledge run profile context (mark_said profile (map chars words))
+word_pledge run caller profile context words (Some Refile) = refiles_pledge run profile context (refile_said profile (map chars words))
+word_pledge run caller profile context words (Some Rmm) = rmms_pledge run profile context (rmm_said profile (map chars words))
 
 -- what a command pledges, by the user's name, its words, the entries of the profile and those of the context
-abbrev pub command_pledge : ℕ → List ℕ → List (List ℕ) → List NamedValue → List NamedValue → Pledge
-command_pledge run user [] profile context = scan_pledge run (path_of profile)
-command_pledge run user (word ∷ words) profile context = word_pledge run user profile context words (named word)
+abbrev pub command_pledge : ℕ → Caller → List (List ℕ) → List NamedValue → List NamedValue → Pledge
+command_pledge run caller [] profile context = scan_pledge run (path_of profile)
+command_pledge run caller (word ∷ words) profile context = word_pledge run caller profile context words (named word)
 
 -- what a command has done that is done: each commit was made safe; and one that only looks at a folder made it the current one, or changed
 -- nothing
@@ -118,11 +119,11 @@ IsDone (Some Rmm) path own = AreSettled own
 
 -- the call began with the profile, which names the path of a mail directory, and with the context of that; it kept the pledge that these and
 -- its words make
-pub record KeepsPledge (run : ℕ) (user : List ℕ) (words : List (List ℕ)) (x y : State) (result : Result Unit Ended) : Type 0 where
+pub record KeepsPledge (run : ℕ) (caller : Caller) (words : List (List ℕ)) (x y : State) (result : Result Unit Ended) : Type 0 where
   pub profile : Answer
   pub context : Answer
   pub own : List Deed
   pub made : AreMade run x.files.story y.files.story own
   pub begun : HaveBegun profile context own
   pub finished : result ≡ Ok tt → IsDone (command_of words) (path_by profile) own
-  pub promises : Promises (command_pledge run user words (entries_by profile) (entries_by context)) x y
+  pub promises : Promises (command_pledge run caller words (entries_by profile) (entries_by context)) x y

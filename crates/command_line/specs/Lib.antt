@@ -5,5 +5,6 @@ pub mod CommandMarks
 pub mod CommandNames
 pub mod CommandPledge
 pub mod Incorporating
+pub mod Looking
 pub mod Outcomes
 pub mod Profile

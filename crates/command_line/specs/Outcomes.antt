@@ -12,7 +12,7 @@ use Rattle.opened_folders.specs.BegunWork.{Homes}
 use Rattle.opened_folders.specs.HomesOf.{homes_at}
 use Rattle.mark_command.specs.Outcomes.{mark_work}
 use Rattle.inc_command.specs.IncOutcome.{inc_work, with_folder_made}
-use Rattle.inc_command.specs.declared.job.IncJob.{IncJob}
+use Rattle.inc_command.specs.IncJob.{IncJob}
 use Rattle.refile_command.specs.MadeFolder.{or_empty}
 use Rattle.refile_command.specs.RefileOutcome.{refile_work}
 use Rattle.refile_command.specs.RmmOutcome.{rmm_work}
@@ -26,11 +26,12 @@ use Rattle.command_words.specs.declared.ended.Ended.{Ended}
 use Rattle.command_words.specs.declared.mark.MarkWords.{MarkWords}
 use Rattle.command_words.specs.declared.refile.RefileWords.{RefileWords}
 use Rattle.command_words.specs.declared.rmm.RmmWords.{RmmWords}
-use Rattle.command_words.specs.declared.scan.ScanWords.{ScanWords}
 use Rattle.command_line.specs.Command.{job_of, mark_job, no_command, refile_job, rmm_job}
 use Rattle.command_line.specs.CommandNames.{named}
 use Rattle.command_line.specs.Incorporating.{job_by}
+use Rattle.command_line.specs.Looking.{ScanAsked, scan_asked}
 use Rattle.command_line.specs.Profile.{folder_of, path_of, profile_name}
+use Rattle.command_line.specs.declared.caller.Caller.{Caller}
 use Rattle.command_line.specs.declared.name.CommandName.{CommandName}
 use Rattle.command_line.specs.declared.name.CommandName.TheVariants.{Inc, Mark, Refile, Rmm, Scan}
 
@@ -61,10 +62,10 @@ abbrev pub on_folder : Mailbox → List NamedValue → Option (List ℕ) → Fol
 on_folder m profile said work = with_context m profile said work (readable (m.context (Mail (path_of profile))))
 
 -- `scan`
-abbrev pub scans : Mailbox → List NamedValue → ScanWords → FolderWork
+abbrev pub scans : Mailbox → List NamedValue → ScanAsked → FolderWork
 scans m profile words context folder = scan_work (path_of profile) context (job_of folder words profile) m
 
-abbrev pub scan_words_work : Mailbox → List NamedValue → Result ScanWords Ended → Work Ended
+abbrev pub scan_words_work : Mailbox → List NamedValue → Result ScanAsked Ended → Work Ended
 scan_words_work m profile (Ok words) = of_stage (on_folder m profile words.folder (scans m profile words))
 scan_words_work m profile (Err e) = refused_at m e
 
@@ -117,27 +118,27 @@ inc_job_work g m profile (Ok job) = of_stage (incs g m profile job (readable (m.
 inc_job_work g m profile (Err e) = refused_at m e
 
 -- the command of this name
-abbrev pub word_work : Meeting → Mailbox → List ℕ → List NamedValue → List ℕ → List (List ℕ) → Option CommandName → Work Ended
-word_work g m user profile word words None = refused_at m (no_command (Some word))
-word_work g m user profile word words (Some Inc) = inc_job_work g m profile (job_by user profile (inc_said profile (map chars words)))
-word_work g m user profile word words (Some Scan) = scan_words_work m profile (scan_said profile (map chars words))
-word_work g m user profile word words (Some Mark) = mark_words_work g m profile (mark_said profile (map chars words))
-word_work g m user profile word words (Some Refile) = refile_words_work g m profile (refile_said profile (map chars words))
-word_work g m user profile word words (Some Rmm) = rmm_words_work g m profile (rmm_said profile (map chars words))
+abbrev pub word_work : Meeting → Mailbox → Caller → List NamedValue → List ℕ → List (List ℕ) → Option CommandName → Work Ended
+word_work g m caller profile word words None = refused_at m (no_command (Some word))
+word_work g m caller profile word words (Some Inc) = inc_job_work g m profile (job_by caller profile (inc_said profile (map chars words)))
+word_work g m caller profile word words (Some Scan) = scan_words_work m profile (scan_asked caller (scan_said profile (map chars words)))
+word_work g m caller profile word words (Some Mark) = mark_words_work g m profile (mark_said profile (map chars words))
+word_work g m caller profile word words (Some Refile) = refile_words_work g m profile (refile_said profile (map chars words))
+word_work g m caller profile word words (Some Rmm) = rmm_words_work g m profile (rmm_said profile (map chars words))
 
-abbrev pub named_work : Meeting → Mailbox → List ℕ → List NamedValue → List (List ℕ) → Work Ended
-named_work g m user profile [] = refused_at m (no_command None)
-named_work g m user profile (word ∷ words) = word_work g m user profile word words (named word)
+abbrev pub named_work : Meeting → Mailbox → Caller → List NamedValue → List (List ℕ) → Work Ended
+named_work g m caller profile [] = refused_at m (no_command None)
+named_work g m caller profile (word ∷ words) = word_work g m caller profile word words (named word)
 
 -- the profile that is read
-abbrev pub with_profile : Meeting → Mailbox → List ℕ → List (List ℕ) → Result (List ℕ) CommandFault → Work Ended
-with_profile g m user words (Ok text) = named_work g m user (entries_in text) words
-with_profile g m user words (Err e) = refused_at m (plain e)
+abbrev pub with_profile : Meeting → Mailbox → Caller → List (List ℕ) → Result (List ℕ) CommandFault → Work Ended
+with_profile g m caller words (Ok text) = named_work g m caller (entries_in text) words
+with_profile g m caller words (Err e) = refused_at m (plain e)
 
 -- what a command comes to, in its stages: the profile, the words, the context, the folder, the work
-unfoldable pub work_by : Meeting → List ℕ → List (List ℕ) → Mailbox → Work Ended
-work_by g user words m = with_profile g m user words (readable (m.home profile_name))
+unfoldable pub work_by : Meeting → Caller → List (List ℕ) → Mailbox → Work Ended
+work_by g caller words m = with_profile g m caller words (readable (m.home profile_name))
 
 -- what it comes to alone
-abbrev pub work_of : ℕ → List ℕ → List (List ℕ) → Mailbox → Work Ended
-work_of run user words m = work_by (alone_meeting run) user words m
+abbrev pub work_of : ℕ → Caller → List (List ℕ) → Mailbox → Work Ended
+work_of run caller words m = work_by (alone_meeting run) caller words m

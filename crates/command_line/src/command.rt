@@ -10,6 +10,7 @@ ghost use Rattle.command_line.specs.Command.{command as command_plan, command_by
 ghost use Rattle.command_line.specs.CommandNames.{named};
 ghost use Rattle.command_line.specs.Profile.{profile_name as profile_name_of};
 
+use crate::Caller;
 use crate::incorporating::run_inc;
 use crate::marking::run_mark;
 use crate::name::CommandName;
@@ -19,7 +20,7 @@ use crate::scanning::run_scan;
 use command_stages::read_text;
 use command_words::Ended;
 use folder_files::{Files, Place, Refusal};
-use mh_base::{Bytes, Name, Sink, Text, WordWhy};
+use mh_base::{Bytes, Name, Sink, WordWhy};
 use mh_profile::Entries;
 use std::alloc::{AllocError, Global};
 use step_plans::CommandFault;
@@ -50,15 +51,15 @@ fn run_word<F: Files, O: Sink>(
     files: &mut F,
     out: &mut O,
     profile: &Entries,
-    user: &Text,
+    caller: &Caller,
     word: &str,
     rest: &[String],
 ) -> Result<(), Ended>
-    ensures { (left : Kept) × Follows run ended_cause (word_by run user.now profile.now word.now (map string_bytes rest.now) (named word.now)) (by_out fresh (F.state files.old) (O.state out.old)) (by_out left (F.state files.new) (O.state out.new)) result }
+    ensures { (left : Kept) × Follows run ended_cause (word_by run caller.now profile.now word.now (map string_bytes rest.now) (named word.now)) (by_out fresh (F.state files.old) (O.state out.old)) (by_out left (F.state files.new) (O.state out.new)) result }
 {
     match CommandName::read(word) {
-        Some(CommandName::Inc) => run_inc(alloc, run, files, out, profile, user, rest),
-        Some(CommandName::Scan) => run_scan(alloc, run, files, out, profile, rest),
+        Some(CommandName::Inc) => run_inc(alloc, run, files, out, profile, caller, rest),
+        Some(CommandName::Scan) => run_scan(alloc, run, files, out, profile, caller, rest),
         Some(CommandName::Mark) => run_mark(alloc, run, files, out, profile, rest),
         Some(CommandName::Refile) => run_refile(alloc, run, files, profile, rest),
         Some(CommandName::Rmm) => run_rmm(alloc, run, files, profile, rest),
@@ -76,14 +77,23 @@ fn run_named<F: Files, O: Sink>(
     files: &mut F,
     out: &mut O,
     profile: &Entries,
-    user: &Text,
+    caller: &Caller,
     words: &[String],
 ) -> Result<(), Ended>
-    ensures { (left : Kept) × Follows run ended_cause (command_by run user.now profile.now (map string_bytes words.now)) (by_out fresh (F.state files.old) (O.state out.old)) (by_out left (F.state files.new) (O.state out.new)) result }
+    ensures { (left : Kept) × Follows run ended_cause (command_by run caller.now profile.now (map string_bytes words.now)) (by_out fresh (F.state files.old) (O.state out.old)) (by_out left (F.state files.new) (O.state out.new)) result }
 {
     match words.split_first() {
         None => Err(no_command(None)),
-        Some((word, rest)) => run_word(alloc, run, files, out, profile, user, word.as_str(), rest),
+        Some((word, rest)) => run_word(
+            alloc,
+            run,
+            files,
+            out,
+            profile,
+            caller,
+            word.as_str(),
+            rest,
+        ),
     }
 }
 
@@ -94,18 +104,18 @@ fn read_profile<F: Files>(alloc: Global, run: u128, files: &mut F) -> Result<Byt
     read_text(alloc, run, files, &Place::Home, &name)
 }
 
-/// Runs the command that the words name, for the user of this name.
+/// Runs the command that the words name, for this caller.
 pub fn run_command<F: Files, O: Sink>(
     alloc: Global,
     words: &[String],
     run: u128,
-    user: &Text,
+    caller: &Caller,
     files: &mut F,
     out: &mut O,
 ) -> Result<(), Ended>
-    ensures { (left : Kept) × Follows run ended_cause (command_plan run user.now (map string_bytes words.now)) (by_out fresh (F.state files.old) (O.state out.old)) (by_out left (F.state files.new) (O.state out.new)) result }
+    ensures { (left : Kept) × Follows run ended_cause (command_plan run caller.now (map string_bytes words.now)) (by_out fresh (F.state files.old) (O.state out.old)) (by_out left (F.state files.new) (O.state out.new)) result }
 {
     let text = read_profile(alloc, run, files)?;
     let profile = Entries::read(alloc, text.as_slice())?;
-    run_named(alloc, run, files, out, &profile, user, words)
+    run_named(alloc, run, files, out, &profile, caller, words)
 }

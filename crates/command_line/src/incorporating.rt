@@ -7,12 +7,16 @@ ghost use Rattle.file_plans.specs.Follows.{Follows, by_out};
 ghost use Rattle.step_plans.specs.CommandFaults.{command_cause};
 ghost use Rattle.command_words.specs.Ended.{ended_cause};
 ghost use Rattle.command_words.specs.IncWords.{inc_said};
-ghost use Rattle.command_words.specs.Results.{IsNamed, IsSaid};
+ghost use Rattle.inc_command.specs.Asked.{asked};
+ghost use Rattle.command_words.specs.Results.{IsNamed};
+ghost use Rattle.command_line.specs.Looking.{IsNamedAs, IsSaidAs};
 ghost use Rattle.command_line.specs.Command.{inc_begun, inc_by};
 ghost use Rattle.command_line.specs.Incorporating.{below_work as below_work_of, delivered as delivered_of, drop_of, inc_job as inc_job_of, job_by};
 ghost use Rattle.command_line.specs.Profile.{folder_of};
 
+use crate::Caller;
 use crate::current::enter_context;
+use crate::look::look;
 use crate::profile::{inbox, path};
 use command_words::{Ended, IncWords, inc_words, profile_sequences, read_folder};
 use folder_files::{FilePath, Files};
@@ -85,20 +89,22 @@ fn folder(
 fn inc_job(
     alloc: Global,
     profile: &Entries,
-    user: &Text,
+    caller: &Caller,
     words: IncWords,
 ) -> Result<IncJob, CommandFault>
-    ensures { IsNamed (inc_job_of user.now profile.now words) result }
+    ensures { IsNamedAs asked (inc_job_of caller.now profile.now words) result }
 {
     let unseen = profile_sequences(alloc, profile, b"Unseen-Sequence")?;
     let folder = folder(alloc, profile, words.folder)?;
+    let look = look(alloc, caller, &words.look)?;
     Ok(IncJob {
         folder,
-        drop: drop_path(alloc, profile, user, words.file)?,
+        drop: drop_path(alloc, profile, &caller.user, words.file)?,
         truncate: words.truncate,
         silent: words.silent,
         change_cur: words.change_cur,
         unseen,
+        look,
     })
 }
 
@@ -106,13 +112,13 @@ fn inc_job(
 fn job_said(
     alloc: Global,
     profile: &Entries,
-    user: &Text,
+    caller: &Caller,
     words: &[String],
 ) -> Result<IncJob, Ended>
-    ensures { IsSaid (job_by user.now profile.now (inc_said profile.now (map chars (map string_bytes words.now)))) result }
+    ensures { IsSaidAs asked (job_by caller.now profile.now (inc_said profile.now (map chars (map string_bytes words.now)))) result }
 {
     let words = inc_words(alloc, profile, words)?;
-    Ok(inc_job(alloc, profile, user, words)?)
+    Ok(inc_job(alloc, profile, caller, words)?)
 }
 
 /// Runs `inc`, from the context on.
@@ -123,7 +129,7 @@ fn begin_inc<F: Files, O: Sink>(
     out: &mut O,
     job: &IncJob,
 ) -> Result<(), CommandFault>
-    ensures { Follows hand.old.run command_cause (inc_begun hand.old.run hand.old.mail job.now) (by_out hand.old.kept (F.state files.old) (O.state out.old)) (by_out hand.new.kept (F.state files.new) (O.state out.new)) result }
+    ensures { Follows hand.old.run command_cause (inc_begun hand.old.run hand.old.mail (asked job.now)) (by_out hand.old.kept (F.state files.old) (O.state out.old)) (by_out hand.new.kept (F.state files.new) (O.state out.new)) result }
 {
     enter_context(alloc, hand, files)?;
     inc(alloc, hand, files, out, job)
@@ -136,12 +142,12 @@ pub(crate) fn run_inc<F: Files, O: Sink>(
     files: &mut F,
     out: &mut O,
     profile: &Entries,
-    user: &Text,
+    caller: &Caller,
     words: &[String],
 ) -> Result<(), Ended>
-    ensures { (left : Kept) × Follows run ended_cause (inc_by run profile.now (job_by user.now profile.now (inc_said profile.now (map chars (map string_bytes words.now))))) (by_out fresh (F.state files.old) (O.state out.old)) (by_out left (F.state files.new) (O.state out.new)) result }
+    ensures { (left : Kept) × Follows run ended_cause (inc_by run profile.now (job_by caller.now profile.now (inc_said profile.now (map chars (map string_bytes words.now))))) (by_out fresh (F.state files.old) (O.state out.old)) (by_out left (F.state files.new) (O.state out.new)) result }
 {
-    let job = job_said(alloc, profile, user, words)?;
+    let job = job_said(alloc, profile, caller, words)?;
     let mut hand = Hand::new(run, path(alloc, profile)?);
     begin_inc(alloc, &mut hand, files, out, &job)?;
     Ok(())

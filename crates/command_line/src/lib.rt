@@ -1,9 +1,11 @@
 //! A command by its words: what the profile, the words and the context say of it, and its run.
 #![tactic(auto)]
 
+mod caller;
 mod command;
 mod current;
 mod incorporating;
+mod look;
 mod marking;
 mod name;
 mod profile;
@@ -11,5 +13,6 @@ mod refiling;
 mod removing;
 mod scanning;
 
+pub use caller::Caller;
 pub use command::run_command;
 pub use name::CommandName;

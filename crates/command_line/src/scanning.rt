@@ -8,17 +8,42 @@ ghost use Rattle.step_plans.specs.CommandFaults.{command_cause};
 ghost use Rattle.command_words.specs.Ended.{ended_cause};
 ghost use Rattle.command_words.specs.ScanWords.{scan_said};
 ghost use Rattle.command_line.specs.Command.{scan_begun, scan_by};
+ghost use Rattle.command_line.specs.Looking.{asked_of, IsSaidAs, scan_asked};
 ghost use Rattle.command_line.specs.Profile.{path_of};
 
+use crate::Caller;
 use crate::current::enter_folder;
+use crate::look::look;
 use crate::profile::{negation, path};
-use command_words::{Ended, ScanWords, scan_words};
+use command_words::{Ended, ScanWords, known_sequences, scan_words};
 use folder_files::Files;
+use message_lines::Look;
 use mh_base::Sink;
 use mh_looks::{ScanJob, scan};
 use mh_profile::Entries;
 use std::alloc::Global;
 use step_plans::{CommandFault, Hand};
+
+/// The words of `scan`, and how they look at messages.
+#[derive(Drop)]
+struct ScanLook {
+    words: ScanWords,
+    look: Look,
+}
+
+/// What the words say, which are not read yet.
+fn scan_look(
+    alloc: Global,
+    profile: &Entries,
+    caller: &Caller,
+    words: &[String],
+) -> Result<ScanLook, Ended>
+    ensures { IsSaidAs asked_of (scan_asked caller.now (scan_said profile.now (map chars (map string_bytes words.now)))) result }
+{
+    let words = scan_words(alloc, profile, words)?;
+    let look = look(alloc, caller, &words.look)?;
+    Ok(ScanLook { words, look })
+}
 
 /// Runs `scan`, from the context on.
 fn begin_scan<F: Files, O: Sink>(
@@ -27,17 +52,20 @@ fn begin_scan<F: Files, O: Sink>(
     files: &mut F,
     out: &mut O,
     profile: &Entries,
-    words: ScanWords,
+    asked: ScanLook,
 ) -> Result<(), CommandFault>
     requires { hand.old.mail ≡ path_of profile.now }
-    ensures { Follows hand.old.run command_cause (scan_begun hand.old.run profile.now words) (by_out hand.old.kept (F.state files.old) (O.state out.old)) (by_out hand.new.kept (F.state files.new) (O.state out.new)) result }
+    ensures { Follows hand.old.run command_cause (scan_begun hand.old.run profile.now (asked_of asked)) (by_out hand.old.kept (F.state files.old) (O.state out.old)) (by_out hand.new.kept (F.state files.new) (O.state out.new)) result }
 {
+    let ScanLook { words, look } = asked;
     let folder = enter_folder(alloc, hand, files, profile, words.folder)?;
     let job = ScanJob {
         folder,
         specs: words.specs,
         reverse: words.reverse,
+        unseen: known_sequences(alloc, profile, b"Unseen-Sequence")?,
         negation: negation(alloc, profile)?,
+        look,
     };
     scan(alloc, hand, files, out, &job)
 }
@@ -49,12 +77,13 @@ pub(crate) fn run_scan<F: Files, O: Sink>(
     files: &mut F,
     out: &mut O,
     profile: &Entries,
+    caller: &Caller,
     words: &[String],
 ) -> Result<(), Ended>
-    ensures { (left : Kept) × Follows run ended_cause (scan_by run profile.now (scan_said profile.now (map chars (map string_bytes words.now)))) (by_out fresh (F.state files.old) (O.state out.old)) (by_out left (F.state files.new) (O.state out.new)) result }
+    ensures { (left : Kept) × Follows run ended_cause (scan_by run profile.now (scan_asked caller.now (scan_said profile.now (map chars (map string_bytes words.now))))) (by_out fresh (F.state files.old) (O.state out.old)) (by_out left (F.state files.new) (O.state out.new)) result }
 {
-    let words = scan_words(alloc, profile, words)?;
+    let asked = scan_look(alloc, profile, caller, words)?;
     let mut hand = Hand::new(run, path(alloc, profile)?);
-    begin_scan(alloc, &mut hand, files, out, profile, words)?;
+    begin_scan(alloc, &mut hand, files, out, profile, asked)?;
     Ok(())
 }

@@ -1,7 +1,7 @@
 // Words and profiles, and how a refusal is shown.
 use command_words::Ended;
 use folder_files::Refusal;
-use mh_base::{Bytes, FolderName, TextList};
+use mh_base::{Bytes, FolderName, Text, TextList};
 use mh_profile::Entries;
 use std::alloc::{AllocError, Global};
 use std::str;
@@ -27,6 +27,14 @@ pub fn profile(alloc: Global, text: &str) -> Result<Entries, AllocError> {
 pub fn folder_text(folder: &Option<FolderName>) -> &str {
     match folder {
         Some(name) => name.text().as_str(),
+        None => "-",
+    }
+}
+
+/// The word, or a dash where there is none.
+pub fn word_text(word: &Option<Text>) -> &str {
+    match word {
+        Some(text) => text.as_str(),
         None => "-",
     }
 }

@@ -1,22 +1,15 @@
 // Words of `inc` and what they say, worked out by hand.
-use crate::given::{Row, ended_shown, folder_text, profile, words};
+use crate::given::{Row, ended_shown, folder_text, profile, word_text, words};
 use command_words::{Ended, IncWords, inc_words};
-use mh_base::Text;
 use std::alloc::{AllocError, Global};
 use std::test::Fail;
 
-fn file_text(file: &Option<Text>) -> &str {
-    match file {
-        Some(text) => text.as_str(),
-        None => "-",
-    }
-}
-
 fn said_shown(alloc: Global, said: &IncWords) -> Result<String, AllocError> {
     let folder = folder_text(&said.folder);
-    let file = file_text(&said.file);
+    let (file, format) = (word_text(&said.file), word_text(&said.look.format));
     let (truncate, silent, cur) = (said.truncate, said.silent, said.change_cur);
-    format!(in alloc; "{folder} {file} {truncate} {silent} {cur}")
+    let width = said.look.width;
+    format!(in alloc; "{folder} {file} {truncate} {silent} {cur} {format} {width}")
 }
 
 fn shown(alloc: Global, said: &Result<IncWords, Ended>) -> Result<String, AllocError> {
@@ -26,23 +19,32 @@ fn shown(alloc: Global, said: &Result<IncWords, Ended>) -> Result<String, AllocE
     }
 }
 
-/// The folder, the drop, whether it is cut, whether nothing is written, and whether the current message changes.
+/// The folder, the drop, whether it is cut, whether nothing is written, whether the current message changes,
+/// the format and the width.
 const ROWS: &[Row] = &[
-    ("", "", "- - true false true"),
-    ("", "+new -silent -nochangecur", "new - true true false"),
-    ("", "-file box", "- box false false true"),
-    ("", "-file a -truncate -file b", "- b true false true"),
+    ("", "", "- - true false true - 80"),
+    (
+        "",
+        "+new -silent -nochangecur",
+        "new - true true false - 80",
+    ),
+    ("", "-file box", "- box false false true - 80"),
+    ("", "-file a -truncate -file b", "- b true false true - 80"),
     (
         "inc: -notruncate -silent",
         "-nosilent",
-        "- - false false true",
+        "- - false false true - 80",
     ),
-    ("rmm: -unlink", "-tr", "- - true false true"),
+    ("rmm: -unlink", "-tr", "- - true false true - 80"),
     ("", "+a 1 +b", "Extra @1 [1]"),
     ("", "+a +b 1", "Extra @1 [+b]"),
     ("", "cur -file", "NoValue @1 [-file]"),
     ("", "+..", "bad folder +.."),
-    ("", "-form x", "Unknown @0 [-form]"),
+    ("", "-form x -w 9", "- - true false true x 9"),
+    ("", "-width 0 1", "BadValue @0 [-width]"),
+    ("", "1 -width 0", "Extra @0 [1]"),
+    ("", "-width 0", "BadValue @0 [-width]"),
+    ("", "-form", "NoValue @0 [-form]"),
 ];
 
 #[test]

@@ -1,12 +1,14 @@
 // Words of `scan` and what they say, worked out by hand.
-use crate::given::{Row, ended_shown, folder_text, profile, push_texts, words};
+use crate::given::{Row, ended_shown, folder_text, profile, push_texts, word_text, words};
 use command_words::{Ended, ScanWords, read_folder, scan_words};
 use mh_base::Text;
 use std::alloc::{AllocError, Global};
 use std::test::Fail;
 
 fn said_shown(alloc: Global, said: &ScanWords) -> Result<String, AllocError> {
-    let mut shown = format!(in alloc; "{} {}", folder_text(&said.folder), said.reverse)?;
+    let (folder, format) = (folder_text(&said.folder), word_text(&said.look.format));
+    let (reverse, width) = (said.reverse, said.look.width);
+    let mut shown = format!(in alloc; "{folder} {reverse} {format} {width}")?;
     push_texts(&mut shown, &said.specs)?;
     Ok(shown)
 }
@@ -18,16 +20,26 @@ fn shown(alloc: Global, said: &Result<ScanWords, Ended>) -> Result<String, Alloc
     }
 }
 
-/// The folder, whether the last message comes first, and the messages' names.
+/// The folder, whether the last message comes first, the format, the width, and the messages' names.
 const ROWS: &[Row] = &[
-    ("", "", "- false all"),
-    ("", "-reverse +inbox 1 last:2", "inbox true 1 last:2"),
-    ("scan: -rev 3", "-norev", "- false 3"),
-    ("mark: -zero", "-rev", "- true all"),
+    ("", "", "- false - 80 all"),
+    ("", "-reverse +inbox 1 last:2", "inbox true - 80 1 last:2"),
+    ("scan: -rev 3", "-norev", "- false - 80 3"),
+    ("mark: -zero", "-rev", "- true - 80 all"),
     ("", "+a 1 +b", "Extra @2 [+b]"),
     ("scan: +a", "+b", "Extra @1 [+b]"),
     ("", "+..", "bad folder +.."),
     ("", "1 -x +a +b", "Unknown @1 [-x]"),
+    ("", "-format %(msg) -width 1", "- false %(msg) 1 all"),
+    ("scan: -form x", "-format y -w 10000", "- false y 10000 all"),
+    ("", "-width 00070 -width 0071", "- false - 71 all"),
+    ("", "-width 0", "BadValue @0 [-width]"),
+    ("", "-width 10001 -width 80", "BadValue @0 [-width]"),
+    ("scan: -width 0", "-width 80", "BadValue @0 [-width]"),
+    ("", "-width +5 +a +b", "BadValue @0 [-width]"),
+    ("", "-width 18446744073709551626", "BadValue @0 [-width]"),
+    ("", "+a +b -width 0", "Extra @1 [+b]"),
+    ("", "1 -width", "NoValue @1 [-width]"),
 ];
 
 #[test]

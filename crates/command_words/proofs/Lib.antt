@@ -1,4 +1,5 @@
 pub mod Items
+pub mod Lasts
 pub mod Places
 mod RefileFolders
 pub mod Said

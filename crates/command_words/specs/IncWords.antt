@@ -1,5 +1,5 @@
 -- What the words of `inc` say.
-use Rattle.std.specs.Prelude.{◌++◌, ◌-◌, codes, ℕ, true, false, is_none, length, min, slice_get, unwrap_or, List, [], ◌∷◌, Option, None, Some, Result, Ok, Err}
+use Rattle.std.specs.Prelude.{◌++◌, codes, ℕ, true, false, is_none, min, unwrap_or, List, [], ◌∷◌, Option, None, Some, Result, Ok, Err}
 use Rattle.std.specs.List.{flat_map}
 use Rattle.mh_base.specs.declared.word.WordWhy.TheVariants.{Extra}
 use Rattle.mh_words.specs.declared.item.Item.{Item}
@@ -9,7 +9,8 @@ use Rattle.mh_profile.specs.declared.named_value.NamedValue.{NamedValue}
 use Rattle.step_plans.specs.declared.command_fault.CommandFault.{CommandFault}
 use Rattle.command_words.specs.Ended.{plain, wrong_at}
 use Rattle.command_words.specs.FolderWords.{folders, one_folder, named_folder}
-use Rattle.command_words.specs.Switches.{last_choice, values}
+use Rattle.command_words.specs.LookWords.{look_of, unless_wide, wrong_widths}
+use Rattle.command_words.specs.Switches.{last_choice, last_of, values}
 use Rattle.command_words.specs.Tables.{inc_table}
 use Rattle.command_words.specs.Words.{profile_words}
 use Rattle.command_words.specs.declared.ended.Ended.{Ended}
@@ -44,10 +45,6 @@ alone (Err wrong) (Some place) = Err (extra (min wrong.place place))
 abbrev pub folder_alone : List Item → Result (Option (List ℕ)) Wrong
 folder_alone items = alone (one_folder (folders items)) (first_of (message_places items))
 
--- the last of these
-abbrev pub last_of : List (List ℕ) → Option (List ℕ)
-last_of values = slice_get values (length values - 1)
-
 -- what the items say beside the folder: of two switches that say the same or the contrary the last counts, and a file that is named stays whole
 -- unless words say otherwise
 abbrev pub words_of : Option (List ℕ) → List Item → IncWords
@@ -57,6 +54,7 @@ words_of folder items = record {
   truncate = unwrap_or (last_choice TRUNCATE NOTRUNCATE items) (is_none (last_of (values FILE items)));
   silent = unwrap_or (last_choice SILENT NOSILENT items) false;
   change_cur = unwrap_or (last_choice CHANGECUR NOCHANGECUR items) true;
+  look = look_of items;
 }
 
 abbrev pub with_folder : List Item → Result (List ℕ) CommandFault → Result IncWords Ended
@@ -72,10 +70,10 @@ folder_said words items (Ok word) = said_folder items word
 folder_said words items (Err wrong) = Err (wrong_at words wrong)
 
 abbrev pub items_said : List (List ℕ) → Result (List Item) Wrong → Result IncWords Ended
-items_said words (Ok items) = folder_said words items (folder_alone items)
+items_said words (Ok items) = folder_said words items (unless_wide (wrong_widths items) (folder_alone items))
 items_said words (Err wrong) = Err (wrong_at words wrong)
 
--- what the words of `inc` say, those of the profile first, or the refusal: of a switch before that of a word that is too many, and that before a
--- wrong name
+-- what the words of `inc` say, those of the profile first, or the refusal: of a switch before that of a word that is too many or of a width
+-- that is none, the earlier first, and that before a wrong name
 abbrev pub inc_said : List NamedValue → List (List ℕ) → Result IncWords Ended
 inc_said profile words = items_said (profile_words (codes "inc") profile ++ words) (read_in inc_table 0 (profile_words (codes "inc") profile ++ words))

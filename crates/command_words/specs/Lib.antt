@@ -1,6 +1,8 @@
+pub mod Columns
 pub mod Ended
 pub mod FolderWords
 pub mod IncWords
+pub mod LookWords
 pub mod MarkWords
 pub mod MessageWords
 pub mod RefileFolders

@@ -1,5 +1,6 @@
 -- The sequences that words name.
 use Rattle.std.specs.Prelude.{ℕ, not, List, [], ◌∷◌, filter, Result, Ok, Err, if◌then◌else◌}
+use Rattle.std.specs.List.{flat_map}
 use Rattle.mh_sequences.specs.Names.{is_seq_name}
 use Rattle.folder_files.specs.declared.refusal.Refusal.TheVariants as refusal
 use Rattle.step_plans.specs.declared.command_fault.CommandFault.{CommandFault}
@@ -25,3 +26,11 @@ unless_wrong names (word ∷ words) = Err (no_sequence word)
 -- the names that the words are, or the refusal of the first that is none
 abbrev pub named_sequences : List (List ℕ) → Result (List (List ℕ)) CommandFault
 named_sequences words = unless_wrong words (wrong_names words)
+
+-- the name that a word is, if it is one
+abbrev pub known_in : List ℕ → List (List ℕ)
+known_in word = if is_seq_name word then word ∷ [] else []
+
+-- the words that are names of sequences
+abbrev pub known_names : List (List ℕ) → List (List ℕ)
+known_names words = flat_map known_in words

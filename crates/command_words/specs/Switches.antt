@@ -1,5 +1,5 @@
 -- Which switches are among the items of words, by their index in the command's table.
-use Rattle.std.specs.Prelude.{ℕ, ◌==◌, Bool, true, false, List, [], ◌∷◌, Option, None, Some, if◌then◌else◌}
+use Rattle.std.specs.Prelude.{ℕ, ◌-◌, ◌==◌, Bool, true, false, length, slice_get, List, [], ◌∷◌, Option, None, Some, if◌then◌else◌}
 use Rattle.std.specs.List.{flat_map, list_any}
 use Rattle.mh_words.specs.declared.item.Item.{Item}
 use Rattle.mh_words.specs.declared.item.Item.TheVariants.{Folder, Message, Switch, Component}
@@ -42,3 +42,7 @@ value_in at (Component name value place) = []
 -- all values of the switch, in their order
 abbrev pub values : ℕ → List Item → List (List ℕ)
 values at items = flat_map (value_in at) items
+
+-- the last of these
+abbrev pub last_of : List (List ℕ) → Option (List ℕ)
+last_of values = slice_get values (length values - 1)

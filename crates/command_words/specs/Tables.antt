@@ -13,7 +13,10 @@ table_of switches = record { switches = switches; components = false }
 
 -- the switches of `scan`
 abbrev pub scan_table : SwitchTable
-scan_table = table_of (switch (codes "reverse") Flag ∷ switch (codes "noreverse") Flag ∷ [])
+scan_table =
+    table_of
+    (switch (codes "format") Value ∷ switch (codes "width") Value
+    ∷ switch (codes "reverse") Flag ∷ switch (codes "noreverse") Flag ∷ [])
 
 -- the switches of `mark`
 abbrev pub mark_table : SwitchTable
@@ -27,7 +30,8 @@ mark_table =
 abbrev pub inc_table : SwitchTable
 inc_table =
     table_of
-    (switch (codes "file") Value ∷ switch (codes "truncate") Flag ∷ switch (codes "notruncate") Flag
+    (switch (codes "format") Value ∷ switch (codes "width") Value
+    ∷ switch (codes "file") Value ∷ switch (codes "truncate") Flag ∷ switch (codes "notruncate") Flag
     ∷ switch (codes "changecur") Flag ∷ switch (codes "nochangecur") Flag
     ∷ switch (codes "silent") Flag ∷ switch (codes "nosilent") Flag ∷ [])
 

@@ -9,26 +9,26 @@ ghost use Rattle.command_words.specs.IncWords.{
   folder_alone as folder_alone_of,
   items_said as items_said_of,
   inc_said,
-  last_of,
   message_places,
   place_in,
 };
 
 use crate::ended::Ended;
 use crate::folder_word::{folder_said, folder_word};
-use crate::switches::{last_choice, values};
+use crate::look::{LookWords, look, wrong_earliest, wrong_width};
+use crate::switches::{last_choice, last_word, values};
 use crate::tables::{
     CHANGECUR, FILE, NOCHANGECUR, NOSILENT, NOTRUNCATE, SILENT, TRUNCATE, inc_table,
 };
 use crate::words::all_words;
 use crate::wrong_word::{read_items, wrong_at};
-use mh_base::{Duplicate, FolderName, Text, TextList, WordWhy};
+use mh_base::{FolderName, Text, TextList, WordWhy};
 use mh_profile::Entries;
 use mh_words::{Item, ItemList};
 use std::alloc::{AllocError, Global};
 
 /// The words of `inc`: the folder and the drop, where they name them; whether the drop is cut, whether nothing is written, and whether the
-/// first new message becomes the current one.
+/// first new message becomes the current one; and what they say of lines.
 #[derive(Drop)]
 pub struct IncWords {
     pub folder: Option<FolderName>,
@@ -36,6 +36,7 @@ pub struct IncWords {
     pub truncate: bool,
     pub silent: bool,
     pub change_cur: bool,
+    pub look: LookWords,
 }
 
 /// The place of the message's name that an item is.
@@ -77,16 +78,6 @@ fn folder_alone(items: &ItemList) -> Result<Option<&Text>, u64>
     }
 }
 
-/// The last of these words.
-fn last_word(alloc: Global, words: &TextList) -> Result<Option<Text>, AllocError>
-    ensures { IfOk result (λ word. word ≡ last_of words.now) }
-{
-    match words.as_slice().last() {
-        Some(word) => Ok(Some(word.duplicate(alloc)?)),
-        None => Ok(None),
-    }
-}
-
 fn words_said(
     alloc: Global,
     items: &ItemList,
@@ -102,6 +93,7 @@ fn words_said(
         truncate,
         silent: last_choice(SILENT, NOSILENT, items).unwrap_or(false),
         change_cur: last_choice(CHANGECUR, NOCHANGECUR, items).unwrap_or(true),
+        look: look(alloc, items)?,
     })
 }
 
@@ -111,10 +103,13 @@ fn items_said(alloc: Global, words: &TextList, items: &ItemList) -> Result<IncWo
 {
     match folder_alone(items) {
         Ok(word) => {
+            if let Some(place) = wrong_width(items) {
+                return Err(wrong_at(alloc, words, place, WordWhy::BadValue)?);
+            }
             let folder = folder_said(alloc, word)?;
             Ok(words_said(alloc, items, folder)?)
         }
-        Err(place) => Err(wrong_at(alloc, words, place, WordWhy::Extra)?),
+        Err(second) => Err(wrong_earliest(alloc, words, items, second)?),
     }
 }
 

@@ -4,6 +4,7 @@
 mod ended;
 mod folder_word;
 mod inc;
+mod look;
 mod mark;
 mod message_words;
 mod refile;
@@ -18,8 +19,9 @@ mod wrong_word;
 pub use ended::Ended;
 pub use folder_word::read_folder;
 pub use inc::{IncWords, inc_words};
+pub use look::LookWords;
 pub use mark::{MarkWords, mark_words};
 pub use refile::{RefileWords, refile_words};
 pub use rmm::{RmmWords, rmm_words};
 pub use scan::{ScanWords, scan_words};
-pub use sequence_names::profile_sequences;
+pub use sequence_names::{known_sequences, profile_sequences};

@@ -11,6 +11,7 @@ ghost use Rattle.command_words.specs.ScanWords.{
 
 use crate::ended::Ended;
 use crate::folder_word::{folder_said, folder_word};
+use crate::look::{LookWords, look, wrong_earliest, wrong_width};
 use crate::message_words::messages_or;
 use crate::switches::last_choice;
 use crate::tables::{NOREVERSE, REVERSE, scan_table};
@@ -22,12 +23,13 @@ use mh_words::ItemList;
 use std::alloc::{AllocError, Global};
 
 /// The words of `scan`: the folder, where they name one; the messages' names; whether the last message
-/// comes first.
+/// comes first; and what they say of lines.
 #[derive(Drop)]
 pub struct ScanWords {
     pub folder: Option<FolderName>,
     pub specs: TextList,
     pub reverse: bool,
+    pub look: LookWords,
 }
 
 #[tactic(auto, using(crate::proofs::Texts::chars_all))]
@@ -42,6 +44,7 @@ fn words_said(
         folder,
         specs: messages_or(alloc, "all", items)?,
         reverse: last_choice(REVERSE, NOREVERSE, items).unwrap_or(false),
+        look: look(alloc, items)?,
     })
 }
 
@@ -51,10 +54,13 @@ fn items_said(alloc: Global, words: &TextList, items: &ItemList) -> Result<ScanW
 {
     match folder_word(items) {
         Ok(word) => {
+            if let Some(place) = wrong_width(items) {
+                return Err(wrong_at(alloc, words, place, WordWhy::BadValue)?);
+            }
             let folder = folder_said(alloc, word)?;
             Ok(words_said(alloc, items, folder)?)
         }
-        Err(place) => Err(wrong_at(alloc, words, place, WordWhy::Extra)?),
+        Err(second) => Err(wrong_earliest(alloc, words, items, second)?),
     }
 }
 

@@ -8,9 +8,10 @@ ghost use Rattle.command_words.specs.Switches.{
   is_given as is_given_of,
   value_in,
   values as values_of,
+  last_of,
 };
 
-use mh_base::{Duplicate, List, TextList};
+use mh_base::{Duplicate, List, Text, TextList};
 use mh_words::{Item, ItemList};
 use std::alloc::{AllocError, Global};
 
@@ -87,4 +88,14 @@ pub(crate) fn values(alloc: Global, at: u64, items: &ItemList) -> Result<TextLis
         push_value(alloc, at, &mut words, item)?;
     }
     Ok(words)
+}
+
+/// The last of these words.
+pub(crate) fn last_word(alloc: Global, words: &TextList) -> Result<Option<Text>, AllocError>
+    ensures { IfOk result (λ word. word ≡ last_of words.now) }
+{
+    match words.as_slice().last() {
+        Some(word) => Ok(Some(word.duplicate(alloc)?)),
+        None => Ok(None),
+    }
 }

@@ -14,10 +14,15 @@ use mh_base::{List, Text};
 use mh_words::{Kind, Switch, SwitchList, SwitchTable};
 use std::alloc::{AllocError, Global};
 
-// The places of the switches of `scan` in its table.
-pub(crate) const REVERSE: u64 = 0;
+// The places of the switches that `scan` and `inc` have of lines in their tables.
+pub(crate) const FORMAT: u64 = 0;
 
-pub(crate) const NOREVERSE: u64 = 1;
+pub(crate) const WIDTH: u64 = 1;
+
+// The places of the other switches of `scan` in its table.
+pub(crate) const REVERSE: u64 = 2;
+
+pub(crate) const NOREVERSE: u64 = 3;
 
 // The places of the switches of `mark` in its table.
 pub(crate) const ADD: u64 = 0;
@@ -36,20 +41,20 @@ pub(crate) const ZERO: u64 = 6;
 
 pub(crate) const NOZERO: u64 = 7;
 
-// The places of the switches of `inc` in its table.
-pub(crate) const FILE: u64 = 0;
+// The places of the other switches of `inc` in its table.
+pub(crate) const FILE: u64 = 2;
 
-pub(crate) const TRUNCATE: u64 = 1;
+pub(crate) const TRUNCATE: u64 = 3;
 
-pub(crate) const NOTRUNCATE: u64 = 2;
+pub(crate) const NOTRUNCATE: u64 = 4;
 
-pub(crate) const CHANGECUR: u64 = 3;
+pub(crate) const CHANGECUR: u64 = 5;
 
-pub(crate) const NOCHANGECUR: u64 = 4;
+pub(crate) const NOCHANGECUR: u64 = 6;
 
-pub(crate) const SILENT: u64 = 5;
+pub(crate) const SILENT: u64 = 7;
 
-pub(crate) const NOSILENT: u64 = 6;
+pub(crate) const NOSILENT: u64 = 8;
 
 // The places of the switches of `refile` in its table.
 pub(crate) const LINK: u64 = 0;
@@ -80,6 +85,8 @@ pub(crate) fn scan_table(alloc: Global) -> Result<SwitchTable, AllocError>
     ensures { IfOk result (λ table. table ≡ scan_table_of) }
 {
     let mut switches = List::new(alloc);
+    push_switch(alloc, &mut switches, "format", Kind::Value)?;
+    push_switch(alloc, &mut switches, "width", Kind::Value)?;
     push_switch(alloc, &mut switches, "reverse", Kind::Flag)?;
     push_switch(alloc, &mut switches, "noreverse", Kind::Flag)?;
     Ok(SwitchTable {
@@ -112,6 +119,8 @@ pub(crate) fn inc_table(alloc: Global) -> Result<SwitchTable, AllocError>
     ensures { IfOk result (λ table. table ≡ inc_table_of) }
 {
     let mut switches = List::new(alloc);
+    push_switch(alloc, &mut switches, "format", Kind::Value)?;
+    push_switch(alloc, &mut switches, "width", Kind::Value)?;
     push_switch(alloc, &mut switches, "file", Kind::Value)?;
     push_switch(alloc, &mut switches, "truncate", Kind::Flag)?;
     push_switch(alloc, &mut switches, "notruncate", Kind::Flag)?;

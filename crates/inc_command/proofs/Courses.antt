@@ -37,7 +37,7 @@ use Rattle.opened_folders.proofs.FolderPledged.{seen_kept}
 use Rattle.inc_command.specs.IncPledge.{HoldsOne}
 use Rattle.inc_command.specs.Intake.{all_taken, with_number}
 use Rattle.inc_command.specs.Stored.{AreStoredAt, IsLineOfStored}
-use Rattle.inc_command.specs.Taking.{message_taken}
+use Rattle.inc_command.specs.Taking.{message_taken, Telling}
 use Rattle.inc_command.specs.declared.intake.Taken.{Taken}
 use Rattle.inc_command.proofs.DropKept.{LeavesDrop, leaves_first, pieces_kept, stored_kept, stored_taken}
 use Rattle.inc_command.proofs.TakenPledged.{HasTaken, taken_goes}
@@ -148,18 +148,18 @@ module _ (run : ℕ) (path folder : List ℕ) (f : FilePath) (first : List Deed)
 
 -- messages are taken in, one after another
 module _ (w : Pledge) (few : w.run < 2 ^ 128) (path folder : List ℕ) (Known : ℕ → List Deed → Type 0) (f : FilePath)
-    (lets : (bytes : List ℕ) → PutsMessages w (Folder path folder) bytes Known None (HoldsOne w.run f)) (silent : Bool)
-    (tells : silent ≡ false → (own : List Deed) (piece : List ℕ) → IsLineOfStored w.run (Folder path folder) own piece → w.may_tell own piece)
+    (lets : (bytes : List ℕ) → PutsMessages w (Folder path folder) bytes Known None (HoldsOne w.run f)) (telling : Telling)
+    (tells : telling.silent ≡ false → (own : List Deed) (piece : List ℕ) → IsLineOfStored telling.line w.run (Folder path folder) own piece → w.may_tell own piece)
     (first : List Deed) (listing : List Run) (text context old : List ℕ) where
   abbrev pub Taking : List ℕ → List (List ℕ) → List ℕ → List Deed → Type 0
   Taking d done numbers own = Course w.run path folder f first listing text context old d done numbers own
 
   one_goes : (message : List ℕ) (top : ℕ) → top ≤ 999999 → (d : List ℕ) (done : List (List ℕ)) (numbers : List ℕ) (own : List Deed) (h : Hand) → Sound w own h → Known top own → HoldsOne w.run f own → Taking d done numbers own
-      → Goes w own h (message_taken w.run folder (Folder path folder) silent top message) (okay (λ later j m. IsMsgNum m × Known m later × Taking d (done ++ message ∷ []) (numbers ++ m ∷ []) later))
+      → Goes w own h (message_taken w.run folder (Folder path folder) telling numbers top message) (okay (λ later j m. IsMsgNum m × Known m later × Taking d (done ++ message ∷ []) (numbers ++ m ∷ []) later))
   one_goes message top small d done numbers own h s known holds c =
-      goes_more w own h (message_taken w.run folder (Folder path folder) silent top message) (λ later j r. AreOnce w.run later × okay Stores later j r) (okay (λ later j m. IsMsgNum m × Known m later × Taking d (done ++ message ∷ []) (numbers ++ m ∷ []) later)) by_end
-      (goes_asked w (AreOnce w.run) (once_asked w) own h (message_taken w.run folder (Folder path folder) silent top message) (okay Stores) s c.ground.once
-      (taken_goes w few (Folder path folder) Known (HoldsOne w.run f) lets refl silent tells folder message top small own h known holds c.ground.lock))
+      goes_more w own h (message_taken w.run folder (Folder path folder) telling numbers top message) (λ later j r. AreOnce w.run later × okay Stores later j r) (okay (λ later j m. IsMsgNum m × Known m later × Taking d (done ++ message ∷ []) (numbers ++ m ∷ []) later)) by_end
+      (goes_asked w (AreOnce w.run) (once_asked w) own h (message_taken w.run folder (Folder path folder) telling numbers top message) (okay Stores) s c.ground.once
+      (taken_goes w few (Folder path folder) Known (HoldsOne w.run f) lets refl telling tells folder numbers message top small own h known holds c.ground.lock))
     where
       Stores : Outcome ℕ
       Stores later j m = HasTaken w few (Folder path folder) Known (HoldsOne w.run f) lets refl message own later j m
@@ -207,14 +207,14 @@ module _ (w : Pledge) (few : w.run < 2 ^ 128) (path folder : List ℕ) (Known : 
   }
 
   pub all_go : (mail : List (List ℕ)) (taken : Taken) → taken.highest ≤ 999999 → (d : List ℕ) (done tail : List (List ℕ)) → IsAt d done (mail ++ tail) → (own : List Deed) (h : Hand) → Sound w own h → Known taken.highest own → Taking d done taken.numbers own
-      → Goes w own h (all_taken w.run folder (Folder path folder) silent taken mail) (okay (λ later j t. (t.highest ≤ 999999) × Known t.highest later × Taking d (done ++ mail) t.numbers later))
+      → Goes w own h (all_taken w.run folder (Folder path folder) telling taken mail) (okay (λ later j t. (t.highest ≤ 999999) × Known t.highest later × Taking d (done ++ mail) t.numbers later))
   unfolding all_taken
   all_go [] taken small d done tail i own h s known c =
       goes_return w own h taken (okay (λ later j t. (t.highest ≤ 999999) × Known t.highest later × Taking d (done ++ []) t.numbers later)) (small, known, subst (λ ms. Taking d ms taken.numbers own) (sym (append-nil done)) c)
   all_go (message ∷ mail) taken small d done tail i own h s known c =
-      then_soundly w own h (message_taken w.run folder (Folder path folder) silent taken.highest message) (λ n. all_taken w.run folder (Folder path folder) silent (with_number n taken) mail)
+      then_soundly w own h (message_taken w.run folder (Folder path folder) telling taken.numbers taken.highest message) (λ n. all_taken w.run folder (Folder path folder) telling (with_number n taken) mail)
       (λ later j m. IsMsgNum m × Known m later × Taking d (done ++ message ∷ []) (taken.numbers ++ m ∷ []) later) (λ later j t. (t.highest ≤ 999999) × Known t.highest later × Taking d (done ++ message ∷ mail) t.numbers later) s
       (one_goes message taken.highest small d done taken.numbers own h s known (holds_one d done (message ∷ (mail ++ tail)) taken.numbers own i c) c)
       (λ later j m sound q.
-      subst (λ ms. Goes w later j (all_taken w.run folder (Folder path folder) silent (with_number m taken) mail) (okay (λ last i t. (t.highest ≤ 999999) × Known t.highest last × Taking d ms t.numbers last))) (append_assoc done (message ∷ []) mail)
+      subst (λ ms. Goes w later j (all_taken w.run folder (Folder path folder) telling (with_number m taken) mail) (okay (λ last i t. (t.highest ≤ 999999) × Known t.highest last × Taking d ms t.numbers last))) (append_assoc done (message ∷ []) mail)
       (all_go mail (with_number m taken) q.0.1 d (done ++ message ∷ []) tail (at_next d done message (mail ++ tail) i) later j sound q.1 q.2))

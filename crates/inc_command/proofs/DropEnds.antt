@@ -39,7 +39,7 @@ use Rattle.message_puts.proofs.PutPledged.{AsksPut}
 use Rattle.message_puts.proofs.StoredPledged.{stored_keeps, was_stored}
 use Rattle.message_puts.specs.Stored.{HasMetAt, HasStoredAt}
 use Rattle.command_stages.specs.Endings.{of_plan}
-use Rattle.mh_looks.specs.MessageLine.{line_of}
+use Rattle.message_lines.specs.MessageText.{line_of}
 use Rattle.step_plans.specs.CommandFaults.{of_sink}
 use Rattle.opened_folders.specs.Reads.{HaveSeen}
 use Rattle.opened_folders.proofs.CleanRuns.{clean_more}
@@ -56,11 +56,11 @@ use Rattle.inc_command.specs.IncPledge.{HasTakenIn}
 use Rattle.inc_command.specs.Intake.{all_taken, with_number}
 use Rattle.inc_command.specs.Stored.{AreStoredAt}
 use Rattle.message_puts.specs.Putting.{message_stored}
-use Rattle.inc_command.specs.Taking.{message_taken, message_told}
+use Rattle.inc_command.specs.Taking.{first_of, message_taken, message_told, Telling, told_if}
 use Rattle.inc_command.specs.declared.counting.DropSize.{DropSize}
 use Rattle.inc_command.specs.declared.head.Head.{Head}
 use Rattle.inc_command.specs.declared.intake.Taken.{Taken}
-use Rattle.inc_command.specs.declared.job.IncJob.{IncJob}
+use Rattle.inc_command.specs.IncJob.{IncJob}
 use Rattle.inc_command.proofs.Courses.{stored_still}
 use Rattle.inc_command.proofs.DropKept.{LeavesDrop, pieces_kept}
 use Rattle.inc_command.proofs.Finishing.{IsFound, finished_all, finished_on, none_found}
@@ -337,16 +337,16 @@ module _ (run : ℕ) (few : run < 2 ^ 128) (path : List ℕ) (job : IncJob) (lis
   abbrev Ones : (List Deed → Type 0) → List ℕ → Outcome ℕ
   Ones F bytes later j m = One F bytes m later j
 
-  told_comes : (F : List Deed → Type 0) (b : Bool) (m : ℕ) (bytes : List ℕ) (own : List Deed) (h : Hand) → One F bytes m own h → Comes own h (message_told b m bytes >>= (λ done. Return (Ok m))) (So (Ones F bytes))
+  told_comes : (F : List Deed → Type 0) (b : Bool) (line : List ℕ) (m : ℕ) (bytes : List ℕ) (own : List Deed) (h : Hand) → One F bytes m own h → Comes own h (told_if b line >>= (λ done. Return (Ok m))) (So (Ones F bytes))
   unfolding Comes bind ◌>>=◌
-  told_comes F true m bytes own h one = one
-  told_comes F false m bytes own h one = comes_say own h of_sink (So (Ones F bytes)) (line_of m bytes) (λ done. Return (Ok m)) one
+  told_comes F true line m bytes own h one = one
+  told_comes F false line m bytes own h one = comes_say own h of_sink (So (Ones F bytes)) line (λ done. Return (Ok m)) one
 
-  one_comes : (F : List Deed → Type 0) → KeptBy (LeavesDrop f) F → (silent : Bool) (top : ℕ) (bytes : List ℕ) (own : List Deed) (h : Hand) → Ready own h → Highest top own → F own
-      → Comes own h (message_taken run job.folder p silent top bytes) (So (Ones F bytes))
+  one_comes : (F : List Deed → Type 0) → KeptBy (LeavesDrop f) F → (telling : Telling) (numbers : List ℕ) (top : ℕ) (bytes : List ℕ) (own : List Deed) (h : Hand) → Ready own h → Highest top own → F own
+      → Comes own h (message_taken run job.folder p telling numbers top bytes) (So (Ones F bytes))
   unfolding message_taken
-  one_comes F keeps silent top bytes own h r high fact =
-      comes_then own h (lifted (of_plan job.folder) (message_stored run p top bytes)) (λ number. message_told silent number bytes >>= (λ done. Return (Ok number))) (So (Ones F bytes)) (So (Ones F bytes))
+  one_comes F keeps telling numbers top bytes own h r high fact =
+      comes_then own h (lifted (of_plan job.folder) (message_stored run p top bytes)) (λ number. message_told telling numbers number bytes >>= (λ done. Return (Ok number))) (So (Ones F bytes)) (So (Ones F bytes))
       (comes_lifted own h (of_plan job.folder) (message_stored run p top bytes) (PutShown run few path job.folder (inc_answers job) (StoredAs run few path job.folder (inc_answers job) bytes own)) (So (Ones F bytes))
       (stored_comes run few path job.folder (inc_answers job) bytes top high.0 own h high.1 r.left.clean r.lock)
       (λ later j m s. record {
@@ -356,7 +356,7 @@ module _ (run : ℕ) (few : run < 2 ^ 128) (path : List ℕ) (job : IncJob) (lis
         fact = stored_keeps (LeavesDrop f) F keeps run p asks_drop tt bytes own m later s.taken fact;
       })
       (λ later j e s. put_shown e later s))
-      (λ later j m one. told_comes F silent m bytes later j one)
+      (λ later j m one. told_comes F telling.silent (line_of (telling.line (first_of numbers m)) m bytes) m bytes later j one)
       (λ later j e q. q)
 
   -- and one after another
@@ -371,16 +371,16 @@ module _ (run : ℕ) (few : run < 2 ^ 128) (path : List ℕ) (job : IncJob) (lis
   abbrev AllOf : (List Deed → Type 0) → Taken → List (List ℕ) → Outcome Taken
   AllOf F t ms later j u = AllIn F t ms u later j
 
-  all_comes : (ms : List (List ℕ)) (F : List Deed → Type 0) → KeptBy (LeavesDrop f) F → (silent : Bool) (t : Taken) (own : List Deed) (h : Hand) → Ready own h → Highest t.highest own → F own
-      → Comes own h (all_taken run job.folder p silent t ms) (So (AllOf F t ms))
+  all_comes : (ms : List (List ℕ)) (F : List Deed → Type 0) → KeptBy (LeavesDrop f) F → (telling : Telling) (t : Taken) (own : List Deed) (h : Hand) → Ready own h → Highest t.highest own → F own
+      → Comes own h (all_taken run job.folder p telling t ms) (So (AllOf F t ms))
   unfolding all_taken
-  all_comes [] F keeps silent t own h r high fact =
+  all_comes [] F keeps telling t own h r high fact =
       comes_to own h (Ok t) (So (AllOf F t [])) (record { more_ = []; numbers = sym (append-nil t.numbers); stored = tt; ready = r; highest = high; fact = fact })
-  all_comes (m ∷ ms) F keeps silent t own h r high fact =
-      comes_then own h (message_taken run job.folder p silent t.highest m) (λ n. all_taken run job.folder p silent (with_number n t) ms) (So (Ones F m)) (So (AllOf F t (m ∷ ms))) (one_comes F keeps silent t.highest m own h r high fact)
+  all_comes (m ∷ ms) F keeps telling t own h r high fact =
+      comes_then own h (message_taken run job.folder p telling t.numbers t.highest m) (λ n. all_taken run job.folder p telling (with_number n t) ms) (So (Ones F m)) (So (AllOf F t (m ∷ ms))) (one_comes F keeps telling t.numbers t.highest m own h r high fact)
       (λ later j n one.
-      comes_more later j (all_taken run job.folder p silent (with_number n t) ms) (So (AllOf (λ o. F o × HasStoredAt run p n m o) (with_number n t) ms)) (So (AllOf F t (m ∷ ms))) (behind n)
-      (all_comes ms (λ o. F o × HasStoredAt run p n m o) (λ o s a leaves g. (keeps o s a leaves g.0, on g.1)) silent (with_number n t) later j one.ready one.highest (one.fact, one.stored)))
+      comes_more later j (all_taken run job.folder p telling (with_number n t) ms) (So (AllOf (λ o. F o × HasStoredAt run p n m o) (with_number n t) ms)) (So (AllOf F t (m ∷ ms))) (behind n)
+      (all_comes ms (λ o. F o × HasStoredAt run p n m o) (λ o s a leaves g. (keeps o s a leaves g.0, on g.1)) telling (with_number n t) later j one.ready one.highest (one.fact, one.stored)))
       (λ later j e q. q)
     where
       behind : (n : ℕ) (last_ : List Deed) (i : Hand) (x : Result Taken CommandFault) → So (AllOf (λ o. F o × HasStoredAt run p n m o) (with_number n t) ms) last_ i x → So (AllOf F t (m ∷ ms)) last_ i x
@@ -395,9 +395,9 @@ module _ (run : ℕ) (few : run < 2 ^ 128) (path : List ℕ) (job : IncJob) (lis
       behind n last_ i (Err e) q = q
 
   -- the second pass over a drop that was read and counted before
-  module _ (drop : List ℕ) (is_one : is_drop drop ≡ true) (short : first_long (messages drop) ≡ None) (silent : Bool) where
+  module _ (drop : List ℕ) (is_one : is_drop drop ≡ true) (short : first_long (messages drop) ≡ None) (telling : Telling) where
     abbrev w : Where
-    w = where_of run job.folder p silent
+    w = where_of run job.folder p telling
 
     abbrev l : ℕ
     l = length drop
@@ -440,7 +440,7 @@ module _ (run : ℕ) (few : run < 2 ^ 128) (path : List ℕ) (job : IncJob) (lis
         subst (λ x. Shows x later) (sym (given_fault d piece e is)) (inr (other_bytes (record { drop = drop; counted = b.0; again = d ++ piece; pieces = has; other = differs d piece e is })))
     given_comes d piece t later j r high b has found fits stored (Ok given) is =
         comes_then later j (into w t given) (λ more_. Return (Ok (record { bytes = d ++ piece; taken = more_ }))) (So (AllOf Kept t given)) (So (ReadsTo (d ++ piece)))
-        (all_comes given Kept kept silent t later j r high (b, has, stored))
+        (all_comes given Kept kept telling t later j r high (b, has, stored))
         (λ last_ i u q. comes_to last_ i (Ok (record { bytes = d ++ piece; taken = u })) (So (ReadsTo (d ++ piece))) (
           refl,
           record {
@@ -546,7 +546,7 @@ module _ (run : ℕ) (few : run < 2 ^ 128) (path : List ℕ) (job : IncJob) (lis
         (inr (other_bytes (record { drop = drop; counted = g.before.0; again = s.bytes; pieces = full_pieces s.bytes own (omega (arith, some, long)) g.pieces; other = last_differs s.bytes e long is })))
     ended_comes s own h some long g (Ok last_) is =
         comes_more own h (into w s.taken (listed last_)) (So (AllOf Kept s.taken (listed last_))) (So Ended_) all_there
-        (all_comes (listed last_) Kept kept silent s.taken own h g.ready g.highest (g.before, full_pieces s.bytes own (omega (arith, some, long)) g.pieces, g.stored))
+        (all_comes (listed last_) Kept kept telling s.taken own h g.ready g.highest (g.before, full_pieces s.bytes own (omega (arith, some, long)) g.pieces, g.stored))
       where
         whole : (is_drop s.bytes ≡ true) × (finished s.bytes ++ listed last_ ≡ messages s.bytes)
         whole = finished_all s.bytes last_ is

@@ -21,7 +21,6 @@ use Rattle.step_plans.specs.declared.command_fault.CommandFault.TheVariants as f
 use Rattle.step_plans.proofs.Going.{Outcome, okay}
 use Rattle.sequence_marks.specs.SequenceMarks.{says_public}
 use Rattle.command_stages.specs.Endings.{of_plan}
-use Rattle.mh_looks.specs.MessageLine.{line_of}
 use Rattle.opened_folders.proofs.AllMarks.{look_minds}
 use Rattle.opened_folders.proofs.CommitMinds.{IsTold}
 use Rattle.opened_folders.proofs.Meeting.{Meets, meets_end, meets_lifted, meets_on, meets_return, meets_say, meets_stop, meets_then}
@@ -32,10 +31,10 @@ use Rattle.inc_command.specs.Inc.{heading, heading_told, if_room, room_counted, 
 use Rattle.inc_command.specs.IncPledge.{inc_pledge}
 use Rattle.inc_command.specs.Intake.{all_taken, with_number}
 use Rattle.message_puts.specs.Putting.{message_stored}
-use Rattle.inc_command.specs.Taking.{message_taken, message_told}
+use Rattle.inc_command.specs.Taking.{message_taken, message_told, Telling, told_if}
 use Rattle.inc_command.specs.declared.counting.DropSize.{DropSize}
 use Rattle.inc_command.specs.declared.intake.Taken.{Taken}
-use Rattle.inc_command.specs.declared.job.IncJob.{IncJob}
+use Rattle.inc_command.specs.IncJob.{IncJob}
 use Rattle.inc_command.proofs.NewWithin.{AreNumbers, numbers_more}
 use Rattle.inc_command.proofs.PutMinds.{A as Minding, Known as KnownOf, Numbered, known_kept, stored_meets}
 
@@ -138,20 +137,20 @@ module _ (run : ℕ) (path : List ℕ) (job : IncJob) (names : List (List ℕ)) 
       by_room false size later j g = meets_stop (MayAsk w) A later j (fault.Refused (refusal.Full job.folder)) (λ room. Return (Ok size)) (Still numbers)
 
   -- a message is taken in
-  told_meets : {R : Type 0} (b : Bool) (number : ℕ) (bytes : List ℕ) (own : List Deed) (h : Hand) (k : Unit {0} → Plan (Result R CommandFault)) (Q : Outcome (Result R CommandFault)) → M own h (k tt) Q → M own h (message_told b number bytes >>= k) Q
-  told_meets true number bytes own h k Q f = meets_on (MayAsk w) A own h tt k Q f
-  told_meets false number bytes own h k Q f = meets_say (MayAsk w) A own h of_sink Q (line_of number bytes) k f
+  told_meets : {R : Type 0} (b : Bool) (line : List ℕ) (own : List Deed) (h : Hand) (k : Unit {0} → Plan (Result R CommandFault)) (Q : Outcome (Result R CommandFault)) → M own h (k tt) Q → M own h (told_if b line >>= k) Q
+  told_meets true line own h k Q f = meets_on (MayAsk w) A own h tt k Q f
+  told_meets false line own h k Q f = meets_say (MayAsk w) A own h of_sink Q line k f
 
   abbrev NumberedSo : List ℕ → ℕ → Outcome ℕ
   NumberedSo numbers top later j n = Numbered run path job names listing old marks numbers top later j n
 
-  taken_meets : (numbers : List ℕ) (top : ℕ) → top_of listing ≤ top → top ≤ 999999 → (bytes : List ℕ) (own : List Deed) (h : Hand) → Known numbers own
-      → M own h (message_taken run job.folder p job.silent top bytes) (okay (NumberedSo numbers top))
+  taken_meets : (telling : Telling) (numbers : List ℕ) (top : ℕ) → top_of listing ≤ top → top ≤ 999999 → (bytes : List ℕ) (own : List Deed) (h : Hand) → Known numbers own
+      → M own h (message_taken run job.folder p telling numbers top bytes) (okay (NumberedSo numbers top))
   unfolding message_taken
-  taken_meets numbers top low small bytes own h f =
-      meets_then (MayAsk w) A own h (lifted (of_plan job.folder) (message_stored run p top bytes)) (λ number. message_told job.silent number bytes >>= (λ told. Return (Ok number))) (NumberedSo numbers top) (NumberedSo numbers top)
+  taken_meets telling numbers top low small bytes own h f =
+      meets_then (MayAsk w) A own h (lifted (of_plan job.folder) (message_stored run p top bytes)) (λ number. message_told telling numbers number bytes >>= (λ told. Return (Ok number))) (NumberedSo numbers top) (NumberedSo numbers top)
       (meets_lifted (MayAsk w) A own h (of_plan job.folder) (message_stored run p top bytes) (NumberedSo numbers top) (stored_meets run path job names listing old marks numbers top low small bytes own h f))
-      (λ later j number q. told_meets job.silent number bytes later j (λ told. Return (Ok number)) (okay (NumberedSo numbers top)) (meets_return (MayAsk w) A later j number (okay (NumberedSo numbers top)) q))
+      (λ later j number q. told_meets telling.silent _ later j (λ told. Return (Ok number)) (okay (NumberedSo numbers top)) (meets_return (MayAsk w) A later j number (okay (NumberedSo numbers top)) q))
 
   -- what was taken in stands at numbers above those that were listed
   pub record HasTaken (own : List Deed) (t : Taken) : Type 0 where
@@ -163,74 +162,75 @@ module _ (run : ℕ) (path : List ℕ) (job : IncJob) (names : List (List ℕ)) 
   abbrev pub Takes : Outcome Taken
   Takes later j t = HasTaken later t
 
-  all_meet : (messages : List (List ℕ)) (t : Taken) (own : List Deed) (h : Hand) → HasTaken own t → M own h (all_taken run job.folder p job.silent t messages) (okay Takes)
+  all_meet : (telling : Telling) (messages : List (List ℕ)) (t : Taken) (own : List Deed) (h : Hand) → HasTaken own t → M own h (all_taken run job.folder p telling t messages) (okay Takes)
   unfolding all_taken
-  all_meet [] t own h f = meets_return (MayAsk w) A own h t (okay Takes) f
-  all_meet (message ∷ messages) t own h f =
-      meets_then (MayAsk w) A own h (message_taken run job.folder p job.silent t.highest message) (λ n. all_taken run job.folder p job.silent (with_number n t) messages) (NumberedSo t.numbers t.highest) Takes
-      (taken_meets t.numbers t.highest f.low f.small message own h f.known)
+  all_meet telling [] t own h f = meets_return (MayAsk w) A own h t (okay Takes) f
+  all_meet telling (message ∷ messages) t own h f =
+      meets_then (MayAsk w) A own h (message_taken run job.folder p telling t.numbers t.highest message) (λ n. all_taken run job.folder p telling (with_number n t) messages) (NumberedSo t.numbers t.highest) Takes
+      (taken_meets telling t.numbers t.highest f.low f.small message own h f.known)
       (λ later j n q.
-      all_meet messages (with_number n t) later j
+      all_meet telling messages (with_number n t) later j
       (record { low = (let up = q.0 in let low = f.low in omega (arith, up, low)); small = q.1; numbers = numbers_more t.numbers n f.numbers (let up = q.0 in omega (arith, up), q.1); known = q.2 }))
 
   -- the second pass
-  abbrev where_ : Where
-  where_ = where_of run job.folder p job.silent
+  module _ (telling : Telling) where
+    abbrev where_ : Where
+    where_ = where_of run job.folder p telling
 
-  abbrev Reads : Outcome Read
-  Reads later j s = HasTaken later s.taken
+    abbrev Reads : Outcome Read
+    Reads later j s = HasTaken later s.taken
 
-  with_piece : (t : Taken) (own : List Deed) → HasTaken own t → (later : List Deed) → Known t.numbers later → HasTaken later t
-  with_piece t own f later g = record { low = f.low; small = f.small; numbers = f.numbers; known = g }
+    with_piece : (t : Taken) (own : List Deed) → HasTaken own t → (later : List Deed) → Known t.numbers later → HasTaken later t
+    with_piece t own f later g = record { low = f.low; small = f.small; numbers = f.numbers; known = g }
 
-  piece_taken_meets : (l : ℕ) (s : Read) (own : List Deed) (h : Hand) → HasTaken own s.taken → M own h (piece_taken where_ job.drop l s.bytes s.taken) (okay Reads)
-  unfolding piece_taken
-  piece_taken_meets l s own h f =
-      meets_then (MayAsk w) A own h (piece_read job.drop (length s.bytes) (min (l - length s.bytes) PIECE)) (λ bytes. Return (given_by s.bytes bytes) >>= (λ given. into where_ s.taken given >>= (λ taken. Return (Ok (record { bytes = s.bytes ++ bytes; taken = taken })))))
-      (Still s.taken.numbers) Reads (piece_meets s.taken.numbers (length s.bytes) (min (l - length s.bytes) PIECE) own h f.known)
-      (λ later j bytes g. by_given bytes later j (with_piece s.taken own f later g) (given_by s.bytes bytes))
-    where
-      by_given : (bytes : List ℕ) (later : List Deed) (j : Hand) → HasTaken later s.taken → (r : Result (List (List ℕ)) CommandFault) → M later j (Return r >>= (λ given. into where_ s.taken given >>= (λ taken. Return (Ok (record { bytes = s.bytes ++ bytes; taken = taken }))))) (okay Reads)
-      by_given bytes later j g (Ok given) =
-          meets_on (MayAsk w) A later j given (λ given_. into where_ s.taken given_ >>= (λ taken. Return (Ok (record { bytes = s.bytes ++ bytes; taken = taken })))) (okay Reads)
-          (meets_then (MayAsk w) A later j (into where_ s.taken given) (λ taken. Return (Ok (record { bytes = s.bytes ++ bytes; taken = taken }))) Takes Reads (all_meet given s.taken later j g)
-          (λ last i t q. meets_return (MayAsk w) A last i (record { bytes = s.bytes ++ bytes; taken = t }) (okay Reads) q))
-      by_given bytes later j g (Err e) = meets_stop (MayAsk w) A later j e (λ given. into where_ s.taken given >>= (λ taken. Return (Ok (record { bytes = s.bytes ++ bytes; taken = taken })))) Reads
+    piece_taken_meets : (l : ℕ) (s : Read) (own : List Deed) (h : Hand) → HasTaken own s.taken → M own h (piece_taken where_ job.drop l s.bytes s.taken) (okay Reads)
+    unfolding piece_taken
+    piece_taken_meets l s own h f =
+        meets_then (MayAsk w) A own h (piece_read job.drop (length s.bytes) (min (l - length s.bytes) PIECE)) (λ bytes. Return (given_by s.bytes bytes) >>= (λ given. into where_ s.taken given >>= (λ taken. Return (Ok (record { bytes = s.bytes ++ bytes; taken = taken })))))
+        (Still s.taken.numbers) Reads (piece_meets s.taken.numbers (length s.bytes) (min (l - length s.bytes) PIECE) own h f.known)
+        (λ later j bytes g. by_given bytes later j (with_piece s.taken own f later g) (given_by s.bytes bytes))
+      where
+        by_given : (bytes : List ℕ) (later : List Deed) (j : Hand) → HasTaken later s.taken → (r : Result (List (List ℕ)) CommandFault) → M later j (Return r >>= (λ given. into where_ s.taken given >>= (λ taken. Return (Ok (record { bytes = s.bytes ++ bytes; taken = taken }))))) (okay Reads)
+        by_given bytes later j g (Ok given) =
+            meets_on (MayAsk w) A later j given (λ given_. into where_ s.taken given_ >>= (λ taken. Return (Ok (record { bytes = s.bytes ++ bytes; taken = taken })))) (okay Reads)
+            (meets_then (MayAsk w) A later j (into where_ s.taken given) (λ taken. Return (Ok (record { bytes = s.bytes ++ bytes; taken = taken }))) Takes Reads (all_meet telling given s.taken later j g)
+            (λ last i t q. meets_return (MayAsk w) A last i (record { bytes = s.bytes ++ bytes; taken = t }) (okay Reads) q))
+        by_given bytes later j g (Err e) = meets_stop (MayAsk w) A later j e (λ given. into where_ s.taken given >>= (λ taken. Return (Ok (record { bytes = s.bytes ++ bytes; taken = taken })))) Reads
 
-  rest_taken_meets : (l fuel : ℕ) (s : Read) (own : List Deed) (h : Hand) → HasTaken own s.taken → M own h (rest_taken where_ job.drop l fuel s) (okay Reads)
-  unfolding rest_taken
-  rest_taken_meets l zero s own h f = meets_return (MayAsk w) A own h s (okay Reads) f
-  rest_taken_meets l (suc fuel) s own h f = go (nat_lt (length s.bytes) l) (λ more later j g. rest_taken_meets l fuel more later j g)
-    where
-      go : (b : Bool) → ((more : Read) (later : List Deed) (j : Hand) → HasTaken later more.taken → M later j (rest_taken where_ job.drop l fuel more) (okay Reads))
-          → M own h (if b then (piece_taken where_ job.drop l s.bytes s.taken >>= (λ more. rest_taken where_ job.drop l fuel more)) else Return (Ok s)) (okay Reads)
-      go true next =
-          meets_then (MayAsk w) A own h (piece_taken where_ job.drop l s.bytes s.taken) (λ more. rest_taken where_ job.drop l fuel more) Reads Reads (piece_taken_meets l s own h f) (λ later j more g. next more later j g)
-      go false next = meets_return (MayAsk w) A own h s (okay Reads) f
+    rest_taken_meets : (l fuel : ℕ) (s : Read) (own : List Deed) (h : Hand) → HasTaken own s.taken → M own h (rest_taken where_ job.drop l fuel s) (okay Reads)
+    unfolding rest_taken
+    rest_taken_meets l zero s own h f = meets_return (MayAsk w) A own h s (okay Reads) f
+    rest_taken_meets l (suc fuel) s own h f = go (nat_lt (length s.bytes) l) (λ more later j g. rest_taken_meets l fuel more later j g)
+      where
+        go : (b : Bool) → ((more : Read) (later : List Deed) (j : Hand) → HasTaken later more.taken → M later j (rest_taken where_ job.drop l fuel more) (okay Reads))
+            → M own h (if b then (piece_taken where_ job.drop l s.bytes s.taken >>= (λ more. rest_taken where_ job.drop l fuel more)) else Return (Ok s)) (okay Reads)
+        go true next =
+            meets_then (MayAsk w) A own h (piece_taken where_ job.drop l s.bytes s.taken) (λ more. rest_taken where_ job.drop l fuel more) Reads Reads (piece_taken_meets l s own h f) (λ later j more g. next more later j g)
+        go false next = meets_return (MayAsk w) A own h s (okay Reads) f
 
-  ended_meets : (s : Read) (own : List Deed) (h : Hand) → HasTaken own s.taken → M own h (ended_taken where_ s) (okay Takes)
-  unfolding ended_taken
-  ended_meets s own h f = by_last (last_by s.bytes)
-    where
-      by_last : (r : Result (Option (List ℕ)) CommandFault) → M own h (Return r >>= (λ last. into where_ s.taken (listed last))) (okay Takes)
-      by_last (Ok last) = meets_on (MayAsk w) A own h last (λ last_. into where_ s.taken (listed last_)) (okay Takes) (all_meet (listed last) s.taken own h f)
-      by_last (Err e) = meets_stop (MayAsk w) A own h e (λ last. into where_ s.taken (listed last)) Takes
+    ended_meets : (s : Read) (own : List Deed) (h : Hand) → HasTaken own s.taken → M own h (ended_taken where_ s) (okay Takes)
+    unfolding ended_taken
+    ended_meets s own h f = by_last (last_by s.bytes)
+      where
+        by_last : (r : Result (Option (List ℕ)) CommandFault) → M own h (Return r >>= (λ last. into where_ s.taken (listed last))) (okay Takes)
+        by_last (Ok last) = meets_on (MayAsk w) A own h last (λ last_. into where_ s.taken (listed last_)) (okay Takes) (all_meet telling (listed last) s.taken own h f)
+        by_last (Err e) = meets_stop (MayAsk w) A own h e (λ last. into where_ s.taken (listed last)) Takes
 
-  -- all of it
-  pub pass_meets : (l count top : ℕ) → top_of listing ≤ top → top ≤ 999999 → (own : List Deed) (h : Hand) → Known [] own → M own h (drop_taken where_ job.drop l count top) (okay Takes)
-  unfolding drop_taken
-  pass_meets l count top low small own h f =
-      meets_then (MayAsk w) A own h (rest_taken where_ job.drop l l start) (λ s. ended_taken where_ s >>= (λ taken. as_counted (length taken.numbers == count) taken)) Reads Takes
-      (rest_taken_meets l l start own h (record { low = low; small = small; numbers = tt; known = f }))
-      (λ later j s q.
-      meets_then (MayAsk w) A later j (ended_taken where_ s) (λ taken. as_counted (length taken.numbers == count) taken) Takes Takes (ended_meets s later j q) (λ last i t g. counted (length t.numbers == count) t last i g))
-    where
-      start : Read
-      start = record { bytes = []; taken = record { numbers = []; highest = top } }
+    -- all of it
+    pub pass_meets : (l count top : ℕ) → top_of listing ≤ top → top ≤ 999999 → (own : List Deed) (h : Hand) → Known [] own → M own h (drop_taken where_ job.drop l count top) (okay Takes)
+    unfolding drop_taken
+    pass_meets l count top low small own h f =
+        meets_then (MayAsk w) A own h (rest_taken where_ job.drop l l start) (λ s. ended_taken where_ s >>= (λ taken. as_counted (length taken.numbers == count) taken)) Reads Takes
+        (rest_taken_meets l l start own h (record { low = low; small = small; numbers = tt; known = f }))
+        (λ later j s q.
+        meets_then (MayAsk w) A later j (ended_taken where_ s) (λ taken. as_counted (length taken.numbers == count) taken) Takes Takes (ended_meets s later j q) (λ last i t g. counted (length t.numbers == count) t last i g))
+      where
+        start : Read
+        start = record { bytes = []; taken = record { numbers = []; highest = top } }
 
-      counted : (b : Bool) (t : Taken) (own : List Deed) (h : Hand) → HasTaken own t → M own h (as_counted b t) (okay Takes)
-      counted true t own h g = meets_return (MayAsk w) A own h t (okay Takes) g
-      counted false t own h g = meets_end (MayAsk w) A own h changed Takes
+        counted : (b : Bool) (t : Taken) (own : List Deed) (h : Hand) → HasTaken own t → M own h (as_counted b t) (okay Takes)
+        counted true t own h g = meets_return (MayAsk w) A own h t (okay Takes) g
+        counted false t own h g = meets_end (MayAsk w) A own h changed Takes
 
   -- the heading
   pub headed_meets : {R : Type 0} (b : Bool) (own : List Deed) (h : Hand) (k : Unit {0} → Plan (Result R CommandFault)) (Q : Outcome (Result R CommandFault)) → M own h (k tt) Q → M own h (heading_told b job.folder >>= k) Q

@@ -28,6 +28,7 @@ use Rattle.inc_command.specs.Cutting.{changed, given_by, last_by}
 use Rattle.inc_command.specs.DropTaken.{Read, Where, as_counted, drop_taken, ended_taken, into, listed, piece_taken, rest_taken, where_of}
 use Rattle.inc_command.specs.IncPledge.{HoldsOne}
 use Rattle.inc_command.specs.Stored.{IsLineOfStored}
+use Rattle.inc_command.specs.Taking.{Telling}
 use Rattle.inc_command.specs.declared.counting.DropSize.{DropSize}
 use Rattle.inc_command.specs.declared.head.Head.{Head}
 use Rattle.inc_command.specs.declared.intake.Taken.{Taken}
@@ -50,14 +51,14 @@ not_less a b never = go (nat_lt a b) (Decides-ltb a b)
         at_least off = grind (arith, off)
 
 module _ (w : Pledge) (few : w.run < 2 ^ 128) (path folder : List ℕ) (Known : ℕ → List Deed → Type 0) (f : FilePath)
-    (lets : (bytes : List ℕ) → PutsMessages w (Folder path folder) bytes Known None (HoldsOne w.run f)) (silent : Bool)
-    (tells : silent ≡ false → (own : List Deed) (piece : List ℕ) → IsLineOfStored w.run (Folder path folder) own piece → w.may_tell own piece)
+    (lets : (bytes : List ℕ) → PutsMessages w (Folder path folder) bytes Known None (HoldsOne w.run f)) (telling : Telling)
+    (tells : telling.silent ≡ false → (own : List Deed) (piece : List ℕ) → IsLineOfStored telling.line w.run (Folder path folder) own piece → w.may_tell own piece)
     (begin : List Deed) (listing : List Run) (text context old : List ℕ) where
   abbrev p : Place
   p = Folder path folder
 
   abbrev pub Takes : List ℕ → List (List ℕ) → List ℕ → List Deed → Type 0
-  Takes d done numbers own = Taking w few path folder Known f lets silent tells begin listing text context old d done numbers own
+  Takes d done numbers own = Taking w few path folder Known f lets telling tells begin listing text context old d done numbers own
 
   -- no message was taken in yet
   abbrev pub Bare : List Deed → Type 0
@@ -155,7 +156,7 @@ module _ (w : Pledge) (few : w.run < 2 ^ 128) (path folder : List ℕ) (Known : 
 
   -- the second pass
   abbrev where_ : Where
-  where_ = where_of w.run folder p silent
+  where_ = where_of w.run folder p telling
 
   module _ (l : ℕ) where
     pub record Passing (s : Read) (own : List Deed) : Type 0 where
@@ -212,7 +213,7 @@ module _ (w : Pledge) (few : w.run < 2 ^ 128) (path folder : List ℕ) (Known : 
         none_empty bytes same e = let long = length-append d bytes in let none = ap length e in omega (arith, long, same, none, lt)
 
         at_piece : (bytes : List ℕ) (given : List (List ℕ)) → length bytes ≡ asked → finished d ++ given ≡ finished (d ++ bytes)
-            → IsAt w few path folder Known f lets silent tells begin listing text context old (d ++ bytes) (finished d) (given ++ drop (length (finished (d ++ bytes))) (messages (d ++ bytes)))
+            → IsAt w few path folder Known f lets telling tells begin listing text context old (d ++ bytes) (finished d) (given ++ drop (length (finished (d ++ bytes))) (messages (d ++ bytes)))
         at_piece bytes given same fin = record {
           before = d;
           piece = bytes;
@@ -231,7 +232,7 @@ module _ (w : Pledge) (few : w.run < 2 ^ 128) (path folder : List ℕ) (Known : 
             let same = q.2 in
             goes_on w later j given (λ given_. into where_ s.taken given_ >>= (λ taken. Return (Ok (record { bytes = d ++ bytes; taken = taken })))) (okay Q)
             (goes_then w later j (into where_ s.taken given) (λ taken. Return (Ok (record { bytes = d ++ bytes; taken = taken }))) (λ last i t. (t.highest ≤ 999999) × Known t.highest last × Takes (d ++ bytes) (finished d ++ given) t.numbers last) Q
-            (all_go w few path folder Known f lets silent tells begin listing text context old given s.taken c.small (d ++ bytes) (finished d) (drop (length (finished (d ++ bytes))) (messages (d ++ bytes))) (at_piece bytes given same fin.1) later j ok q.1 q.0)
+            (all_go w few path folder Known f lets telling tells begin listing text context old given s.taken c.small (d ++ bytes) (finished d) (drop (length (finished (d ++ bytes))) (messages (d ++ bytes))) (at_piece bytes given same fin.1) later j ok q.1 q.0)
             (λ last i t z.
             goes_return w last i (record { bytes = d ++ bytes; taken = t }) (okay Q)
             (record { taken = subst (λ ms. Takes (d ++ bytes) ms t.numbers last) fin.1 z.2; small = z.0; known = z.1; found = fin.0; within = omega (arith, long, same, lt); before = d; piece = bytes; is = refl; short = omega (arith, same); front = (let longer = length-append (finished d) given in let all_ = ap length fin.1 in omega (arith, longer, all_)) }, omega (arith, long, same))))
@@ -272,7 +273,7 @@ module _ (w : Pledge) (few : w.run < 2 ^ 128) (path folder : List ℕ) (Known : 
         not_empty : s.bytes ≡ [] → ⊥
         not_empty e = absurd (let no : l ≡ 0 = sym whole ∙ ap length e in let bad : true ≡ false = sym (ap (λ k. k == 0) no) ∙ some in cc (bad))
 
-        at_end : (last : Option (List ℕ)) → finished s.bytes ++ listed last ≡ messages s.bytes → IsAt w few path folder Known f lets silent tells begin listing text context old s.bytes (finished s.bytes) (listed last ++ [])
+        at_end : (last : Option (List ℕ)) → finished s.bytes ++ listed last ≡ messages s.bytes → IsAt w few path folder Known f lets telling tells begin listing text context old s.bytes (finished s.bytes) (listed last ++ [])
         at_end last fin = record {
           before = c.before;
           piece = c.piece;
@@ -290,7 +291,7 @@ module _ (w : Pledge) (few : w.run < 2 ^ 128) (path folder : List ℕ) (Known : 
             (goes_more w own h (into where_ s.taken (listed last)) (okay (λ later j t. (t.highest ≤ 999999) × Known t.highest later × Takes s.bytes (finished s.bytes ++ listed last) t.numbers later)) (okay Q)
             (okay_more (λ later j t. (t.highest ≤ 999999) × Known t.highest later × Takes s.bytes (finished s.bytes ++ listed last) t.numbers later) Q
             (λ later j t z. record { drop = s.bytes; whole = whole; is_one = fin.0; taken = subst (λ ms. Takes s.bytes ms t.numbers later) fin.1 z.2 }))
-            (all_go w few path folder Known f lets silent tells begin listing text context old (listed last) s.taken c.small s.bytes (finished s.bytes) [] (at_end last fin.1) own h sound c.known c.taken))
+            (all_go w few path folder Known f lets telling tells begin listing text context old (listed last) s.taken c.small s.bytes (finished s.bytes) [] (at_end last fin.1) own h sound c.known c.taken))
         by_last (Err e) is = goes_stop w own h e (λ last. into where_ s.taken (listed last)) Q
 
     pub taken_goes : (l == 0) ≡ false → (count top : ℕ) → top ≤ 999999 → (own : List Deed) (h : Hand) → Sound w own h → Known top own → Bare own → Goes w own h (drop_taken where_ f l count top) (okay (λ later j t. AllTaken t.numbers later))

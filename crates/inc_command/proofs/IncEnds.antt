@@ -42,11 +42,12 @@ use Rattle.opened_folders.proofs.MadeEnds.{ShowsMade, made_state}
 use Rattle.opened_folders.proofs.SequencesEnd.{Left, changed_comes}
 use Rattle.opened_folders.proofs.WorkEnds.{Ends, EndsBeside, EndsWith, comes_shown, current_beside, shown_beside, work_ends}
 use Rattle.opened_folders.proofs.WorkPledged.{LetsBegin}
-use Rattle.inc_command.specs.Inc.{cut_by, cut_if, drop_ended, heading, heading_told, inc, new_marked, new_marks, opened_incorporated, room_counted, told_taken, top_of}
+use Rattle.inc_command.specs.Inc.{cut_by, cut_if, drop_ended, heading, heading_told, inc, new_marked, new_marks, opened_incorporated, room_counted, telling_of, told_taken, top_of}
 use Rattle.inc_command.specs.DropTaken.{drop_taken, where_of}
+use Rattle.inc_command.specs.Taking.{Telling}
 use Rattle.inc_command.specs.IncAnswers.{HasTakenMail, ShowsInc, WasCounted, WasTold, grown, inc_answers}
 use Rattle.inc_command.specs.declared.counting.DropSize.{DropSize}
-use Rattle.inc_command.specs.declared.job.IncJob.{IncJob}
+use Rattle.inc_command.specs.IncJob.{IncJob}
 use Rattle.inc_command.proofs.Courses.{stored_still}
 use Rattle.inc_command.proofs.Fronts.{some_messages}
 use Rattle.inc_command.proofs.DropEnds.{Ready, Rooms, TakesAll, pass_comes, pieces_once, room_comes}
@@ -149,9 +150,12 @@ module _ (run : ℕ) (few : run < 2 ^ 128) (path : List ℕ) (job : IncJob) wher
         (λ last i u q. comes_more last i (made_current run path job.folder) (Ends run few path job.folder (inc_answers job) (λ end k v. Has end)) (So (λ end k v. Has end)) (folder_so (λ end k v. Has end)) (current_beside run few path job.folder (inc_answers job) Has has_kept last i q.0 q.1))
         (λ last i e q. inl (inl q))
 
+    abbrev telling : Telling
+    telling = telling_of job o.sequences.cur
+
     abbrev then_told : DropSize → Plan (Result Unit CommandFault)
     then_told size =
-        (heading_told job.silent job.folder >>= (λ done. drop_taken (where_of run job.folder p job.silent) job.drop size.length size.messages (top_of listing)))
+        (heading_told job.silent job.folder >>= (λ done. drop_taken (where_of run job.folder p telling) job.drop size.length size.messages (top_of listing)))
         >>= (λ t. (lifted (of_plan job.folder) (changed_sequences run p mail job.folder o.sequences (marked_by_all (new_marks job t.numbers) o.sequences)) >>= (λ marked. made_current run path job.folder)) >>= (λ marked. cut_if job.truncate job.drop size.length))
 
     -- a drop that was counted is taken in
@@ -159,11 +163,11 @@ module _ (run : ℕ) (few : run < 2 ^ 128) (path : List ℕ) (job : IncJob) wher
       taken_come : (later : List Deed) (j : Hand) → 1 ≤ length d → Ready_ later j → WasCounted job.drop d later → WasTold job.drop (length d) later → top_of listing + length (messages d) ≤ 999999 → 1 ≤ length (messages d)
           → Comes later j (then_told (record { length = length d; messages = length (messages d) })) (So (λ last i u. Has last))
       taken_come later j some r counted told room many =
-          comes_then later j (heading_told job.silent job.folder >>= (λ done. drop_taken (where_of run job.folder p job.silent) job.drop (length d) (length (messages d)) (top_of listing)))
+          comes_then later j (heading_told job.silent job.folder >>= (λ done. drop_taken (where_of run job.folder p telling) job.drop (length d) (length (messages d)) (top_of listing)))
           (λ t. (lifted (of_plan job.folder) (changed_sequences run p mail job.folder o.sequences (marked_by_all (new_marks job t.numbers) o.sequences)) >>= (λ marked. made_current run path job.folder)) >>= (λ marked. cut_if job.truncate job.drop (length d)))
-          (So (TakesAll run few path job listing text context d is_one short job.silent)) (So (λ last i u. Has last))
-          (told_comes job.silent later j (drop_taken (where_of run job.folder p job.silent) job.drop (length d) (length (messages d)) (top_of listing)) (So (TakesAll run few path job listing text context d is_one short job.silent))
-          (pass_comes run few path job listing text context d is_one short job.silent later j some r (counted, told) (omega (arith, room), λ last. absurd (omega (arith, room, many, last)))))
+          (So (TakesAll run few path job listing text context d is_one short telling)) (So (λ last i u. Has last))
+          (told_comes job.silent later j (drop_taken (where_of run job.folder p telling) job.drop (length d) (length (messages d)) (top_of listing)) (So (TakesAll run few path job listing text context d is_one short telling))
+          (pass_comes run few path job listing text context d is_one short telling later j some r (counted, told) (omega (arith, room), λ last. absurd (omega (arith, room, many, last)))))
           (λ mid i t q.
           comes_then mid i (lifted (of_plan job.folder) (changed_sequences run p mail job.folder o.sequences (marked_by_all (new_marks job t.numbers) o.sequences)) >>= (λ marked. made_current run path job.folder)) (λ marked. cut_if job.truncate job.drop (length d))
           (So (λ last k u. Has last)) (So (λ last k u. Has last)) (marks_come t.numbers mid i q.ready (t.numbers, q.mail_))

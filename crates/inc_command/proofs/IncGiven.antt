@@ -68,13 +68,14 @@ use Rattle.opened_folders.proofs.KeptGiven.{Holds, IsClear, context_ends}
 use Rattle.opened_folders.proofs.KeptMessages.{message_at, message_of}
 use Rattle.opened_folders.proofs.MadeGiven.{made_give}
 use Rattle.opened_folders.proofs.WorkGiven.{IsOpen, WorkEnds, sequences_give, then_gives}
-use Rattle.inc_command.specs.Inc.{cut_by, cut_if, drop_ended, heading, heading_told, inc, new_marked, new_marks, opened_incorporated, room_counted, told_taken, top_of}
+use Rattle.inc_command.specs.Inc.{cut_by, cut_if, drop_ended, heading, heading_told, inc, new_marked, new_marks, opened_incorporated, room_counted, telling_of, told_taken, top_of}
 use Rattle.inc_command.specs.Counting.{LIMIT, LONGEST, size_if}
 use Rattle.inc_command.specs.DropTaken.{drop_taken, where_of}
+use Rattle.inc_command.specs.Taking.{Telling}
 use Rattle.inc_command.specs.IncOutcome.{cut_work, drop_work, emptied, empty_folder, file_work, inc_work, or_empty, room_work, short_work, lines_from, marked_work, numbers_up, opened_work, stored_in, taken_work, text_unless, with_drop_cut, with_folder_made, with_messages}
 use Rattle.inc_command.specs.declared.counting.DropSize.{DropSize}
 use Rattle.inc_command.specs.declared.intake.Taken.{Taken}
-use Rattle.inc_command.specs.declared.job.IncJob.{IncJob}
+use Rattle.inc_command.specs.IncJob.{IncJob}
 use Rattle.inc_command.proofs.DropGiven.{comes_on, counted_of, empty_read, long_read, room_comes, room_of, room_size, room_value}
 use Rattle.inc_command.proofs.PassGiven.{TakesDrop, drop_gives}
 use Rattle.inc_command.proofs.TakenGiven.{IsRoomy, all_context, all_outside, all_put, all_roomy, all_show, told}
@@ -370,6 +371,9 @@ module _ (run : ℕ) (few : run < 2 ^ 128) (path : List ℕ) (job : IncJob) (val
     by_file None = refuse refusal.NoMail
     by_file (Some d) = by_bytes d (length d == 0)
 
+    abbrev telling : Telling
+    telling = telling_of job m.cur
+
     abbrev whole : Work CommandFault
     whole = opened_work path job listing m k
 
@@ -415,26 +419,26 @@ module _ (run : ℕ) (few : run < 2 ^ 128) (path : List ℕ) (job : IncJob) (val
       }
 
       abbrev Takes : View → Hand → List ℕ → Result Taken CommandFault → Type 0
-      Takes = TakesDrop run few job.folder p job.silent job.drop d is_one short c there top roomy room j last_work.text
+      Takes = TakesDrop run few job.folder p telling job.drop d is_one short c there top roomy room j last_work.text
 
       heading_some : heading job.folder ≡ [] → ⊥
       unfolding heading
       heading_some e = cc (e)
 
       told_gives : (b : Bool) → job.silent ≡ b
-          → Gives (by_view true) z j (text_unless b job.folder (top + 1) (messages d) ++ last_work.text)
-          (heading_told b job.folder >>= (λ done. drop_taken (where_of run job.folder p job.silent) job.drop (length d) (length (messages d)) top)) Takes
+          → Gives (by_view true) z j (text_unless b job.folder (telling.line (top + 1)) (top + 1) (messages d) ++ last_work.text)
+          (heading_told b job.folder >>= (λ done. drop_taken (where_of run job.folder p telling) job.drop (length d) (length (messages d)) top)) Takes
       unfolding bind ◌>>=◌
-      told_gives true e = subst (λ s. Gives (by_view true) z j (told s (lines_from (top + 1) (messages d)) ++ last_work.text) (drop_taken (where_of run job.folder p job.silent) job.drop (length d) (length (messages d)) top) Takes) e passes
+      told_gives true e = subst (λ s. Gives (by_view true) z j (told s (lines_from (telling.line (top + 1)) (top + 1) (messages d)) ++ last_work.text) (drop_taken (where_of run job.folder p telling) job.drop (length d) (length (messages d)) top) Takes) e passes
         where
-          passes : Gives (by_view true) z j (told job.silent (lines_from (top + 1) (messages d)) ++ last_work.text) (drop_taken (where_of run job.folder p job.silent) job.drop (length d) (length (messages d)) top) Takes
-          passes = drop_gives run few job.folder p job.silent job.drop d is_one short c there top roomy room j last_work.text ns z is
+          passes : Gives (by_view true) z j (told telling.silent (lines_from (telling.line (top + 1)) (top + 1) (messages d)) ++ last_work.text) (drop_taken (where_of run job.folder p telling) job.drop (length d) (length (messages d)) top) Takes
+          passes = drop_gives run few job.folder p telling job.drop d is_one short c there top roomy room j last_work.text ns z is
       told_gives false e =
-          say_view (by_view true) z of_sink (heading job.folder) (lines_from (top + 1) (messages d) ++ last_work.text) ((heading job.folder ++ lines_from (top + 1) (messages d)) ++ last_work.text) j
-          (λ done. drop_taken (where_of run job.folder p job.silent) job.drop (length d) (length (messages d)) top) Takes heading_some
-          (append_assoc (heading job.folder) (lines_from (top + 1) (messages d)) last_work.text)
-          (subst (λ s. Gives (by_view true) z j (told s (lines_from (top + 1) (messages d)) ++ last_work.text) (drop_taken (where_of run job.folder p job.silent) job.drop (length d) (length (messages d)) top) Takes) e
-          (drop_gives run few job.folder p job.silent job.drop d is_one short c there top roomy room j last_work.text ns z is))
+          say_view (by_view true) z of_sink (heading job.folder) (lines_from (telling.line (top + 1)) (top + 1) (messages d) ++ last_work.text) ((heading job.folder ++ lines_from (telling.line (top + 1)) (top + 1) (messages d)) ++ last_work.text) j
+          (λ done. drop_taken (where_of run job.folder p telling) job.drop (length d) (length (messages d)) top) Takes heading_some
+          (append_assoc (heading job.folder) (lines_from (telling.line (top + 1)) (top + 1) (messages d)) last_work.text)
+          (subst (λ s. Gives (by_view true) z j (told s (lines_from (telling.line (top + 1)) (top + 1) (messages d)) ++ last_work.text) (drop_taken (where_of run job.folder p telling) job.drop (length d) (length (messages d)) top) Takes) e
+          (drop_gives run few job.folder p telling job.drop d is_one short c there top roomy room j last_work.text ns z is))
 
       behind_ends : (y : View) (i : Hand) (left : List ℕ) (r : Result Unit CommandFault) → WorkEnds last_work y i left r → WorkEnds taken y i left r
       behind_ends y i left (Ok u) e = e
@@ -448,9 +452,9 @@ module _ (run : ℕ) (few : run < 2 ^ 128) (path : List ℕ) (job : IncJob) (val
       then_marked found = (lifted (of_plan job.folder) (changed_sequences run p mail job.folder m (marked_by_all (new_marks job found) m)) >>= (λ marked. made_current run path job.folder)) >>= (λ marked. cut_if job.truncate job.drop (length d))
 
       pub taken_gives : Gives (by_view true) z j taken.text
-          ((heading_told job.silent job.folder >>= (λ done. drop_taken (where_of run job.folder p job.silent) job.drop (length d) (length (messages d)) top)) >>= (λ t. then_marked t.numbers)) (WorkEnds taken)
+          ((heading_told job.silent job.folder >>= (λ done. drop_taken (where_of run job.folder p telling) job.drop (length d) (length (messages d)) top)) >>= (λ t. then_marked t.numbers)) (WorkEnds taken)
       taken_gives =
-          gives_on (by_view true) z j taken.text (heading_told job.silent job.folder >>= (λ done. drop_taken (where_of run job.folder p job.silent) job.drop (length d) (length (messages d)) top)) (λ t. then_marked t.numbers) Takes (WorkEnds taken)
+          gives_on (by_view true) z j taken.text (heading_told job.silent job.folder >>= (λ done. drop_taken (where_of run job.folder p telling) job.drop (length d) (length (messages d)) top)) (λ t. then_marked t.numbers) Takes (WorkEnds taken)
           (told_gives job.silent refl)
           (λ y i left t g.
           subst (λ found. Gives (by_view true) y i left (then_marked found) (WorkEnds taken)) (sym g.numbers)
@@ -462,7 +466,7 @@ module _ (run : ℕ) (few : run < 2 ^ 128) (path : List ℕ) (job : IncJob) (val
 
     abbrev then_told : DropSize → Plan (Result Unit CommandFault)
     then_told size =
-        (heading_told job.silent job.folder >>= (λ done. drop_taken (where_of run job.folder p job.silent) job.drop size.length size.messages top))
+        (heading_told job.silent job.folder >>= (λ done. drop_taken (where_of run job.folder p telling) job.drop size.length size.messages top))
         >>= (λ t. (lifted (of_plan job.folder) (changed_sequences run p mail job.folder m (marked_by_all (new_marks job t.numbers) m)) >>= (λ marked. made_current run path job.folder)) >>= (λ marked. cut_if job.truncate job.drop size.length))
 
     pub opened_gives : (ns : List ℕ) (z : View) → Is true ns z c → Gives (by_view true) z j whole.text (room_counted job.folder job.drop top >>= then_told) (WorkEnds whole)

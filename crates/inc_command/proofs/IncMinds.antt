@@ -38,11 +38,11 @@ use Rattle.opened_folders.proofs.ToldMarks.{told_cur, told_listed, told_valid}
 use Rattle.opened_folders.proofs.WorkMinds.{Anyhow, current_meets, opened_meets}
 use Rattle.opened_folders.proofs.WorkPledged.{made_goes}
 use Rattle.inc_command.specs.DropTaken.{drop_taken, where_of}
-use Rattle.inc_command.specs.Inc.{cut_by, cut_if, drop_ended, heading_told, inc, new_marked, new_marks, opened_incorporated, room_counted, told_taken, top_of}
+use Rattle.inc_command.specs.Inc.{cut_by, cut_if, drop_ended, heading_told, inc, new_marked, new_marks, opened_incorporated, room_counted, telling_of, told_taken, top_of}
 use Rattle.inc_command.specs.IncPledge.{MakesSo, MarksNew, TellsNew, inc_pledge}
 use Rattle.inc_command.specs.declared.counting.DropSize.{DropSize}
 use Rattle.inc_command.specs.declared.intake.Taken.{Taken}
-use Rattle.inc_command.specs.declared.job.IncJob.{IncJob}
+use Rattle.inc_command.specs.IncJob.{IncJob}
 use Rattle.folder_files.specs.Commands.{Incorporating}
 use Rattle.inc_command.proofs.DropMinds.{HasTaken, Takes, headed_meets, pass_meets, room_meets}
 use Rattle.inc_command.proofs.IncPledged.{lasts, lets, top_low}
@@ -138,11 +138,11 @@ module _ (run : ℕ) (few : run < 2 ^ 128) (path : List ℕ) (job : IncJob) (ok 
 
     -- the messages are taken in
     taken_at : (q : Place) → q ≡ p → (size : DropSize) (later : List Deed) (j : Hand) → Known [] later
-        → M later j (heading_told job.silent job.folder >>= (λ told. drop_taken (where_of run job.folder q job.silent) job.drop size.length size.messages (top_of o.listing))) (okay (Takes run path job b.names o.listing old begun.marks))
+        → M later j (heading_told job.silent job.folder >>= (λ told. drop_taken (where_of run job.folder q (telling_of job o.sequences.cur)) job.drop size.length size.messages (top_of o.listing))) (okay (Takes run path job b.names o.listing old begun.marks))
     taken_at q place size later j f =
-        subst (λ z. M later j (heading_told job.silent job.folder >>= (λ told. drop_taken (where_of run job.folder z job.silent) job.drop size.length size.messages (top_of o.listing))) (okay (Takes run path job b.names o.listing old begun.marks))) (sym place)
-        (headed_meets run path job b.names o.listing old begun.marks job.silent later j (λ told. drop_taken (where_of run job.folder p job.silent) job.drop size.length size.messages (top_of o.listing)) (okay (Takes run path job b.names o.listing old begun.marks))
-        (pass_meets run path job b.names o.listing old begun.marks size.length size.messages (top_of o.listing) (omega arith) (top_low 1 o.listing b.runs) later j f))
+        subst (λ z. M later j (heading_told job.silent job.folder >>= (λ told. drop_taken (where_of run job.folder z (telling_of job o.sequences.cur)) job.drop size.length size.messages (top_of o.listing))) (okay (Takes run path job b.names o.listing old begun.marks))) (sym place)
+        (headed_meets run path job b.names o.listing old begun.marks job.silent later j (λ told. drop_taken (where_of run job.folder p (telling_of job o.sequences.cur)) job.drop size.length size.messages (top_of o.listing)) (okay (Takes run path job b.names o.listing old begun.marks))
+        (pass_meets run path job b.names o.listing old begun.marks (telling_of job o.sequences.cur) size.length size.messages (top_of o.listing) (omega arith) (top_low 1 o.listing b.runs) later j f))
 
     work_meets : M own h (opened_incorporated run path job o) (okay Free)
     unfolding opened_incorporated told_taken new_marked

@@ -1,5 +1,5 @@
 -- `inc` goes as it pledges.
-use Rattle.std.proofs.Common.{◌≡◌, ◌⊎◌, inl, inr, ◌<◌, ◌≤◌, ◌+◌, ◌^◌, ◌&&◌, ◌||◌, ◌++◌, ◌∷◌, [], ◌==◌, ℕ, Bool, true, false, List, None, Result, Ok, length, max, nat_le, refl, sym, ◌∙◌, ap, subst, arith}
+use Rattle.std.proofs.Common.{◌≡◌, ◌⊎◌, inl, inr, ◌<◌, ◌≤◌, ◌+◌, ◌^◌, ◌&&◌, ◌||◌, ◌++◌, ◌∷◌, [], ◌==◌, ℕ, Bool, true, false, List, Option, None, Result, Ok, length, max, nat_le, refl, sym, ◌∙◌, ap, subst, arith}
 use Rattle.std.specs.Prelude.{decimal, reverse}
 use Rattle.std.proofs.lemmas.Bool.Decides.{nat_tests}
 use Rattle.mbox_drop.specs.Drops.{is_drop, messages}
@@ -61,12 +61,13 @@ use Rattle.opened_folders.proofs.FolderPledged.{Begins, HasBegun, seen_kept}
 use Rattle.opened_folders.proofs.WorkPledged.{LetsBegin, begins, committed_goes, current_goes, made_keeps}
 use Rattle.inc_command.specs.Counting.{drop_counted}
 use Rattle.inc_command.specs.DropTaken.{drop_taken, where_of}
-use Rattle.inc_command.specs.Inc.{cut_by, cut_if, drop_ended, heading, heading_told, if_room, inc, new_marked, new_marks, opened_incorporated, room_counted, told_taken, top_of}
+use Rattle.inc_command.specs.Inc.{are_some, cut_by, cut_if, drop_ended, heading, heading_told, if_room, inc, new_marked, new_marks, opened_incorporated, room_counted, telling_of, told_taken, top_of}
 use Rattle.inc_command.specs.IncPledge.{HasSeenNumber, HasTakenIn, HoldsOne, MakesSo, MarksNew, TellsNew, inc_pledge}
 use Rattle.inc_command.specs.Stored.{IsLineOfStored}
+use Rattle.inc_command.specs.Taking.{standing_for}
 use Rattle.inc_command.specs.declared.counting.DropSize.{DropSize}
 use Rattle.inc_command.specs.declared.intake.Taken.{Taken}
-use Rattle.inc_command.specs.declared.job.IncJob.{IncJob}
+use Rattle.inc_command.specs.IncJob.{IncJob}
 use Rattle.inc_command.proofs.Courses.{Ground, stored_still, then_soundly}
 use Rattle.inc_command.proofs.DropKept.{LeavesDrop, leaves_first, pieces_kept, stored_kept}
 use Rattle.inc_command.proofs.DropPledged.{AllTaken, IsTold, Takes, counted_goes, taken_goes}
@@ -219,12 +220,14 @@ module _ (run : ℕ) (few : run < 2 ^ 128) (path : List ℕ) (job : IncJob) wher
     met_now = λ own temp n holds. holds_on own (step.Link p temp (decimal n)) answer.Exists tt holds;
   }
 
-  tells : job.silent ≡ false → (own : List Deed) (piece : List ℕ) → IsLineOfStored run p own piece → TellsNew run path job own piece
-  tells silent own piece i = (silent, inr i)
+  -- whichever message was the current one before
+  tells : (cur : Option ℕ) → job.silent ≡ false → (own : List Deed) (piece : List ℕ) → IsLineOfStored (telling_of job cur).line run p own piece → TellsNew run path job own piece
+  tells cur loud own piece i =
+      (loud, inr (record { number = i.number; message = i.message; kind = (standing_for job.change_cur (are_some job.unseen) cur i.kind i.number).current; line = i.line; stored = i.stored }))
 
-  module _ (begin : List Deed) (listing : List Run) (text context old : List ℕ) where
+  module _ (cur : Option ℕ) (begin : List Deed) (listing : List Run) (text context old : List ℕ) where
     abbrev Takes_ : List ℕ → List (List ℕ) → List ℕ → List Deed → Type 0
-    Takes_ d done numbers own = Takes w few path job.folder Known job.drop puts job.silent tells begin listing text context old d done numbers own
+    Takes_ d done numbers own = Takes w few path job.folder Known job.drop puts (telling_of job cur) (tells cur) begin listing text context old d done numbers own
 
     abbrev Bare : List Deed → Type 0
     Bare own = Takes_ [] [] [] own
@@ -237,7 +240,7 @@ module _ (run : ℕ) (few : run < 2 ^ 128) (path : List ℕ) (job : IncJob) wher
     unfolding room_counted
     room_goes top own h b =
         goes_then w own h (drop_counted job.drop) (λ size. if_room (nat_le (top + size.messages) 999999) job.folder >>= (λ room. Return (Ok size))) Counted Counted
-        (counted_goes w few path job.folder Known job.drop puts job.silent tells begin listing text context old own h b) (λ later j size q. by_room (nat_le (top + size.messages) 999999) size later j q)
+        (counted_goes w few path job.folder Known job.drop puts (telling_of job cur) (tells cur) begin listing text context old own h b) (λ later j size q. by_room (nat_le (top + size.messages) 999999) size later j q)
       where
         by_room : (v : Bool) (size : DropSize) (later : List Deed) (j : Hand) → Counted later j size → Goes w later j (if_room v job.folder >>= (λ room. Return (Ok size))) (okay Counted)
         by_room true size later j q = goes_on w later j tt (λ room. Return (Ok size)) (okay Counted) (goes_return w later j size (okay Counted) q)
@@ -245,19 +248,20 @@ module _ (run : ℕ) (few : run < 2 ^ 128) (path : List ℕ) (job : IncJob) wher
 
     -- the heading is told, and the messages are taken in
     abbrev Taken_ : ℕ → Outcome Taken
-    Taken_ l later j t = AllTaken w few path job.folder Known job.drop puts job.silent tells begin listing text context old l t.numbers later
+    Taken_ l later j t = AllTaken w few path job.folder Known job.drop puts (telling_of job cur) (tells cur) begin listing text context old l t.numbers later
 
-    told_goes : (o : Opened) (size : DropSize) → (size.length == 0) ≡ false → o.place ≡ p → top_of o.listing ≤ 999999 → (own : List Deed) (h : Hand) → Sound w own h → Known (top_of o.listing) own → Bare own → Goes w own h (told_taken run job o size) (okay (Taken_ size.length))
+    told_goes : (o : Opened) (size : DropSize) → (size.length == 0) ≡ false → o.place ≡ p → o.sequences.cur ≡ cur → top_of o.listing ≤ 999999 → (own : List Deed) (h : Hand) → Sound w own h → Known (top_of o.listing) own → Bare own → Goes w own h (told_taken run job o size) (okay (Taken_ size.length))
     unfolding told_taken
-    told_goes o size some place small own h sound known b =
-        subst (λ q. Goes w own h (heading_told job.silent job.folder >>= (λ told. drop_taken (where_of run job.folder q job.silent) job.drop size.length size.messages (top_of o.listing))) (okay (Taken_ size.length))) (sym place)
-        (by_silent job.silent refl)
+    told_goes o size some place marked small own h sound known b =
+        subst (λ q. Goes w own h (heading_told job.silent job.folder >>= (λ told. drop_taken (where_of run job.folder q (telling_of job o.sequences.cur)) job.drop size.length size.messages (top_of o.listing))) (okay (Taken_ size.length))) (sym place)
+        (subst (λ k. Goes w own h (heading_told job.silent job.folder >>= (λ told. drop_taken (where_of run job.folder p (telling_of job k)) job.drop size.length size.messages (top_of o.listing))) (okay (Taken_ size.length))) (sym marked)
+        (by_silent job.silent refl))
       where
         rest : Unit {0} → Plan (Result Taken CommandFault)
-        rest told = drop_taken (where_of run job.folder p job.silent) job.drop size.length size.messages (top_of o.listing)
+        rest told = drop_taken (where_of run job.folder p (telling_of job cur)) job.drop size.length size.messages (top_of o.listing)
 
         takes : Goes w own h (rest tt) (okay (Taken_ size.length))
-        takes = taken_goes w few path job.folder Known job.drop puts job.silent tells begin listing text context old size.length some size.messages (top_of o.listing) small own h sound known b
+        takes = taken_goes w few path job.folder Known job.drop puts (telling_of job cur) (tells cur) begin listing text context old size.length some size.messages (top_of o.listing) small own h sound known b
 
         by_silent : (v : Bool) → job.silent ≡ v → Goes w own h (heading_told v job.folder >>= rest) (okay (Taken_ size.length))
         by_silent true is = goes_on w own h tt rest (okay (Taken_ size.length)) takes
@@ -265,7 +269,7 @@ module _ (run : ℕ) (few : run < 2 ^ 128) (path : List ℕ) (job : IncJob) wher
 
     -- the drop was all taken in
     ready_of : (l : ℕ) (numbers : List ℕ) (own : List Deed) → (l == 0) ≡ false → IsTold job.drop l own
-        → (z : AllTaken w few path job.folder Known job.drop puts job.silent tells begin listing text context old l numbers own) → IsReady run job.drop l own × HasTakenIn run p job.drop numbers own
+        → (z : AllTaken w few path job.folder Known job.drop puts (telling_of job cur) (tells cur) begin listing text context old l numbers own) → IsReady run job.drop l own × HasTakenIn run p job.drop numbers own
     ready_of l numbers own some told z = by_pieces z.taken.pieces
       where
         by_pieces : (z.drop ≡ []) ⊎ HasPieces job.drop z.drop own → IsReady run job.drop l own × HasTakenIn run p job.drop numbers own
@@ -343,7 +347,7 @@ module _ (run : ℕ) (few : run < 2 ^ 128) (path : List ℕ) (job : IncJob) wher
     abbrev old_ : List ℕ
     old_ = b.base.0
 
-    begun : Takes w few path job.folder Known job.drop puts job.silent tells own o.listing b.text b.context old_ [] [] [] own
+    begun : Takes w few path job.folder Known job.drop puts (telling_of job o.sequences.cur) (tells o.sequences.cur) own o.listing b.text b.context old_ [] [] [] own
     begun = record { ground = record { settled = λ s. s; lock = b.held.lock; base = b.base.1; seen = b.seen; once = once }; pieces = inl refl; stored = all; at = tt }
 
     small : top_of o.listing ≤ 999999
@@ -361,27 +365,27 @@ module _ (run : ℕ) (few : run < 2 ^ 128) (path : List ℕ) (job : IncJob) wher
 
     module _ (size : DropSize) (some : (size.length == 0) ≡ false) where
       abbrev TakenTold : Outcome Taken
-      TakenTold later j t = IsTold job.drop size.length later × AllTaken w few path job.folder Known job.drop puts job.silent tells own o.listing b.text b.context old_ size.length t.numbers later
+      TakenTold later j t = IsTold job.drop size.length later × AllTaken w few path job.folder Known job.drop puts (telling_of job o.sequences.cur) (tells o.sequences.cur) own o.listing b.text b.context old_ size.length t.numbers later
 
       then_cut : (t : Taken) (later : List Deed) (j : Hand) → TakenTold later j t → Goes w later j (new_marked run path job o t.numbers >>= (λ marked. cut_if job.truncate job.drop size.length)) (okay End)
       unfolding new_marked
       then_cut t later j z =
-          let both = ready_of own o.listing b.text b.context old_ size.length t.numbers later some z.0 z.1 in
+          let both = ready_of o.sequences.cur own o.listing b.text b.context old_ size.length t.numbers later some z.0 z.1 in
           goes_then w later j (new_marked run path job o t.numbers) (λ marked. cut_if job.truncate job.drop size.length) (λ last i u. IsReady run job.drop size.length last × (AreSettled later → AreSettled last)) End
-          (marked_at own o.listing b.text b.context old_ o.place o.folder o.sequences b.place b.name b.sequences size.length t.numbers later j both.1 both.0 z.1.taken.ground)
+          (marked_at o.sequences.cur own o.listing b.text b.context old_ o.place o.folder o.sequences b.place b.name b.sequences size.length t.numbers later j both.1 both.0 z.1.taken.ground)
           (λ last i u y.
           goes_more w last i (cut_if job.truncate job.drop size.length) (okay (Of (λ end. AreSettled last → AreSettled end))) (okay End)
           (okay_more (Of (λ end. AreSettled last → AreSettled end)) End (λ end k v g s. g (y.1 (z.1.taken.ground.settled s))))
-          (cut_goes own o.listing b.text b.context old_ size.length last i y.0))
+          (cut_goes o.sequences.cur own o.listing b.text b.context old_ size.length last i y.0))
 
     work_goes : (h : Hand) → Sound w own h → Goes w own h (opened_incorporated run path job o) (okay End)
     unfolding opened_incorporated
     work_goes h sound =
-        then_soundly w own h (room_counted job.folder job.drop (top_of o.listing)) (λ size. told_taken run job o size >>= (λ t. new_marked run path job o t.numbers >>= (λ marked. cut_if job.truncate job.drop size.length))) (Counted own o.listing b.text b.context old_) End sound
-        (room_goes own o.listing b.text b.context old_ (top_of o.listing) own h begun)
+        then_soundly w own h (room_counted job.folder job.drop (top_of o.listing)) (λ size. told_taken run job o size >>= (λ t. new_marked run path job o t.numbers >>= (λ marked. cut_if job.truncate job.drop size.length))) (Counted o.sequences.cur own o.listing b.text b.context old_) End sound
+        (room_goes o.sequences.cur own o.listing b.text b.context old_ (top_of o.listing) own h begun)
         (λ later j size ok q.
         then_soundly w later j (told_taken run job o size) (λ t. new_marked run path job o t.numbers >>= (λ marked. cut_if job.truncate job.drop size.length)) (TakenTold size q.2) End ok
-        (lasting w (IsTold job.drop size.length) (λ k s a any t. on t) later j (told_taken run job o size) (Taken_ own o.listing b.text b.context old_ size.length) q.1 (told_goes own o.listing b.text b.context old_ o size q.2 b.place small later j ok (known_top later q.0.ground.seen) q.0))
+        (lasting w (IsTold job.drop size.length) (λ k s a any t. on t) later j (told_taken run job o size) (Taken_ o.sequences.cur own o.listing b.text b.context old_ size.length) q.1 (told_goes o.sequences.cur own o.listing b.text b.context old_ o size q.2 b.place refl small later j ok (known_top later q.0.ground.seen) q.0))
         (λ last i t sure z. then_cut size q.2 t last i z))
 
   -- `inc` keeps the rules of its pledge, where its run put no name before that it had not made, and made none twice

@@ -13,13 +13,12 @@ use Rattle.file_plans.proofs.Acting.{acts, acts_append}
 use Rattle.file_plans.proofs.Framing.{AnyStep}
 use Rattle.step_plans.proofs.Lasting.{KeptBy}
 use Rattle.step_plans.proofs.Ruling.{rules_of}
-use Rattle.mh_looks.specs.MessageLine.{line_of, number_column, subject_of}
 use Rattle.opened_folders.specs.Endings.{IsToldBy}
 use Rattle.opened_folders.proofs.Speaking.{said_did, said_more, speaking}
 use Rattle.inc_command.specs.Inc.{heading}
 use Rattle.inc_command.specs.IncAnswers.{IsTextOfNew, nothing, piece as one_more}
-use Rattle.inc_command.specs.IncPledge.{TellsNew, inc_pledge}
-use Rattle.inc_command.specs.declared.job.IncJob.{IncJob}
+use Rattle.inc_command.specs.IncPledge.{TellsNew, inc_pledge, new_line}
+use Rattle.inc_command.specs.IncJob.{IncJob}
 
 said_heard : (past : List Deed) (piece : List ℕ) → said_of (past ++ Heard piece ∷ []) ≡ said_of past
 said_heard [] piece = refl
@@ -27,13 +26,9 @@ said_heard (Did t b ∷ past) piece = said_heard past piece
 said_heard (Said q ∷ past) piece = ap (λ t. q ++ t) (said_heard past piece)
 said_heard (Heard q ∷ past) piece = said_heard past piece
 
-line_some : (n : ℕ) (bytes : List ℕ) → line_of n bytes ≢ []
-unfolding line_of
-line_some n bytes e = ends (number_column n) (subject_of bytes) e
-  where
-    ends : (a b : List ℕ) → (a ++ 32 ∷ [] ++ b ++ 10 ∷ []) ≡ [] → ⊥
-    ends [] b q = cc
-    ends (x ∷ a) b q = cc
+line_some : (line : List ℕ) → line ++ 10 ∷ [] ≢ []
+line_some [] e = cc
+line_some (x ∷ line) e = cc
 
 heading_some : (folder : List ℕ) → heading folder ≢ []
 unfolding heading
@@ -43,11 +38,11 @@ module _ (run : ℕ) (path : List ℕ) (job : IncJob) where
   -- what may be said is some text, and may be said later too
   tells_some : (own : List deeds.Deed) (more : List ℕ) → TellsNew run path job own more → more ≢ []
   tells_some own more (loud, inl e) none = heading_some job.folder (sym e ∙ none)
-  tells_some own more (loud, inr l) none = line_some l.number l.message (sym l.line ∙ none)
+  tells_some own more (loud, inr l) none = line_some (new_line job l.kind l.number l.message) (sym l.line ∙ none)
 
   tells_kept : (more : List ℕ) → KeptBy AnyStep (λ own. TellsNew run path job own more)
   tells_kept more own s a any (loud, inl e) = (loud, inl e)
-  tells_kept more own s a any (loud, inr l) = (loud, inr (record { number = l.number; message = l.message; line = l.line; stored = on l.stored }))
+  tells_kept more own s a any (loud, inr l) = (loud, inr (record { number = l.number; message = l.message; kind = l.kind; line = l.line; stored = on l.stored }))
 
   text_kept : (own : List deeds.Deed) (s : Step) (a : Answer) (text : List ℕ) → IsTextOfNew run path job own text → IsTextOfNew run path job (did s a ∷ own) text
   text_kept own s a _ nothing = nothing

@@ -20,11 +20,13 @@ use Rattle.inc_command.specs.Counting.{PIECE, piece_read}
 use Rattle.inc_command.specs.Cutting.{given_by, last_by, new_in}
 use Rattle.inc_command.specs.DropTaken.{Read, Where, as_counted, drop_taken, ended_taken, into, listed, piece_taken, rest_taken, where_of}
 use Rattle.inc_command.specs.IncOutcome.{lines_from, numbers_up}
+use Rattle.message_lines.specs.MessageText.{Writing}
+use Rattle.inc_command.specs.Taking.{Telling}
 use Rattle.inc_command.specs.declared.intake.Taken.{Taken}
 use Rattle.inc_command.proofs.DropGiven.{asked_few, comes_on, fewer_left, more_read, none_behind, piece_comes}
 use Rattle.inc_command.proofs.Finishing.{IsFound, finished_all, finished_on, finished_rest}
 use Rattle.inc_command.proofs.Fronts.{end_gives, front_found, piece_gives}
-use Rattle.inc_command.proofs.TakenGiven.{IsRoomy, TakesAll, all_give, all_outside, all_put, all_roomy, highest_on, length_up, lines_both, numbers_on, on_both, put_both, taken_on, told, told_both}
+use Rattle.inc_command.proofs.TakenGiven.{IsRoomy, TakesAll, all_give, all_outside, all_put, all_roomy, highest_on, length_up, lines_both, numbers_on, on_both, put_both, taken_on, told, told_both, first_on}
 use Rattle.inc_command.proofs.Tests.{alike}
 
 -- what follows the same beginning is the same
@@ -32,10 +34,19 @@ same_rest : (xs ys zs : List (List ℕ)) → xs ++ ys ≡ xs ++ zs → ys ≡ zs
 same_rest [] ys zs e = e
 same_rest (x ∷ xs) ys zs e = same_rest xs ys zs (cc (e))
 
-module _ (run : ℕ) (few : run < 2 ^ 128) (folder : List ℕ) (p : Place) (silent : Bool) (path : FilePath) (d : List ℕ) (is_one : is_drop d ≡ true) (short : first_long (messages d) ≡ None)
+module _ (run : ℕ) (few : run < 2 ^ 128) (folder : List ℕ) (p : Place) (telling : Telling) (path : FilePath) (d : List ℕ) (is_one : is_drop d ≡ true) (short : first_long (messages d) ≡ None)
     (c : Contents) (there : c.outside path ≡ Some d) (top : ℕ) (roomy : IsRoomy c p top) (room : top + length (messages d) ≤ 999999) (h : Hand) (text : List ℕ) where
   abbrev w : Where
-  w = where_of run folder p silent
+  w = where_of run folder p telling
+
+  abbrev silent : Bool
+  silent = telling.silent
+
+  abbrev first : ℕ
+  first = top + 1
+
+  abbrev line : Writing
+  line = telling.line first
 
   abbrev start : Taken
   start = record { numbers = []; highest = top }
@@ -46,7 +57,7 @@ module _ (run : ℕ) (few : run < 2 ^ 128) (folder : List ℕ) (p : Place) (sile
     pub is : Is true z.numbers z (all_put c p (top + 1) past)
     pub context : j.context ≡ h.context
     pub taken : t ≡ taken_on start past
-    pub rest : left ≡ told silent (lines_from (top + 1 + length past) later) ++ text
+    pub rest : left ≡ told silent (lines_from line (top + 1 + length past) later) ++ text
 
   highest_at : (past : List (List ℕ)) → (taken_on start past).highest ≡ top + length past
   highest_at past = highest_on start past
@@ -83,17 +94,17 @@ module _ (run : ℕ) (few : run < 2 ^ 128) (folder : List ℕ) (p : Place) (sile
 
     -- what is left to be said then
     abbrev rest_text : List ℕ
-    rest_text = told silent (lines_from (top + 1 + length (past ++ given)) more) ++ text
+    rest_text = told silent (lines_from line (top + 1 + length (past ++ given)) more) ++ text
 
-    text_now : left ≡ told silent (lines_from (now.highest + 1) given) ++ rest_text
+    text_now : left ≡ told silent (lines_from line (now.highest + 1) given) ++ rest_text
     text_now =
         let k : top + 1 + length past + length given ≡ top + 1 + length (past ++ given) = (let l = length-append past given in omega (arith, l)) in
         a.rest
-        ∙ (ap (λ x. told silent x ++ text) (lines_both (top + 1 + length past) given more)
-        ∙ (told_both silent (lines_from (top + 1 + length past) given) (lines_from (top + 1 + length past + length given) more) text
-        ∙ (λ i. told silent (lines_from (sym next_number i) given) ++ (told silent (lines_from (k i) more) ++ text))))
+        ∙ (ap (λ x. told silent x ++ text) (lines_both line (top + 1 + length past) given more)
+        ∙ (told_both silent (lines_from line (top + 1 + length past) given) (lines_from line (top + 1 + length past + length given) more) text
+        ∙ (λ i. told silent (lines_from line (sym next_number i) given) ++ (told silent (lines_from line (k i) more) ++ text))))
 
-    on_more : (y : View) (i : Hand) (rest : List ℕ) (r : Result Taken CommandFault) → TakesAll run few folder p silent e now given j rest_text y i rest r → Takes (past ++ given) more y i rest r
+    on_more : (y : View) (i : Hand) (rest : List ℕ) (r : Result Taken CommandFault) → TakesAll run few folder p telling first e now given j rest_text y i rest r → Takes (past ++ given) more y i rest r
     on_more y i rest (Ok u) g = record {
       whole = append_assoc past given more ∙ a.whole;
       is = ((λ same. g.1.0 same ∙ (ap (λ n. all_put e p n given) next_number ∙ sym (put_both c p (top + 1) past given))), g.1.1);
@@ -107,8 +118,8 @@ module _ (run : ℕ) (few : run < 2 ^ 128) (folder : List ℕ) (p : Place) (sile
     into_gives =
         subst (λ x. Gives (by_view true) z j left (into w x given) (Takes (past ++ given) more)) (sym a.taken)
         (subst (λ x. Gives (by_view true) z j x (into w now given) (Takes (past ++ given) more)) (sym text_now)
-        (gives_more (by_view true) z j (told silent (lines_from (now.highest + 1) given) ++ rest_text) (into w now given) (TakesAll run few folder p silent e now given j rest_text) (Takes (past ++ given) more)
-        (all_give run few folder p silent given e now now_roomy now_room z.numbers z a.is j rest_text) on_more))
+        (gives_more (by_view true) z j (told silent (lines_from line (now.highest + 1) given) ++ rest_text) (into w now given) (TakesAll run few folder p telling first e now given j rest_text) (Takes (past ++ given) more)
+        (all_give run few folder p telling first given e now now_roomy now_room (first_on start past) z.numbers z a.is j rest_text) on_more))
 
   -- what a piece finishes comes next
   next_finished : (front piece rest : List ℕ) (later : List (List ℕ)) → d ≡ (front ++ piece) ++ rest → finished front ++ later ≡ messages d
@@ -171,7 +182,7 @@ module _ (run : ℕ) (few : run < 2 ^ 128) (folder : List ℕ) (p : Place) (sile
           let one : given ≡ new_in front (take asked rest) = cc (same) in
           subst (λ g. Gives (by_view true) y j left (into w t g >>= (λ more. Return (Ok (record { bytes = front ++ take asked rest; taken = more })))) (Pieces (front ++ take asked rest))) (sym one)
           (gives_on (by_view true) y j left (into w t (new_in front (take asked rest))) (λ more. Return (Ok (record { bytes = front ++ take asked rest; taken = more }))) (Takes (finished front ++ new_in front (take asked rest)) next_.0) (Pieces (front ++ take asked rest))
-          (into_gives (finished front) (new_in front (take asked rest)) next_.0 y j left t (record { whole = ap (λ x. finished front ++ x) (sym next_.1) ∙ r.at.whole; is = (is.0, refl); context = r.at.context; taken = r.at.taken; rest = r.at.rest ∙ ap (λ x. told silent (lines_from (top + 1 + length (finished front)) x) ++ text) next_.1 }))
+          (into_gives (finished front) (new_in front (take asked rest)) next_.0 y j left t (record { whole = ap (λ x. finished front ++ x) (sym next_.1) ∙ r.at.whole; is = (is.0, refl); context = r.at.context; taken = r.at.taken; rest = r.at.rest ∙ ap (λ x. told silent (lines_from line (top + 1 + length (finished front)) x) ++ text) next_.1 }))
           (λ x i left_ u a. taken_on_ x i left_ u a)
           (λ x i left_ k f. f))
 
@@ -269,19 +280,19 @@ module _ (run : ℕ) (few : run < 2 ^ 128) (folder : List ℕ) (p : Place) (sile
           (gives_more (by_view true) z j left (into w s.taken (listed last_.0)) (Takes (finished d ++ listed last_.0) []) Lasts
           (into_gives (finished d) (listed last_.0) [] z j left s.taken (subst (λ x. At (finished d) x z j left s.taken) later_is r.at)) at_end)
 
-  pub drop_gives : (ns : List ℕ) (v : View) → Is true ns v c → Gives (by_view true) v h (told silent (lines_from (top + 1) (messages d)) ++ text) (drop_taken w path (length d) (length (messages d)) top) TakesDrop
+  pub drop_gives : (ns : List ℕ) (v : View) → Is true ns v c → Gives (by_view true) v h (told silent (lines_from line (top + 1) (messages d)) ++ text) (drop_taken w path (length d) (length (messages d)) top) TakesDrop
   unfolding drop_taken all_put taken_on
   drop_gives ns v is =
-      gives_on (by_view true) v h (told silent (lines_from (top + 1) (messages d)) ++ text) (rest_taken w path (length d) (length d) (record { bytes = []; taken = start })) (λ s. ended_taken w s >>= (λ taken. as_counted (length taken.numbers == length (messages d)) taken)) Rests TakesDrop
-      (rest_gives (length d) [] d refl (omega arith) v h (told silent (lines_from (top + 1) (messages d)) ++ text) (record { bytes = []; taken = start }) refl (record { later = messages d; at = at_first }))
+      gives_on (by_view true) v h (told silent (lines_from line (top + 1) (messages d)) ++ text) (rest_taken w path (length d) (length d) (record { bytes = []; taken = start })) (λ s. ended_taken w s >>= (λ taken. as_counted (length taken.numbers == length (messages d)) taken)) Rests TakesDrop
+      (rest_gives (length d) [] d refl (omega arith) v h (told silent (lines_from line (top + 1) (messages d)) ++ text) (record { bytes = []; taken = start }) refl (record { later = messages d; at = at_first }))
       (λ z j left s g.
       gives_on (by_view true) z j left (ended_taken w s) (λ taken. as_counted (length taken.numbers == length (messages d)) taken) Lasts TakesDrop (ended_gives z j left s g.0 g.1)
       (λ y i rest t a. counted y i rest t (all_taken_in y i rest t a))
       (λ y i rest e f. f))
       (λ z j left e f. f)
     where
-      at_first : At (finished []) (messages d) v h (told silent (lines_from (top + 1) (messages d)) ++ text) start
+      at_first : At (finished []) (messages d) v h (told silent (lines_from line (top + 1) (messages d)) ++ text) start
       at_first =
           let k : top + 1 ≡ top + 1 + 0 = omega arith in
-          subst (λ x. At x (messages d) v h (told silent (lines_from (top + 1) (messages d)) ++ text) start) (sym finished-none)
-          (record { whole = refl; is = (is.0, refl); context = refl; taken = refl; rest = ap (λ n. told silent (lines_from n (messages d)) ++ text) k })
+          subst (λ x. At x (messages d) v h (told silent (lines_from line (top + 1) (messages d)) ++ text) start) (sym finished-none)
+          (record { whole = refl; is = (is.0, refl); context = refl; taken = refl; rest = ap (λ n. told silent (lines_from line n (messages d)) ++ text) k })

@@ -43,7 +43,7 @@ use Rattle.opened_folders.proofs.ToldMarks.{InListing}
 use Rattle.inc_command.specs.Inc.{top_of}
 use Rattle.inc_command.specs.IncPledge.{inc_pledge}
 use Rattle.message_puts.specs.Putting.{message_stored}
-use Rattle.inc_command.specs.declared.job.IncJob.{IncJob}
+use Rattle.inc_command.specs.IncJob.{IncJob}
 
 -- a set's numbers are its greatest at most
 pub has_top : (runs : List Run) (n : ℕ) → has runs n ≡ true → n ≤ top_of runs

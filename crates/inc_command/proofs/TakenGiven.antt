@@ -30,13 +30,13 @@ use Rattle.step_plans.proofs.Named.{temp_is}
 use Rattle.held_messages.specs.HeldPairs.{with_folder_changed}
 use Rattle.message_puts.proofs.StoredGiven.{Stores, stored_gives}
 use Rattle.command_stages.specs.Endings.{of_plan}
-use Rattle.mh_looks.specs.MessageLine.{line_of, number_column, subject_of}
+use Rattle.message_lines.specs.MessageText.{line_of, Writing}
 use Rattle.mh_looks.proofs.Apart.{names_apart}
 use Rattle.opened_folders.proofs.WorkGiven.{lifted_gives}
 use Rattle.inc_command.specs.IncOutcome.{lines_from, numbers_up, with_messages}
 use Rattle.inc_command.specs.Intake.{all_taken, with_number}
 use Rattle.message_puts.specs.Putting.{message_stored}
-use Rattle.inc_command.specs.Taking.{message_taken, message_told}
+use Rattle.inc_command.specs.Taking.{first_of, message_taken, message_told, Telling, told_if}
 use Rattle.inc_command.specs.declared.intake.Taken.{Taken}
 
 -- the contents with these messages one behind the other from this number on
@@ -71,12 +71,13 @@ unfolding taken_on
 on_both t [] ys = refl
 on_both t (x ∷ xs) ys = on_both (with_number (t.highest + 1) t) xs ys
 
-pub lines_both : (n : ℕ) (xs ys : List (List ℕ)) → lines_from n (xs ++ ys) ≡ lines_from n xs ++ lines_from (n + length xs) ys
+pub lines_both : (line : Writing) (n : ℕ) (xs ys : List (List ℕ)) → lines_from line n (xs ++ ys) ≡ lines_from line n xs ++ lines_from line (n + length xs) ys
 unfolding lines_from
-lines_both n [] ys = let k : n ≡ n + 0 = omega arith in ap (λ m. lines_from m ys) k
-lines_both n (x ∷ xs) ys =
+lines_both line n [] ys = let k : n ≡ n + 0 = omega arith in ap (λ m. lines_from line m ys) k
+lines_both line n (x ∷ xs) ys =
     let k : n + 1 + length xs ≡ n + length (x ∷ xs) = omega arith in
-    ap (λ l. line_of n x ++ l) (lines_both (n + 1) xs ys ∙ ap (λ m. lines_from (n + 1) xs ++ lines_from m ys) k) ∙ sym (append_assoc (line_of n x) (lines_from (n + 1) xs) (lines_from (n + length (x ∷ xs)) ys))
+    ap (λ l. line_of line n x ++ l) (lines_both line (n + 1) xs ys ∙ ap (λ m. lines_from line (n + 1) xs ++ lines_from line m ys) k)
+    ∙ sym (append_assoc (line_of line n x) (lines_from line (n + 1) xs) (lines_from line (n + length (x ∷ xs)) ys))
 
 pub highest_on : (t : Taken) (ms : List (List ℕ)) → (taken_on t ms).highest ≡ t.highest + length ms
 unfolding taken_on
@@ -174,16 +175,29 @@ all_show (m ∷ ms) c path folder n one few =
     ∙ (ap (λ x. with_folder_changed x (Folder path folder) (with_messages (n + 1) ms)) (shows_message n (message_number n one (omega (arith, few))) c path folder m)
     ∙ changed_twice (mailbox_in c) (Folder path folder) (folder_with n m) (with_messages (n + 1) ms))
 
-line_some : (n : ℕ) (bytes : List ℕ) → line_of n bytes ≡ [] → ⊥
-unfolding line_of
-line_some n bytes e = ends (number_column n) (subject_of bytes) e
-  where
-    ends : (a b : List ℕ) → (a ++ 32 ∷ [] ++ b ++ 10 ∷ []) ≡ [] → ⊥
-    ends [] b q = cc
-    ends (x ∷ a) b q = cc
+line_some : (line : List ℕ) → line ++ 10 ∷ [] ≡ [] → ⊥
+line_some [] e = cc
+line_some (x ∷ line) e = cc
 
-module _ (run : ℕ) (few : run < 2 ^ 128) (folder : List ℕ) (p : Place) (silent : Bool) where
-  module _ (c : Contents) (top : ℕ) (roomy : IsRoomy c p top) (low : top < 999999) (ns : List ℕ) (v : View) (is : Is true ns v c) (h : Hand) where
+-- one number more changes nothing of which is the first
+first_more : (numbers : List ℕ) (n m : ℕ) → first_of (numbers ++ n ∷ []) m ≡ first_of numbers n
+first_more [] n m = refl
+first_more (first ∷ numbers) n m = refl
+
+pub first_on : (t : Taken) (ms : List (List ℕ)) → first_of (taken_on t ms).numbers ((taken_on t ms).highest + 1) ≡ first_of t.numbers (t.highest + 1)
+unfolding taken_on
+first_on t [] = refl
+first_on t (m ∷ ms) = first_on (with_number (t.highest + 1) t) ms ∙ first_more t.numbers (t.highest + 1) (t.highest + 1 + 1)
+
+module _ (run : ℕ) (few : run < 2 ^ 128) (folder : List ℕ) (p : Place) (telling : Telling) (first : ℕ) where
+  abbrev silent : Bool
+  silent = telling.silent
+
+  -- what is written of the messages, of which the first has this number
+  abbrev line : Writing
+  line = telling.line first
+
+  module _ (c : Contents) (top : ℕ) (roomy : IsRoomy c p top) (low : top < 999999) (ns : List ℕ) (v : View) (is : Is true ns v c) (h : Hand) (numbers : List ℕ) (begins : first_of numbers (top + 1) ≡ first) where
     abbrev n : ℕ
     n = top + 1
 
@@ -198,27 +212,28 @@ module _ (run : ℕ) (few : run < 2 ^ 128) (folder : List ℕ) (p : Place) (sile
     TakesOne bytes text z j left (Ok m) = (m ≡ n) × Is true z.numbers z (later bytes) × (j ≡ used h) × (left ≡ text)
     TakesOne bytes text z j left (Err e) = e ≡ fault.Memory
 
-    told_gives : (b : Bool) (bytes text : List ℕ) (z : View) (left : List ℕ) → Is true z.numbers z (later bytes) → left ≡ told b (line_of n bytes) ++ text → Gives (by_view true) z (used h) left (message_told b n bytes >>= (λ done. Return (Ok n))) (TakesOne bytes text)
+    told_gives : (b : Bool) (bytes text : List ℕ) (z : View) (left : List ℕ) → Is true z.numbers z (later bytes) → left ≡ told b (line_of line n bytes) ++ text → Gives (by_view true) z (used h) left (told_if b (line_of line n bytes) >>= (λ done. Return (Ok n))) (TakesOne bytes text)
     unfolding Gives bind ◌>>=◌
     told_gives true bytes text z left same rest = (refl, same, refl, rest)
     told_gives false bytes text z left same rest =
-        say_view (by_view true) z of_sink (line_of n bytes) text left (used h) (λ done. Return (Ok n)) (TakesOne bytes text) (line_some n bytes) rest (refl, same, refl, refl)
+        say_view (by_view true) z of_sink (line_of line n bytes) text left (used h) (λ done. Return (Ok n)) (TakesOne bytes text) (line_some (line n bytes)) rest (refl, same, refl, refl)
 
-    pub taken_gives : (bytes text : List ℕ) → Gives (by_view true) v h (told silent (line_of n bytes) ++ text) (message_taken run folder p silent top bytes) (TakesOne bytes text)
+    pub taken_gives : (bytes text : List ℕ) → Gives (by_view true) v h (told silent (line_of line n bytes) ++ text) (message_taken run folder p telling numbers top bytes) (TakesOne bytes text)
     unfolding message_taken
     taken_gives bytes text =
-        gives_on (by_view true) v h (told silent (line_of n bytes) ++ text) (lifted (of_plan folder) (message_stored run p top bytes)) (λ number. message_told silent number bytes >>= (λ done. Return (Ok number)))
-        (λ z j left r. (left ≡ told silent (line_of n bytes) ++ text) × ((q : Result ℕ PlanFault) × (r ≡ converted (of_plan folder) q) × Stores c p n bytes h z j [] q)) (TakesOne bytes text)
-        (lifted_gives v h (told silent (line_of n bytes) ++ text) (of_plan folder) (message_stored run p top bytes) (Stores c p n bytes h) (one_gives bytes))
+        gives_on (by_view true) v h (told silent (line_of line n bytes) ++ text) (lifted (of_plan folder) (message_stored run p top bytes)) (λ number. message_told telling numbers number bytes >>= (λ done. Return (Ok number)))
+        (λ z j left r. (left ≡ told silent (line_of line n bytes) ++ text) × ((q : Result ℕ PlanFault) × (r ≡ converted (of_plan folder) q) × Stores c p n bytes h z j [] q)) (TakesOne bytes text)
+        (lifted_gives v h (told silent (line_of line n bytes) ++ text) (of_plan folder) (message_stored run p top bytes) (Stores c p n bytes h) (one_gives bytes))
         (λ z j left m g. good z j left m g.0 g.1.0 g.1.1 g.1.2)
         (λ z j left e g. bad z j left e g.1.0 g.1.1 g.1.2)
       where
-        good : (z : View) (j : Hand) (left : List ℕ) (m : ℕ) → left ≡ told silent (line_of n bytes) ++ text → (q : Result ℕ PlanFault) → Ok m ≡ converted (of_plan folder) q → Stores c p n bytes h z j [] q
-            → Gives (by_view true) z j left (message_told silent m bytes >>= (λ done. Return (Ok m))) (TakesOne bytes text)
+        good : (z : View) (j : Hand) (left : List ℕ) (m : ℕ) → left ≡ told silent (line_of line n bytes) ++ text → (q : Result ℕ PlanFault) → Ok m ≡ converted (of_plan folder) q → Stores c p n bytes h z j [] q
+            → Gives (by_view true) z j left (message_told telling numbers m bytes >>= (λ done. Return (Ok m))) (TakesOne bytes text)
         good z j left m rest (Ok k) e s =
             let same : k ≡ m = cc (e) in
-            subst (λ x. Gives (by_view true) z j left (message_told silent x bytes >>= (λ done. Return (Ok x))) (TakesOne bytes text)) (sym s.0 ∙ same)
-            (subst (λ i. Gives (by_view true) z i left (message_told silent n bytes >>= (λ done. Return (Ok n))) (TakesOne bytes text)) (sym s.2) (told_gives silent bytes text z left s.1 rest))
+            subst (λ x. Gives (by_view true) z j left (message_told telling numbers x bytes >>= (λ done. Return (Ok x))) (TakesOne bytes text)) (sym s.0 ∙ same)
+            (subst (λ i. Gives (by_view true) z i left (message_told telling numbers n bytes >>= (λ done. Return (Ok n))) (TakesOne bytes text)) (sym s.2)
+            (subst (λ f. Gives (by_view true) z (used h) left (told_if silent (line_of (telling.line f) n bytes) >>= (λ done. Return (Ok n))) (TakesOne bytes text)) (sym begins) (told_gives silent bytes text z left s.1 rest)))
         good z j left m rest (Err x) e s = absurd (cc (e))
 
         bad : (z : View) (j : Hand) (left : List ℕ) (e : CommandFault) (q : Result ℕ PlanFault) → Err e ≡ converted (of_plan folder) q → Stores c p n bytes h z j [] q → e ≡ fault.Memory
@@ -230,26 +245,26 @@ module _ (run : ℕ) (few : run < 2 ^ 128) (folder : List ℕ) (p : Place) (sile
   TakesAll c t ms h text z j left (Ok u) = (u ≡ taken_on t ms) × Is true z.numbers z (all_put c p (t.highest + 1) ms) × (j.context ≡ h.context) × (left ≡ text)
   TakesAll c t ms h text z j left (Err e) = e ≡ fault.Memory
 
-  pub all_give : (ms : List (List ℕ)) (c : Contents) (t : Taken) → IsRoomy c p t.highest → t.highest + length ms ≤ 999999 → (ns : List ℕ) (v : View) → Is true ns v c → (h : Hand) (text : List ℕ)
-      → Gives (by_view true) v h (told silent (lines_from (t.highest + 1) ms) ++ text) (all_taken run folder p silent t ms) (TakesAll c t ms h text)
+  pub all_give : (ms : List (List ℕ)) (c : Contents) (t : Taken) → IsRoomy c p t.highest → t.highest + length ms ≤ 999999 → first_of t.numbers (t.highest + 1) ≡ first → (ns : List ℕ) (v : View) → Is true ns v c → (h : Hand) (text : List ℕ)
+      → Gives (by_view true) v h (told silent (lines_from line (t.highest + 1) ms) ++ text) (all_taken run folder p telling t ms) (TakesAll c t ms h text)
   unfolding Gives all_taken all_put taken_on lines_from
-  all_give [] c t roomy room ns v is h text = (refl, (is.0, refl), refl, none_told silent)
+  all_give [] c t roomy room begins ns v is h text = (refl, (is.0, refl), refl, none_told silent)
     where
       none_told : (b : Bool) → told b [] ++ text ≡ text
       none_told true = refl
       none_told false = refl
-  all_give (m ∷ ms) c t roomy room ns v is h text =
-      subst (λ x. Gives (by_view true) v h x (message_taken run folder p silent t.highest m >>= (λ n. all_taken run folder p silent (with_number n t) ms)) (TakesAll c t (m ∷ ms) h text))
-      (sym (told_both silent (line_of (t.highest + 1) m) (lines_from (t.highest + 1 + 1) ms) text))
-      (gives_on (by_view true) v h (told silent (line_of (t.highest + 1) m) ++ (told silent (lines_from (t.highest + 1 + 1) ms) ++ text)) (message_taken run folder p silent t.highest m) (λ n. all_taken run folder p silent (with_number n t) ms)
-      (TakesOne c t.highest roomy (omega (arith, room)) ns v is h m (told silent (lines_from (t.highest + 1 + 1) ms) ++ text)) (TakesAll c t (m ∷ ms) h text)
-      (taken_gives c t.highest roomy (omega (arith, room)) ns v is h m (told silent (lines_from (t.highest + 1 + 1) ms) ++ text))
+  all_give (m ∷ ms) c t roomy room begins ns v is h text =
+      subst (λ x. Gives (by_view true) v h x (message_taken run folder p telling t.numbers t.highest m >>= (λ n. all_taken run folder p telling (with_number n t) ms)) (TakesAll c t (m ∷ ms) h text))
+      (sym (told_both silent (line_of line (t.highest + 1) m) (lines_from line (t.highest + 1 + 1) ms) text))
+      (gives_on (by_view true) v h (told silent (line_of line (t.highest + 1) m) ++ (told silent (lines_from line (t.highest + 1 + 1) ms) ++ text)) (message_taken run folder p telling t.numbers t.highest m) (λ n. all_taken run folder p telling (with_number n t) ms)
+      (TakesOne c t.highest roomy (omega (arith, room)) ns v is h t.numbers begins m (told silent (lines_from line (t.highest + 1 + 1) ms) ++ text)) (TakesAll c t (m ∷ ms) h text)
+      (taken_gives c t.highest roomy (omega (arith, room)) ns v is h t.numbers begins m (told silent (lines_from line (t.highest + 1 + 1) ms) ++ text))
       (λ z j left n one.
-      subst (λ k. Gives (by_view true) z j left (all_taken run folder p silent (with_number k t) ms) (TakesAll c t (m ∷ ms) h text)) (sym one.0)
-      (subst (λ x. Gives (by_view true) z j x (all_taken run folder p silent (with_number (t.highest + 1) t) ms) (TakesAll c t (m ∷ ms) h text)) (sym one.3)
-      (gives_more (by_view true) z j (told silent (lines_from (t.highest + 1 + 1) ms) ++ text) (all_taken run folder p silent (with_number (t.highest + 1) t) ms)
+      subst (λ k. Gives (by_view true) z j left (all_taken run folder p telling (with_number k t) ms) (TakesAll c t (m ∷ ms) h text)) (sym one.0)
+      (subst (λ x. Gives (by_view true) z j x (all_taken run folder p telling (with_number (t.highest + 1) t) ms) (TakesAll c t (m ∷ ms) h text)) (sym one.3)
+      (gives_more (by_view true) z j (told silent (lines_from line (t.highest + 1 + 1) ms) ++ text) (all_taken run folder p telling (with_number (t.highest + 1) t) ms)
       (TakesAll (with_text c p (decimal (t.highest + 1)) (Some m)) (with_number (t.highest + 1) t) ms j text) (TakesAll c t (m ∷ ms) h text)
-      (all_give ms (with_text c p (decimal (t.highest + 1)) (Some m)) (with_number (t.highest + 1) t) (roomy_next c p t.highest m (omega (arith, room)) roomy) (omega (arith, room)) z.numbers z one.1 j text)
+      (all_give ms (with_text c p (decimal (t.highest + 1)) (Some m)) (with_number (t.highest + 1) t) (roomy_next c p t.highest m (omega (arith, room)) roomy) (omega (arith, room)) (first_more t.numbers (t.highest + 1) (t.highest + 1 + 1) ∙ begins) z.numbers z one.1 j text)
       (λ y i rest r g. more j one.2 y i rest r g))))
       (λ z j left e f. f))
     where

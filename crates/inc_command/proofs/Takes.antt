@@ -7,22 +7,22 @@ use Rattle.file_plans.proofs.Following.{done, go, stop}
 use Rattle.step_plans.specs.CommandFaults.{command_cause}
 use Rattle.step_plans.specs.declared.command_fault.CommandFault.{CommandFault}
 use Rattle.inc_command.specs.Intake.{all_taken, with_number}
-use Rattle.inc_command.specs.Taking.{message_taken}
+use Rattle.inc_command.specs.Taking.{message_taken, Telling}
 use Rattle.inc_command.specs.declared.intake.Taken.{Taken}
 
-module _ (run : ℕ) (folder : List ℕ) (p : Place) (silent : Bool) (taken : Taken) (left : List (List ℕ)) where
+module _ (run : ℕ) (folder : List ℕ) (p : Place) (telling : Telling) (taken : Taken) (left : List (List ℕ)) where
   -- the next is taken in, and then the others
   pub take_next : (message : List ℕ) (more : List (List ℕ)) → left ≡ message ∷ more → (n : ℕ) (now : Taken) → now ≡ with_number n taken → (x y z : State) (r : Result Taken CommandFault)
-      → Follows run command_cause (message_taken run folder p silent taken.highest message) x y (Ok n) → Follows run command_cause (all_taken run folder p silent now more) y z r → Follows run command_cause (all_taken run folder p silent taken left) x z r
+      → Follows run command_cause (message_taken run folder p telling taken.numbers taken.highest message) x y (Ok n) → Follows run command_cause (all_taken run folder p telling now more) y z r → Follows run command_cause (all_taken run folder p telling taken left) x z r
   unfolding all_taken
   take_next message more is n now same x y z r f g = rw is (go _ f (rw same at g))
 
   pub take_stops : (message : List ℕ) (more : List (List ℕ)) → left ≡ message ∷ more → (x y : State) (e : CommandFault) (r : Result Taken CommandFault)
-      → Follows run command_cause (message_taken run folder p silent taken.highest message) x y (Err e) → IsErr r × IsErrAnd r (λ k. k ≡ e) → Follows run command_cause (all_taken run folder p silent taken left) x y r
+      → Follows run command_cause (message_taken run folder p telling taken.numbers taken.highest message) x y (Err e) → IsErr r × IsErrAnd r (λ k. k ≡ e) → Follows run command_cause (all_taken run folder p telling taken left) x y r
   unfolding all_taken
   take_stops message more is x y e r f failed = rw is (stop _ f failed)
 
-  pub take_none : left ≡ [] → (x : State) → Follows run command_cause (all_taken run folder p silent taken left) x x (Ok taken)
+  pub take_none : left ≡ [] → (x : State) → Follows run command_cause (all_taken run folder p telling taken left) x x (Ok taken)
   unfolding all_taken
   take_none is x = rw is done
 

@@ -7,6 +7,7 @@ use Rattle.command_stages.specs.Texts.{Commanded}
 use Rattle.inc_command.specs.Counting.{PIECE, piece_read}
 use Rattle.inc_command.specs.Cutting.{changed, given_by, last_by}
 use Rattle.inc_command.specs.Intake.{all_taken}
+use Rattle.inc_command.specs.Taking.{Telling}
 use Rattle.inc_command.specs.declared.intake.Taken.{Taken}
 
 -- the bytes that were read, and what was taken in of them
@@ -14,18 +15,18 @@ pub record Read : Type 0 where
   pub bytes : List ℕ
   pub taken : Taken
 
--- where messages go: the run, the folder and its place, and whether no line is written
+-- where messages go: the run, the folder and its place, and what is written of them
 pub record Where : Type 0 where
   pub run : ℕ
   pub folder : List ℕ
   pub place : Place
-  pub silent : Bool
+  pub telling : Telling
 
-abbrev pub where_of : ℕ → List ℕ → Place → Bool → Where
-where_of run folder p silent = record { run = run; folder = folder; place = p; silent = silent }
+abbrev pub where_of : ℕ → List ℕ → Place → Telling → Where
+where_of run folder p telling = record { run = run; folder = folder; place = p; telling = telling }
 
 abbrev pub into : Where → Taken → List (List ℕ) → Commanded Taken
-into w taken messages = all_taken w.run w.folder w.place w.silent taken messages
+into w taken messages = all_taken w.run w.folder w.place w.telling taken messages
 
 -- a piece is read, and the messages that it finishes are taken in
 unfoldable pub piece_taken : Where → FilePath → ℕ → List ℕ → Taken → Commanded Read

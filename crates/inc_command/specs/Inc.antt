@@ -1,5 +1,5 @@
 -- The plan of `inc`: the drop is counted, its messages are stored and told of, the marks and the context are committed, and only then is the drop cut.
-use Rattle.std.specs.Prelude.{◌+◌, ◌++◌, ◌∷◌, [], ℕ, Bool, true, false, max, nat_le, List, map, codes, None, Some, Ok, Err}
+use Rattle.std.specs.Prelude.{◌+◌, ◌++◌, ◌∷◌, [], ℕ, Bool, true, false, max, nat_le, List, map, codes, Option, None, Some, Ok, Err}
 use Rattle.std.specs.Str.{encode_utf8_all}
 use Rattle.mh_sequences.specs.declared.mark.Mark.{Mark}
 use Rattle.mh_sequences.specs.declared.mark.Mark.TheVariants.{Add, Cur}
@@ -25,14 +25,27 @@ use Rattle.opened_folders.specs.Making.{made_begun}
 use Rattle.opened_folders.specs.Opening.{Opened}
 use Rattle.inc_command.specs.Counting.{drop_counted}
 use Rattle.inc_command.specs.DropTaken.{drop_taken, where_of}
+use Rattle.inc_command.specs.Taking.{standing_for, Telling}
 use Rattle.inc_command.specs.declared.counting.DropSize.{DropSize}
 use Rattle.inc_command.specs.declared.intake.Taken.{Taken}
-use Rattle.inc_command.specs.declared.job.IncJob.{IncJob}
+use Rattle.inc_command.specs.IncJob.{IncJob}
 
 -- the greatest number of these runs, or 0
 abbrev pub top_of : List Run → ℕ
 top_of [] = 0
 top_of (run ∷ runs) = max run.to (top_of runs)
+
+-- some sequences are named
+abbrev pub are_some : List (List ℕ) → Bool
+are_some [] = false
+are_some (name ∷ names) = true
+
+-- what is written of new messages, by the current message that was marked before
+abbrev pub telling_of : IncJob → Option ℕ → Telling
+telling_of job cur = record {
+  silent = job.silent;
+  line = λ first n bytes. job.spoken (standing_for job.change_cur (are_some job.unseen) cur first n) n bytes;
+}
 
 -- so many numbers are free above the highest
 abbrev pub if_room : Bool → List ℕ → Commanded Unit
@@ -89,7 +102,7 @@ room_counted folder path top = do
 unfoldable pub told_taken : ℕ → IncJob → Opened → DropSize → Commanded Taken
 told_taken run job o size = do
   told ← heading_told job.silent job.folder
-  drop_taken (where_of run job.folder o.place job.silent) job.drop size.length size.messages (top_of o.listing)
+  drop_taken (where_of run job.folder o.place (telling_of job o.sequences.cur)) job.drop size.length size.messages (top_of o.listing)
 
 -- the new messages are marked, and the folder becomes the current one
 unfoldable pub new_marked : ℕ → List ℕ → IncJob → Opened → List ℕ → Commanded Unit

@@ -19,7 +19,7 @@ use Rattle.opened_folders.specs.Reads.{HaveSeen}
 use Rattle.inc_command.specs.Counting.{LIMIT, LONGEST}
 use Rattle.inc_command.specs.Inc.{new_marks, top_of}
 use Rattle.inc_command.specs.IncPledge.{HasTakenIn, TellsNew}
-use Rattle.inc_command.specs.declared.job.IncJob.{IncJob}
+use Rattle.inc_command.specs.IncJob.{IncJob}
 
 -- the sequences have the marks of new messages; no word is refused once the folder is begun
 abbrev pub inc_answers : IncJob → Answering

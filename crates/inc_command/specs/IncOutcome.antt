@@ -18,12 +18,12 @@ use Rattle.held_messages.specs.HeldPairs.{with_folder_changed}
 use Rattle.sequence_commits.specs.Marking.{marked_by_all}
 use Rattle.command_stages.specs.Current.{current_change}
 use Rattle.command_stages.specs.Works.{Work, refused_at}
-use Rattle.mh_looks.specs.MessageLine.{line_of}
+use Rattle.message_lines.specs.MessageText.{line_of, Writing}
 use Rattle.opened_folders.specs.BegunWork.{Homes, after_commits, begun_work}
 use Rattle.opened_folders.specs.Kept.{Kept, context_kept, kept_of, sequences_kept}
 use Rattle.inc_command.specs.Counting.{LIMIT, LONGEST}
-use Rattle.inc_command.specs.Inc.{heading, new_marks, top_of}
-use Rattle.inc_command.specs.declared.job.IncJob.{IncJob}
+use Rattle.inc_command.specs.Inc.{heading, new_marks, telling_of, top_of}
+use Rattle.inc_command.specs.IncJob.{IncJob}
 
 -- a folder in which nothing stands
 abbrev pub empty_folder : FolderValue
@@ -54,14 +54,14 @@ with_messages n [] f = f
 with_messages n (message ∷ more) f = with_messages (n + 1) more (folder_with n message f)
 
 -- their lines
-unfoldable pub lines_from : ℕ → List (List ℕ) → List ℕ
-lines_from n [] = []
-lines_from n (message ∷ more) = line_of n message ++ lines_from (n + 1) more
+unfoldable pub lines_from : Writing → ℕ → List (List ℕ) → List ℕ
+lines_from line n [] = []
+lines_from line n (message ∷ more) = line_of line n message ++ lines_from line (n + 1) more
 
 -- the heading and the lines, where they are written
-abbrev pub text_unless : Bool → List ℕ → ℕ → List (List ℕ) → List ℕ
-text_unless true folder n mail = []
-text_unless false folder n mail = heading folder ++ lines_from n mail
+abbrev pub text_unless : Bool → List ℕ → Writing → ℕ → List (List ℕ) → List ℕ
+text_unless true folder line n mail = []
+text_unless false folder line n mail = heading folder ++ lines_from line n mail
 
 -- the outside file at this path is cut to nothing, where it is there
 abbrev pub emptied : Option (List ℕ) → Option (List ℕ)
@@ -96,7 +96,7 @@ stored_in path job n mail k = kept_of (with_folder_changed k.mailbox (Folder pat
 
 -- the messages stand from this number on
 abbrev pub taken_work : List ℕ → IncJob → ℕ → List (List ℕ) → Marked → Kept → Work CommandFault
-taken_work path job n mail m k = behind (text_unless job.silent job.folder n mail) (marked_work path job m (numbers_up n (length mail)) (stored_in path job n mail k))
+taken_work path job n mail m k = behind (text_unless job.silent job.folder ((telling_of job m.cur).line n) n mail) (marked_work path job m (numbers_up n (length mail)) (stored_in path job n mail k))
 
 -- where there is room above the highest number
 abbrev pub room_work : Bool → List ℕ → IncJob → ℕ → List (List ℕ) → Marked → Kept → Work CommandFault

@@ -1,5 +1,5 @@
 -- The pledge of `inc`.
-use Rattle.std.specs.Prelude.{◌≡◌, ◌⊎◌, ◌<◌, ◌≤◌, ◌+◌, ◌^◌, ◌++◌, ℕ, true, false, List, [], ◌∷◌, decimal, length, reverse}
+use Rattle.std.specs.Prelude.{◌≡◌, ◌⊎◌, ◌<◌, ◌≤◌, ◌+◌, ◌^◌, ◌++◌, ℕ, Bool, true, false, List, [], ◌∷◌, decimal, length, reverse}
 use Rattle.mbox_drop.specs.Drops.{finished, is_drop, messages}
 use Rattle.mh_base.specs.Entries.{kind_of}
 use Rattle.mh_sequences.specs.Runs.{has}
@@ -21,9 +21,10 @@ use Rattle.sequence_commits.specs.Marking.{marked_by_all}
 use Rattle.message_puts.specs.Stored.{HasMetAt}
 use Rattle.opened_folders.specs.FolderPledge.{folder_pledge}
 use Rattle.opened_folders.specs.Reads.{HaveSeen}
-use Rattle.inc_command.specs.Inc.{heading, new_marks}
+use Rattle.message_lines.specs.MessageText.{Writing}
+use Rattle.inc_command.specs.Inc.{are_some, heading, new_marks}
 use Rattle.inc_command.specs.Stored.{AreStoredAt, IsLineOfStored}
-use Rattle.inc_command.specs.declared.job.IncJob.{IncJob}
+use Rattle.inc_command.specs.IncJob.{IncJob}
 
 -- the run read this drop, and stored its messages, one at each of these numbers
 pub record HasTakenIn (run : ℕ) (p : Place) (f : FilePath) (numbers : List ℕ) (own : List Deed) : Type 0 where
@@ -37,9 +38,13 @@ abbrev pub MarksNew : ℕ → List ℕ → IncJob → List Deed → List Run →
 MarksNew run path job own listing m new =
     (numbers : List ℕ) × HasTakenIn run (Folder path job.folder) job.drop numbers own × (new ≡ marked_by_all (new_marks job numbers) m)
 
+-- what is written of a new message, as the current one or not
+abbrev pub new_line : IncJob → Bool → Writing
+new_line job current n bytes = job.spoken (record { current = current; unseen = are_some job.unseen }) n bytes
+
 -- the heading is said, and of messages that are stored their lines; nothing, where nothing is to be written
 abbrev pub TellsNew : ℕ → List ℕ → IncJob → List Deed → List ℕ → Type 0
-TellsNew run path job own piece = (job.silent ≡ false) × ((piece ≡ heading job.folder) ⊎ IsLineOfStored run (Folder path job.folder) own piece)
+TellsNew run path job own piece = (job.silent ≡ false) × ((piece ≡ heading job.folder) ⊎ IsLineOfStored (new_line job) run (Folder path job.folder) own piece)
 
 -- the drop is cut only where it is to be
 abbrev pub CutsIfAsked : IncJob → List Deed → Step → Type 0

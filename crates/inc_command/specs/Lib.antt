@@ -1,11 +1,14 @@
+pub mod Asked
 pub mod Counting
 pub mod Cutting
 pub mod DropTaken
 pub mod Inc
 pub mod IncAnswers
+pub mod IncJob
 pub mod IncOutcome
 pub mod IncPledge
 pub mod Intake
 pub mod Passing
 pub mod Stored
 pub mod Taking
+pub mod Targets

@@ -5,6 +5,7 @@ ghost use Rattle.file_plans.specs.Follows.{Follows, by_out};
 ghost use Rattle.step_plans.specs.CommandFaults.{command_cause};
 ghost use Rattle.inc_command.specs.DropTaken.{drop_taken, ended_taken, piece_taken, rest_taken, where_of};
 ghost use Rattle.inc_command.specs.Passing.{Takes};
+ghost use Rattle.inc_command.specs.Targets.{told_by};
 
 use crate::counting::DropSize;
 use crate::cutting::{end, feed};
@@ -32,7 +33,7 @@ fn take_piece<F: Files, O: Sink>(
 ) -> Result<Taken, CommandFault>
     requires within { at ≤ length }
     requires range { taken.highest ≤ 999999 }
-    ensures takes { (d : TextOf ℕ) → HasTaken cutter.old d → length_of d ≡ at → Takes hand.old.run (piece_taken (where_of hand.old.run target.entry.folder.now target.entry.place.now target.entry.silent) path.now length d taken) (by_out hand.old.kept (F.state files.old) (O.state out.old)) (by_out hand.new.kept (F.state files.new) (O.state out.new)) cutter.new (at + min (length - at) 65536) result }
+    ensures takes { (d : TextOf ℕ) → HasTaken cutter.old d → length_of d ≡ at → Takes hand.old.run (piece_taken (where_of hand.old.run target.entry.folder.now target.entry.place.now (told_by target.entry)) path.now length d taken) (by_out hand.old.kept (F.state files.old) (O.state out.old)) (by_out hand.new.kept (F.state files.new) (O.state out.new)) cutter.new (at + min (length - at) 65536) result }
     ensures same { (hand.new.run ≡ hand.old.run) × (hand.new.mail ≡ hand.old.mail) }
     ensures range { IfOk result (λ t. t.highest ≤ 999999) }
 {
@@ -55,7 +56,7 @@ fn take_rest<F: Files, O: Sink>(
     first: Taken,
 ) -> Result<Taken, CommandFault>
     requires { first.highest ≤ 999999 }
-    ensures takes { HasTaken cutter.old [] → Takes hand.old.run (rest_taken (where_of hand.old.run target.entry.folder.now target.entry.place.now target.entry.silent) path.now length length (record { bytes = []; taken = first })) (by_out hand.old.kept (F.state files.old) (O.state out.old)) (by_out hand.new.kept (F.state files.new) (O.state out.new)) cutter.new length result }
+    ensures takes { HasTaken cutter.old [] → Takes hand.old.run (rest_taken (where_of hand.old.run target.entry.folder.now target.entry.place.now (told_by target.entry)) path.now length length (record { bytes = []; taken = first })) (by_out hand.old.kept (F.state files.old) (O.state out.old)) (by_out hand.new.kept (F.state files.new) (O.state out.new)) cutter.new length result }
     ensures same { (hand.new.run ≡ hand.old.run) × (hand.new.mail ≡ hand.old.mail) }
     ensures range { IfOk result (λ t. t.highest ≤ 999999) }
 {
@@ -81,7 +82,7 @@ fn take_last<F: Files, O: Sink>(
     taken: Taken,
 ) -> Result<Taken, CommandFault>
     requires { taken.highest ≤ 999999 }
-    ensures plan { (d : TextOf ℕ) → HasTaken cutter d → Follows hand.old.run command_cause (ended_taken (where_of hand.old.run target.entry.folder.now target.entry.place.now target.entry.silent) (record { bytes = d; taken = taken })) (by_out hand.old.kept (F.state files.old) (O.state out.old)) (by_out hand.new.kept (F.state files.new) (O.state out.new)) result }
+    ensures plan { (d : TextOf ℕ) → HasTaken cutter d → Follows hand.old.run command_cause (ended_taken (where_of hand.old.run target.entry.folder.now target.entry.place.now (told_by target.entry)) (record { bytes = d; taken = taken })) (by_out hand.old.kept (F.state files.old) (O.state out.old)) (by_out hand.new.kept (F.state files.new) (O.state out.new)) result }
     ensures same { (hand.new.run ≡ hand.old.run) × (hand.new.mail ≡ hand.old.mail) }
 {
     let Some(message) = end(cutter)? else {
@@ -105,7 +106,7 @@ pub fn take_drop<F: Files, O: Sink>(
     highest: u32,
 ) -> Result<Taken, CommandFault>
     requires { highest ≤ 999999 }
-    ensures plan { Follows hand.old.run command_cause (drop_taken (where_of hand.old.run target.entry.folder.now target.entry.place.now target.entry.silent) path.now size.length size.messages highest) (by_out hand.old.kept (F.state files.old) (O.state out.old)) (by_out hand.new.kept (F.state files.new) (O.state out.new)) result }
+    ensures plan { Follows hand.old.run command_cause (drop_taken (where_of hand.old.run target.entry.folder.now target.entry.place.now (told_by target.entry)) path.now size.length size.messages highest) (by_out hand.old.kept (F.state files.old) (O.state out.old)) (by_out hand.new.kept (F.state files.new) (O.state out.new)) result }
     ensures same { (hand.new.run ≡ hand.old.run) × (hand.new.mail ≡ hand.old.mail) }
 {
     let mut cutter = DropCutter::new(alloc);

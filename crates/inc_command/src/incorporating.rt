@@ -3,8 +3,9 @@ ghost use Rattle.std.specs.Prelude.{◌≡◌, ◌≤◌};
 ghost use Rattle.file_plans.specs.Plan.{Hand as Kept};
 ghost use Rattle.file_plans.specs.Follows.{Follows, by_hand, by_out};
 ghost use Rattle.step_plans.specs.CommandFaults.{command_cause};
+ghost use Rattle.inc_command.specs.Asked.{asked};
 ghost use Rattle.inc_command.specs.IncPledge.{PromisesSteps};
-ghost use Rattle.inc_command.specs.Inc.{inc as inc_plan, new_marked, opened_incorporated, room_counted, told_taken, top_of};
+ghost use Rattle.inc_command.specs.Inc.{are_some, inc as inc_plan, new_marked, opened_incorporated, room_counted, told_taken, top_of};
 
 use crate::IncJob;
 use crate::counting::{DropSize, count_drop};
@@ -54,6 +55,13 @@ fn count_with_room<F: Files>(
     Ok(size)
 }
 
+/// Whether new messages come to some unseen sequence.
+fn has_unseen(job: &IncJob) -> bool
+    ensures { result ≡ are_some job.now.unseen }
+{
+    !job.unseen.is_empty()
+}
+
 /// The heading is written, and the drop's messages are taken in.
 fn take_all<F: Files, O: Sink>(
     alloc: Global,
@@ -64,13 +72,17 @@ fn take_all<F: Files, O: Sink>(
     opened: &Opened,
     size: DropSize,
 ) -> Result<Taken, CommandFault>
-    ensures plan { Follows hand.old.run command_cause (told_taken hand.old.run job.now opened.now size) (by_out hand.old.kept (F.state files.old) (O.state out.old)) (by_out hand.new.kept (F.state files.new) (O.state out.new)) result }
+    ensures plan { Follows hand.old.run command_cause (told_taken hand.old.run (asked job.now) opened.now size) (by_out hand.old.kept (F.state files.old) (O.state out.old)) (by_out hand.new.kept (F.state files.new) (O.state out.new)) result }
     ensures same { (hand.new.run ≡ hand.old.run) × (hand.new.mail ≡ hand.old.mail) }
 {
     let target = Target {
         folder: &job.folder,
         place: opened.place(),
         silent: job.silent,
+        change_cur: job.change_cur,
+        unseen: has_unseen(job),
+        sequences: opened.sequences(),
+        look: &job.look,
     };
     let highest = highest(opened.listing());
     tell_heading(alloc, out, job.silent, &job.folder)?;
@@ -86,7 +98,7 @@ fn mark_new<F: Files>(
     mut opened: Opened,
     numbers: &[MsgNum],
 ) -> Result<(), CommandFault>
-    ensures plan { Follows hand.old.run command_cause (new_marked hand.old.run hand.old.mail job.now opened numbers.now) (by_hand hand.old.kept (F.state files.old)) (by_hand hand.new.kept (F.state files.new)) result }
+    ensures plan { Follows hand.old.run command_cause (new_marked hand.old.run hand.old.mail (asked job.now) opened numbers.now) (by_hand hand.old.kept (F.state files.old)) (by_hand hand.new.kept (F.state files.new)) result }
     ensures same { (hand.new.run ≡ hand.old.run) × (hand.new.mail ≡ hand.old.mail) }
 {
     let marks = new_marks(alloc, job, numbers)?;
@@ -106,7 +118,7 @@ fn incorporate<F: Files, O: Sink>(
     job: &IncJob,
     opened: Opened,
 ) -> Result<(), CommandFault>
-    ensures plan { Follows hand.old.run command_cause (opened_incorporated hand.old.run hand.old.mail job.now opened) (by_out hand.old.kept (F.state files.old) (O.state out.old)) (by_out hand.new.kept (F.state files.new) (O.state out.new)) result }
+    ensures plan { Follows hand.old.run command_cause (opened_incorporated hand.old.run hand.old.mail (asked job.now) opened) (by_out hand.old.kept (F.state files.old) (O.state out.old)) (by_out hand.new.kept (F.state files.new) (O.state out.new)) result }
     ensures same { (hand.new.run ≡ hand.old.run) × (hand.new.mail ≡ hand.old.mail) }
 {
     let highest = highest(opened.listing());
@@ -132,8 +144,8 @@ pub fn inc<F: Files, O: Sink>(
     out: &mut O,
     job: &IncJob,
 ) -> Result<(), CommandFault>
-    ensures plan { Follows hand.old.run command_cause (inc_plan hand.old.run hand.old.mail job.now) (by_out hand.old.kept (F.state files.old) (O.state out.old)) (by_out hand.new.kept (F.state files.new) (O.state out.new)) result }
-    ensures steps { PromisesSteps hand.old.run hand.old.mail job.now (by_out hand.old.kept (F.state files.old) (O.state out.old)) (by_out hand.new.kept (F.state files.new) (O.state out.new)) }
+    ensures plan { Follows hand.old.run command_cause (inc_plan hand.old.run hand.old.mail (asked job.now)) (by_out hand.old.kept (F.state files.old) (O.state out.old)) (by_out hand.new.kept (F.state files.new) (O.state out.new)) result }
+    ensures steps { PromisesSteps hand.old.run hand.old.mail (asked job.now) (by_out hand.old.kept (F.state files.old) (O.state out.old)) (by_out hand.new.kept (F.state files.new) (O.state out.new)) }
     ensures run { hand.new.run ≡ hand.old.run }
     ensures mail { hand.new.mail ≡ hand.old.mail }
 {

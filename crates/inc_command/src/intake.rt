@@ -3,6 +3,7 @@ ghost use Rattle.std.specs.Prelude.{◌≡◌, ◌≤◌, IfOk};
 ghost use Rattle.file_plans.specs.Follows.{Follows, by_out};
 ghost use Rattle.step_plans.specs.CommandFaults.{command_cause};
 ghost use Rattle.inc_command.specs.Intake.{all_taken};
+ghost use Rattle.inc_command.specs.Targets.{told_by};
 
 use crate::taking::{Target, take};
 use folder_files::Files;
@@ -28,13 +29,22 @@ pub(crate) fn take_all<F: Files, O: Sink>(
     messages: BytesList,
 ) -> Result<Taken, CommandFault>
     requires { first.highest ≤ 999999 }
-    ensures plan { Follows hand.old.run command_cause (all_taken hand.old.run target.entry.folder.now target.entry.place.now target.entry.silent first messages) (by_out hand.old.kept (F.state files.old) (O.state out.old)) (by_out hand.new.kept (F.state files.new) (O.state out.new)) result }
+    ensures plan { Follows hand.old.run command_cause (all_taken hand.old.run target.entry.folder.now target.entry.place.now (told_by target.entry) first messages) (by_out hand.old.kept (F.state files.old) (O.state out.old)) (by_out hand.new.kept (F.state files.new) (O.state out.new)) result }
     ensures same { (hand.new.run ≡ hand.old.run) × (hand.new.mail ≡ hand.old.mail) }
     ensures range { IfOk result (λ taken. taken.highest ≤ 999999) }
 {
     let mut taken = first;
     for mut message in messages.into_vec() {
-        let number = take(alloc, hand, files, out, target, taken.highest, &mut message)?;
+        let number = take(
+            alloc,
+            hand,
+            files,
+            out,
+            target,
+            taken.numbers.as_slice(),
+            taken.highest,
+            &mut message,
+        )?;
         taken.numbers.push(number)?;
         taken.highest = number.get();
     }

@@ -2,6 +2,7 @@
 ghost use Rattle.std.specs.Prelude.{◌≡◌, ◌++◌, map, IfOk, OnOk};
 ghost use Rattle.sequence_commits.specs.PlainMarks.{plain_mark};
 ghost use Rattle.sequence_commits.specs.RunsOfAll.{set_among};
+ghost use Rattle.inc_command.specs.Asked.{asked};
 ghost use Rattle.inc_command.specs.Inc.{add_mark, add_marks, cur_marks, new_marks as new_marks_of};
 
 use crate::IncJob;
@@ -67,7 +68,7 @@ pub(crate) fn new_marks(
     job: &IncJob,
     numbers: &[MsgNum],
 ) -> Result<MarkList, AllocError>
-    ensures { IfOk result (λ marks. map plain_mark marks ≡ new_marks_of job.now numbers.now) }
+    ensures { IfOk result (λ marks. map plain_mark marks ≡ new_marks_of (asked job.now) numbers.now) }
 {
     let set = number_set(alloc, numbers)?;
     let mut marks = List::new(alloc);

@@ -24,15 +24,22 @@ use Rattle.command_stages.specs.Current.{made_current}
 use Rattle.command_stages.specs.Listed.{folder_listed}
 use Rattle.command_stages.specs.Texts.{text_read, too_large}
 use Rattle.mh_looks.specs.Scan.{entries_seen}
-use Rattle.mh_looks.specs.declared.job.ScanJob.{ScanJob}
+use Rattle.mh_looks.specs.ScanJob.{ScanJob}
 use Rattle.mh_looks.proofs.Ending.{AfterSequences, IsUnmade, ScanEnds, ScanShows, TextEnds, absent, bad_spec, by_choice, comes_at, comes_recall, current_comes, empty_range, empty_sequence, list_comes, long_file, text_comes, unread}
 use Rattle.mark_command.specs.Lines.{lines_for}
 use Rattle.mark_command.specs.Mark.{checked_by, chosen_from, lines_said, listed_runs, mark_looks, sequences_listed, sequences_seen, unless_refused}
 use Rattle.mark_command.specs.declared.job.MarkJob.{MarkJob}
 
--- the same folder and words, as `scan` has them
+-- the same folder and words, as `scan` has them; of lines this says nothing
 abbrev pub looks_job : MarkJob → ScanJob
-looks_job job = record { folder = job.folder; specs = job.specs; reverse = false; negation = job.negation }
+looks_job job = record {
+  folder = job.folder;
+  specs = job.specs;
+  reverse = false;
+  unseen = [];
+  negation = job.negation;
+  spoken = λ standing n message. [];
+}
 
 unless_so : (m : Marked) (r : Result (List ℕ) CommandFault) (e : CommandFault) → unless_refused m r ≡ Err e → r ≡ Err e
 unless_so m (Ok numbers) e is = cc (is)

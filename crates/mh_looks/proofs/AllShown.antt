@@ -24,7 +24,7 @@ use Rattle.step_plans.specs.ContextCommit.{LIMIT_BYTES}
 use Rattle.step_plans.specs.declared.command_fault.CommandFault.{CommandFault}
 use Rattle.step_plans.specs.declared.command_fault.CommandFault.TheVariants as fault
 use Rattle.command_stages.specs.Texts.{too_large}
-use Rattle.mh_looks.specs.MessageLine.{line_of, number_column, subject_of}
+use Rattle.message_lines.specs.MessageText.{line_of, Writing}
 use Rattle.mh_looks.specs.Outcomes.{text_of, lines_of, too_long_of}
 use Rattle.mh_looks.specs.Scan.{shown_by, one_shown, all_shown}
 use Rattle.mh_looks.proofs.Apart.{AreApart, names_apart}
@@ -41,15 +41,11 @@ abbrev pub AreMessages : Bool → Contents → View → Place → List ℕ → T
 AreMessages alone c v p [] = Unit {0}
 AreMessages alone c v p (n ∷ ns) = IsMessage alone c v p n × AreMessages alone c v p ns
 
-line_some : (n : ℕ) (bytes : List ℕ) → line_of n bytes ≡ [] → ⊥
-unfolding line_of
-line_some n bytes e = ends (number_column n) (subject_of bytes) e
-  where
-    ends : (a b : List ℕ) → (a ++ 32 ∷ [] ++ b ++ 10 ∷ []) ≡ [] → ⊥
-    ends [] b q = cc
-    ends (x ∷ a) b q = cc
+line_some : (line : List ℕ) → line ++ 10 ∷ [] ≡ [] → ⊥
+line_some [] e = cc
+line_some (x ∷ line) e = cc
 
-module _ (alone : Bool) (c : Contents) (p : Place) where
+module _ (alone : Bool) (c : Contents) (p : Place) (lined : Writing) where
   abbrev pub messages : ℕ → Option (List ℕ)
   messages = (folder_at c p).messages
 
@@ -59,18 +55,18 @@ module _ (alone : Bool) (c : Contents) (p : Place) where
 
   -- what holds after one message
   abbrev OneShown : View → Hand → ℕ → List ℕ → View → Hand → List ℕ → Result Unit CommandFault → Type 0
-  OneShown v h n ns z j left (Ok u) = (z ≡ after_read v p (decimal n)) × (j ≡ h) × (left ≡ lines_of messages ns) × (too_long_of messages (n ∷ ns) ≡ too_long_of messages ns)
+  OneShown v h n ns z j left (Ok u) = (z ≡ after_read v p (decimal n)) × (j ≡ h) × (left ≡ lines_of lined messages ns) × (too_long_of messages (n ∷ ns) ≡ too_long_of messages ns)
   OneShown v h n ns z j left (Err (fault.Refused r)) = (l : ℕ) × (fault.Refused r ≡ too_large l) × (too_long_of messages (n ∷ ns) ≡ Some l) × (left ≡ []) × (z.contents ≡ v.contents) × (j ≡ h)
   OneShown v h n ns z j left (Err (fault.Faulted w)) = ⊥
   OneShown v h n ns z j left (Err (fault.Locked q)) = ⊥
   OneShown v h n ns z j left (Err (fault.Meddled q x)) = alone ≡ true → ⊥
   OneShown v h n ns z j left (Err fault.Memory) = ⊥
 
-  short_line : (n : ℕ) (ns b : List ℕ) → text_of messages n ≡ b → nat_lt LIMIT_BYTES (length b) ≡ false → (lines_of messages (n ∷ ns) ≡ line_of n b ++ lines_of messages ns) × (too_long_of messages (n ∷ ns) ≡ too_long_of messages ns)
+  short_line : (n : ℕ) (ns b : List ℕ) → text_of messages n ≡ b → nat_lt LIMIT_BYTES (length b) ≡ false → (lines_of lined messages (n ∷ ns) ≡ line_of lined n b ++ lines_of lined messages ns) × (too_long_of messages (n ∷ ns) ≡ too_long_of messages ns)
   unfolding lines_of too_long_of
   short_line n ns b is short = (rw (is, short) refl, rw (is, short) refl)
 
-  long_line : (n : ℕ) (ns b : List ℕ) → text_of messages n ≡ b → nat_lt LIMIT_BYTES (length b) ≡ true → (lines_of messages (n ∷ ns) ≡ []) × (too_long_of messages (n ∷ ns) ≡ Some (length b))
+  long_line : (n : ℕ) (ns b : List ℕ) → text_of messages n ≡ b → nat_lt LIMIT_BYTES (length b) ≡ true → (lines_of lined messages (n ∷ ns) ≡ []) × (too_long_of messages (n ∷ ns) ≡ Some (length b))
   unfolding lines_of too_long_of
   long_line n ns b is long = (rw (is, long) refl, rw (is, long) refl)
 
@@ -116,15 +112,15 @@ module _ (alone : Bool) (c : Contents) (p : Place) where
       go true e f = by_limit b a (f.0 ∙ ap (read_file_answer LIMIT_BYTES) text)
       go false e f = if_there b a e (subst (λ o. IsThere o LIMIT_BYTES a) text (subst (λ s. ReadTells s (v.contents.texts p (decimal n)) LIMIT_BYTES a) (sight e) f.0))
 
-  one_gives : (v : View) (h : Hand) (n : ℕ) (ns : List ℕ) → v.contents ≡ c → IsMessage alone c v p n → Gives (by_view alone) v h (lines_of messages (n ∷ ns)) (one_shown p n) (OneShown v h n ns)
+  one_gives : (v : View) (h : Hand) (n : ℕ) (ns : List ℕ) → v.contents ≡ c → IsMessage alone c v p n → Gives (by_view alone) v h (lines_of lined messages (n ∷ ns)) (one_shown lined p n) (OneShown v h n ns)
   unfolding Gives one_shown entry_text bind ◌>>=◌
   one_gives v h n ns same m =
-      read_view alone v of_stop h (lines_of messages (n ∷ ns)) (OneShown v h n ns) p (decimal n) LIMIT_BYTES (shown_by p n)
+      read_view alone v of_stop h (lines_of lined messages (n ∷ ns)) (OneShown v h n ns) p (decimal n) LIMIT_BYTES (shown_by lined p n)
       (λ bytes f.
       let s = says_it v n m.text (answer.Content bytes) same m.there m.sight f in
       let lines = short_line n ns m.text (message_text n m.text m.number m.there) s.1 in
-      let whole : lines_of messages (n ∷ ns) ≡ line_of n bytes ++ lines_of messages ns = lines.0 ∙ ap (λ b. line_of n b ++ lines_of messages ns) (sym s.0) in
-      say_view (by_view alone) (after_read v p (decimal n)) of_sink (line_of n bytes) (lines_of messages ns) (lines_of messages (n ∷ ns)) h (λ told. Return (Ok tt)) (OneShown v h n ns) (line_some n bytes) whole (refl, refl, refl, lines.1))
+      let whole : lines_of lined messages (n ∷ ns) ≡ line_of lined n bytes ++ lines_of lined messages ns = lines.0 ∙ ap (λ b. line_of lined n b ++ lines_of lined messages ns) (sym s.0) in
+      say_view (by_view alone) (after_read v p (decimal n)) of_sink (line_of lined n bytes) (lines_of lined messages ns) (lines_of lined messages (n ∷ ns)) h (λ told. Return (Ok tt)) (OneShown v h n ns) (line_some (lined n bytes)) whole (refl, refl, refl, lines.1))
       (λ l f.
       let s = says_it v n m.text (answer.Long l) same m.there m.sight f in
       let lines = long_line n ns m.text (message_text n m.text m.number m.there) s.1 in
@@ -174,14 +170,14 @@ module _ (alone : Bool) (c : Contents) (p : Place) where
   longer h n ns z j left (Err (fault.Meddled q x)) e o = o
   longer h n ns z j left (Err fault.Memory) e o = o
 
-  pub all_gives : (ns : List ℕ) (v : View) (h : Hand) → v.contents ≡ c → AreMessages alone c v p ns → AreApart ns → Gives (by_view alone) v h (lines_of messages ns) (all_shown p ns) (AllShown h ns)
+  pub all_gives : (ns : List ℕ) (v : View) (h : Hand) → v.contents ≡ c → AreMessages alone c v p ns → AreApart ns → Gives (by_view alone) v h (lines_of lined messages ns) (all_shown lined p ns) (AllShown h ns)
   unfolding Gives all_shown lines_of too_long_of
   all_gives [] v h same all apart = (refl, refl, same, refl)
   all_gives (n ∷ ns) v h same all apart =
-      gives_on (by_view alone) v h (lines_of messages (n ∷ ns)) (one_shown p n) (λ u. all_shown p ns) (OneShown v h n ns) (AllShown h (n ∷ ns)) (one_gives v h n ns same all.0)
+      gives_on (by_view alone) v h (lines_of lined messages (n ∷ ns)) (one_shown lined p n) (λ u. all_shown lined p ns) (OneShown v h n ns) (AllShown h (n ∷ ns)) (one_gives v h n ns same all.0)
       (λ z j left u o. rw (o.0, o.1, o.2) (more (all_gives ns (after_read v p (decimal n)) h same (still v n ns all.0.number apart.0 all.1) apart.1) o.3))
       (λ z j left e o. one_failed v h n ns z j left e same o)
     where
-      more : Gives (by_view alone) (after_read v p (decimal n)) h (lines_of messages ns) (all_shown p ns) (AllShown h ns) → too_long_of messages (n ∷ ns) ≡ too_long_of messages ns
-          → Gives (by_view alone) (after_read v p (decimal n)) h (lines_of messages ns) (all_shown p ns) (AllShown h (n ∷ ns))
-      more g e = gives_more (by_view alone) (after_read v p (decimal n)) h (lines_of messages ns) (all_shown p ns) (AllShown h ns) (AllShown h (n ∷ ns)) g (λ z j left r o. longer h n ns z j left r e o)
+      more : Gives (by_view alone) (after_read v p (decimal n)) h (lines_of lined messages ns) (all_shown lined p ns) (AllShown h ns) → too_long_of messages (n ∷ ns) ≡ too_long_of messages ns
+          → Gives (by_view alone) (after_read v p (decimal n)) h (lines_of lined messages ns) (all_shown lined p ns) (AllShown h (n ∷ ns))
+      more g e = gives_more (by_view alone) (after_read v p (decimal n)) h (lines_of lined messages ns) (all_shown lined p ns) (AllShown h ns) (AllShown h (n ∷ ns)) g (λ z j left r o. longer h n ns z j left r e o)

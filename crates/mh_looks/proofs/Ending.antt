@@ -46,9 +46,9 @@ use Rattle.command_stages.specs.Endings.{of_plan}
 use Rattle.command_stages.specs.Listed.{names_by, folder_listed, numbers_listed}
 use Rattle.command_stages.specs.Texts.{too_large, text_by, text_read}
 use Rattle.command_stages.specs.Current.{current_change, made_current}
-use Rattle.mh_looks.specs.MessageLine.{line_of}
-use Rattle.mh_looks.specs.Scan.{shown_by, one_shown, all_shown, ordered, entries_seen, chosen_by, scan}
-use Rattle.mh_looks.specs.declared.job.ScanJob.{ScanJob}
+use Rattle.message_lines.specs.MessageText.{line_of, Writing}
+use Rattle.mh_looks.specs.Scan.{shown_by, one_shown, all_shown, ordered, entries_seen, chosen_by, scan, lined_by}
+use Rattle.mh_looks.specs.ScanJob.{ScanJob}
 use Rattle.mh_looks.proofs.Apart.{lists_ordered}
 
 -- the newest deeds listed the folder, which is there, and then read its sequences
@@ -184,11 +184,11 @@ module _ (run : ℕ) (mail : List ℕ) (job : ScanJob) (h : Hand) (numbered : na
   OneEnds n own later j (Ok u) = (a : Answer) × (later ≡ did (step.Read place (name_of n) LIMIT_BYTES) a ∷ own) × (j ≡ h)
   OneEnds n own later j (Err e) = ScanShows run mail job.folder e later
 
-  one_comes : (n : ℕ) (own : List Deed) → HasMet place (name_of n) own → Comes own h (one_shown place n) (OneEnds n own)
+  one_comes : (lined : Writing) (n : ℕ) (own : List Deed) → HasMet place (name_of n) own → Comes own h (one_shown lined place n) (OneEnds n own)
   unfolding one_shown
-  one_comes n own met =
-      comes_read own h of_stop (OneEnds n own) place (name_of n) LIMIT_BYTES (shown_by place n)
-      (λ bytes. comes_say _ h of_sink (OneEnds n own) (line_of n bytes) (λ told. Return (Ok tt)) (comes_to _ h (Ok tt) (OneEnds n own) (answer.Content bytes, refl, refl))) (λ l. comes_to _ h (Err (too_large l)) (OneEnds n own) long_file)
+  one_comes lined n own met =
+      comes_read own h of_stop (OneEnds n own) place (name_of n) LIMIT_BYTES (shown_by lined place n)
+      (λ bytes. comes_say _ h of_sink (OneEnds n own) (line_of lined n bytes) (λ told. Return (Ok tt)) (comes_to _ h (Ok tt) (OneEnds n own) (answer.Content bytes, refl, refl))) (λ l. comes_to _ h (Err (too_large l)) (OneEnds n own) long_file)
       (comes_to _ h (Err (fault.Meddled place (name_of n))) (OneEnds n own) (meddled (name_gone (inl (LIMIT_BYTES, refl)) met)))
 
   -- the messages
@@ -196,13 +196,13 @@ module _ (run : ℕ) (mail : List ℕ) (job : ScanJob) (h : Hand) (numbered : na
   AllEnds later j (Ok u) = (j ≡ h) × IsUnmade later
   AllEnds later j (Err e) = ScanShows run mail job.folder e later
 
-  all_comes : (ns : List ℕ) (own : List Deed) → AreMet place ns own → IsUnmade own → Comes own h (all_shown place ns) AllEnds
+  all_comes : (lined : Writing) (ns : List ℕ) (own : List Deed) → AreMet place ns own → IsUnmade own → Comes own h (all_shown lined place ns) AllEnds
   unfolding all_shown
-  all_comes [] own met unmade = comes_to own h (Ok tt) AllEnds (refl, unmade)
-  all_comes (n ∷ ns) own met unmade =
-      comes_then own h (one_shown place n) (λ u. all_shown place ns) (OneEnds n own) AllEnds (one_comes n own met.0)
-      (λ later j u q. comes_at later (did (step.Read place (name_of n) LIMIT_BYTES) q.0 ∷ own) j h (all_shown place ns) AllEnds q.1 q.2
-      (all_comes ns (did (step.Read place (name_of n) LIMIT_BYTES) q.0 ∷ own) (met_more place place ns (name_of n) LIMIT_BYTES q.0 own met.1) (unread place (name_of n) q.0 own unmade)))
+  all_comes lined [] own met unmade = comes_to own h (Ok tt) AllEnds (refl, unmade)
+  all_comes lined (n ∷ ns) own met unmade =
+      comes_then own h (one_shown lined place n) (λ u. all_shown lined place ns) (OneEnds n own) AllEnds (one_comes lined n own met.0)
+      (λ later j u q. comes_at later (did (step.Read place (name_of n) LIMIT_BYTES) q.0 ∷ own) j h (all_shown lined place ns) AllEnds q.1 q.2
+      (all_comes lined ns (did (step.Read place (name_of n) LIMIT_BYTES) q.0 ∷ own) (met_more place place ns (name_of n) LIMIT_BYTES q.0 own met.1) (unread place (name_of n) q.0 own unmade)))
       (λ later j e q. q)
 
   -- the folder becomes the current one
@@ -239,23 +239,24 @@ module _ (run : ℕ) (mail : List ℕ) (job : ScanJob) (h : Hand) (numbered : na
 
   -- the chosen messages, and the end
   chosen_comes : (names : List (List ℕ)) (text : List ℕ) (a : Answer) (older : List Deed) → IsUnmade (AfterSequences place names a older)
-      → Comes (AfterSequences place names a older) h (Recall (λ i. Return (chosen_by job names text (entries_seen i.context))) >>= (λ numbers. all_shown place (ordered job.reverse numbers) >>= (λ shown. made_current run mail folder))) ScanEnds
+      → Comes (AfterSequences place names a older) h (Recall (λ i. Return (chosen_by job names text (entries_seen i.context))) >>= (λ numbers. Recall (λ i. all_shown (lined_by job text (entries_seen i.context)) place (ordered job.reverse numbers)) >>= (λ shown. made_current run mail folder))) ScanEnds
   chosen_comes names text a older unmade = comes_recall own h _ rest ScanEnds (go (chosen_by job names text (entries_seen h.context)) refl)
     where
       own : List Deed
       own = AfterSequences place names a older
 
       rest : List ℕ → Plan (Result Unit CommandFault)
-      rest numbers = all_shown place (ordered job.reverse numbers) >>= (λ shown. made_current run mail folder)
+      rest numbers = Recall (λ i. all_shown (lined_by job text (entries_seen i.context)) place (ordered job.reverse numbers)) >>= (λ shown. made_current run mail folder)
 
       marks : Marks
       marks = marks_in text (entries_seen h.context) folder
 
       showing : (numbers : List ℕ) → chosen_by job names text (entries_seen h.context) ≡ Ok numbers → Comes own h (rest numbers) ScanEnds
       showing numbers is =
-          comes_then own h (all_shown place (ordered job.reverse numbers)) (λ u. made_current run mail folder) AllEnds ScanEnds
-          (all_comes (ordered job.reverse numbers) own (met_all place names a older (ordered job.reverse numbers) (λ n e. chosen_listed names job.negation marks job.specs numbers is n (sym (lists_ordered job.reverse numbers n) ∙ e))) unmade)
-          (λ later j u q. comes_at later later j h (made_current run mail folder) ScanEnds refl q.0 (current_comes later q.1)) (λ later j e q. q)
+          comes_recall own h (λ i. all_shown (lined_by job text (entries_seen i.context)) place (ordered job.reverse numbers)) (λ u. made_current run mail folder) ScanEnds
+          (comes_then own h (all_shown (lined_by job text (entries_seen h.context)) place (ordered job.reverse numbers)) (λ u. made_current run mail folder) AllEnds ScanEnds
+          (all_comes (lined_by job text (entries_seen h.context)) (ordered job.reverse numbers) own (met_all place names a older (ordered job.reverse numbers) (λ n e. chosen_listed names job.negation marks job.specs numbers is n (sym (lists_ordered job.reverse numbers n) ∙ e))) unmade)
+          (λ later j u q. comes_at later later j h (made_current run mail folder) ScanEnds refl q.0 (current_comes later q.1)) (λ later j e q. q))
 
       go : (r : Result (List ℕ) CommandFault) → chosen_by job names text (entries_seen h.context) ≡ r → Comes own h (Return r >>= rest) ScanEnds
       go (Ok numbers) is = comes_on own h numbers rest ScanEnds (showing numbers is)

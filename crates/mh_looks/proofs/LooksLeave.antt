@@ -22,7 +22,7 @@ use Rattle.step_plans.proofs.Going.{Outcome, okay, Goes, goes_then, goes_more, o
 use Rattle.step_plans.proofs.Stepping.{goes_list, goes_read, goes_say, goes_end, goes_return}
 use Rattle.command_stages.specs.Listed.{names_by, folder_listed}
 use Rattle.command_stages.specs.Texts.{text_by, text_read, too_large}
-use Rattle.mh_looks.specs.MessageLine.{line_of}
+use Rattle.message_lines.specs.MessageText.{line_of, Writing}
 use Rattle.mh_looks.specs.Scan.{shown_by, one_shown, all_shown}
 use Rattle.mh_looks.specs.ScanPledge.{HasListed}
 
@@ -61,6 +61,12 @@ more_looked own later last f g = record { looked = λ x. g.looked (f.looked x); 
 abbrev pub Looks : {A : Type 0} → List Deed → Outcome A
 Looks own later j a = Looked own later
 
+-- the hand as it is, and then the rest
+pub goes_recall : {A B E : Type 0} (w : Pledge) (own : List Deed) (h : Hand) (next : Hand → Plan (Result A E)) (k : A → Plan (Result B E)) (Q : Outcome (Result B E))
+    → Goes w own h (next h >>= k) Q → Goes w own h (Recall next >>= k) Q
+unfolding Goes bind ◌>>=◌
+goes_recall w own h next k Q f = λ s. f
+
 -- where the hand chooses a result
 pub goes_chosen : {A B E : Type 0} (w : Pledge) (own : List Deed) (h : Hand) (choose : Hand → Result A E) (k : A → Plan (Result B E)) (Q : Outcome B) →
     ((a : A) → choose h ≡ Ok a → Goes w own h (k a) (okay Q)) → Goes w own h (Recall (λ i. Return (choose i)) >>= k) (okay Q)
@@ -91,17 +97,17 @@ module _ (w : Pledge) (tells : (own : List Deed) (piece : List ℕ) → w.may_te
       (λ l. goes_end w _ h (too_large l) (Looks own))
       (goes_return w _ h [] (okay (Looks own)) (one_looked own (step.Read place name LIMIT_BYTES) answer.Gone tt))
 
-  pub one_goes : (own : List Deed) (h : Hand) (place : Place) (n : ℕ) → Goes w own h (one_shown place n) (okay (Looks own))
+  pub one_goes : (lined : Writing) (own : List Deed) (h : Hand) (place : Place) (n : ℕ) → Goes w own h (one_shown lined place n) (okay (Looks own))
   unfolding one_shown
-  one_goes own h place n =
-      goes_read w own h of_stop (okay (Looks own)) place (entry_text (Number n)) LIMIT_BYTES (shown_by place n)
-      (λ bytes. goes_say w _ h of_sink (okay (Looks own)) (line_of n bytes) _ (λ s. tells _ (line_of n bytes)) (goes_return w _ h tt (okay (Looks own)) (one_looked own (step.Read place (entry_text (Number n)) LIMIT_BYTES) (answer.Content bytes) tt)))
+  one_goes lined own h place n =
+      goes_read w own h of_stop (okay (Looks own)) place (entry_text (Number n)) LIMIT_BYTES (shown_by lined place n)
+      (λ bytes. goes_say w _ h of_sink (okay (Looks own)) (line_of lined n bytes) _ (λ s. tells _ (line_of lined n bytes)) (goes_return w _ h tt (okay (Looks own)) (one_looked own (step.Read place (entry_text (Number n)) LIMIT_BYTES) (answer.Content bytes) tt)))
       (λ l. goes_end w _ h (too_large l) (Looks own))
       (goes_end w _ h (fault.Meddled place (entry_text (Number n))) (Looks own))
 
-  pub all_goes : (own : List Deed) (h : Hand) (place : Place) (ns : List ℕ) → Goes w own h (all_shown place ns) (okay (Looks own))
+  pub all_goes : (lined : Writing) (own : List Deed) (h : Hand) (place : Place) (ns : List ℕ) → Goes w own h (all_shown lined place ns) (okay (Looks own))
   unfolding all_shown
-  all_goes own h place [] = goes_return w own h tt (okay (Looks own)) (none_looked own)
-  all_goes own h place (n ∷ ns) =
-      goes_then w own h (one_shown place n) (λ shown. all_shown place ns) (Looks own) (Looks own) (one_goes own h place n)
-      (λ later j u f. goes_more w later j (all_shown place ns) (okay (Looks later)) (okay (Looks own)) (okay_more (Looks later) (Looks own) (λ last i v g. more_looked own later last f g)) (all_goes later j place ns))
+  all_goes lined own h place [] = goes_return w own h tt (okay (Looks own)) (none_looked own)
+  all_goes lined own h place (n ∷ ns) =
+      goes_then w own h (one_shown lined place n) (λ shown. all_shown lined place ns) (Looks own) (Looks own) (one_goes lined own h place n)
+      (λ later j u f. goes_more w later j (all_shown lined place ns) (okay (Looks later)) (okay (Looks own)) (okay_more (Looks later) (Looks own) (λ last i v g. more_looked own later last f g)) (all_goes lined later j place ns))

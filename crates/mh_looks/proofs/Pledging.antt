@@ -21,10 +21,10 @@ use Rattle.command_stages.specs.Endings.{of_plan}
 use Rattle.command_stages.specs.Listed.{folder_listed}
 use Rattle.command_stages.specs.Texts.{text_read}
 use Rattle.command_stages.specs.Current.{current_change, made_current}
-use Rattle.mh_looks.specs.Scan.{all_shown, chosen_by, entries_seen, ordered, scan}
+use Rattle.mh_looks.specs.Scan.{all_shown, chosen_by, entries_seen, lined_by, ordered, scan}
 use Rattle.mh_looks.specs.ScanPledge.{HasListed, scan_pledge}
-use Rattle.mh_looks.specs.declared.job.ScanJob.{ScanJob}
-use Rattle.mh_looks.proofs.LooksLeave.{Looked, Looks, Lists, more_looked, goes_chosen, listed_goes, text_goes, all_goes}
+use Rattle.mh_looks.specs.ScanJob.{ScanJob}
+use Rattle.mh_looks.proofs.LooksLeave.{Looked, Looks, Lists, more_looked, goes_chosen, goes_recall, listed_goes, text_goes, all_goes}
 
 -- after a command that keeps the context: what was settled is, and the context was committed or nothing was changed
 pub record Noted (mail : List ℕ) (own later : List Deed) : Type 0 where
@@ -93,8 +93,10 @@ module _ (run : ℕ) (few : run < 2 ^ 128) (mail : List ℕ) where
       goes_then w own h (folder_listed place job.folder) _ (Lists w tells place own) (Of (Noted mail own)) (listed_goes w tells own h place job.folder) (λ later j names f.
       goes_then w later j (text_read place (entry_text Sequences)) _ (Looks later) (Of (Noted mail own)) (text_goes w tells later j place (entry_text Sequences)) (λ next i text g.
       goes_chosen w next i (λ k. chosen_by job names text (entries_seen k.context)) _ (Of (Noted mail own)) (λ numbers is.
-      goes_then w next i (all_shown place (ordered job.reverse numbers)) _ (Looks next) (Of (Noted mail own)) (all_goes w tells next i place (ordered job.reverse numbers)) (λ last k u s.
-      current_after own last k job.folder valid (more_looked own next last (more_looked own later next f.0 g) s) (s.listed place (g.listed place f.1))))))
+      goes_recall w next i (λ k. all_shown (lined_by job text (entries_seen k.context)) place (ordered job.reverse numbers)) _ (okay (Of (Noted mail own)))
+      (goes_then w next i (all_shown (lined_by job text (entries_seen i.context)) place (ordered job.reverse numbers)) _ (Looks next) (Of (Noted mail own))
+      (all_goes w tells (lined_by job text (entries_seen i.context)) next i place (ordered job.reverse numbers)) (λ last k u s.
+      current_after own last k job.folder valid (more_looked own next last (more_looked own later next f.0 g) s) (s.listed place (g.listed place f.1)))))))
     where
       w : Pledge
       w = scan_pledge run mail

@@ -53,8 +53,9 @@ use Rattle.command_stages.specs.Texts.{too_large, text_read}
 use Rattle.command_stages.specs.Works.{Work, refused_at, readable}
 use Rattle.command_stages.specs.Current.{current_change, made_current as made_current_plan}
 use Rattle.mh_looks.specs.Outcomes.{current_text, written_current, made_current, lines_of, too_long_of, lines_written, numbers_shown, chosen_shown, sequences_read, scan_work}
-use Rattle.mh_looks.specs.Scan.{all_shown, ordered, entries_seen, chosen_by, scan}
-use Rattle.mh_looks.specs.declared.job.ScanJob.{ScanJob}
+use Rattle.message_lines.specs.MessageText.{Writing}
+use Rattle.mh_looks.specs.Scan.{all_shown, ordered, entries_seen, chosen_by, lined_by, scan}
+use Rattle.mh_looks.specs.ScanJob.{ScanJob}
 use Rattle.mh_looks.proofs.Apart.{AreApart, apart_ordered, lists_ordered, selected_apart}
 use Rattle.mh_looks.proofs.Folders.{IsFresh, Tells, IsListed, IsAbsent, FolderListed, folder_gives, messages_listed}
 use Rattle.mh_looks.proofs.Numbers.{folder_numbers}
@@ -374,27 +375,27 @@ module _ (alone : Bool) (run : ℕ) (path : List ℕ) (job : ScanJob) (c : Conte
     abbrev chosen_now : List (List ℕ) → List ℕ → Result (List ℕ) CommandFault
     chosen_now names text = chosen_in (folder_with job.negation (numbers_listed names) (marks_now text)) job.specs
 
-    shown_text : (ns : List ℕ) → (numbers_shown box path es job.folder (folder_at c place).messages ns).text ≡ lines_of (folder_at c place).messages ns
-    shown_text ns = go (too_long_of (folder_at c place).messages ns)
+    shown_text : (lined : Writing) (ns : List ℕ) → (numbers_shown lined box path es job.folder (folder_at c place).messages ns).text ≡ lines_of lined (folder_at c place).messages ns
+    shown_text lined ns = go (too_long_of (folder_at c place).messages ns)
       where
-        go : (o : Option ℕ) → (lines_written box path es job.folder (lines_of (folder_at c place).messages ns) o).text ≡ lines_of (folder_at c place).messages ns
-        go None = current_texts (lines_of (folder_at c place).messages ns)
+        go : (o : Option ℕ) → (lines_written box path es job.folder (lines_of lined (folder_at c place).messages ns) o).text ≡ lines_of lined (folder_at c place).messages ns
+        go None = current_texts (lines_of lined (folder_at c place).messages ns)
         go (Some l) = refl
 
     -- the messages are shown, and then the folder becomes the current one
-    shown_gives : (v : View) (h : Hand) (ns : List ℕ) → v.contents ≡ c → AreMessages alone c v place ns → AreApart ns → h.context ≡ Some es → nat_lt h.next (2 ^ 64) ≡ true
-        → Gives (by_view alone) v h (lines_of (folder_at c place).messages ns) (all_shown place ns >>= (λ u. made_current_plan run path job.folder)) (ScanEnds alone (numbers_shown box path es job.folder (folder_at c place).messages ns))
-    shown_gives v h ns same all apart known next =
-        gives_on (by_view alone) v h (lines_of (folder_at c place).messages ns) (all_shown place ns) (λ u. made_current_plan run path job.folder) (AllShown alone c place h ns) (ScanEnds alone (numbers_shown box path es job.folder (folder_at c place).messages ns))
-        (all_gives alone c place ns v h same all apart)
-        (λ z j left u o. subst (λ k. Gives (by_view alone) z k left (made_current_plan run path job.folder) (ScanEnds alone (numbers_shown box path es job.folder (folder_at c place).messages ns))) (sym o.3)
-        (subst (λ t. Gives (by_view alone) z h t (made_current_plan run path job.folder) (ScanEnds alone (numbers_shown box path es job.folder (folder_at c place).messages ns))) (sym o.0)
-        (subst (λ w. Gives (by_view alone) z h [] (made_current_plan run path job.folder) (ScanEnds alone w)) (sym (ap (lines_written box path es job.folder (lines_of (folder_at c place).messages ns)) o.1)) (current_gives (lines_of (folder_at c place).messages ns) z h o.2 known next))))
+    shown_gives : (lined : Writing) (v : View) (h : Hand) (ns : List ℕ) → v.contents ≡ c → AreMessages alone c v place ns → AreApart ns → h.context ≡ Some es → nat_lt h.next (2 ^ 64) ≡ true
+        → Gives (by_view alone) v h (lines_of lined (folder_at c place).messages ns) (all_shown lined place ns >>= (λ u. made_current_plan run path job.folder)) (ScanEnds alone (numbers_shown lined box path es job.folder (folder_at c place).messages ns))
+    shown_gives lined v h ns same all apart known next =
+        gives_on (by_view alone) v h (lines_of lined (folder_at c place).messages ns) (all_shown lined place ns) (λ u. made_current_plan run path job.folder) (AllShown alone c place lined h ns) (ScanEnds alone (numbers_shown lined box path es job.folder (folder_at c place).messages ns))
+        (all_gives alone c place lined ns v h same all apart)
+        (λ z j left u o. subst (λ k. Gives (by_view alone) z k left (made_current_plan run path job.folder) (ScanEnds alone (numbers_shown lined box path es job.folder (folder_at c place).messages ns))) (sym o.3)
+        (subst (λ t. Gives (by_view alone) z h t (made_current_plan run path job.folder) (ScanEnds alone (numbers_shown lined box path es job.folder (folder_at c place).messages ns))) (sym o.0)
+        (subst (λ w. Gives (by_view alone) z h [] (made_current_plan run path job.folder) (ScanEnds alone w)) (sym (ap (lines_written box path es job.folder (lines_of lined (folder_at c place).messages ns)) o.1)) (current_gives (lines_of lined (folder_at c place).messages ns) z h o.2 known next))))
         (λ z j left e o. failed z j left e o)
       where
-        failed : (z : View) (j : Hand) (left : List ℕ) (e : CommandFault) → AllShown alone c place h ns z j left (Err e) → ScanEnds alone (numbers_shown box path es job.folder (folder_at c place).messages ns) z j left (Err e)
+        failed : (z : View) (j : Hand) (left : List ℕ) (e : CommandFault) → AllShown alone c place lined h ns z j left (Err e) → ScanEnds alone (numbers_shown lined box path es job.folder (folder_at c place).messages ns) z j left (Err e)
         failed z j left (fault.Refused r) o =
-            let w : numbers_shown box path es job.folder (folder_at c place).messages ns ≡ record { text = lines_of (folder_at c place).messages ns; end = Err (too_large o.0); mailbox = box } = ap (lines_written box path es job.folder (lines_of (folder_at c place).messages ns)) o.2 in
+            let w : numbers_shown lined box path es job.folder (folder_at c place).messages ns ≡ record { text = lines_of lined (folder_at c place).messages ns; end = Err (too_large o.0); mailbox = box } = ap (lines_written box path es job.folder (lines_of lined (folder_at c place).messages ns)) o.2 in
             (o.3, inl (ap (λ x. x.end) w ∙ ap (λ x. Err x) (sym o.1), λ a. ap mailbox_in o.4 ∙ sym (ap (λ x. x.mailbox) w)))
         failed z j left (fault.Faulted w) o = o
         failed z j left (fault.Locked q) o = absurd o
@@ -414,11 +415,21 @@ module _ (alone : Bool) (run : ℕ) (path : List ℕ) (job : ScanJob) (c : Conte
     ends_at : (e : CommandFault) (r : Refusal) (z : View) (j : Hand) (left : List ℕ) → whole_work ≡ refused_at box e → e ≡ fault.Refused r → left ≡ whole_work.text → z.contents ≡ c → ScanEnds alone whole_work z j left (Err e)
     ends_at e r z j left is what none same = subst (λ x. ScanEnds alone x z j left (Err e)) (sym is) (refused_so alone c e r z j left what (none ∙ ap (λ x. x.text) is) same)
 
-    abbrev then_shown : List ℕ → Plan (Result Unit CommandFault)
-    then_shown numbers = all_shown place (ordered job.reverse numbers) >>= (λ shown. made_current_plan run path job.folder)
+    abbrev lined_now : List ℕ → Writing
+    lined_now text = lined_by job text es
+
+    abbrev then_shown : List ℕ → List ℕ → Plan (Result Unit CommandFault)
+    then_shown text numbers = Recall (λ h. all_shown (lined_by job text (entries_seen h.context)) place (ordered job.reverse numbers)) >>= (λ shown. made_current_plan run path job.folder)
+
+    shown_at : (v : View) (h : Hand) (left text numbers : List ℕ) (Q : View → Hand → List ℕ → Result Unit CommandFault → Type 0) → h.context ≡ Some es
+        → Gives (by_view alone) v h left (all_shown (lined_now text) place (ordered job.reverse numbers) >>= (λ shown. made_current_plan run path job.folder)) Q
+        → Gives (by_view alone) v h left (then_shown text numbers) Q
+    unfolding Gives bind ◌>>=◌
+    shown_at v h left text numbers Q known g =
+        subst (λ o. Gives (by_view alone) v h left (all_shown (lined_by job text (entries_seen o)) place (ordered job.reverse numbers) >>= (λ shown. made_current_plan run path job.folder)) Q) (sym known) g
 
     abbrev then_chosen : List (List ℕ) → List ℕ → Plan (Result Unit CommandFault)
-    then_chosen names text = Recall (λ h. Return (chosen_by job names text (entries_seen h.context))) >>= then_shown
+    then_chosen names text = Recall (λ h. Return (chosen_by job names text (entries_seen h.context))) >>= then_shown text
 
     abbrev then_read : List (List ℕ) → Plan (Result Unit CommandFault)
     then_read names = text_read place (entry_text Sequences) >>= (λ text. then_chosen names text)
@@ -427,24 +438,25 @@ module _ (alone : Bool) (run : ℕ) (path : List ℕ) (job : ScanJob) (c : Conte
     same_chosen names text t = ap (λ ns. chosen_in (folder_with job.negation ns (marks_now text)) job.specs) (folder_numbers (folder_at c place) names (messages_listed c place names t))
 
     module _ (v : View) (h : Hand) (same : v.contents ≡ c) (known : h.context ≡ Some es) (next : nat_lt h.next (2 ^ 64) ≡ true) (fresh : alone ≡ false → IsFresh v place) (unseen : alone ≡ false → v.seen.names place (entry_text Sequences) ≡ Unseen) where
-      after_chosen : (names : List (List ℕ)) (text : List ℕ) (value : Result (List ℕ) CommandFault) → Tells c place names → readable (folder_at c place).sequences ≡ Ok text → chosen_now names text ≡ value → Aim (read_view_ v names) h (after then_shown value)
+      after_chosen : (names : List (List ℕ)) (text : List ℕ) (value : Result (List ℕ) CommandFault) → Tells c place names → readable (folder_at c place).sequences ≡ Ok text → chosen_now names text ≡ value → Aim (read_view_ v names) h (after (then_shown text) value)
       unfolding Gives
       after_chosen names text (Ok numbers) t reads is =
           let inside : (n : ℕ) → lists (ordered job.reverse numbers) n ≡ true → has_number n names ≡ true = λ n e. chosen_there v names job.negation (marks_now text) numbers t is n (sym (lists_ordered job.reverse numbers n) ∙ e) in
-          let w : whole_work ≡ numbers_shown box path es job.folder (folder_at c place).messages (ordered job.reverse numbers) =
-          work_there t.there ∙ ap (sequences_read box path es job (folder_at c place)) reads ∙ ap (chosen_shown box path es job (folder_at c place)) (same_chosen names text t ∙ is)
+          let w : whole_work ≡ numbers_shown (lined_now text) box path es job.folder (folder_at c place).messages (ordered job.reverse numbers) =
+          work_there t.there ∙ ap (sequences_read box path es job (folder_at c place)) reads ∙ ap (chosen_shown (lined_now text) box path es job (folder_at c place)) (same_chosen names text t ∙ is)
           in
-          aim_at (numbers_shown box path es job.folder (folder_at c place).messages (ordered job.reverse numbers)) (read_view_ v names) h (then_shown numbers) w
-          (subst (λ l. Gives (by_view alone) (read_view_ v names) h l (then_shown numbers) (ScanEnds alone (numbers_shown box path es job.folder (folder_at c place).messages (ordered job.reverse numbers)))) (sym (shown_text (ordered job.reverse numbers)))
-          (shown_gives (read_view_ v names) h (ordered job.reverse numbers) same (all_there v names (ordered job.reverse numbers) same t fresh inside) (apart_ordered job.reverse numbers (chosen_apart job.negation names (marks_now text) numbers is)) known next))
+          aim_at (numbers_shown (lined_now text) box path es job.folder (folder_at c place).messages (ordered job.reverse numbers)) (read_view_ v names) h (then_shown text numbers) w
+          (subst (λ l. Gives (by_view alone) (read_view_ v names) h l (then_shown text numbers) (ScanEnds alone (numbers_shown (lined_now text) box path es job.folder (folder_at c place).messages (ordered job.reverse numbers)))) (sym (shown_text (lined_now text) (ordered job.reverse numbers)))
+          (shown_at (read_view_ v names) h (lines_of (lined_now text) (folder_at c place).messages (ordered job.reverse numbers)) text numbers (ScanEnds alone (numbers_shown (lined_now text) box path es job.folder (folder_at c place).messages (ordered job.reverse numbers))) known
+          (shown_gives (lined_now text) (read_view_ v names) h (ordered job.reverse numbers) same (all_there v names (ordered job.reverse numbers) same t fresh inside) (apart_ordered job.reverse numbers (chosen_apart job.negation names (marks_now text) numbers is)) known next)))
       after_chosen names text (Err e) t reads is =
           let r = refuses (folder_with job.negation (numbers_listed names) (marks_now text)) job.specs e is in
-          let w : whole_work ≡ refused_at box e = work_there t.there ∙ ap (sequences_read box path es job (folder_at c place)) reads ∙ ap (chosen_shown box path es job (folder_at c place)) (same_chosen names text t ∙ is) in
+          let w : whole_work ≡ refused_at box e = work_there t.there ∙ ap (sequences_read box path es job (folder_at c place)) reads ∙ ap (chosen_shown (lined_now text) box path es job (folder_at c place)) (same_chosen names text t ∙ is) in
           ends_at e r.0 (read_view_ v names) h whole_work.text w r.1 refl same
 
       after_text : (names : List (List ℕ)) (text : List ℕ) → Tells c place names → readable (folder_at c place).sequences ≡ Ok text → Aim (read_view_ v names) h (then_chosen names text)
       unfolding Gives bind ◌>>=◌
-      after_text names text t reads = subst (λ o. Aim (read_view_ v names) h (after then_shown (chosen_by job names text (entries_seen o)))) (sym known) (after_chosen names text (chosen_now names text) t reads refl)
+      after_text names text t reads = subst (λ o. Aim (read_view_ v names) h (after (then_shown text) (chosen_by job names text (entries_seen o)))) (sym known) (after_chosen names text (chosen_now names text) t reads refl)
 
       after_names : (names : List (List ℕ)) → Tells c place names → Aim (listed_view v names) h (then_read names)
       after_names names t =

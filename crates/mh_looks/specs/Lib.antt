@@ -1,5 +1,7 @@
-pub mod MessageLine
+pub mod Asked
+pub mod Lines
 pub mod Outcomes
 pub mod Scan
+pub mod ScanJob
 pub mod ScanPledge
 pub mod Values

@@ -13,9 +13,9 @@ use Rattle.command_stages.specs.Chosen.{chosen_in, folder_with, marks_in}
 use Rattle.command_stages.specs.Texts.{too_large}
 use Rattle.command_stages.specs.Works.{Work, refused_at, readable}
 use Rattle.command_stages.specs.Current.{current_change}
-use Rattle.mh_looks.specs.MessageLine.{line_of}
-use Rattle.mh_looks.specs.Scan.{ordered}
-use Rattle.mh_looks.specs.declared.job.ScanJob.{ScanJob}
+use Rattle.message_lines.specs.MessageText.{line_of, Writing}
+use Rattle.mh_looks.specs.Scan.{lined_by, ordered}
+use Rattle.mh_looks.specs.ScanJob.{ScanJob}
 
 -- the text of the context in which the folder is the current one
 abbrev pub current_text : List NamedValue → List ℕ → List ℕ
@@ -36,9 +36,10 @@ abbrev pub text_of : (ℕ → Option (List ℕ)) → ℕ → List ℕ
 text_of messages n = unwrap_or (messages n) []
 
 -- a line for each of these messages, up to the first that is too long
-unfoldable pub lines_of : (ℕ → Option (List ℕ)) → List ℕ → List ℕ
-lines_of messages [] = []
-lines_of messages (n ∷ ns) = if nat_lt LIMIT_BYTES (length (text_of messages n)) then [] else line_of n (text_of messages n) ++ lines_of messages ns
+unfoldable pub lines_of : Writing → (ℕ → Option (List ℕ)) → List ℕ → List ℕ
+lines_of lined messages [] = []
+lines_of lined messages (n ∷ ns) =
+    if nat_lt LIMIT_BYTES (length (text_of messages n)) then [] else line_of lined n (text_of messages n) ++ lines_of lined messages ns
 
 -- the length of the first message that is too long
 unfoldable pub too_long_of : (ℕ → Option (List ℕ)) → List ℕ → Option ℕ
@@ -49,15 +50,16 @@ abbrev pub lines_written : Mailbox → List ℕ → List NamedValue → List ℕ
 lines_written m path entries folder lines (Some l) = record { text = lines; end = Err (too_large l); mailbox = m }
 lines_written m path entries folder lines None = made_current m path entries folder lines
 
-abbrev pub numbers_shown : Mailbox → List ℕ → List NamedValue → List ℕ → (ℕ → Option (List ℕ)) → List ℕ → Work CommandFault
-numbers_shown m path entries folder messages numbers = lines_written m path entries folder (lines_of messages numbers) (too_long_of messages numbers)
+abbrev pub numbers_shown : Writing → Mailbox → List ℕ → List NamedValue → List ℕ → (ℕ → Option (List ℕ)) → List ℕ → Work CommandFault
+numbers_shown lined m path entries folder messages numbers = lines_written m path entries folder (lines_of lined messages numbers) (too_long_of messages numbers)
 
-abbrev pub chosen_shown : Mailbox → List ℕ → List NamedValue → ScanJob → FolderValue → Result (List ℕ) CommandFault → Work CommandFault
-chosen_shown m path entries job f (Ok numbers) = numbers_shown m path entries job.folder f.messages (ordered job.reverse numbers)
-chosen_shown m path entries job f (Err e) = refused_at m e
+abbrev pub chosen_shown : Writing → Mailbox → List ℕ → List NamedValue → ScanJob → FolderValue → Result (List ℕ) CommandFault → Work CommandFault
+chosen_shown lined m path entries job f (Ok numbers) = numbers_shown lined m path entries job.folder f.messages (ordered job.reverse numbers)
+chosen_shown lined m path entries job f (Err e) = refused_at m e
 
 abbrev pub sequences_read : Mailbox → List ℕ → List NamedValue → ScanJob → FolderValue → Result (List ℕ) CommandFault → Work CommandFault
-sequences_read m path entries job f (Ok text) = chosen_shown m path entries job f (chosen_in (folder_with job.negation (numbers_of f) (marks_in text entries job.folder)) job.specs)
+sequences_read m path entries job f (Ok text) =
+    chosen_shown (lined_by job text entries) m path entries job f (chosen_in (folder_with job.negation (numbers_of f) (marks_in text entries job.folder)) job.specs)
 sequences_read m path entries job f (Err e) = refused_at m e
 
 abbrev pub folder_shown : Mailbox → List ℕ → List NamedValue → ScanJob → Option FolderValue → Work CommandFault

@@ -17,29 +17,40 @@ use Rattle.command_stages.specs.Chosen.{chosen_in, folder_with, marks_in}
 use Rattle.command_stages.specs.Listed.{folder_listed, numbers_listed}
 use Rattle.command_stages.specs.Texts.{Commanded, text_read, too_large}
 use Rattle.command_stages.specs.Current.{made_current}
-use Rattle.mh_looks.specs.MessageLine.{line_of}
-use Rattle.mh_looks.specs.declared.job.ScanJob.{ScanJob}
+use Rattle.msg_ranges.specs.Selection.{Marks}
+use Rattle.message_lines.specs.MessageText.{line_of, Writing}
+use Rattle.message_lines.specs.Standings.{is_at, is_marked_in}
+use Rattle.message_lines.specs.declared.standing.Standing.{Standing}
+use Rattle.mh_looks.specs.ScanJob.{ScanJob}
+
+-- a message is the current one by the folder's marks, and unseen where one of these sequences has it
+abbrev pub standing_by : Marks → List (List ℕ) → ℕ → Standing
+standing_by marks unseen n = record { current = is_at marks.cur n; unseen = is_marked_in marks.has unseen n }
+
+-- what is written of a message that stands so
+abbrev pub written_by : (Standing → Writing) → Marks → List (List ℕ) → Writing
+written_by spoken marks unseen n message = spoken (standing_by marks unseen n) n message
 
 -- the line of a message that was read
-abbrev pub shown_by : Place → ℕ → Reading → Commanded Unit
-shown_by place n (reading.Content bytes) = do
-  told ← lifted of_sink (say (line_of n bytes))
+abbrev pub shown_by : Writing → Place → ℕ → Reading → Commanded Unit
+shown_by lined place n (reading.Content bytes) = do
+  told ← lifted of_sink (say (line_of lined n bytes))
   Return (Ok tt)
-shown_by place n (reading.Long l) = Return (Err (too_large l))
-shown_by place n reading.Gone = Return (Err (fault.Meddled place (entry_text (Number n))))
+shown_by lined place n (reading.Long l) = Return (Err (too_large l))
+shown_by lined place n reading.Gone = Return (Err (fault.Meddled place (entry_text (Number n))))
 
 -- a message is read, and its line is written
-unfoldable pub one_shown : Place → ℕ → Commanded Unit
-one_shown place n = do
+unfoldable pub one_shown : Writing → Place → ℕ → Commanded Unit
+one_shown lined place n = do
   reading ← lifted of_stop (read place (entry_text (Number n)) LIMIT_BYTES)
-  shown_by place n reading
+  shown_by lined place n reading
 
 -- these messages, one after another
-unfoldable pub all_shown : Place → List ℕ → Commanded Unit
-all_shown place [] = Return (Ok tt)
-all_shown place (n ∷ ns) = do
-  shown ← one_shown place n
-  all_shown place ns
+unfoldable pub all_shown : Writing → Place → List ℕ → Commanded Unit
+all_shown lined place [] = Return (Ok tt)
+all_shown lined place (n ∷ ns) = do
+  shown ← one_shown lined place n
+  all_shown lined place ns
 
 -- descending, or as they are
 abbrev pub ordered : Bool → List ℕ → List ℕ
@@ -51,9 +62,17 @@ abbrev pub entries_seen : Option (List NamedValue) → List NamedValue
 entries_seen None = []
 entries_seen (Some es) = es
 
--- the messages that the job's words choose, by the folder's names, the text of its sequences and the context
+-- the messages that the job's words choose, by the folder's names and its marks
+abbrev pub chosen_with : ScanJob → List (List ℕ) → Marks → Result (List ℕ) CommandFault
+chosen_with job names marks = chosen_in (folder_with job.negation (numbers_listed names) marks) job.specs
+
+-- its marks are those of the text of its sequences and of the context
 abbrev pub chosen_by : ScanJob → List (List ℕ) → List ℕ → List NamedValue → Result (List ℕ) CommandFault
-chosen_by job names text entries = chosen_in (folder_with job.negation (numbers_listed names) (marks_in text entries job.folder)) job.specs
+chosen_by job names text entries = chosen_with job names (marks_in text entries job.folder)
+
+-- what is written of its messages
+abbrev pub lined_by : ScanJob → List ℕ → List NamedValue → Writing
+lined_by job text entries = written_by job.spoken (marks_in text entries job.folder) job.unseen
 
 -- `scan`: the folder is listed and its sequences are read; the chosen messages are shown; and the folder becomes the current one
 unfoldable pub scan : ℕ → List ℕ → ScanJob → Commanded Unit
@@ -61,5 +80,5 @@ scan run mail job = do
   names ← folder_listed (Folder mail job.folder) job.folder
   text ← text_read (Folder mail job.folder) (entry_text Sequences)
   numbers ← Recall (λ h. Return (chosen_by job names text (entries_seen h.context)))
-  shown ← all_shown (Folder mail job.folder) (ordered job.reverse numbers)
+  shown ← Recall (λ h. all_shown (lined_by job text (entries_seen h.context)) (Folder mail job.folder) (ordered job.reverse numbers))
   made_current run mail job.folder

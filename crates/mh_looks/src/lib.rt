@@ -2,10 +2,9 @@
 #![tactic(auto)]
 
 mod job;
-mod line;
+mod lines;
 mod looking;
 mod sequences;
 
 pub use job::ScanJob;
-pub use line::{message_line, shown};
 pub use looking::scan;

@@ -10,14 +10,16 @@ ghost use Rattle.mh_looks.specs.Scan.{
   one_shown,
   all_shown,
   ordered as ordered_of,
-  entries_seen,
-  chosen_by,
+  chosen_with,
   scan as scan_plan,
 };
+ghost use Rattle.msg_ranges.specs.Selection.{marks_of};
+ghost use Rattle.mh_looks.specs.Asked.{asked};
+ghost use Rattle.mh_looks.specs.Lines.{lined};
 ghost use Rattle.mh_looks.specs.Values.{IsListed};
 
 use crate::ScanJob;
-use crate::line::message_line;
+use crate::lines::{Lines, line};
 use crate::sequences::sequences_in;
 use command_stages::{
     LIMIT, choose, folder_place, list_folder, listed_numbers, make_current, numbers,
@@ -25,7 +27,8 @@ use command_stages::{
 };
 use file_plans::{Reading, ask_read, say};
 use folder_files::{Files, Place, Refusal};
-use mh_base::{Bytes, Duplicate, Entry, MsgNum, NameList, Sink, entry_name};
+use mh_base::{Duplicate, Entry, MsgNum, NameList, Sink, entry_name};
+use mh_sequences::Sequences;
 use std::alloc::{AllocError, Global};
 use step_plans::{CommandFault, Hand};
 
@@ -40,15 +43,16 @@ fn meddled(alloc: Global, place: &Place, number: MsgNum) -> Result<CommandFault,
 fn show<O: Sink>(
     alloc: Global,
     out: &mut O,
+    lines: Lines,
     place: &Place,
     number: MsgNum,
     reading: Reading,
 ) -> Result<(), CommandFault>
-    ensures { (run : ℕ) (h : Kept) (f : FilesState) → Follows run command_cause (shown_by place.now number reading) (by_out h f (O.state out.old)) (by_out h f (O.state out.new)) result }
+    ensures { (run : ℕ) (h : Kept) (f : FilesState) → Follows run command_cause (shown_by (lined lines.entry) place.now number reading) (by_out h f (O.state out.old)) (by_out h f (O.state out.new)) result }
 {
     match reading {
         Reading::Content(bytes) => {
-            let line = message_line(alloc, number, bytes.as_slice())?;
+            let line = line(alloc, lines, number, bytes.as_slice())?;
             say(out, line.as_slice())?;
             Ok(())
         }
@@ -65,14 +69,15 @@ fn show_one<F: Files, O: Sink>(
     run: u128,
     files: &mut F,
     out: &mut O,
+    lines: Lines,
     place: &Place,
     number: MsgNum,
 ) -> Result<(), CommandFault>
-    ensures { (h : Kept) → Follows run command_cause (one_shown place.now number) (by_out h (F.state files.old) (O.state out.old)) (by_out h (F.state files.new) (O.state out.new)) result }
+    ensures { (h : Kept) → Follows run command_cause (one_shown (lined lines.entry) place.now number) (by_out h (F.state files.old) (O.state out.old)) (by_out h (F.state files.new) (O.state out.new)) result }
 {
     let name = entry_name(alloc, &Entry::Number(number))?;
     let reading = ask_read(alloc, run, files, place, &name, LIMIT)?;
-    show(alloc, out, place, number, reading)
+    show(alloc, out, lines, place, number, reading)
 }
 
 fn show_all<F: Files, O: Sink>(
@@ -80,13 +85,14 @@ fn show_all<F: Files, O: Sink>(
     run: u128,
     files: &mut F,
     out: &mut O,
+    lines: Lines,
     place: &Place,
     numbers: &[MsgNum],
 ) -> Result<(), CommandFault>
-    ensures { (h : Kept) → Follows run command_cause (all_shown place.now numbers.now) (by_out h (F.state files.old) (O.state out.old)) (by_out h (F.state files.new) (O.state out.new)) result }
+    ensures { (h : Kept) → Follows run command_cause (all_shown (lined lines.entry) place.now numbers.now) (by_out h (F.state files.old) (O.state out.old)) (by_out h (F.state files.new) (O.state out.new)) result }
 {
     for number in numbers {
-        show_one(alloc, run, files, out, place, *number)?;
+        show_one(alloc, run, files, out, lines, place, *number)?;
     }
     Ok(())
 }
@@ -94,20 +100,18 @@ fn show_all<F: Files, O: Sink>(
 /// The messages that the job's words choose, in the order of their numbers.
 fn chosen(
     alloc: Global,
-    hand: &Hand,
     job: &ScanJob,
     names: &NameList,
-    text: &Bytes,
+    sequences: &Sequences,
 ) -> Result<Vec<MsgNum>, CommandFault>
-    ensures { IsListed (chosen_by job.now names.now text.now (entries_seen hand.now.kept.context)) result }
+    ensures { IsListed (chosen_with (asked job.now) names.now (marks_of sequences.now)) result }
 {
     let listing = listed_numbers(alloc, names.as_slice())?;
-    let sequences = sequences_in(alloc, text.as_slice(), hand, &job.folder)?;
     let set = choose(
         alloc,
         &job.specs,
         &listing,
-        &sequences,
+        sequences,
         job.negation.as_slice(),
     )?;
     Ok(numbers(alloc, &set)?)
@@ -130,15 +134,29 @@ pub fn scan<F: Files, O: Sink>(
     out: &mut O,
     job: &ScanJob,
 ) -> Result<(), CommandFault>
-    ensures plan { Follows hand.old.run command_cause (scan_plan hand.old.run hand.old.mail job.now) (by_out hand.old.kept (F.state files.old) (O.state out.old)) (by_out hand.new.kept (F.state files.new) (O.state out.new)) result }
+    ensures plan { Follows hand.old.run command_cause (scan_plan hand.old.run hand.old.mail (asked job.now)) (by_out hand.old.kept (F.state files.old) (O.state out.old)) (by_out hand.new.kept (F.state files.new) (O.state out.new)) result }
     ensures run { hand.new.run ≡ hand.old.run }
     ensures mail { hand.new.mail ≡ hand.old.mail }
 {
     let place = folder_place(alloc, hand, &job.folder)?;
     let names = list_folder(alloc, hand.run(), files, &place, &job.folder)?;
     let text = read_sequences_text(alloc, hand.run(), files, &place)?;
-    let mut found = chosen(alloc, hand, job, &names, &text)?;
+    let sequences = sequences_in(alloc, text.as_slice(), hand, &job.folder)?;
+    let mut found = chosen(alloc, job, &names, &sequences)?;
     ordered(&mut found, job.reverse);
-    show_all(alloc, hand.run(), files, out, &place, found.as_slice())?;
+    let lines = Lines {
+        look: &job.look,
+        sequences: &sequences,
+        unseen: &job.unseen,
+    };
+    show_all(
+        alloc,
+        hand.run(),
+        files,
+        out,
+        lines,
+        &place,
+        found.as_slice(),
+    )?;
     make_current(alloc, hand, files, &job.folder)
 }

@@ -71,6 +71,7 @@ use Rattle.mh_tools.specs.Status.{fault_status, ended_status, ended_word, IsVerd
 use Rattle.mh_tools.specs.TellsWhatItSaw.{SomeAgrees, IsLate, TellsIfItLooks}
 use Rattle.mh_tools.specs.declared.status.Status.{Status}
 use Rattle.mh_tools.specs.declared.status.Status.TheVariants.{Done, Refused, Faulted, Locked, Meddled, NoMemory}
+use Rattle.mh_tools.specs.Callers.{caller_of}
 
 -- the fault of a status
 fault_refused : (k : CommandFault) (r : Refusal) → fault_status k ≡ Refused r → k ≡ fault.Refused r
@@ -156,7 +157,7 @@ module _ (c : Call) (plan : FollowsItsPlan c) where
   abbrev exit : Exit (Result Unit Ended)
   exit = exit_of ended_cause outcome
 
-  abbrev went : Went run (command run c.setting.user c.words) (begins c fresh) (ends c plan.left) exit
+  abbrev went : Went run (command run (caller_of c.setting) c.words) (begins c fresh) (ends c plan.left) exit
   went = plan.follows.went
 
   abbrev steps : List deeds.Deed
@@ -197,7 +198,7 @@ module _ (c : Call) (plan : FollowsItsPlan c) where
   -- what is shown where the plan of a command returned that looks
   module _ (looks : LooksOnly c) where
     shown_at : (r : Result Unit Ended) → outcome ≡ r → exit ≡ Returned r → EndsAs run (deeds_in went.log) plan.left r
-    shown_at r is e = run_ends run c.setting.user c.words looks (deeds_in went.log) plan.left r (subst (λ x. Runs (command run c.setting.user c.words) fresh (deeds_in went.log) plan.left x) e went.runs)
+    shown_at r is e = run_ends run (caller_of c.setting) c.words looks (deeds_in went.log) plan.left r (subst (λ x. Runs (command run (caller_of c.setting) c.words) fresh (deeds_in went.log) plan.left x) e went.runs)
 
     -- a fault of the plan is shown
     fault_shown : (r : Result Unit Ended) (s : Status) (k : CommandFault) → outcome ≡ r → ended_status r ≡ s → (s ≡ Done → ⊥) → ((f : CommandFault) → fault_status f ≡ s → f ≡ k) → command_cause k ≡ OfPlan → ShowsCommandFault run k steps × (Made IsFailed steps → ⊥)
@@ -210,17 +211,17 @@ module _ (c : Call) (plan : FollowsItsPlan c) where
 
   -- and of one that may begin a folder
   module _ (few : run < 2 ^ 128) (may : MayBegin c) where
-    begun_shown : (r : Result Unit Ended) (s : Status) (k : CommandFault) → outcome ≡ r → ended_status r ≡ s → (s ≡ Done → ⊥) → ((f : CommandFault) → fault_status f ≡ s → f ≡ k) → command_cause k ≡ OfPlan → IsEndedBy (ShowsFault run c.setting.user c.words) k steps
+    begun_shown : (r : Result Unit Ended) (s : Status) (k : CommandFault) → outcome ≡ r → ended_status r ≡ s → (s ≡ Done → ⊥) → ((f : CommandFault) → fault_status f ≡ s → f ≡ k) → command_cause k ≡ OfPlan → IsEndedBy (ShowsFault run (caller_of c.setting) c.words) k steps
     begun_shown (Ok tt) s k is e never only cause = absurd (never (sym e))
     begun_shown (Err x) s k is e never only cause =
         let f : x.fault ≡ k = only x.fault e in
         let at : exit ≡ Returned (Err x) = ap (exit_of ended_cause) is ∙ (exit_fault x k f ∙ ap (exit_by {T = Unit {0}} x) cause) in
-        subst (λ j. IsEndedBy (ShowsFault run c.setting.user c.words) j steps) f
-        (run_ends_by run few c.setting.user c.words may (deeds_in went.log) plan.left (Err x) (subst (λ z. Runs (command run c.setting.user c.words) fresh (deeds_in went.log) plan.left z) at went.runs))
+        subst (λ j. IsEndedBy (ShowsFault run (caller_of c.setting) c.words) j steps) f
+        (run_ends_by run few (caller_of c.setting) c.words may (deeds_in went.log) plan.left (Err x) (subst (λ z. Runs (command run (caller_of c.setting) c.words) fresh (deeds_in went.log) plan.left z) at went.runs))
 
-    begun_done : (r : Result Unit Ended) → outcome ≡ r → ended_status r ≡ Done → ShowsOnFolder run c.setting.user c.words (Ok (said_of (deeds_in went.log))) steps
+    begun_done : (r : Result Unit Ended) → outcome ≡ r → ended_status r ≡ Done → ShowsOnFolder run (caller_of c.setting) c.words (Ok (said_of (deeds_in went.log))) steps
     begun_done (Ok tt) is e =
-        run_ends_by run few c.setting.user c.words may (deeds_in went.log) plan.left (Ok tt) (subst (λ z. Runs (command run c.setting.user c.words) fresh (deeds_in went.log) plan.left z) (ap (exit_of ended_cause) is) went.runs)
+        run_ends_by run few (caller_of c.setting) c.words may (deeds_in went.log) plan.left (Ok tt) (subst (λ z. Runs (command run (caller_of c.setting) c.words) fresh (deeds_in went.log) plan.left z) (ap (exit_of ended_cause) is) went.runs)
     begun_done (Err x) is e = absurd (fault_undone x.fault e)
 
     shown_begun : IsShownBegun c steps
@@ -229,27 +230,27 @@ module _ (c : Call) (plan : FollowsItsPlan c) where
       refused = λ r q. begun_shown outcome (Refused r) (fault.Refused r) refl (settle (Refused r) q (λ e. cc (e))) (λ e. cc (e)) (λ f e. fault_refused f r e) refl;
       locked = λ place q. begun_shown outcome (Locked place) (fault.Locked place) refl (settle (Locked place) q (λ e. cc (e))) (λ e. cc (e)) (λ f e. fault_locked f place e) refl;
       meddled = λ place name q. begun_shown outcome (Meddled place name) (fault.Meddled place name) refl (settle (Meddled place name) q (λ e. cc (e))) (λ e. cc (e)) (λ f e. fault_meddled f place name e) refl;
-      told = (said_of (deeds_in went.log), said_adds, (run_tells run few c.setting.user c.words may (deeds_in went.log) plan.left exit went.runs).0);
-      out = λ q. (run_tells run few c.setting.user c.words may (deeds_in went.log) plan.left exit went.runs).1 (out_fault (settle (Faulted Out) q (λ e. cc (e))));
+      told = (said_of (deeds_in went.log), said_adds, (run_tells run few (caller_of c.setting) c.words may (deeds_in went.log) plan.left exit went.runs).0);
+      out = λ q. (run_tells run few (caller_of c.setting) c.words may (deeds_in went.log) plan.left exit went.runs).1 (out_fault (settle (Faulted Out) q (λ e. cc (e))));
     }
 
   -- and of `refile`
   module _ (few : run < 2 ^ 128) (refiles : Refiles c) where
-    refile_fault : (r : Result Unit Ended) (s : Status) (k : CommandFault) → outcome ≡ r → ended_status r ≡ s → (s ≡ Done → ⊥) → ((f : CommandFault) → fault_status f ≡ s → f ≡ k) → command_cause k ≡ OfPlan → IsEndedFirst (ShowsFault run c.setting.user c.words) k steps
+    refile_fault : (r : Result Unit Ended) (s : Status) (k : CommandFault) → outcome ≡ r → ended_status r ≡ s → (s ≡ Done → ⊥) → ((f : CommandFault) → fault_status f ≡ s → f ≡ k) → command_cause k ≡ OfPlan → IsEndedFirst (ShowsFault run (caller_of c.setting) c.words) k steps
     refile_fault (Ok tt) s k is e never only cause = absurd (never (sym e))
     refile_fault (Err x) s k is e never only cause =
         let f : x.fault ≡ k = only x.fault e in
         let at : exit ≡ Returned (Err x) = ap (exit_of ended_cause) is ∙ (exit_fault x k f ∙ ap (exit_by {T = Unit {0}} x) cause) in
-        subst (λ j. IsEndedFirst (ShowsFault run c.setting.user c.words) j steps) f
-        (run_refile_ends_by run few c.setting.user c.words refiles (deeds_in went.log) plan.left (Err x) (subst (λ z. Runs (command run c.setting.user c.words) fresh (deeds_in went.log) plan.left z) at went.runs)).1
+        subst (λ j. IsEndedFirst (ShowsFault run (caller_of c.setting) c.words) j steps) f
+        (run_refile_ends_by run few (caller_of c.setting) c.words refiles (deeds_in went.log) plan.left (Err x) (subst (λ z. Runs (command run (caller_of c.setting) c.words) fresh (deeds_in went.log) plan.left z) at went.runs)).1
 
-    refile_done : (r : Result Unit Ended) → outcome ≡ r → ended_status r ≡ Done → ShowsOnFolder run c.setting.user c.words (Ok []) steps
+    refile_done : (r : Result Unit Ended) → outcome ≡ r → ended_status r ≡ Done → ShowsOnFolder run (caller_of c.setting) c.words (Ok []) steps
     refile_done (Ok tt) is e =
-        (run_refile_ends_by run few c.setting.user c.words refiles (deeds_in went.log) plan.left (Ok tt) (subst (λ z. Runs (command run c.setting.user c.words) fresh (deeds_in went.log) plan.left z) (ap (exit_of ended_cause) is) went.runs)).1
+        (run_refile_ends_by run few (caller_of c.setting) c.words refiles (deeds_in went.log) plan.left (Ok tt) (subst (λ z. Runs (command run (caller_of c.setting) c.words) fresh (deeds_in went.log) plan.left z) (ap (exit_of ended_cause) is) went.runs)).1
     refile_done (Err x) is e = absurd (fault_undone x.fault e)
 
     refile_silent : (said_of (deeds_in went.log) ≡ []) × (exit ≡ OutFailed → ⊥)
-    refile_silent = run_refile_silent run few c.setting.user c.words refiles (deeds_in went.log) plan.left exit went.runs
+    refile_silent = run_refile_silent run few (caller_of c.setting) c.words refiles (deeds_in went.log) plan.left exit went.runs
 
     shown_refiled : IsShownRefiled c steps
     shown_refiled = record {
@@ -264,17 +265,17 @@ module _ (c : Call) (plan : FollowsItsPlan c) where
   files_at : ended_status outcome ≡ Faulted Files → Rose c.before.files.faults c.after.files.faults × Made IsFailed steps
   files_at e =
       let x = faulted outcome Files refl e in
-      (went.files_cause x.1, failed_made (deeds_in went.log) (run_failed (command run c.setting.user c.words) fresh (deeds_in went.log) plan.left exit went.runs x.1))
+      (went.files_cause x.1, failed_made (deeds_in went.log) (run_failed (command run (caller_of c.setting) c.words) fresh (deeds_in went.log) plan.left exit went.runs x.1))
 
   module _ (few : run < 2 ^ 128) where
     abbrev work : Mailbox → Work Ended
-    work m = work_of run c.setting.user c.words m
+    work m = work_of run (caller_of c.setting) c.words m
 
     -- by contents that agree
     seen : LooksOnly c → (d : Contents) → AgreesWith d steps → GaveSeen plan.left (work (mailbox_in d)).text (said_of (deeds_in went.log)) exit (CommandEnds false (work (mailbox_in d)))
     seen looks d agrees =
-        seen_gave (command run c.setting.user c.words) fresh plan.left (deeds_in went.log) exit (work (mailbox_in d)).text (CommandEnds false (work (mailbox_in d))) d agrees went.runs
-        (command_gives false run d few (λ e. absurd (cc (e))) c.setting.user c.words (λ is. sym looks ∙ is) (λ made. absurd (looks_made (command_of c.words) looks made)) (first_view d (numbers_put steps []) (is_first_met steps)) refl (command_first run c.setting.user c.words looks d (numbers_put steps []) fresh plan.left (deeds_in went.log) exit went.runs))
+        seen_gave (command run (caller_of c.setting) c.words) fresh plan.left (deeds_in went.log) exit (work (mailbox_in d)).text (CommandEnds false (work (mailbox_in d))) d agrees went.runs
+        (command_gives false run d few (λ e. absurd (cc (e))) (caller_of c.setting) c.words (λ is. sym looks ∙ is) (λ made. absurd (looks_made (command_of c.words) looks made)) (first_view d (numbers_put steps []) (is_first_met steps)) refl (command_first run (caller_of c.setting) c.words looks d (numbers_put steps []) fresh plan.left (deeds_in went.log) exit went.runs))
 
     -- what an end says of the work
     ends_verdict : (alone : Bool) (w : Work Ended) (z : View) (j : Hand) (left : List ℕ) (r : Result Unit Ended) → IsVerdict (ended_status r) → CommandEnds alone w z j left r → (left ≡ []) × DecidesEnd alone w z r
@@ -340,7 +341,7 @@ module _ (c : Call) (plan : FollowsItsPlan c) where
         record {
           deeds = steps;
           made = made;
-          done = λ q m. command_clean run few c.setting.user c.words (begins c fresh) (ends c plan.left) outcome plan.follows (is_done outcome (settle Done q (λ e. cc (e)))) (failed_once steps m);
+          done = λ q m. command_clean run few (caller_of c.setting) c.words (begins c fresh) (ends c plan.left) outcome plan.follows (is_done outcome (settle Done q (λ e. cc (e)))) (failed_once steps m);
           files = λ q. files_at (settle (Faulted Files) q (λ e. cc (e)));
           source = λ q. plan.source (settle (Faulted Source) q (λ e. cc (e)));
           out = λ q. went.out_cause (out_fault (settle (Faulted Out) q (λ e. cc (e))));
@@ -376,14 +377,14 @@ module _ (c : Call) (plan : FollowsItsPlan c) where
 
     pub keeps : KeepsMail c
     keeps =
-        let k = command_keeps run few c.setting.user c.words (begins c fresh) (ends c plan.left) outcome plan.follows in
+        let k = command_keeps run few (caller_of c.setting) c.words (begins c fresh) (ends c plan.left) outcome plan.follows in
         record { profile = k.profile; context = k.context; deeds = k.own; made = k.made; begun = k.begun; finished = λ q. k.finished (is_done outcome (settle Done q (λ e. cc (e)))); promises = moved k.promises }
       where
         moved : {w : Pledge} → Promises w (begins c fresh) (ends c plan.left) → Promises w (begins c fresh) (ends c fresh)
         moved p = record { careful = p.careful; as_pledged = p.as_pledged; by_bases = p.by_bases; safe = p.safe; in_order = p.in_order }
 
     pub marks : AreUtf8 c.words → KeepsMarks c
-    marks texts = command_keeps_marks run few c.setting.user (begins c fresh) (ends c plan.left) outcome c.words texts plan.follows
+    marks texts = command_keeps_marks run few (caller_of c.setting) (begins c fresh) (ends c plan.left) outcome c.words texts plan.follows
 
     -- alone
     error_told : (r : Result Unit Ended) (s : Status) → s ≡ ended_status r → IsVerdict s → TellsStatus (ended_word r) c.before.err c.after.err s → (Rose c.before.err.faults c.after.err.faults → ⊥) → Adds c.before.err.told c.after.err.told (error_of r)
@@ -452,8 +453,8 @@ module _ (c : Call) (plan : FollowsItsPlan c) where
           let first = first_of (length old.history) added in
           let d = contents_of (world_at new first) in
           let w = work (mailbox_in d) in
-          let g = alone_gave (λ p x. false) run old new added (command run c.setting.user c.words) fresh plan.left (deeds_in went.log) exit w.text (CommandEnds true w) (lone_changes run old new (filed_in went.log) added grows asked start possible alone never) (sym made_) went.runs
-          (command_gives true run d few (λ e p. homes_there run d p) c.setting.user c.words (λ is. refl) (λ makes. story_bare new first) (first_view d (puts_in (deeds_in went.log)) (λ p x. false)) refl (record { seen = refl; unmet = λ p x. refl })) in
+          let g = alone_gave (λ p x. false) run old new added (command run (caller_of c.setting) c.words) fresh plan.left (deeds_in went.log) exit w.text (CommandEnds true w) (lone_changes run old new (filed_in went.log) added grows asked start possible alone never) (sym made_) went.runs
+          (command_gives true run d few (λ e p. homes_there run d p) (caller_of c.setting) c.words (λ is. refl) (λ makes. story_bare new first) (first_view d (puts_in (deeds_in went.log)) (λ p x. false)) refl (record { seen = refl; unmet = λ p x. refl })) in
           subst (λ m. (c.status ≡ NoMemory) ⊎ HasOutcome (answered (work m)) (mailbox_at new (first + length added)) c) (sym (mailbox_is (world_at new first)))
           (by_end w g.view plan.left (mailbox_at new (first + length added)) (ap mailbox_in g.contents ∙ sym (mailbox_is (world_at new (first + length added)))) g.gave outcome refl)
 
@@ -477,8 +478,8 @@ module _ (c : Call) (plan : FollowsItsPlan c) where
 
       gave : giving.Gave fitted.0 plan.left (work (mailbox_in d)).text (said_of (deeds_in went.log)) exit (CommandEnds true (work (mailbox_in d)))
       gave =
-          run_gives (by_view true) first fitted.0 fresh plan.left (work (mailbox_in d)).text (command run c.setting.user c.words) (deeds_in went.log) exit (CommandEnds true (work (mailbox_in d)))
-          (command_gives true run d few (λ e p. homes_there run d p) c.setting.user c.words (λ is. refl) bare first refl (record { seen = refl; unmet = λ p x. refl })) fitted.2 went.runs
+          run_gives (by_view true) first fitted.0 fresh plan.left (work (mailbox_in d)).text (command run (caller_of c.setting) c.words) (deeds_in went.log) exit (CommandEnds true (work (mailbox_in d)))
+          (command_gives true run d few (λ e p. homes_there run d p) (caller_of c.setting) c.words (λ is. refl) bare first refl (record { seen = refl; unmet = λ p x. refl })) fitted.2 went.runs
 
       -- another run's lock and a name that was changed meanwhile are not answered
       never : (r : Result Unit Ended) (k : CommandFault) (s : Status) → outcome ≡ r → ended_status r ≡ s → (s ≡ Done → ⊥) → ((f : CommandFault) → fault_status f ≡ s → f ≡ k) → command_cause k ≡ OfPlan

@@ -15,6 +15,7 @@ use Rattle.mh_tools.specs.Lines.{error_line_of}
 use Rattle.mh_tools.specs.Status.{ended_status, ended_word}
 use Rattle.mh_tools.specs.declared.status.Status.{Status}
 use Rattle.mh_tools.specs.declared.status.Status.TheVariants.{Done, Faulted, NoMemory}
+use Rattle.mh_tools.specs.Callers.{caller_of}
 
 -- Where the count of the error output didn't rise, it gained the whole line of the status, which speaks of this word, and else a prefix of it; for want
 -- of memory a prefix; nothing where all is done.
@@ -34,7 +35,7 @@ told_status (Err sink.Memory) status = NoMemory
 pub record FollowsItsPlan (c : Call) : Type 0 where
   pub outcome : Result Unit Ended
   pub left : Hand
-  pub follows : Follows c.setting.run ended_cause (command c.setting.run c.setting.user c.words) (begins c fresh) (ends c left) outcome
+  pub follows : Follows c.setting.run ended_cause (command c.setting.run (caller_of c.setting) c.words) (begins c fresh) (ends c left) outcome
   pub source : ended_status outcome ≢ Faulted Source
   pub ends_so : (c.status ≡ ended_status outcome) ⊎ (c.status ≡ NoMemory)
   pub told : TellsStatus (ended_word outcome) c.before.err c.after.err c.status

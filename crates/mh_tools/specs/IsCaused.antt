@@ -22,6 +22,7 @@ use Rattle.command_line.specs.declared.name.CommandName.TheVariants.{Refile}
 use Rattle.mh_tools.specs.Calls.{Call, LooksOnly, MadeBy}
 use Rattle.mh_tools.specs.TellsWhatItSaw.{outcome_on}
 use Rattle.mh_tools.specs.declared.status.Status.TheVariants.{Done, Refused, Faulted, Locked, Meddled}
+use Rattle.mh_tools.specs.Callers.{caller_of}
 
 -- Of a command that only looks at a folder: a refusal comes only where what shows it was answered, and where no step failed; a fault of the output
 -- only where there is a text to write. Locked comes only of a mail directory, after that lock was held by another run 64 times. Meddled comes only where
@@ -45,16 +46,16 @@ MayBegin c = shows_ends (command_of c.words) ≡ true
 pub record IsShownBegun (c : Call) (deeds : List Deed) : Type 0 where
   pub done : c.status ≡ Done
       → (said : List ℕ) × Adds c.before.out.told c.after.out.told said
-      × ShowsOnFolder c.setting.run c.setting.user c.words (Ok said) deeds
+      × ShowsOnFolder c.setting.run (caller_of c.setting) c.words (Ok said) deeds
   pub refused : (r : Refusal) → c.status ≡ Refused r
-      → IsShownBy (ShowsFault c.setting.run c.setting.user c.words (fault.Refused r)) deeds
+      → IsShownBy (ShowsFault c.setting.run (caller_of c.setting) c.words (fault.Refused r)) deeds
   pub locked : (place : Place) → c.status ≡ Locked place
-      → IsShownBy (ShowsFault c.setting.run c.setting.user c.words (fault.Locked place)) deeds
+      → IsShownBy (ShowsFault c.setting.run (caller_of c.setting) c.words (fault.Locked place)) deeds
   pub meddled : (place : Place) (name : List ℕ) → c.status ≡ Meddled place name
-      → ShowsFault c.setting.run c.setting.user c.words (fault.Meddled place name) deeds × (Made IsFailed deeds → ⊥)
+      → ShowsFault c.setting.run (caller_of c.setting) c.words (fault.Meddled place name) deeds × (Made IsFailed deeds → ⊥)
   pub told : (said : List ℕ) × Adds c.before.out.told c.after.out.told said
-      × IsToldBy (TellsOnFolder c.setting.run c.setting.user c.words) said deeds
-  pub out : c.status ≡ Faulted Out → (text : List ℕ) × TellsOnFolder c.setting.run c.setting.user c.words text deeds × (text ≢ [])
+      × IsToldBy (TellsOnFolder c.setting.run (caller_of c.setting) c.words) said deeds
+  pub out : c.status ≡ Faulted Out → (text : List ℕ) × TellsOnFolder c.setting.run (caller_of c.setting) c.words text deeds × (text ≢ [])
 
 -- the words name `refile`, by its name at least
 abbrev pub Refiles : Call → Type 0
@@ -64,13 +65,13 @@ Refiles c = command_of c.words ≡ Some Refile
 -- after Locked it may have let the folders go that it had locked, one after another, as its last steps. But for those
 -- steps no step failed. However the command ends, the output gained nothing, and no fault of the output comes.
 pub record IsShownRefiled (c : Call) (deeds : List Deed) : Type 0 where
-  pub done : c.status ≡ Done → ShowsOnFolder c.setting.run c.setting.user c.words (Ok []) deeds
+  pub done : c.status ≡ Done → ShowsOnFolder c.setting.run (caller_of c.setting) c.words (Ok []) deeds
   pub refused : (r : Refusal) → c.status ≡ Refused r
-      → IsShownFirst (ShowsFault c.setting.run c.setting.user c.words (fault.Refused r)) deeds
+      → IsShownFirst (ShowsFault c.setting.run (caller_of c.setting) c.words (fault.Refused r)) deeds
   pub locked : (place : Place) → c.status ≡ Locked place
-      → IsShownFirst (ShowsFault c.setting.run c.setting.user c.words (fault.Locked place)) deeds
+      → IsShownFirst (ShowsFault c.setting.run (caller_of c.setting) c.words (fault.Locked place)) deeds
   pub meddled : (place : Place) (name : List ℕ) → c.status ≡ Meddled place name
-      → ShowsFault c.setting.run c.setting.user c.words (fault.Meddled place name) deeds × (Made IsFailed deeds → ⊥)
+      → ShowsFault c.setting.run (caller_of c.setting) c.words (fault.Meddled place name) deeds × (Made IsFailed deeds → ⊥)
   pub told : Adds c.before.out.told c.after.out.told []
   pub out : c.status ≢ Faulted Out
 

@@ -9,6 +9,7 @@ use Rattle.command_line.specs.CommandNames.{command_of}
 use Rattle.command_line.specs.CommandPledge.{HaveBegun, IsDone, command_pledge, entries_by, path_by}
 use Rattle.mh_tools.specs.Calls.{Call, MadeBy, begins, ends}
 use Rattle.mh_tools.specs.declared.status.Status.TheVariants.{Done}
+use Rattle.mh_tools.specs.Callers.{caller_of}
 
 -- The call began with the profile, which names the path of a mail directory, and then with the context of that. By the pledge that these and its words make
 -- its own steps are careful, under their locks and of its command's kinds; where the others are careful no mail is lost and no number taken; and where
@@ -21,7 +22,7 @@ pub record KeepsMail (c : Call) : Type 0 where
   pub made : MadeBy c deeds
   pub begun : HaveBegun profile context deeds
   pub finished : c.status ≡ Done → IsDone (command_of c.words) (path_by profile) deeds
-  pub promises : Promises (command_pledge c.setting.run c.setting.user c.words (entries_by profile) (entries_by context)) (begins c fresh) (ends c fresh)
+  pub promises : Promises (command_pledge c.setting.run (caller_of c.setting) c.words (entries_by profile) (entries_by context)) (begins c fresh) (ends c fresh)
 
 -- no mark of a sequence that users name passes to another message, where the others mind them: by a command that looks,
 -- by `inc` and `mark`, and by `rmm` where no message was left held aside in the folder when it removed one

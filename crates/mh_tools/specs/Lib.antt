@@ -1,5 +1,6 @@
 pub mod AnswersAlone
 pub mod AnswersAsOne
+pub mod Callers
 pub mod Calls
 pub mod FollowsItsPlan
 pub mod IsCaused
@@ -7,5 +8,6 @@ pub mod KeepsMail
 pub mod Lines
 pub mod Outcome
 pub mod Setting
+pub mod Shown
 pub mod Status
 pub mod TellsWhatItSaw

@@ -11,7 +11,7 @@ use Rattle.folder_files.specs.declared.refusal.Refusal.{Refusal}
 use Rattle.folder_files.specs.declared.refusal.Refusal.TheVariants as refusal
 use Rattle.mh_tools.specs.declared.status.Status.{Status}
 use Rattle.mh_tools.specs.declared.status.Status.TheVariants.{Done, Refused, Faulted, Locked, Meddled, NoMemory}
-use Rattle.mh_looks.specs.MessageLine.{shown}
+use Rattle.mh_tools.specs.Shown.{shown}
 
 abbrev pub command_text : Option (List ℕ) → List ℕ
 command_text None = codes "no command"

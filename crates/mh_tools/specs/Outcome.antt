@@ -8,6 +8,7 @@ use Rattle.mh_tools.specs.Lines.{error_line_of}
 use Rattle.mh_tools.specs.Setting.{SettingParts}
 use Rattle.mh_tools.specs.Status.{fault_status, ended_status}
 use Rattle.mh_tools.specs.declared.status.Status.{Status}
+use Rattle.mh_tools.specs.Callers.{caller_of}
 
 -- how a call ends, what it writes to its output and to its error output, and the mailbox that it leaves
 pub record Outcome : Type 0 where
@@ -26,6 +27,6 @@ abbrev pub answered : Work Ended → Outcome
 answered w = record { status = ended_status w.end; output = w.text; error = error_of w.end; mailbox = w.mailbox }
 
 -- what a call answers alone; no command that there is looks at the input, nor at its setting but for its own run's number, which tells what other
--- runs hold aside, and the user's name, which tells where mail is delivered
+-- runs hold aside, the user's name, which tells where mail is delivered, and, for lines, both the name and the moment
 unfoldable pub outcome_of : List (List ℕ) → Mailbox → SettingParts → Option (List ℕ) → Outcome
-outcome_of words m setting input = answered (work_of setting.run setting.user words m)
+outcome_of words m setting input = answered (work_of setting.run (caller_of setting) words m)

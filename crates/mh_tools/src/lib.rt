@@ -3,6 +3,7 @@
 
 mod lines;
 mod setting;
+mod shown;
 mod status;
 mod top;
 

@@ -4,10 +4,10 @@ ghost use Rattle.std.specs.Str.{encode_utf8_all};
 ghost use Rattle.mh_tools.specs.Lines.{command_text, word_text, refusal_text, place_text, which_text, status_text, error_line_of};
 
 use crate::Status;
+use crate::shown::shown;
 use folder_files::{Place, Refusal, Which};
 use itoa::Buffer;
 use mh_base::{Bytes, FolderName, Text, WordWhy};
-use mh_looks::shown;
 use std::alloc::{AllocError, Global};
 
 fn say_text(line: &mut Bytes, words: &[u8], text: &Text) -> Result<(), AllocError>

@@ -1,18 +1,19 @@
 // What a run is given beside its words.
 ghost use Rattle.std.specs.Prelude.{◌≡◌, MatchOption};
+ghost use Rattle.mh_tools.specs.Callers.{caller_of};
 ghost use Rattle.mh_tools.specs.Setting.{IsSetting};
 
+use command_line::Caller;
 use mh_base::Text;
 use std::marker::Model;
 
 /// A run's setting: its number, which no other run has; the moment, in seconds from 1970-01-01
-/// 00:00:00 UTC; the offset from UTC in minutes; and the user's name.
+/// 00:00:00 UTC, and the user's name; and the offset from UTC in minutes.
 #[derive(Drop)]
 pub struct Setting {
     run: u128,
-    moment: i64,
     offset_minutes: i32,
-    user: Text,
+    caller: Caller,
 }
 
 impl Model for Setting {
@@ -20,9 +21,9 @@ impl Model for Setting {
 
     ghost Value = { SettingParts };
 
-    ghost view = { λ s. record { run = s.run; moment = s.moment; offset = s.offset_minutes; user = s.user } };
+    ghost view = { λ s. record { run = s.run; moment = s.caller.moment; offset = s.offset_minutes; user = s.caller.user } };
 
-    ghost invariant = { λ s. IsSetting s.moment s.offset_minutes };
+    ghost invariant = { λ s. IsSetting s.caller.moment s.offset_minutes };
 }
 
 impl Setting {
@@ -31,11 +32,11 @@ impl Setting {
         ensures { MatchOption result (IsSetting now offset_minutes → ⊥) (λ s. IsSetting now offset_minutes × (s ≡ record { run = run; moment = now; offset = offset_minutes; user = user })) }
     {
         if 0 <= now && now <= 253_402_000_000 && -1439 <= offset_minutes && offset_minutes <= 1439 {
+            let moment = now;
             Some(Setting {
                 run,
-                moment: now,
                 offset_minutes,
-                user,
+                caller: Caller { user, moment },
             })
         } else {
             None
@@ -48,9 +49,9 @@ impl Setting {
         self.run
     }
 
-    pub fn user(&self) -> &Text
-        ensures { result.now ≡ self.now.user }
+    pub fn caller(&self) -> &Caller
+        ensures { result.now ≡ caller_of self.now }
     {
-        &self.user
+        &self.caller
     }
 }

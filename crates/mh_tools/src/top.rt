@@ -84,7 +84,7 @@ pub fn mh<F: Files, I: Source, O: Sink, E: Sink>(
         alloc,
         words.as_slice(),
         setting.run(),
-        setting.user(),
+        setting.caller(),
         files,
         out,
     );

@@ -5,9 +5,9 @@ use Rattle.command_line.proofs.Plans.{named_none, named_some}
 use Rattle.command_line.proofs.command.run_named.Goals as goal
 
 pub returns-in-None : goal.returns-in-None
-returns-in-None g c = (fresh, named_none c.args.user.now c.args.profile.now string_bytes c.args.words.now _ c.in-None.ensures.cases c.no_command.ensures)
+returns-in-None g c = (fresh, named_none c.args.caller.now c.args.profile.now string_bytes c.args.words.now _ c.in-None.ensures.cases c.no_command.ensures)
 
 pub returns-in-Some : goal.returns-in-Some
 returns-in-Some g c =
     let f = c.run_word.ensures in
-    (f.0, named_some c.args.user.now c.args.profile.now (map string_bytes c.args.words.now) (map string_bytes c.in-Some.rest.now) c.as_str.result.now (search rules) f.1)
+    (f.0, named_some c.args.caller.now c.args.profile.now (map string_bytes c.args.words.now) (map string_bytes c.in-Some.rest.now) c.as_str.result.now (search rules) f.1)

@@ -10,4 +10,4 @@ pub returns-in_err-word-in-None : goal.returns-in_err-word-in-None
 returns-in_err-word-in-None g c = (fresh, no_room _ c.from_residual.ensures refl)
 
 pub returns-in_ok-word-in-None : goal.returns-in_ok-word-in-None
-returns-in_ok-word-in-None g c = (fresh, word_none c.args.user.now c.args.profile.now c.args.word.now (map string_bytes c.args.rest.now) (named c.args.word.now) _ (search rules) (search rules))
+returns-in_ok-word-in-None g c = (fresh, word_none c.args.caller.now c.args.profile.now c.args.word.now (map string_bytes c.args.rest.now) (named c.args.word.now) _ (search rules) (search rules))

@@ -7,6 +7,10 @@ pub returns-in_err-folder : goal.returns-in_err-folder
 unfolding scan_begun
 returns-in_err-folder g c = stop _ (whole c.in_err-folder.ensures.plan) c.from_residual.ensures
 
+pub returns-in_err-known_sequences : goal.returns-in_err-known_sequences
+unfolding scan_begun
+returns-in_err-known_sequences g c = go _ (whole c.in_ok-folder.ensures.plan) (no_room _ c.from_residual-in_err-known_sequences.ensures refl)
+
 pub returns-in_err-negation : goal.returns-in_err-negation
 unfolding scan_begun
 returns-in_err-negation g c = go _ (whole c.in_ok-folder.ensures.plan) (no_room _ c.from_residual-in_err-negation.ensures refl)
@@ -15,4 +19,4 @@ pub returns : goal.returns
 unfolding scan_begun
 returns g c =
     go _ (whole c.in_ok-folder.ensures.plan)
-    (rw (c.in_ok-folder.ensures.run, c.in_ok-folder.ensures.mail, c.requires, c.in_ok-negation.ensures) at c.scan.ensures.plan)
+    (rw (c.in_ok-folder.ensures.run, c.in_ok-folder.ensures.mail, c.requires, c.in_ok-known_sequences.ensures, c.in_ok-negation.ensures) at c.scan.ensures.plan)

@@ -9,4 +9,4 @@ returns-in_err-tell_heading-clause-plan g c = stop _ (c.in_err-tell_heading.ensu
 pub returns-clause-plan : goal.returns-clause-plan
 unfolding told_taken
 returns-clause-plan g c =
-    go _ (c.in_ok-tell_heading.ensures c.args.hand.now.run c.args.hand.now.kept (g.F.Files.state c.args.files.now)) (rw (c.place.ensures, c.highest-highest.ensures.value, c.listing.ensures) at c.take_drop.ensures.plan)
+    go _ (c.in_ok-tell_heading.ensures c.args.hand.now.run c.args.hand.now.kept (g.F.Files.state c.args.files.now)) (rw (c.place.ensures, c.highest-highest.ensures.value, c.listing.ensures, c.sequences.ensures, c.has_unseen.ensures) at c.take_drop.ensures.plan)

@@ -3,10 +3,10 @@ use Rattle.mh_looks.proofs.Showing.{turn, end}
 use Rattle.mh_looks.proofs.looking.show_all.Goals as goal
 
 pub returns-in_err-show_one : goal.returns-in_err-show_one
-returns-in_err-show_one g c = λ h. c.loop-number.invariant h _ _ (turn _ _ _ _ _ _ _ _ c.loop-number-test.true c.number-item.is (stop _ (c.in_err-show_one.ensures h) c.from_residual.ensures))
+returns-in_err-show_one g c = λ h. c.loop-number.invariant h _ _ (turn _ _ _ _ _ _ _ _ _ c.loop-number-test.true c.number-item.is (stop _ (c.in_err-show_one.ensures h) c.from_residual.ensures))
 
 pub loop-number-preserved : goal.loop-number-preserved
-loop-number-preserved g c = λ h z r f. c.loop-number.invariant h z r (turn _ _ _ _ _ _ _ _ c.loop-number-test.true c.number-item.is (go _ (c.in_ok-show_one.ensures h) f))
+loop-number-preserved g c = λ h z r f. c.loop-number.invariant h z r (turn _ _ _ _ _ _ _ _ _ c.loop-number-test.true c.number-item.is (go _ (c.in_ok-show_one.ensures h) f))
 
 pub returns : goal.returns
-returns g c = λ h. c.loop-number.invariant h _ _ (end _ _ _ _ _ c.loop-number-test.false)
+returns g c = λ h. c.loop-number.invariant h _ _ (end _ _ _ _ _ _ c.loop-number-test.false)

@@ -4,7 +4,7 @@ use Rattle.mh_tools.proofs.top.mh.Goals as goal
 
 pub returns-clause-plan : goal.returns-clause-plan
 returns-clause-plan g c =
-    let ran = rw (c.run.ensures, c.user.ensures, c.as_slice.ensures.value) at c.run_command-outcome.ensures in
+    let ran = rw (c.run.ensures, c.caller.ensures, c.as_slice.ensures.value) at c.run_command-outcome.ensures in
     record { outcome = c.run_command-outcome.result; left = ran.0; follows = beside ran.1; source = never_source _ _ _ _ _ _ _ _ _ ran.1; ends_so = c.report.ensures.ends; told = c.report.ensures.told }
 
 pub returns-clause-caused : goal.returns-clause-caused

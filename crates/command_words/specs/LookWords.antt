@@ -1,0 +1,60 @@
+-- What words say of the lines of messages.
+use Rattle.std.specs.Prelude.{ℕ, ◌==◌, Bool, false, nat_lt, List, [], ◌∷◌, Option, None, Some, Result, Ok, Err, if◌then◌else◌}
+use Rattle.std.specs.List.{flat_map}
+use Rattle.std.specs.Str.{encode_utf8_all}
+use Rattle.mh_base.specs.declared.word.WordWhy.TheVariants.{BadValue, Extra}
+use Rattle.mh_words.specs.declared.item.Item.{Item}
+use Rattle.mh_words.specs.declared.item.Item.TheVariants.{Folder, Message, Switch, Component}
+use Rattle.mh_words.specs.Whole.{Wrong}
+use Rattle.command_words.specs.Columns.{columns_in}
+use Rattle.command_words.specs.Switches.{last_of, values}
+use Rattle.command_words.specs.declared.look.LookWords.{LookWords}
+use Rattle.command_words.specs.declared.tables.TheConstants.{FORMAT, WIDTH}
+
+-- the last of these, or what was before where there are none
+abbrev pub last_behind : {A : Type 0} → A → List A → A
+last_behind before [] = before
+last_behind before (x ∷ xs) = last_behind x xs
+
+abbrev pub listed : Option ℕ → List ℕ
+listed None = []
+listed (Some n) = n ∷ []
+
+-- the width that a switch names
+abbrev pub width_in : Item → List ℕ
+width_in (Folder text place) = []
+width_in (Message text place) = []
+width_in (Switch index None place) = []
+width_in (Switch index (Some value) place) = if index == WIDTH then listed (columns_in (encode_utf8_all value)) else []
+width_in (Component name value place) = []
+
+-- of all formats and widths that words name the last counts; 80 columns without one
+abbrev pub look_of : List Item → LookWords
+look_of items = record { format = last_of (values FORMAT items); width = last_behind 80 (flat_map width_in items) }
+
+abbrev pub if_none : ℕ → Option ℕ → List ℕ
+if_none place None = place ∷ []
+if_none place (Some n) = []
+
+-- the place of a width that is none
+abbrev pub wrong_width_in : Item → List ℕ
+wrong_width_in (Folder text place) = []
+wrong_width_in (Message text place) = []
+wrong_width_in (Switch index None place) = []
+wrong_width_in (Switch index (Some value) place) = if index == WIDTH then if_none place (columns_in (encode_utf8_all value)) else []
+wrong_width_in (Component name value place) = []
+
+-- the places of all of them
+abbrev pub wrong_widths : List Item → List ℕ
+wrong_widths items = flat_map wrong_width_in items
+
+-- a word that is too many, or before it a width that is none
+abbrev pub earliest : List ℕ → Wrong → Wrong
+earliest [] wrong = wrong
+earliest (place ∷ places) wrong = if nat_lt place wrong.place then record { place = place; why = BadValue } else wrong
+
+-- where a width is none, the words are wrong
+abbrev pub unless_wide : List ℕ → Result (Option (List ℕ)) Wrong → Result (Option (List ℕ)) Wrong
+unless_wide places (Err wrong) = Err (earliest places wrong)
+unless_wide [] (Ok word) = Ok word
+unless_wide (place ∷ places) (Ok word) = Err (record { place = place; why = BadValue })

@@ -1,0 +1,2 @@
+pub mod FormatFinds
+pub mod Texts

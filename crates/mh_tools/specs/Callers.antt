@@ -1,0 +1,6 @@
+-- Who calls, by the setting.
+use Rattle.command_line.specs.declared.caller.Caller.{Caller}
+use Rattle.mh_tools.specs.Setting.{SettingParts}
+
+abbrev pub caller_of : SettingParts → Caller
+caller_of setting = record { user = setting.user; moment = setting.moment }
