@@ -9,6 +9,7 @@ ghost use Rattle.mail_headers.specs.View.{field_text};
 ghost use Rattle.pick_expr.specs.declared.lexeme.Lexeme.{Lexeme as LexemeValue};
 ghost use Rattle.pick_expr.specs.Finishing.{is_match};
 ghost use Rattle.pick_expr.specs.Grammar.{IsExpression, Tree};
+ghost use Rattle.pick_expr.specs.Picks.{picks};
 ghost use Rattle.pick_expr.specs.Truth.{date_of, field_line, Holds, lines_of};
 ghost use Rattle.pick_expr.specs.Values.{clock_of_date, fields_match, fresh, is_after, is_before, some_line, test_value, value_of};
 
@@ -271,7 +272,8 @@ fn words_value(alloc: Global, words: &[Lexeme], message: &Message<'_>) -> Result
 
 /// Whether the expression holds of the message.
 pub fn holds(alloc: Global, expr: &Expr, message: &[u8]) -> Result<bool, AllocError>
-    ensures { (e : Tree) → IsExpression expr.now.words e → IfOk result (λ r. IsTrue r ↔ Holds e message.now) }
+    ensures tree { (e : Tree) → IsExpression expr.now.words e → IfOk result (λ r. IsTrue r ↔ Holds e message.now) }
+    ensures value { IfOk result (λ r. r ≡ picks expr.now message.now) }
 {
     words_value(alloc, expr.words.as_slice(), &Message::cut(message))
 }

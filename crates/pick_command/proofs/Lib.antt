@@ -1,0 +1,14 @@
+pub mod ListedFound
+pub mod ListingSays
+pub mod LooksEnd
+pub mod LooksJob
+pub mod LooksRefused
+pub mod Loops
+pub mod PickAlone
+pub mod PickEnds
+pub mod PickGiven
+pub mod PickMinds
+pub mod PickPledged
+pub mod PickSays
+pub mod Tested
+pub mod TestsGiven

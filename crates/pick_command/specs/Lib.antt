@@ -1,0 +1,9 @@
+pub mod Lines
+pub mod Marking
+pub mod Outcomes
+pub mod Pick
+pub mod PickAnswers
+pub mod PickPledge
+pub mod PickedAlone
+pub mod Testing
+pub mod Values
