@@ -5,7 +5,6 @@ use Rattle.format_compiler.specs.Grammar.{Format}
 use Rattle.mh_profile.specs.declared.named_value.NamedValue.{NamedValue}
 use Rattle.step_plans.specs.declared.command_fault.CommandFault.{CommandFault}
 use Rattle.folder_files.specs.declared.place.FilePath.{FilePath}
-use Rattle.inc_command.specs.Asked.{asked}
 use Rattle.inc_command.specs.IncJob.{IncJob}
 use Rattle.message_lines.specs.Finding.{format_named}
 use Rattle.message_lines.specs.MessageText.{coded, formed, sight_of, Writing}
@@ -16,7 +15,7 @@ use Rattle.command_words.specs.declared.ended.Ended.{Ended}
 use Rattle.command_words.specs.declared.inc.IncWords.{IncWords}
 use Rattle.command_words.specs.declared.look.LookWords.{LookWords}
 use Rattle.command_words.specs.declared.scan.ScanWords.{ScanWords}
-use Rattle.command_line.specs.Incorporating.{drop_of, inc_job, job_looked, unseen_of}
+use Rattle.command_line.specs.Incorporating.{drop_of, inc_job, unseen_of}
 use Rattle.command_line.specs.Looking.{asked_by, asked_of, IsLooked, ScanAsked, sight_by, spoken_by}
 use Rattle.command_line.specs.Profile.{folder_of}
 use Rattle.command_line.specs.declared.caller.Caller.{Caller}
@@ -34,43 +33,23 @@ pub scan_looked : (caller : Caller) (words : ScanWords) (look : Look) → IsLook
 unfolding scan_saying
 scan_looked caller words look (f, named, code, seen) = rw named (ap (scan_saying words) (spoken_is caller words.look look f code seen))
 
-inc_saying : Caller → List NamedValue → IncWords → List (List ℕ) → List ℕ → (Standing → Writing) → Result IncJob CommandFault
-inc_saying caller profile words unseen folder spoken = Ok (record {
+abbrev job_telling : IncWords → List (List ℕ) → List ℕ → FilePath → (Standing → Writing) → IncJob
+job_telling words unseen folder drop spoken = record {
   folder = folder;
-  drop = drop_of caller.user profile words.file;
+  drop = drop;
   truncate = words.truncate;
   silent = words.silent;
   change_cur = words.change_cur;
   unseen = unseen;
   spoken = spoken;
-})
-
-inc_looked : (caller : Caller) (profile : List NamedValue) (words : IncWords) (unseen : List (List ℕ)) (folder : List ℕ) (look : Look) → IsLooked caller words.look (Ok look)
-    → job_looked caller profile words unseen folder (format_named words.look.format) ≡ Ok (asked (record {
-      folder = folder;
-      drop = drop_of caller.user profile words.file;
-      truncate = words.truncate;
-      silent = words.silent;
-      change_cur = words.change_cur;
-      unseen = unseen;
-      look = look;
-    }))
-unfolding inc_saying
-inc_looked caller profile words unseen folder look (f, named, code, seen) = rw named (ap (inc_saying caller profile words unseen folder) (spoken_is caller words.look look f code seen))
+}
 
 pub inc_named : (caller : Caller) (profile : List NamedValue) (words : IncWords) (unseen : List (List ℕ)) (folder : List ℕ) (drop : FilePath) (look : Look)
     → unseen_of profile ≡ Ok unseen
     → folder_of words.folder [] profile ≡ Ok folder
     → drop ≡ drop_of caller.user profile words.file
     → IsLooked caller words.look (Ok look)
-    → inc_job caller profile words ≡ Ok (asked (record {
-      folder = folder;
-      drop = drop;
-      truncate = words.truncate;
-      silent = words.silent;
-      change_cur = words.change_cur;
-      unseen = unseen;
-      look = look;
-    }))
-inc_named caller profile words unseen folder drop look unseen_is folder_is drop_is looked =
-    rw (unseen_is, folder_is, drop_is) (inc_looked caller profile words unseen folder look looked)
+    → inc_job caller profile words ≡ Ok (job_telling words unseen folder drop (coded look.program (sight_of look)))
+inc_named caller profile words unseen folder drop look unseen_is folder_is drop_is (f, named, code, seen) =
+    rw (unseen_is, folder_is, drop_is, named)
+    (ap (λ spoken. let r : Result IncJob CommandFault = Ok (job_telling words unseen folder (drop_of caller.user profile words.file) spoken) in r) (spoken_is caller words.look look f code seen))
