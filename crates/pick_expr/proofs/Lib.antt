@@ -11,3 +11,4 @@ mod PlaceLemmas
 mod ProgressLemmas
 mod RefusalLemmas
 mod ValueLemmas
+pub mod WholeLemmas

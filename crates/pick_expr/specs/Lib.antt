@@ -15,3 +15,4 @@ pub mod Switches
 pub mod Taking
 pub mod Truth
 pub mod Values
+pub mod Whole

@@ -1,5 +1,6 @@
 -- What the words of a command line are to an expression.
-use Rattle.std.specs.Prelude.{ℕ, ℤ, List, [], ◌∷◌, Option, Some, None, codes}
+use Rattle.std.specs.Prelude.{ℕ, ℤ, pos, ◌+ℤ◌, ◌*ℤ◌, List, [], ◌∷◌, Option, Some, None, codes}
+use Rattle.std.specs.Int.{int_div_euclid}
 use Rattle.std.specs.Str.{encode_utf8_all}
 use Rattle.mail_dates.specs.Picking.{picked}
 use Rattle.mh_words.specs.declared.item.Item.{Item}
@@ -22,6 +23,13 @@ pub record Day : Type 0 where
 
 abbrev pub day_of : ℤ → ℤ → Day
 day_of today offset = record { today = today; offset = offset }
+
+-- the number of the day on which a moment falls, by a clock that is so many minutes ahead: whole days since 1970-01-01
+abbrev pub today_at : ℤ → ℤ → ℤ
+today_at moment offset = int_div_euclid (moment +ℤ offset *ℤ pos 60) (pos 86400)
+
+abbrev pub day_at : ℤ → ℤ → Day
+day_at moment offset = day_of (today_at moment offset) offset
 
 abbrev pub pattern_sign : (Shape → Test) → Option Shape → Sign
 pattern_sign test None = BadPattern

@@ -8,6 +8,7 @@ ghost use Rattle.pick_expr.specs.Refusals.{IsReadAs, IsRefused};
 ghost use Rattle.pick_expr.specs.Signs.{day_of, Placed, place_of, sign_of, signs_in, with_sign};
 ghost use Rattle.pick_expr.specs.Spots.{spot_of};
 ghost use Rattle.pick_expr.specs.Steps.{at_start, step};
+ghost use Rattle.pick_expr.specs.Whole.{IsExprOf, expr_in};
 
 use crate::sign::{Setting, read_sign};
 use crate::spot::Reader;
@@ -162,6 +163,7 @@ pub fn read_expr(
         → IfOk result (IsReadAs (signs_in (day_of today offset_minutes) words.now.items (codes "date"))) }
     ensures refusal { (today : ℤ) → IsToday now offset_minutes today
         → IfErr result (IsRefused (signs_in (day_of today offset_minutes) words.now.items (codes "date"))) }
+    ensures value { IsExprOf (expr_in now offset_minutes words.now.items) result }
 {
     let setting = Setting {
         moment: now,
