@@ -1,18 +1,14 @@
 -- How a command ends whose words name one that begins a folder, and what shows it.
-use Rattle.std.proofs.Common.{◌≡◌, ◌≢◌, ◌++◌, ◌<◌, inl, inr, ◌^◌, ◌∷◌, [], ℕ, Bool, true, false, List, Option, Some, None, Result, Ok, Err, refl, sym, ◌∙◌, subst}
-use Rattle.std.specs.Prelude.{codes, map, if◌then◌else◌}
+use Rattle.std.proofs.Common.{◌≡◌, ◌≢◌, ◌⊎◌, ◌<◌, inl, inr, ◌^◌, ◌∷◌, [], ℕ, Bool, true, false, List, Option, Some, None, Result, Ok, Err, refl, sym, ◌∙◌, subst}
+use Rattle.std.specs.Prelude.{map}
 use Rattle.std.specs.Str.{chars}
-use Rattle.mh_base.specs.Folders.{is_folder_name, without_plus}
 use Rattle.mh_profile.specs.declared.named_value.NamedValue.{NamedValue}
 use Rattle.mh_profile.specs.Reading.{entries_in}
-use Rattle.mh_words.specs.Whole.{Wrong, read_in}
-use Rattle.mh_words.specs.declared.item.Item.{Item}
 use Rattle.folder_files.specs.Careful.{WasMade}
 use Rattle.folder_files.specs.Deeds.{Deed, Once}
 use Rattle.folder_files.specs.declared.place.Place.TheVariants.{Folder, Home, Mail}
 use Rattle.folder_files.specs.declared.refusal.Refusal.TheVariants as refusal
 use Rattle.folder_files.specs.declared.step.Answer.{Answer}
-use Rattle.file_plans.specs.Asking.{reading_of}
 use Rattle.file_plans.specs.Text.{said_of}
 use Rattle.file_plans.specs.Plan.{Hand, Return, after, converted, fresh, lifted, ◌>>=◌}
 use Rattle.file_plans.specs.Rules.{IfOkay, Keeps, Rules}
@@ -30,7 +26,7 @@ use Rattle.step_plans.proofs.Going.{Outcome}
 use Rattle.step_plans.proofs.Ruling.{rules_of}
 use Rattle.command_stages.specs.Texts.{Commanded, text_read}
 use Rattle.mh_looks.specs.Scan.{entries_seen}
-use Rattle.mh_looks.proofs.Ending.{ScanEnds}
+use Rattle.mh_looks.proofs.Ending.{ScanEnds, ScanShows}
 use Rattle.opened_folders.specs.Endings.{IsEndedBy, IsToldBy, PutsNone, at_once}
 use Rattle.opened_folders.proofs.CleanRuns.{Clean, comes_both}
 use Rattle.opened_folders.proofs.EndedKept.{Still, keeps_more}
@@ -45,6 +41,10 @@ use Rattle.mark_command.proofs.LooksRefused.{Refuses, looks_refuses}
 use Rattle.mark_command.proofs.MarkEnds.{changes_end}
 use Rattle.mark_command.proofs.MarkSays.{changes_say}
 use Rattle.mark_command.proofs.ListingSays.{listing_says}
+use Rattle.pick_command.specs.Pick.{pick, pick_by as pick_by_marks}
+use Rattle.pick_command.specs.PickAnswers.{ShowsListing as ShowsPickListing, ShowsPicking}
+use Rattle.pick_command.specs.declared.job.PickJob.{PickJob}
+use Rattle.pick_command.specs.declared.job.PickMarks.{PickMarks}
 use Rattle.inc_command.specs.Inc.{inc}
 use Rattle.inc_command.specs.IncAnswers.{ShowsInc, ShowsIncorporating}
 use Rattle.inc_command.specs.IncJob.{IncJob}
@@ -54,38 +54,32 @@ use Rattle.refile_command.proofs.RmmEnds.{rmm_ends}
 use Rattle.refile_command.proofs.RmmPledged.{rmm_keeps as rmm_pledged}
 use Rattle.refile_command.specs.RmmPledge.{rmm_pledge}
 use Rattle.refile_command.specs.declared.job.RmmJob.{RmmJob}
-use Rattle.command_words.specs.Ended.{plain, wrong_at, wrong_word as wrong_ended}
-use Rattle.command_words.specs.FolderWords.{folder_named, folders, named_folder, one_folder, some_named}
-use Rattle.command_words.specs.IncWords as inc_words
+use Rattle.command_words.specs.Ended.{plain}
 use Rattle.command_words.specs.IncWords.{inc_said}
-use Rattle.command_words.specs.MarkWords as mark_words
-use Rattle.command_words.specs.MarkWords.{lacks_sequence, mark_line, mark_said, missing_after}
-use Rattle.command_words.specs.RmmWords as rmm_words
+use Rattle.command_words.specs.MarkWords.{mark_said}
 use Rattle.command_words.specs.RmmWords.{rmm_said}
-use Rattle.command_words.specs.SequenceNames.{unless_wrong}
-use Rattle.command_words.specs.Tables.{inc_table, mark_table, rmm_table}
-use Rattle.command_words.specs.Words.{profile_words}
 use Rattle.command_words.specs.declared.ended.Ended.{Ended}
-use Rattle.command_words.specs.declared.inc.IncWords.{IncWords}
 use Rattle.command_words.specs.declared.mark.MarkWords.{MarkWords}
+use Rattle.command_words.specs.declared.pick.PickWords.{PickWords}
 use Rattle.command_words.specs.declared.rmm.RmmWords.{RmmWords}
-use Rattle.command_line.specs.BegunCauses.{ShowsEarly, ShowsFault, TakesInBy, TellsOnFolder, ShowsIncJob, ShowsMark, ShowsMarking, ShowsNamed, ShowsOnFolder, ShowsRemoving, ShowsRmm, long_context, long_profile, wrong_folder, wrong_name, wrong_stored, wrong_word, wide_format, wrong_format}
+use Rattle.command_line.specs.BegunCauses.{IsPickOn, PicksBy, ShowsEarly, ShowsFault, ShowsIncJob, ShowsMark, ShowsMarking, ShowsNamed, ShowsOnFolder, ShowsPick, ShowsPickJob, ShowsRemoving, ShowsRmm, TakesInBy, TellsNoneBy, TellsOnFolder, long_context, long_profile, wrong_stored}
 use Rattle.command_line.specs.Causes.{ShowsCommandFault}
-use Rattle.command_line.specs.Command.{command, command_by, context_entered, folder_found, inc_begun, inc_by, mark_begun, mark_by, mark_job, rmm_begun, rmm_by, rmm_job, word_by}
+use Rattle.command_line.specs.Command.{command, command_by, context_entered, folder_found, inc_begun, inc_by, mark_begun, mark_by, mark_job, pick_begun, pick_by, pick_job, picked_by, rmm_begun, rmm_by, rmm_job, word_by}
 use Rattle.command_line.specs.CommandNames.{shows_ends, command_of, named}
-use Rattle.command_line.specs.CommandPledge.{entries_by, text_of}
-use Rattle.format_compiler.specs.Grammar.{Format}
-use Rattle.message_lines.specs.Finding.{format_named}
-use Rattle.command_words.specs.LookWords.{unless_wide, wrong_widths}
-use Rattle.command_line.specs.Incorporating.{job_by, job_looked, job_on, job_with, plain_job}
-use Rattle.command_line.proofs.FormatRefuses.{format_refuses, IsFormatRefusal}
-use Rattle.command_line.specs.Profile.{folder_of, path_of, profile_name, stored_of}
+use Rattle.command_line.specs.CommandPledge.{entries_by}
+use Rattle.command_line.specs.Incorporating.{job_by}
+use Rattle.command_line.specs.Profile.{folder_of, path_of, profile_name}
+use Rattle.command_line.specs.WordCauses.{IsRefusedByWords}
 use Rattle.command_line.specs.declared.name.CommandName.{CommandName}
-use Rattle.command_line.specs.declared.name.CommandName.TheVariants.{Inc, Mark, Refile, Rmm, Scan}
+use Rattle.command_line.specs.declared.name.CommandName.TheVariants.{Inc, Mark, Pick, Refile, Rmm, Scan}
 use Rattle.command_line.specs.declared.caller.Caller.{Caller}
 use Rattle.command_line.proofs.Ending.{scan_shows}
 use Rattle.command_line.proofs.IncEnding.{TakesIn, ToldSo, inc_comes}
-use Rattle.command_line.proofs.BegunParts.{Behind, Enters, Found, after_context, after_profile, behind_kept, clean_there, ended_more, entered_comes, entered_silent, found_comes, found_silent, in_silence, long_first, none_lasts, none_made, none_put, none_taken, none_told, numbered_there, profile_silent, told_comes, Tells}
+use Rattle.command_line.proofs.BegunParts.{Behind, Enters, Found, Profile, after_context, after_profile, behind_kept, clean_there, ended_more, entered_comes, entered_silent, found_comes, found_silent, in_silence, none_lasts, none_made, none_put, none_taken, none_told, numbered_there, profile_comes, profile_silent}
+use Rattle.command_line.proofs.PickEnding.{FindsEnd, FindsTold, MarksEnd, MarksTold, finds_come, marks_come}
+use Rattle.command_line.proofs.Refusals.{IsRefusal, job_refuses, mark_refuses, rmm_refuses}
+use Rattle.command_line.proofs.SaidPick.{pick_refuses}
+use Rattle.command_line.proofs.WordEnding.{refusal_of, refused_by}
 
 module _ (run : ℕ) (few : run < 2 ^ 128) (caller : Caller) (words_ : List (List ℕ)) where
   abbrev Shows : CommandFault → List Deed → Type 0
@@ -109,14 +103,15 @@ module _ (run : ℕ) (few : run < 2 ^ 128) (caller : Caller) (words_ : List (Lis
 
   -- an end before the command came to a folder
   pub early : (e : CommandFault) (own : List Deed) → ShowsEarly e own → NoneFailed own → IsEndedBy Shows e own
-  early _ own (wrong_word f) clean = at_once (inl (wrong_word f)) clean
-  early _ own (wrong_folder f) clean = at_once (inl (wrong_folder f)) clean
-  early _ own (wrong_name f) clean = at_once (inl (wrong_name f)) clean
-  early _ own (wrong_format f) clean = at_once (inl (wrong_format f)) clean
-  early _ own (wide_format f) clean = at_once (inl (wide_format f)) clean
-  early _ own (wrong_stored f) clean = at_once (inl (wrong_stored f)) clean
-  early _ _ long_profile clean = at_once (inl long_profile) clean
-  early _ _ long_context clean = at_once (inl long_context) clean
+  early _ own (wrong_stored f) clean = at_once (inr (inl (wrong_stored f))) clean
+  early _ _ long_profile clean = at_once (inr (inl long_profile)) clean
+  early _ _ long_context clean = at_once (inr (inl long_context)) clean
+
+  -- one whose words are refused
+  pub refused_shown : (a : Answer) (x : Ended) (past : List runs.Deed) → acts past ≡ after_profile a → IsRefusal x.fault → IsRefusedByWords caller words_ x.fault (after_profile a) → NoneFailed (acts past) → IsEndedBy Shows x.fault (acts past)
+  refused_shown a x past is r s clean =
+      subst (λ z. IsEndedBy Shows z (acts past)) (sym r.1)
+      (at_once (inl (subst (λ z. IsRefusedByWords caller words_ z (acts past)) r.1 (subst (λ o. IsRefusedByWords caller words_ x.fault o) (sym is) s))) clean)
 
   -- that of a command that looks
   looked : (e : CommandFault) (own : List Deed) → ShowsCommandFault run e own → (ShowsCommandFault run e own → Shows e own) → NoneFailed own → IsEndedBy Shows e own
@@ -208,7 +203,7 @@ module _ (run : ℕ) (few : run < 2 ^ 128) (caller : Caller) (words_ : List (Lis
               more later i (Ok u) s = tells (said_of later) (acts later) s.0
               more later i (Err e) s =
                   ended_more (ShowsSo run few path folder (mark_answers job act) (Behind a b)) Shows
-                  (λ x own q. inr (mark_on b folder there (Err x) own (q.0, subst (λ z. ShowsMarking run path job (entries_by b) (Err x) own z) (sym is_act) q.1))) e (acts later) s.1
+                  (λ x own q. inr (inr (mark_on b folder there (Err x) own (q.0, subst (λ z. ShowsMarking run path job (entries_by b) (Err x) own z) (sym is_act) q.1)))) e (acts later) s.1
 
           looking : words.act ≡ None → Keeps Speech past j (mark_by_act run path job None) Plainly
           looking is_act =
@@ -251,7 +246,7 @@ module _ (run : ℕ) (few : run < 2 ^ 128) (caller : Caller) (words_ : List (Lis
               more later i (Ok u) s = tells (said_of later) (acts later) s.0
               more later i (Err e) s =
                   looked e (acts later) (scan_shows run path folder e (acts later) s.1.1.1.0)
-                  (λ f. inr (mark_on b folder there (Err e) (acts later) (s.1.1.0, subst (λ z. ShowsMarking run path job (entries_by b) (Err e) (acts later) z) (sym is_act) (f, refuses e (acts later) s.1.1.1.1)))) s.1.0
+                  (λ f. inr (inr (mark_on b folder there (Err e) (acts later) (s.1.1.0, subst (λ z. ShowsMarking run path job (entries_by b) (Err e) (acts later) z) (sym is_act) (f, refuses e (acts later) s.1.1.1.1))))) s.1.0
 
           mark_keeps : Keeps Speech past j (mark run path job) Plainly
           unfolding mark
@@ -268,6 +263,94 @@ module _ (run : ℕ) (few : run < 2 ^ 128) (caller : Caller) (words_ : List (Lis
           where
             go : (later : List runs.Deed) (j : Hand) (r : Result (List ℕ) CommandFault) → (said_of later ≡ []) × OfActs (Finds words.folder) later j r → Keeps Speech later j (after (λ folder. mark run path (mark_job folder words profile)) r) Plainly
             go later j (Ok folder) q = mark_keeps later j folder q.1.1.0 q.1.1.1 q.1.1.2 q.1.1.3 q.1.0 q.0
+            go later j (Err e) q = stops_plainly later j e q.0 (early e (acts later) q.1.1 q.1.0)
+
+      -- `pick`
+      module _ (name : named word ≡ Some Pick) (words : PickWords) (said : picked_by caller profile (map chars rest) ≡ Ok words) where
+        pick_on : (b : Answer) (folder : List ℕ) → folder_of words.folder (entries_by b) profile ≡ Ok folder → (r : Result (List ℕ) CommandFault) (own : List Deed)
+            → Behind a b own × ShowsPickJob run path (pick_job folder words profile) (entries_by b) r own words.marks → ShowsOnFolder run caller words_ r own
+        pick_on b folder there r own s =
+            on_folder word rest is_words b folder r own s.0
+            (subst (λ n. ShowsNamed run caller profile (entries_by b) folder r own rest n) (sym name)
+            (subst (λ m. ShowsPick run profile (entries_by b) folder r own m) (sym said) (there, s.1)))
+
+        -- it says that no message matches
+        none_on : (b : Answer) (folder : List ℕ) → folder_of words.folder (entries_by b) profile ≡ Ok folder → (text : List ℕ) (own : List Deed)
+            → Behind a b own → TellsNoneBy run path (pick_job folder words profile) (entries_by b) text own words.marks → Spoken text own
+        none_on b folder there text own f t =
+            inr (inr (record {
+              profile = a;
+              context = b;
+              newer = f.0;
+              begun = f.1;
+              job = pick_job folder words profile;
+              by_words = subst (λ ws. PicksBy caller profile (entries_by b) ws (pick_job folder words profile)) (sym is_words)
+                  (name, subst (λ m. IsPickOn profile (entries_by b) (pick_job folder words profile) m) (sym said) (folder, there, refl));
+              told = t;
+            }))
+
+        module _ (past : List runs.Deed) (folder : List ℕ) (b : Answer) (is : acts past ≡ after_context path a b) (there : folder_of words.folder (entries_by b) profile ≡ Ok folder) (clean : NoneFailed (acts past)) (silent : said_of past ≡ []) where
+          abbrev picking : PickJob
+          picking = pick_job folder words profile
+
+          abbrev known : Hand
+          known = knowing (entries_by b) fresh
+
+          marking : (p : PickMarks) → words.marks ≡ Some p → Keeps Speech past known (pick_by_marks run path picking (Some p)) Plainly
+          marking p is_marks =
+              keeps_more Speech past known (pick_by_marks run path picking (Some p)) (MarksEnd run few a b picking p) Plainly more
+              (speaks_more (MarksTold run few a b picking p) Spoken tells past known (pick_by_marks run path picking (Some p)) (MarksEnd run few a b picking p) (marks_come run few a b picking p past is clean silent))
+            where
+              shows : (r : Result (List ℕ) CommandFault) (own : List Deed) → Behind a b own → ShowsPickJob run path picking (entries_by b) r own (Some p) → ShowsOnFolder run caller words_ r own
+              shows r own f s = pick_on b folder there r own (f, subst (λ m. ShowsPickJob run path picking (entries_by b) r own m) (sym is_marks) s)
+
+              tells : (text : List ℕ) (own : List Deed) → MarksTold run few a b picking p text own → Spoken text own
+              tells text own (f, inl t) = inl (shows (Ok text) own f t)
+              tells text own (f, inr t) = none_on b folder there text own f (subst (λ m. TellsNoneBy run path picking (entries_by b) text own m) (sym is_marks) t)
+
+              more : (later : List runs.Deed) (i : Hand) (r : Result Unit CommandFault) → MarksEnd run few a b picking p later i r → Plainly later i r
+              more later i (Ok u) q = shows (Ok (said_of later)) (acts later) q.0.0 q.0.1
+              more later i (Err e) q = ended_more (λ k own. Behind a b own × ShowsPicking run path picking p k own) Shows (λ k own s. inr (inr (shows (Err k) own s.0 s.1))) e (acts later) q.1
+
+          finding : words.marks ≡ None → Keeps Speech past known (pick_by_marks run path picking None) Plainly
+          finding is_marks =
+              keeps_more Speech past known (pick_by_marks run path picking None) (FindsEnd run few a b picking) Plainly more
+              (speaks_more (FindsTold run few a b picking) Spoken tells past known (pick_by_marks run path picking None) (FindsEnd run few a b picking) (finds_come run few a b picking past is clean silent))
+            where
+              shows : (r : Result (List ℕ) CommandFault) (own : List Deed) → Behind a b own → ShowsPickJob run path picking (entries_by b) r own None → ShowsOnFolder run caller words_ r own
+              shows r own f s = pick_on b folder there r own (f, subst (λ m. ShowsPickJob run path picking (entries_by b) r own m) (sym is_marks) s)
+
+              tells : (text : List ℕ) (own : List Deed) → FindsTold run few a b picking text own → Spoken text own
+              tells text own (f, inl t) = inl (shows (Ok text) own f t)
+              tells text own (f, inr t) = none_on b folder there text own f (subst (λ m. TellsNoneBy run path picking (entries_by b) text own m) (sym is_marks) t)
+
+              -- as a command that looks, or since no message matches
+              fault_shown : (e : CommandFault) (own : List Deed) → Behind a b own → ScanShows run path folder e own ⊎ (e ≡ fault.Refused refusal.NoMatch) → ShowsPickListing path picking (entries_by b) e own → NoneFailed own → IsEndedBy Shows e own
+              fault_shown e own f (inl s) l unfailed = looked e own (scan_shows run path folder e own s) (λ z. inr (inr (shows (Err e) own f (inl z, l)))) unfailed
+              fault_shown e own f (inr none) l unfailed =
+                  subst (λ z. IsEndedBy Shows z own) (sym none)
+                  (at_once (inr (inr (shows (Err (fault.Refused refusal.NoMatch)) own f (inr refl, subst (λ z. ShowsPickListing path picking (entries_by b) z own) none l)))) unfailed)
+
+              more : (later : List runs.Deed) (i : Hand) (r : Result Unit CommandFault) → FindsEnd run few a b picking later i r → Plainly later i r
+              more later i (Ok u) q = shows (Ok (said_of later)) (acts later) q.0.0 q.0.1
+              more later i (Err e) q = fault_shown e (acts later) q.1.1.0 q.1.1.1.0 q.1.1.1.1 q.1.0
+
+          pick_keeps : Keeps Speech past known (pick run path picking) Plainly
+          unfolding pick
+          pick_keeps = go words.marks refl
+            where
+              go : (marks : Option PickMarks) → words.marks ≡ marks → Keeps Speech past known (pick_by_marks run path picking marks) Plainly
+              go None is_marks = finding is_marks
+              go (Some p) is_marks = marking p is_marks
+
+        pick_begun_keeps : (past : List runs.Deed) → acts past ≡ after_profile a → NoneFailed (acts past) → said_of past ≡ [] → Keeps Speech past fresh (pick_begun run profile words) Plainly
+        unfolding pick_begun ◌>>=◌
+        pick_begun_keeps past is clean silent =
+            keeps_bind Speech past fresh (folder_found profile words.folder) (after (λ folder. pick run path (pick_job folder words profile))) _ Plainly (folder_keeps words.folder past is clean silent) go
+          where
+            go : (later : List runs.Deed) (j : Hand) (r : Result (List ℕ) CommandFault) → (said_of later ≡ []) × OfActs (Finds words.folder) later j r → Keeps Speech later j (after (λ folder. pick run path (pick_job folder words profile)) r) Plainly
+            go later j (Ok folder) q =
+                subst (λ i. Keeps Speech later i (pick run path (pick_job folder words profile)) Plainly) (sym q.1.1.2) (pick_keeps later folder q.1.1.0 q.1.1.1 q.1.1.3 q.1.0 q.0)
             go later j (Err e) q = stops_plainly later j e q.0 (early e (acts later) q.1.1 q.1.0)
 
       -- `rmm`
@@ -307,7 +390,7 @@ module _ (run : ℕ) (few : run < 2 ^ 128) (caller : Caller) (words_ : List (Lis
 
               more : (later : List runs.Deed) (i : Hand) (r : Result Unit CommandFault) → Silent later i r × So later i r → Plainly later i r
               more later i (Ok u) s = rmm_on b folder there (Ok (said_of later)) (acts later) (s.1.0, (s.1.1, s.0.0 ∙ silent))
-              more later i (Err e) s = ended_more (ShowsSo run few path folder (rmm_answers removing) (Behind a b)) Shows (λ x own q. inr (rmm_on b folder there (Err x) own q)) e (acts later) s.1
+              more later i (Err e) s = ended_more (ShowsSo run few path folder (rmm_answers removing) (Behind a b)) Shows (λ x own q. inr (inr (rmm_on b folder there (Err x) own q))) e (acts later) s.1
 
         rmm_begun_keeps : (past : List runs.Deed) → acts past ≡ after_profile a → NoneFailed (acts past) → said_of past ≡ [] → Keeps Speech past fresh (rmm_begun run profile words) Plainly
         unfolding rmm_begun ◌>>=◌
@@ -333,11 +416,11 @@ module _ (run : ℕ) (few : run < 2 ^ 128) (caller : Caller) (words_ : List (Lis
             where
               tells : (text : List ℕ) (own : List Deed) → ToldSo run few a job b text own → Spoken text own
               tells text own t =
-                  inr (record { profile = a; context = b; newer = t.0.0; begun = t.0.1; job = job; by_words = subst (λ ws. TakesInBy caller profile ws job) (sym is_words) (name, said); told = t.1 })
+                  inr (inl (record { profile = a; context = b; newer = t.0.0; begun = t.0.1; job = job; by_words = subst (λ ws. TakesInBy caller profile ws job) (sym is_words) (name, said); told = t.1 }))
 
               more : (later : List runs.Deed) (i : Hand) (r : Result Unit CommandFault) → TakesIn run few a job b later i r → Plainly later i r
               more later i (Ok u) q = inc_on b (Ok (said_of later)) (acts later) (q.0.0, (q.1.1, q.0.1))
-              more later i (Err e) q = ended_more (λ k own. Behind a b own × ShowsInc run path job k own) Shows (λ k own s. inr (inc_on b (Err k) own s)) e (acts later) q.1
+              more later i (Err e) q = ended_more (λ k own. Behind a b own × ShowsInc run path job k own) Shows (λ k own s. inr (inr (inc_on b (Err k) own s))) e (acts later) q.1
 
         inc_begun_keeps : (past : List runs.Deed) → acts past ≡ after_profile a → NoneFailed (acts past) → said_of past ≡ [] → Keeps Speech past fresh (inc_begun run path job) Plainly
         unfolding inc_begun ◌>>=◌
@@ -357,149 +440,38 @@ module _ (run : ℕ) (few : run < 2 ^ 128) (caller : Caller) (words_ : List (Lis
 
     -- the words
     module _ (past : List runs.Deed) (is : acts past ≡ after_profile a) (clean : NoneFailed (acts past)) (silent : said_of past ≡ []) where
-      wrong : (w : Wrong) (word : Option (List ℕ)) → IsEndedBy Shows (wrong_ended w word).fault (acts past)
-      wrong w word = at_once (inl (wrong_word (a, is))) clean
-
-      -- what the words of `mark` refuse
-      abbrev MarkShown : Result MarkWords Ended → Type 0
-      MarkShown (Ok words) = Unit {0}
-      MarkShown (Err x) = IsEndedBy Shows x.fault (acts past)
-
-      names_shown : (folder : Option (List ℕ)) (items : List Item) (words wrongs : List (List ℕ)) → MarkShown (mark_words.with_names folder items (unless_wrong words wrongs))
-      names_shown folder items words [] = tt
-      names_shown folder items words (word ∷ wrongs) = at_once (inl (wrong_name (a, is))) clean
-
-      folder_shown : (items : List Item) (word : Option (List ℕ)) → MarkShown (mark_words.with_folder items (folder_named word))
-      folder_shown items None = names_shown None items _ _
-      folder_shown items (Some word) = go (is_folder_name (without_plus word))
-        where
-          go : (c : Bool) → MarkShown (mark_words.with_folder items (some_named (if c then Ok (without_plus word) else Err (fault.Refused (refusal.BadFolder word)))))
-          go true = names_shown (Some (without_plus word)) items _ _
-          go false = at_once (inl (wrong_folder (a, is))) clean
-
-      word_shown : (words : List (List ℕ)) (items : List Item) (word : Option (List ℕ)) → MarkShown (mark_words.word_said words items word)
-      word_shown words items word = go (lacks_sequence items)
-        where
-          go : (c : Bool) → MarkShown (if c then Err (wrong_at words (missing_after words)) else mark_words.with_folder items (folder_named word))
-          go true = wrong (missing_after words) None
-          go false = folder_shown items word
-
-      one_shown : (words : List (List ℕ)) (items : List Item) (r : Result (Option (List ℕ)) Wrong) → MarkShown (mark_words.folder_said words items r)
-      one_shown words items (Ok word) = word_shown words items word
-      one_shown words items (Err w) = wrong w None
-
-      items_shown : (words : List (List ℕ)) (r : Result (List Item) Wrong) → MarkShown (mark_words.items_said words r)
-      items_shown words (Ok items) = one_shown words items (one_folder (folders items))
-      items_shown words (Err w) = wrong w None
-
-      mark_refused : (words : List (List ℕ)) (x : Ended) → mark_said profile words ≡ Err x → IsEndedBy Shows x.fault (acts past)
-      mark_refused words x e = subst MarkShown e (items_shown (mark_line profile words) (read_in mark_table 0 (mark_line profile words)))
-
-      -- and those of `rmm`
-      abbrev RmmShown : Result RmmWords Ended → Type 0
-      RmmShown (Ok words) = Unit {0}
-      RmmShown (Err x) = IsEndedBy Shows x.fault (acts past)
-
-      rmm_folder_shown : (items : List Item) (word : List ℕ) → RmmShown (rmm_words.with_folder items (named_folder word))
-      rmm_folder_shown items word = go (is_folder_name (without_plus word))
-        where
-          go : (c : Bool) → RmmShown (rmm_words.with_folder items (if c then Ok (without_plus word) else Err (fault.Refused (refusal.BadFolder word))))
-          go true = tt
-          go false = at_once (inl (wrong_folder (a, is))) clean
-
-      rmm_one_shown : (words : List (List ℕ)) (items : List Item) (r : Result (Option (List ℕ)) Wrong) → RmmShown (rmm_words.folder_said words items r)
-      rmm_one_shown words items (Ok None) = tt
-      rmm_one_shown words items (Ok (Some word)) = rmm_folder_shown items word
-      rmm_one_shown words items (Err w) = wrong w None
-
-      rmm_items_shown : (words : List (List ℕ)) (r : Result (List Item) Wrong) → RmmShown (rmm_words.items_said words r)
-      rmm_items_shown words (Ok items) = rmm_one_shown words items (one_folder (folders items))
-      rmm_items_shown words (Err w) = wrong w None
-
-      rmm_refused : (words : List (List ℕ)) (x : Ended) → rmm_said profile words ≡ Err x → IsEndedBy Shows x.fault (acts past)
-      rmm_refused words x e = subst RmmShown e (rmm_items_shown (profile_words (codes "rmm") profile ++ words) (read_in rmm_table 0 (profile_words (codes "rmm") profile ++ words)))
-
-      -- and those of `inc`, or the profile's for it
-      abbrev IncShown : {A : Type 0} → Result A Ended → Type 0
-      IncShown (Ok words) = Unit {0}
-      IncShown (Err x) = IsEndedBy Shows x.fault (acts past)
-
-      named_shown : (items : List Item) (word : List ℕ) → IncShown (inc_words.with_folder items (named_folder word))
-      named_shown items word = go (is_folder_name (without_plus word))
-        where
-          go : (c : Bool) → IncShown (inc_words.with_folder items (if c then Ok (without_plus word) else Err (fault.Refused (refusal.BadFolder word))))
-          go true = tt
-          go false = at_once (inl (wrong_folder (a, is))) clean
-
-      alone_shown : (words : List (List ℕ)) (items : List Item) (r : Result (Option (List ℕ)) Wrong) → IncShown (inc_words.folder_said words items r)
-      alone_shown words items (Ok None) = tt
-      alone_shown words items (Ok (Some word)) = named_shown items word
-      alone_shown words items (Err w) = wrong w None
-
-      said_shown : (words : List (List ℕ)) (r : Result (List Item) Wrong) → IncShown (inc_words.items_said words r)
-      said_shown words (Ok items) = alone_shown words items (unless_wide (wrong_widths items) (inc_words.folder_alone items))
-      said_shown words (Err w) = wrong w None
-
-      by_format : (e : CommandFault) → IsFormatRefusal e → IsEndedBy Shows e (acts past)
-      by_format e (inl r) = subst (λ z. IsEndedBy Shows z (acts past)) (sym r.1) (at_once (inl (wrong_format (a, is))) clean)
-      by_format e (inr r) = subst (λ z. IsEndedBy Shows z (acts past)) (sym r.1) (at_once (inl (wide_format (a, is))) clean)
-
-      format_shown : (words : IncWords) (unseen : List (List ℕ)) (folder : List ℕ) (r : Result Format CommandFault) → format_named words.look.format ≡ r → IncShown (plain_job (job_looked caller profile words unseen folder r))
-      format_shown words unseen folder (Ok f) same = tt
-      format_shown words unseen folder (Err e) same = by_format e (format_refuses words.look.format (Err e) e same refl)
-
-      job_shown : (words : IncWords) (unseen : List (List ℕ)) (stored : List ℕ) (said : Option (List ℕ)) → IncShown (plain_job (job_on caller profile words unseen (folder_of said [] profile)))
-      job_shown words unseen stored (Some name) = format_shown words unseen name (format_named words.look.format) refl
-      job_shown words unseen stored None = go (is_folder_name (without_plus (stored_of [] profile)))
-        where
-          go : (c : Bool) → IncShown (plain_job (job_on caller profile words unseen (if c then Ok (without_plus (stored_of [] profile)) else Err (fault.Refused (refusal.BadFolder (stored_of [] profile))))))
-          go true = format_shown words unseen (without_plus (stored_of [] profile)) (format_named words.look.format) refl
-          go false = at_once (inl (wrong_folder (a, is))) clean
-
-      unseen_shown : (words : IncWords) (names wrongs : List (List ℕ)) → IncShown (plain_job (job_with caller profile words (unless_wrong names wrongs)))
-      unseen_shown words names [] = job_shown words names [] words.folder
-      unseen_shown words names (word ∷ wrongs) = at_once (inl (wrong_name (a, is))) clean
-
-      by_said : (r : Result IncWords Ended) → IncShown r → IncShown (job_by caller profile r)
-      by_said (Ok words) f = unseen_shown words _ _
-      by_said (Err x) f = f
-
-      inc_refused : (words : List (List ℕ)) (x : Ended) → job_by caller profile (inc_said profile words) ≡ Err x → IsEndedBy Shows x.fault (acts past)
-      inc_refused words x e =
-          subst IncShown e (by_said (inc_said profile words) (said_shown (profile_words (codes "inc") profile ++ words) (read_in inc_table 0 (profile_words (codes "inc") profile ++ words))))
-
       by_word : (word : List ℕ) (rest : List (List ℕ)) → words_ ≡ word ∷ rest → (n : Option CommandName) → named word ≡ n → shows_ends n ≡ true → Keeps Speech past fresh (word_by run caller profile word rest n) EndsBy
       by_word word rest is_words None name begins = cc (begins)
       by_word word rest is_words (Some Inc) name begins = go (job_by caller profile (inc_said profile (map chars rest))) refl
         where
           go : (r : Result IncJob Ended) → job_by caller profile (inc_said profile (map chars rest)) ≡ r → Keeps Speech past fresh (inc_by run profile r) EndsBy
           go (Ok job) said = plain_keeps past fresh (inc_begun run path job) (inc_begun_keeps word rest is_words name job said past is clean silent)
-          go (Err x) said = stops past fresh x silent (inc_refused (map chars rest) x said)
+          go (Err x) said = stops past fresh x silent
+              (refused_shown a x past is (job_refuses caller profile (map chars rest) x said) (refused_by caller words_ a word rest is_words (Some Inc) name x.fault (refusal_of (job_by caller profile (inc_said profile (map chars rest))) x said)) clean)
       by_word word rest is_words (Some Scan) name begins = cc (begins)
       by_word word rest is_words (Some Mark) name begins = go (mark_said profile (map chars rest)) refl
         where
           go : (r : Result MarkWords Ended) → mark_said profile (map chars rest) ≡ r → Keeps Speech past fresh (mark_by run profile r) EndsBy
           go (Ok words) said = plain_keeps past fresh (mark_begun run profile words) (mark_begun_keeps word rest is_words name words said past is clean silent)
-          go (Err x) said = stops past fresh x silent (mark_refused (map chars rest) x said)
+          go (Err x) said = stops past fresh x silent
+              (refused_shown a x past is (mark_refuses profile (map chars rest) x said) (refused_by caller words_ a word rest is_words (Some Mark) name x.fault (refusal_of (mark_said profile (map chars rest)) x said)) clean)
+      by_word word rest is_words (Some Pick) name begins = go (picked_by caller profile (map chars rest)) refl
+        where
+          go : (r : Result PickWords Ended) → picked_by caller profile (map chars rest) ≡ r → Keeps Speech past fresh (pick_by run profile r) EndsBy
+          go (Ok words) said = plain_keeps past fresh (pick_begun run profile words) (pick_begun_keeps word rest is_words name words said past is clean silent)
+          go (Err x) said = stops past fresh x silent
+              (refused_shown a x past is (pick_refuses caller.clock.moment caller.clock.offset profile (map chars rest) x said) (refused_by caller words_ a word rest is_words (Some Pick) name x.fault (refusal_of (picked_by caller profile (map chars rest)) x said)) clean)
       by_word word rest is_words (Some Refile) name begins = cc (begins)
       by_word word rest is_words (Some Rmm) name begins = go (rmm_said profile (map chars rest)) refl
         where
           go : (r : Result RmmWords Ended) → rmm_said profile (map chars rest) ≡ r → Keeps Speech past fresh (rmm_by run profile r) EndsBy
           go (Ok words) said = plain_keeps past fresh (rmm_begun run profile words) (rmm_begun_keeps word rest is_words name words said past is clean silent)
-          go (Err x) said = stops past fresh x silent (rmm_refused (map chars rest) x said)
+          go (Err x) said = stops past fresh x silent
+              (refused_shown a x past is (rmm_refuses profile (map chars rest) x said) (refused_by caller words_ a word rest is_words (Some Rmm) name x.fault (refusal_of (rmm_said profile (map chars rest)) x said)) clean)
 
       by_words : (words : List (List ℕ)) → words_ ≡ words → shows_ends (command_of words) ≡ true → Keeps Speech past fresh (command_by run caller profile words) EndsBy
       by_words [] is_words begins = cc (begins)
       by_words (word ∷ rest) is_words begins = by_word word rest is_words (named word) refl begins
-
-  -- the profile
-  abbrev pub Profile : Outcome (Result (List ℕ) Ended)
-  Profile later j (Ok text) = (a : Answer) × (later ≡ after_profile a) × (j ≡ fresh) × (text ≡ text_of (reading_of a))
-  Profile later j (Err x) = ShowsEarly x.fault later
-
-  pub profile_comes : Comes [] fresh (lifted plain (text_read Home profile_name)) Profile
-  profile_comes =
-      comes_lifted [] fresh plain (text_read Home profile_name) (Tells Home profile_name [] fresh) Profile (told_comes Home profile_name [] fresh) (λ later j text q. q) (λ later j e q. long_first later q.0 e q.1 q.2)
 
   -- a command whose words name one that begins folders: how it ends, and what shows it
   pub begun_ends_by : shows_ends (command_of words_) ≡ true → Keeps Speech [] fresh (command run caller words_) EndsBy

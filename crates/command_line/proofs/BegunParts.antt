@@ -28,7 +28,7 @@ use Rattle.step_plans.specs.Endings.{IsTakenAway}
 use Rattle.step_plans.specs.Hands.{knowing}
 use Rattle.step_plans.specs.declared.command_fault.CommandFault.{CommandFault}
 use Rattle.step_plans.specs.declared.command_fault.CommandFault.TheVariants as fault
-use Rattle.step_plans.proofs.Coming.{Comes, NoneFailed, anything, comes_read, comes_then, comes_to}
+use Rattle.step_plans.proofs.Coming.{Comes, NoneFailed, anything, comes_lifted, comes_read, comes_then, comes_to}
 use Rattle.step_plans.proofs.Going.{Outcome}
 use Rattle.step_plans.proofs.Lasting.{KeptBy}
 use Rattle.step_plans.proofs.Past.{did_step}
@@ -40,10 +40,11 @@ use Rattle.opened_folders.proofs.EndedKept.{keeps_more}
 use Rattle.opened_folders.proofs.NamesKept.{putting, taking}
 use Rattle.opened_folders.proofs.Speaking.{keeps_both, silence, silent_told, silently, speaking, speaks_more, text_silent}
 use Rattle.command_words.specs.Ended.{plain}
+use Rattle.command_words.specs.declared.ended.Ended.{Ended}
 use Rattle.command_words.specs.FolderWords.{named_folder}
 use Rattle.command_line.specs.BegunCauses.{ShowsEarly, long_context, long_profile, wrong_stored}
 use Rattle.command_line.specs.Command.{context_entered, context_seen, folder_found}
-use Rattle.command_line.specs.CommandPledge.{entries_by, text_of}
+use Rattle.command_line.specs.CommandPledge.{entries_by, path_by, text_of}
 use Rattle.command_line.specs.Profile.{folder_of, path_of, profile_name, stored_of}
 
 -- where less is asked of what shows an end
@@ -121,11 +122,20 @@ found_silent past h profile said =
     go later j (Ok entered) u = (tt, tt)
     go later j (Err e) u = (tt, tt)
 
-pub long_there : (path : List ℕ) (a : Answer) (later : List Deed) (l : ℕ) (e : CommandFault) → e ≡ too_large l → later ≡ did (step.Read (Mail path) context_name LIMIT_BYTES) (answer.Long l) ∷ after_profile a → ShowsEarly e later
-long_there path a later l e is at = rw (is, at) long_context
+long_there : (a : Answer) (later : List Deed) (l : ℕ) (e : CommandFault) → e ≡ too_large l → later ≡ did (step.Read (Mail (path_by a)) context_name LIMIT_BYTES) (answer.Long l) ∷ after_profile a → ShowsEarly e later
+long_there a later l e is at = rw (is, at) (long_context {a = a})
 
-pub long_first : (later : List Deed) (l : ℕ) (e : CommandFault) → e ≡ too_large l → later ≡ did (step.Read Home profile_name LIMIT_BYTES) (answer.Long l) ∷ [] → ShowsEarly e later
+long_first : (later : List Deed) (l : ℕ) (e : CommandFault) → e ≡ too_large l → later ≡ did (step.Read Home profile_name LIMIT_BYTES) (answer.Long l) ∷ [] → ShowsEarly e later
 long_first later l e is at = rw (is, at) long_profile
+
+-- the profile
+abbrev pub Profile : Outcome (Result (List ℕ) Ended)
+Profile later j (Ok text) = (a : Answer) × (later ≡ after_profile a) × (j ≡ fresh) × (text ≡ text_of (reading_of a))
+Profile later j (Err x) = ShowsEarly x.fault later
+
+pub profile_comes : Comes [] fresh (lifted plain (text_read Home profile_name)) Profile
+profile_comes =
+    comes_lifted [] fresh plain (text_read Home profile_name) (Tells Home profile_name [] fresh) Profile (told_comes Home profile_name [] fresh) (λ later j text q. q) (λ later j e q. long_first later q.0 e q.1 q.2)
 
 -- where nothing was told
 abbrev pub none_told : List ℕ → List Deed → Type 0
@@ -176,7 +186,7 @@ module _ (a : Answer) where
   entered_comes =
       comes_then (after_profile a) fresh (text_read (Mail path) context_name) (λ text. context_seen (entries_in text)) (Tells (Mail path) context_name (after_profile a) fresh) Enters (told_comes (Mail path) context_name (after_profile a) fresh)
       (λ later j text q. at later (after_context path a q.0) j fresh (context_seen (entries_in text)) Enters q.1 q.2 (seen_comes q.0 (entries_in text) (ap entries_in q.3)))
-      (λ later j e q. long_there path a later q.0 e q.1 q.2)
+      (λ later j e q. long_there a later q.0 e q.1 q.2)
 
   refused_comes : (said : Option (List ℕ)) (b : Answer) (j : Hand) → j ≡ knowing (entries_by b) fresh → Comes (after_context path a b) j (Recall (λ h. Return (folder_of said (entries_seen h.context) profile))) (Found said)
   unfolding Comes
@@ -185,14 +195,14 @@ module _ (a : Answer) where
       stored : List ℕ
       stored = stored_of (entries_by b) profile
 
-      by_name : (c : Bool) → (if c then Ok (without_plus stored) else Err (fault.Refused (refusal.BadFolder stored))) ≡ named_folder stored
+      by_name : (c : Bool) → is_folder_name (without_plus stored) ≡ c → (if c then Ok (without_plus stored) else Err (fault.Refused (refusal.BadFolder stored))) ≡ named_folder stored
           → Found None (after_context path a b) (knowing (entries_by b) fresh) (if c then Ok (without_plus stored) else Err (fault.Refused (refusal.BadFolder stored)))
-      by_name true same = (b, refl, refl, sym same)
-      by_name false same = wrong_stored (path, a, b, refl)
+      by_name true is same = (b, refl, refl, sym same)
+      by_name false is same = wrong_stored (record { profile = a; context = b; reads = refl; stored = refl; wrong = is })
 
       go : (said : Option (List ℕ)) → Found said (after_context path a b) (knowing (entries_by b) fresh) (folder_of said (entries_by b) profile)
       go (Some name) = (b, refl, refl, refl)
-      go None = by_name (is_folder_name (without_plus stored)) refl
+      go None = by_name (is_folder_name (without_plus stored)) refl refl
 
   pub found_comes : (said : Option (List ℕ)) → Comes (after_profile a) fresh (folder_found profile said) (Found said)
   unfolding folder_found

@@ -1,5 +1,5 @@
 -- The folder that words, profile and context name is a text of characters.
-use Rattle.std.proofs.Common.{◌≡◌, ◌≤◌, ◌+◌, ℕ, zero, suc, Bool, true, false, ◌&&◌, List, [], ◌∷◌, ◌++◌, Option, None, Some, Result, Ok, Err, length, take, drop, map, refl, ap, subst, arith, length-drop}
+use Rattle.std.proofs.Common.{◌≡◌, ◌≤◌, ◌+◌, ℕ, zero, suc, Bool, true, false, ◌&&◌, List, [], ◌∷◌, ◌++◌, Option, None, Some, Result, Ok, Err, length, take, drop, map, refl, ap, subst, arith, length-drop, ℤ}
 use Rattle.std.specs.Prelude.{◌==◌, codes, unwrap_or, if◌then◌else◌}
 use Rattle.std.specs.Str.{IsUtf8, chars, is_utf8}
 use Rattle.std.specs.Str.Lossy.{utf8_valid_len, valid_len_up_to}
@@ -28,12 +28,19 @@ use Rattle.command_words.specs.Ended.{wrong_at}
 use Rattle.command_words.specs.FolderWords.{FolderWord, folder_named, folders, named_folder, one_folder, some_named}
 use Rattle.command_words.specs.IncWords as inc_words
 use Rattle.command_words.specs.IncWords.{inc_said}
-use Rattle.command_words.specs.LookWords.{unless_wide, wrong_widths}
+use Rattle.command_words.specs.BadValues.{first_of, unless_bad}
+use Rattle.command_words.specs.FieldNames.{bad_names}
+use Rattle.command_words.specs.PickWords as pick_words
+use Rattle.command_words.specs.PickWords.{pick_line, pick_said}
+use Rattle.command_words.specs.declared.pick.PickWords.{PickWords}
+use Rattle.pick_expr.specs.Whole.{expr_in}
+use Rattle.pick_expr.specs.declared.expr.Expr.{Expr}
+use Rattle.command_words.specs.LookWords.{wrong_widths}
 use Rattle.command_words.specs.MarkWords.{folder_said as mark_words_said, items_said as mark_items, lacks_sequence, mark_said, with_folder as mark_folder, with_names, word_said}
 use Rattle.command_words.specs.RefileWords.{items_said as refile_items, last_or, refile_said, source_of, targets, targets_said, unless_wrong, words_of, wrong_names}
 use Rattle.command_words.specs.RmmWords.{folder_said as rmm_words_said, items_said as rmm_items, rmm_said, said_folder as rmm_said_folder, with_folder as rmm_folder}
 use Rattle.command_words.specs.Switches.{values}
-use Rattle.command_words.specs.Tables.{inc_table, mark_table, refile_table, rmm_table}
+use Rattle.command_words.specs.Tables.{inc_table, mark_table, pick_table, refile_table, rmm_table}
 use Rattle.command_words.specs.Words.{profile_words, words_in}
 use Rattle.command_words.specs.declared.ended.Ended.{Ended}
 use Rattle.command_words.specs.declared.inc.IncWords.{IncWords}
@@ -322,10 +329,10 @@ alone_chars (Ok word) (Some place) f = tt
 alone_chars (Err wrong) None f = tt
 alone_chars (Err wrong) (Some place) f = tt
 
-wide_chars : (places : List ℕ) (r : Result (Option (List ℕ)) Wrong) → OneChars r → OneChars (unless_wide places r)
-wide_chars places (Err wrong) f = tt
-wide_chars [] (Ok word) f = f
-wide_chars (place ∷ places) (Ok word) f = tt
+bad_chars : (bad : Option ℕ) (r : Result (Option (List ℕ)) Wrong) → OneChars r → OneChars (unless_bad bad r)
+bad_chars bad (Err wrong) f = tt
+bad_chars None (Ok word) f = f
+bad_chars (Some place) (Ok word) f = tt
 
 inc_one_chars : (words : List (List ℕ)) (items : List Item) (r : Result (Option (List ℕ)) Wrong) → OneChars r → IncChars (inc_words.folder_said words items r)
 inc_one_chars words items (Ok word) f = inc_folder_chars items word f
@@ -333,7 +340,7 @@ inc_one_chars words items (Err wrong) f = tt
 
 inc_items_chars : (words : List (List ℕ)) (r : Result (List Item) Wrong) → Textual r → IncChars (inc_words.items_said words r)
 inc_items_chars words (Ok items) f =
-    inc_one_chars words items (unless_wide (wrong_widths items) (inc_words.folder_alone items)) (wide_chars (wrong_widths items) (inc_words.folder_alone items) (alone_chars (one_folder (folders items)) (inc_words.first_of (inc_words.message_places items)) (one_chars (folders items) (folder_texts items f))))
+    inc_one_chars words items (unless_bad (first_of (wrong_widths items)) (inc_words.folder_alone items)) (bad_chars (first_of (wrong_widths items)) (inc_words.folder_alone items) (alone_chars (one_folder (folders items)) (first_of (inc_words.message_places items)) (one_chars (folders items) (folder_texts items f))))
 inc_items_chars words (Err wrong) f = tt
 
 pub inc_chars : (profile : List NamedValue) (words : List (List ℕ)) (said : IncWords) → AreTexts words → inc_said profile words ≡ Ok said → HasChars said.folder
@@ -366,3 +373,40 @@ named_chars word folder f e = go (is_folder_name (without_plus word)) e
 pub acted_chars : (said : Option (List ℕ)) (context profile : List NamedValue) (folder : List ℕ) → HasChars said → folder_of said context profile ≡ Ok folder → scalars folder ≡ true
 acted_chars None context profile folder f e = named_chars (stored_of context profile) folder (stored_chars context profile) e
 acted_chars (Some name) context profile folder f e = subst (λ z. scalars z ≡ true) (ok_name name folder e) f
+
+-- `pick`
+abbrev PickChars : Result PickWords Ended → Type 0
+PickChars (Ok w) = HasChars w.folder
+PickChars (Err e) = Unit {0}
+
+module _ (moment offset : ℤ) where
+  expr_chars : (folder : Option (List ℕ)) (names : List (List ℕ)) (items : List Item) (r : Result Expr CommandFault) → HasChars folder → PickChars (pick_words.with_expr folder names items r)
+  expr_chars folder names items (Ok expr) f = f
+  expr_chars folder names items (Err e) f = tt
+
+  pick_names_chars : (folder : Option (List ℕ)) (items : List Item) (r : Result (List (List ℕ)) CommandFault) → HasChars folder → PickChars (pick_words.with_names moment offset folder items r)
+  pick_names_chars folder items (Ok names) f = expr_chars folder names items (pick_words.named_expr items (expr_in moment offset items)) f
+  pick_names_chars folder items (Err e) f = tt
+
+  pick_folder_chars : (items : List Item) (word : Option (List ℕ)) → HasChars word → PickChars (pick_words.with_folder moment offset items (folder_named word))
+  pick_folder_chars items None f = pick_names_chars None items _ tt
+  pick_folder_chars items (Some word) f = go (is_folder_name (without_plus word))
+    where
+      go : (b : Bool) → PickChars (pick_words.with_folder moment offset items (some_named (if b then Ok (without_plus word) else Err (fault.Refused (refusal.BadFolder word)))))
+      go true = pick_names_chars (Some (without_plus word)) items _ (plus_chars word f)
+      go false = tt
+
+  pick_one_chars : (words : List (List ℕ)) (items : List Item) (r : Result (Option (List ℕ)) Wrong) → OneChars r → PickChars (pick_words.folder_said moment offset words items r)
+  pick_one_chars words items (Ok word) f = pick_folder_chars items word f
+  pick_one_chars words items (Err wrong) f = tt
+
+  pick_items_chars : (words : List (List ℕ)) (r : Result (List Item) Wrong) → Textual r → PickChars (pick_words.items_said moment offset words r)
+  pick_items_chars words (Ok items) f =
+      pick_one_chars words items (unless_bad (first_of (bad_names items)) (one_folder (folders items)))
+      (bad_chars (first_of (bad_names items)) (one_folder (folders items)) (one_chars (folders items) (folder_texts items f)))
+  pick_items_chars words (Err wrong) f = tt
+
+  pub pick_chars : (profile : List NamedValue) (words : List (List ℕ)) (said : PickWords) → AreTexts words → pick_said moment offset profile words ≡ Ok said → HasChars said.folder
+  pick_chars profile words said f e =
+      subst PickChars e (pick_items_chars (pick_line profile words) (read_in pick_table 0 (pick_line profile words))
+      (read_textual pick_table 0 (pick_line profile words) (texts_both (profile_words (codes "pick") profile) words (shown_texts (words_in (unwrap_or (value_of (codes "pick") profile) []))) f)))

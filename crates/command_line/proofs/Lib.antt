@@ -11,6 +11,8 @@ pub mod Looked
 pub mod MarksKept
 pub mod MindingPlans
 pub mod MindsMarks
+pub mod PickEnding
+pub mod PickMarks
 pub mod Plans
 pub mod Pledging
 pub mod RefileEnding
@@ -18,9 +20,11 @@ pub mod RefileMarks
 pub mod Refusals
 pub mod SaidFolder
 pub mod SaidInc
+pub mod SaidPick
 pub mod StepsWith
 pub mod SuffixesApart
 pub mod Texts
 pub mod ToldApart
 pub mod TwoAnswers
 pub mod Unlinked
+pub mod WordEnding

@@ -55,21 +55,23 @@ use Rattle.command_words.specs.declared.ended.Ended.{Ended}
 use Rattle.command_words.specs.declared.mark.MarkWords.{MarkWords}
 use Rattle.command_words.specs.declared.rmm.RmmWords.{RmmWords}
 use Rattle.command_words.proofs.SaidFolder.{IsValid}
-use Rattle.command_line.specs.Command.{command, mark_by, mark_job, rmm_by, rmm_job, word_by}
+use Rattle.command_line.specs.Command.{command, mark_by, mark_job, picked_by, rmm_by, rmm_job, word_by}
 use Rattle.command_line.specs.CommandMarks.{IsTextName, KeepsCommandMarks, KeepsWhere}
 use Rattle.command_line.specs.CommandNames.{begins_folders, command_of, named}
 use Rattle.command_line.specs.CommandPledge.{entries_by, marks_pledge, on_named, rmm_on_named, rmms_pledge}
 use Rattle.command_line.specs.Profile.{folder_of, path_of, profile_name}
 use Rattle.command_line.specs.declared.name.CommandName.{CommandName}
-use Rattle.command_line.specs.declared.name.CommandName.TheVariants.{Inc, Mark, Refile, Rmm, Scan}
+use Rattle.command_line.specs.declared.name.CommandName.TheVariants.{Inc, Mark, Pick, Refile, Rmm, Scan}
 use Rattle.command_line.specs.declared.caller.Caller.{Caller}
 use Rattle.command_line.proofs.IncKept.{inc_kept}
 use Rattle.command_line.proofs.MindingPlans.{Minding, NothingMore, minding_kept, minding_where, minds_own, minds_with, ok_one, sound_so}
 use Rattle.command_line.proofs.MindsMarks.{command_keeps_sequences, minds_sequences}
 use Rattle.command_line.proofs.Pledging.{Answered, answers, context_keeps, context_step, known_sound, mark_acts, mark_onward, mark_words_keep, named_onward, on_context, onward_by, plan_by, profile_step, rmm_acts, rmm_onward, rmm_words_keep, two_readings, word_onward}
-use Rattle.command_line.proofs.FolderChars.{AreUtf8, HasChars, acted_chars, chars_texts, mark_chars, refile_chars, rmm_chars}
+use Rattle.command_line.proofs.FolderChars.{AreUtf8, HasChars, acted_chars, chars_texts, mark_chars, pick_chars, refile_chars, rmm_chars}
+use Rattle.command_line.proofs.PickMarks.{pick_minding}
 use Rattle.command_line.proofs.RefileMarks.{refile_minding}
 use Rattle.command_line.proofs.SaidFolder.{acted_valid, mark_valid, refile_words_valid, rmm_words_valid}
+use Rattle.command_line.proofs.SaidPick.{pick_valid}
 use Rattle.command_line.proofs.Begun.{Any, any_so, none_read, start_same}
 use Rattle.command_line.proofs.TwoAnswers.{follows_so, keeps_after, keeps_ended, rest_by}
 
@@ -259,6 +261,13 @@ module _ (run : ℕ) (few : run < 2 ^ 128) (caller : Caller) (word : List ℕ) (
       subst (λ z. Minding run NothingMore h (Ask profile_step (λ c. rest_by (context_step profile) (word_by run caller profile word words z) (word_onward run profile caller word words z) b))) (sym is)
       (mark_minding run few profile h b (mark_said profile (map chars words)) (λ said e. (mark_valid profile (map chars words) said e, mark_chars profile (map chars words) said (chars_texts words texts) e)))
 
+  pick_named : (profile : List NamedValue) (name : Option CommandName) → name ≡ Some Pick → Minding run NothingMore h (Ask profile_step (λ c. rest_by (context_step profile) (word_by run caller profile word words name) (word_onward run profile caller word words name) b))
+  unfolding word_onward
+  pick_named profile name is =
+      subst (λ z. Minding run NothingMore h (Ask profile_step (λ c. rest_by (context_step profile) (word_by run caller profile word words z) (word_onward run profile caller word words z) b))) (sym is)
+      (pick_minding run few profile h b (picked_by caller profile (map chars words))
+      (λ said e. (pick_valid caller.clock.moment caller.clock.offset profile (map chars words) said e, pick_chars caller.clock.moment caller.clock.offset profile (map chars words) said (chars_texts words texts) e)))
+
   rmm_named : (profile : List NamedValue) (name : Option CommandName) → name ≡ Some Rmm → Minding run RemovesSo h (Ask profile_step (λ c. rest_by (context_step profile) (word_by run caller profile word words name) (word_onward run profile caller word words name) b))
   unfolding word_onward
   rmm_named profile name is =
@@ -276,6 +285,12 @@ module _ (run : ℕ) (few : run < 2 ^ 128) (caller : Caller) (word : List ℕ) (
   mark_read (reading.Content bytes) is = mark_named (entries_in bytes) (named word) is
   mark_read (reading.Long l) is = long_minding NothingMore l
   mark_read reading.Gone is = mark_named (entries_in []) (named word) is
+
+  pick_read : (r : Reading) → named word ≡ Some Pick → Minding run NothingMore h (plan_by run few caller all r b)
+  unfolding onward_by named_onward lifted bind ◌>>=◌
+  pick_read (reading.Content bytes) is = pick_named (entries_in bytes) (named word) is
+  pick_read (reading.Long l) is = long_minding NothingMore l
+  pick_read reading.Gone is = pick_named (entries_in []) (named word) is
 
   rmm_read : (r : Reading) → named word ≡ Some Rmm → Minding run RemovesSo h (plan_by run few caller all r b)
   unfolding onward_by named_onward lifted bind ◌>>=◌
@@ -300,6 +315,15 @@ module _ (run : ℕ) (few : run < 2 ^ 128) (caller : Caller) (x y : State) (resu
           minding_kept run ended_cause (plan_by run few caller (word ∷ words) (reading_of t.first) t.second) x y result m
           (follows_so run ended_cause (command run caller (word ∷ words)) (plan_by run few caller (word ∷ words) (reading_of t.first) t.second) x y result f t.runs) (start_same run ended_cause (command run caller (word ∷ words)) x y result f)
 
+  pick_kept : (word : List ℕ) (words : List (List ℕ)) → AreUtf8 words → named word ≡ Some Pick → Follows run ended_cause (command run caller (word ∷ words)) x y result → KeepsSequencesOf IsTextName run x.files.story y.files.story
+  pick_kept word words texts is f = go (answers run few caller (word ∷ words) x y result f)
+    where
+      go : Answered run few caller (word ∷ words) x.hand y.hand (deeds_in f.went.log) (exit_of ended_cause result) → KeepsSequencesOf IsTextName run x.files.story y.files.story
+      go t =
+          let m = pick_read run few caller word words texts x.hand t.second (reading_of t.first) is in
+          minding_kept run ended_cause (plan_by run few caller (word ∷ words) (reading_of t.first) t.second) x y result m
+          (follows_so run ended_cause (command run caller (word ∷ words)) (plan_by run few caller (word ∷ words) (reading_of t.first) t.second) x y result f t.runs) (start_same run ended_cause (command run caller (word ∷ words)) x y result f)
+
   rmm_kept : (word : List ℕ) (words : List (List ℕ)) → AreUtf8 words → named word ≡ Some Rmm → Follows run ended_cause (command run caller (word ∷ words)) x y result → KeepsWhere RemovesUnheld run x.files.story y.files.story
   rmm_kept word words texts is f = go (answers run few caller (word ∷ words) x y result f)
     where
@@ -321,6 +345,7 @@ module _ (run : ℕ) (few : run < 2 ^ 128) (caller : Caller) (x y : State) (resu
   by_name word words texts f (Some Inc) is = inc_kept run few caller x y result word words texts is f
   by_name word words texts f (Some Scan) is = command_keeps_sequences run few caller (word ∷ words) (ap begins_folders is) x y result f
   by_name word words texts f (Some Mark) is = mark_kept word words texts is f
+  by_name word words texts f (Some Pick) is = pick_kept word words texts is f
   by_name word words texts f (Some Refile) is = refile_kept word words texts is f
   by_name word words texts f (Some Rmm) is = rmm_kept word words texts is f
 

@@ -40,7 +40,7 @@ use Rattle.command_line.specs.CommandNames.{begins_folders, command_of, named}
 use Rattle.command_line.specs.CommandPledge.{command_pledge, entries_by, path_by, word_pledge}
 use Rattle.command_line.specs.Profile.{path_of}
 use Rattle.command_line.specs.declared.name.CommandName.{CommandName}
-use Rattle.command_line.specs.declared.name.CommandName.TheVariants.{Inc, Mark, Refile, Rmm, Scan}
+use Rattle.command_line.specs.declared.name.CommandName.TheVariants.{Inc, Mark, Pick, Refile, Rmm, Scan}
 use Rattle.command_line.specs.declared.caller.Caller.{Caller}
 use Rattle.command_words.specs.Ended.{ended_cause}
 use Rattle.command_words.specs.declared.ended.Ended.{Ended}
@@ -122,6 +122,7 @@ pledge_looks run caller (word ∷ words) profile context other = go (named word)
     go (Some Inc) other = cc (other)
     go (Some Scan) other = refl
     go (Some Mark) other = cc (other)
+    go (Some Pick) other = cc (other)
     go (Some Refile) other = cc (other)
     go (Some Rmm) other = cc (other)
 

@@ -42,6 +42,10 @@ use Rattle.mark_command.specs.Mark.{mark}
 use Rattle.mark_command.specs.MarkPledge.{pledge_by}
 use Rattle.mark_command.specs.declared.job.MarkAct.{MarkAct}
 use Rattle.mark_command.proofs.MarkPledged.{mark_keeps}
+use Rattle.pick_command.specs.Pick.{pick}
+use Rattle.pick_command.specs.PickPledge.{pledge_by as pick_pledge_by}
+use Rattle.pick_command.specs.declared.job.PickMarks.{PickMarks}
+use Rattle.pick_command.proofs.PickPledged.{pick_keeps}
 use Rattle.command_words.specs.Ended.{Ending, ended_cause, plain}
 use Rattle.command_words.specs.IncWords.{inc_said}
 use Rattle.command_words.specs.MarkWords.{mark_said}
@@ -50,6 +54,7 @@ use Rattle.command_words.specs.RmmWords.{rmm_said}
 use Rattle.command_words.specs.ScanWords.{scan_said}
 use Rattle.command_words.specs.declared.ended.Ended.{Ended}
 use Rattle.command_words.specs.declared.mark.MarkWords.{MarkWords}
+use Rattle.command_words.specs.declared.pick.PickWords.{PickWords}
 use Rattle.command_words.specs.declared.refile.RefileWords.{RefileWords}
 use Rattle.command_words.specs.declared.rmm.RmmWords.{RmmWords}
 use Rattle.command_line.specs.Looking.{ScanAsked, scan_asked}
@@ -60,13 +65,13 @@ use Rattle.refile_command.specs.declared.job.RefileJob.{RefileJob}
 use Rattle.refile_command.proofs.RefileMoved.{HasHeldNone}
 use Rattle.refile_command.proofs.RefilePledged.{EndsRefiled, refile_keeps}
 use Rattle.refile_command.proofs.RmmPledged.{rmm_keeps}
-use Rattle.command_line.specs.Command.{command, command_by, context_entered, context_seen, folder_found, inc_begun, inc_by, job_of, mark_begun, mark_by, mark_job, no_command, refile_begun, refile_by, refile_job, rmm_begun, rmm_by, rmm_job, scan_begun, scan_by, word_by}
+use Rattle.command_line.specs.Command.{command, command_by, context_entered, context_seen, folder_found, inc_begun, inc_by, job_of, mark_begun, mark_by, mark_job, no_command, pick_begun, pick_by, pick_job, picked_by, refile_begun, refile_by, refile_job, rmm_begun, rmm_by, rmm_job, scan_begun, scan_by, word_by}
 use Rattle.command_line.specs.CommandNames.{command_of, named}
-use Rattle.command_line.specs.CommandPledge.{IsDone, KeepsPledge, command_pledge, entries_by, incs_pledge, marks_pledge, on_named, path_by, refile_on_named, refiles_pledge, rmm_on_named, rmms_pledge, text_of, word_pledge}
+use Rattle.command_line.specs.CommandPledge.{IsDone, KeepsPledge, command_pledge, entries_by, incs_pledge, marks_pledge, on_named, path_by, pick_on_named, picks_pledge, refile_on_named, refiles_pledge, rmm_on_named, rmms_pledge, text_of, word_pledge}
 use Rattle.command_line.specs.Incorporating.{job_by}
 use Rattle.command_line.specs.Profile.{folder_of, path_of, profile_name}
 use Rattle.command_line.specs.declared.name.CommandName.{CommandName}
-use Rattle.command_line.specs.declared.name.CommandName.TheVariants.{Inc, Mark, Refile, Rmm, Scan}
+use Rattle.command_line.specs.declared.name.CommandName.TheVariants.{Inc, Mark, Pick, Refile, Rmm, Scan}
 use Rattle.command_line.specs.declared.caller.Caller.{Caller}
 use Rattle.command_line.proofs.SaidFolder.{acted_valid, asked_valid}
 use Rattle.command_line.proofs.TwoAnswers.{Onward, TwoAnswers, acts_begin_with, follows_so, keeps_after, keeps_ended, may_read, rest_by, two_answers}
@@ -107,6 +112,9 @@ module _ (run : ℕ) (profile : List NamedValue) where
   abbrev pub mark_acts : MarkWords → List ℕ → Commanded Unit
   mark_acts words folder = mark run (path_of profile) (mark_job folder words profile)
 
+  abbrev pub pick_acts : PickWords → List ℕ → Commanded Unit
+  pick_acts words folder = pick run (path_of profile) (pick_job folder words profile)
+
   abbrev pub refile_acts : RefileWords → List ℕ → Commanded Unit
   refile_acts words folder = refile run (path_of profile) (refile_job folder words profile)
 
@@ -122,6 +130,11 @@ module _ (run : ℕ) (profile : List NamedValue) where
   unfolding mark_begun
   mark_onward (Ok words) = inr (λ b. on_context profile words.folder (mark_acts words) (reading_of b), context_asked profile words.folder (mark_acts words))
   mark_onward (Err e) = inl (Err e, refl)
+
+  unfoldable pub pick_onward : (value : Result PickWords Ended) → Onward (context_step profile) (pick_by run profile value)
+  unfolding pick_begun
+  pick_onward (Ok words) = inr (λ b. on_context profile words.folder (pick_acts words) (reading_of b), context_asked profile words.folder (pick_acts words))
+  pick_onward (Err e) = inl (Err e, refl)
 
   unfoldable pub refile_onward : (value : Result RefileWords Ended) → Onward (context_step profile) (refile_by run profile value)
   unfolding refile_begun
@@ -143,6 +156,7 @@ module _ (run : ℕ) (profile : List NamedValue) where
   word_onward caller word words (Some Inc) = inc_onward (job_by caller profile (inc_said profile (map chars words)))
   word_onward caller word words (Some Scan) = scan_onward (scan_asked caller (scan_said profile (map chars words)))
   word_onward caller word words (Some Mark) = mark_onward (mark_said profile (map chars words))
+  word_onward caller word words (Some Pick) = pick_onward (picked_by caller profile (map chars words))
   word_onward caller word words (Some Refile) = refile_onward (refile_said profile (map chars words))
   word_onward caller word words (Some Rmm) = rmm_onward (rmm_said profile (map chars words))
 
@@ -277,6 +291,37 @@ module _ (run : ℕ) (few : run < 2 ^ 128) (profile : List NamedValue) (h : Hand
       w = on_named run profile words (folder_of words.folder (entries_by b) profile)
   mark_words_keep b (Err e) = keeps_ended look Home profile_name LIMIT_BYTES h (Err e) (IfOkay (Finished (Some Mark) path)) (λ c. tt)
 
+  -- `pick`
+  pick_done : (a b : Answer) (later : List Done) (j : Hand) (r : Result Unit CommandFault) → IfOkay (Still (acts (two_readings profile a b))) later j r → IfOkay (Finished (Some Pick) path) later j r
+  pick_done a b later j (Ok u) f = record { is_done = f.settled (two_settled profile a b); unfailed = f.unfailed }
+  pick_done a b later j (Err e) f = tt
+
+  module _ (words : PickWords) (a b : Answer) (es : List NamedValue) (folder : List ℕ) where
+    abbrev PickKeeps : Pledge → Type 0
+    PickKeeps w = Sound w (acts (two_readings profile a b)) h → Keeps (rules_of w) (two_readings profile a b) (knowing es h) (pick_acts run profile words folder) (IfOkay (Finished (Some Pick) path))
+
+    picked_so : PickKeeps (pick_on_named run profile words (Ok folder))
+    unfolding pick
+    picked_so sound =
+        let w = pick_on_named run profile words (Ok folder) in
+        keeps_more (rules_of w) (two_readings profile a b) (knowing es h) (pick_acts run profile words folder) (IfOkay (Still (acts (two_readings profile a b)))) (IfOkay (Finished (Some Pick) path)) (pick_done a b)
+        (pick_keeps run few path (pick_job folder words profile) words.marks (two_readings profile a b) (knowing es h) (known_sound w (acts (two_readings profile a b)) h es sound))
+
+    picked_at : folder_of words.folder es profile ≡ Ok folder → PickKeeps (pick_on_named run profile words (folder_of words.folder es profile))
+    picked_at is = subst (λ v. PickKeeps (pick_on_named run profile words v)) (sym is) picked_so
+
+  pub pick_words_keep : (b : Answer) (value : Result PickWords Ended)
+      → Keeps (rules_of (picks_pledge run profile (entries_by b) value)) [] h (Ask profile_step (λ c. rest_by (context_step profile) (pick_by run profile value) (pick_onward run profile value) b)) (IfOkay (Finished (Some Pick) path))
+  unfolding pick_onward
+  pick_words_keep b (Ok words) =
+      keeps_after w Home (Mail path) profile_name context_name LIMIT_BYTES h (on_context profile words.folder (pick_acts run profile words) (reading_of b)) (IfOkay (Finished (Some Pick) path))
+      (λ c d sound. context_keeps w (two_readings profile c d) h sound profile words.folder (pick_acts run profile words) (Finished (Some Pick) path) (reading_of b)
+      (λ folder is. picked_at words c d (entries_by b) folder is sound))
+    where
+      w : Pledge
+      w = pick_on_named run profile words (folder_of words.folder (entries_by b) profile)
+  pick_words_keep b (Err e) = keeps_ended look Home profile_name LIMIT_BYTES h (Err e) (IfOkay (Finished (Some Pick) path)) (λ c. tt)
+
   -- `rmm`
   rmm_done : (a b : Answer) (later : List Done) (j : Hand) (r : Result Unit CommandFault) → IfOkay (Still (acts (two_readings profile a b))) later j r → IfOkay (Finished (Some Rmm) path) later j r
   rmm_done a b later j (Ok u) f = record { is_done = f.settled (two_settled profile a b); unfailed = f.unfailed }
@@ -366,6 +411,7 @@ module _ (run : ℕ) (few : run < 2 ^ 128) (profile : List NamedValue) (h : Hand
   word_keeps caller b word words (Some Inc) = inc_job_keeps b (job_by caller profile (inc_said profile (map chars words)))
   word_keeps caller b word words (Some Scan) = scan_words_keep b (scan_asked caller (scan_said profile (map chars words))) (λ said e. asked_valid caller profile (map chars words) said e)
   word_keeps caller b word words (Some Mark) = mark_words_keep b (mark_said profile (map chars words))
+  word_keeps caller b word words (Some Pick) = pick_words_keep b (picked_by caller profile (map chars words))
   word_keeps caller b word words (Some Refile) = refile_words_keep b (refile_said profile (map chars words))
   word_keeps caller b word words (Some Rmm) = rmm_words_keep b (rmm_said profile (map chars words))
 
@@ -392,6 +438,18 @@ pledge_run run caller (word ∷ words) profile context = go (named word)
     marks_by (Ok said) = on said (folder_of said.folder context profile)
     marks_by (Err e) = refl
 
+    picks_by : (value : Result PickWords Ended) → (picks_pledge run profile context value).run ≡ run
+    picks_by (Ok said) = by_folder (folder_of said.folder context profile)
+      where
+        by_marks : (folder : List ℕ) (marks : Option PickMarks) → (pick_pledge_by run (path_of profile) (pick_job folder said profile) marks).run ≡ run
+        by_marks folder None = refl
+        by_marks folder (Some p) = refl
+
+        by_folder : (value : Result (List ℕ) CommandFault) → (pick_on_named run profile said value).run ≡ run
+        by_folder (Ok folder) = by_marks folder said.marks
+        by_folder (Err e) = refl
+    picks_by (Err e) = refl
+
     removes_by : (value : Result RmmWords Ended) → (rmms_pledge run profile context value).run ≡ run
     removes_by (Ok said) = by (folder_of said.folder context profile)
       where
@@ -417,6 +475,7 @@ pledge_run run caller (word ∷ words) profile context = go (named word)
     go (Some Inc) = takes_by (job_by caller profile (inc_said profile (map chars words)))
     go (Some Scan) = refl
     go (Some Mark) = marks_by (mark_said profile (map chars words))
+    go (Some Pick) = picks_by (picked_by caller profile (map chars words))
     go (Some Refile) = refiles_by (refile_said profile (map chars words))
     go (Some Rmm) = removes_by (rmm_said profile (map chars words))
 

@@ -1,11 +1,9 @@
 -- How a command ends whose words name `refile`, and what shows it; and that it says nothing.
 use Rattle.std.proofs.Common.{◌≡◌, ◌≢◌, ◌++◌, ◌<◌, ◌^◌, ◌∷◌, [], ℕ, List, Option, Some, None, Result, Ok, Err, inl, inr, refl, sym, ◌∙◌, subst}
-use Rattle.std.specs.Prelude.{codes, map}
+use Rattle.std.specs.Prelude.{map}
 use Rattle.std.specs.Str.{chars}
 use Rattle.mh_profile.specs.declared.named_value.NamedValue.{NamedValue}
 use Rattle.mh_profile.specs.Reading.{entries_in}
-use Rattle.mh_words.specs.Whole.{Wrong, read_in}
-use Rattle.mh_words.specs.declared.item.Item.{Item}
 use Rattle.folder_files.specs.Deeds.{Deed, Once}
 use Rattle.folder_files.specs.declared.place.Place.TheVariants.{Folder, Home, Mail}
 use Rattle.folder_files.specs.declared.step.Answer.{Answer}
@@ -28,28 +26,28 @@ use Rattle.opened_folders.proofs.CleanRuns.{Clean}
 use Rattle.opened_folders.proofs.EndedKept.{keeps_more}
 use Rattle.opened_folders.proofs.Speaking.{Quiet, keeps_both, keeps_holding, quietly, run_speaks, silent_told, speaking}
 use Rattle.refile_command.specs.Refile.{refile}
-use Rattle.refile_command.specs.RefileAnswers.{IsEndedFirst, ShowsRefile, none_let_go}
+use Rattle.refile_command.specs.RefileAnswers.{IsEndedFirst, ShowsRefile}
 use Rattle.refile_command.specs.RefilePledge.{refile_pledge}
 use Rattle.refile_command.specs.declared.job.RefileJob.{RefileJob}
 use Rattle.refile_command.proofs.RefileEnds.{RefileEndsSo, refile_ends}
 use Rattle.refile_command.proofs.RefileMoved.{HasHeldNone}
 use Rattle.refile_command.proofs.RefilePledged.{EndsRefiled, refile_keeps as refile_pledged}
 use Rattle.refile_command.proofs.ShownFirst.{ended_first, first_more}
-use Rattle.command_words.specs.Ended.{plain, wrong_word as wrong_ended}
-use Rattle.command_words.specs.RefileWords.{items_said, missing_after, refile_said, source_of, targets, targets_said, unless_wrong, words_of, wrong_names}
-use Rattle.command_words.specs.Tables.{refile_table}
-use Rattle.command_words.specs.Words.{profile_words}
+use Rattle.command_words.specs.Ended.{plain}
+use Rattle.command_words.specs.RefileWords.{refile_said}
 use Rattle.command_words.specs.declared.ended.Ended.{Ended}
 use Rattle.command_words.specs.declared.refile.RefileWords.{RefileWords}
-use Rattle.command_line.specs.BegunCauses.{ShowsEarly, ShowsFault, ShowsNamed, ShowsOnFolder, ShowsRefileWords, ShowsRefiling, wrong_folder, wrong_word}
+use Rattle.command_line.specs.BegunCauses.{ShowsEarly, ShowsFault, ShowsNamed, ShowsOnFolder, ShowsRefileWords, ShowsRefiling}
 use Rattle.command_line.specs.Command.{command, command_by, folder_found, refile_begun, refile_by, refile_job, word_by}
 use Rattle.command_line.specs.CommandNames.{command_of, named}
 use Rattle.command_line.specs.CommandPledge.{entries_by}
 use Rattle.command_line.specs.Profile.{folder_of, path_of, profile_name}
 use Rattle.command_line.specs.declared.name.CommandName.TheVariants.{Refile}
 use Rattle.command_line.specs.declared.caller.Caller.{Caller}
-use Rattle.command_line.proofs.BegunEnding.{Profile, early, on_folder, profile_comes}
-use Rattle.command_line.proofs.BegunParts.{Behind, Found, after_context, after_profile, behind_kept, clean_there, found_comes, found_silent, in_silence, none_lasts, none_put, none_taken, none_told, profile_silent}
+use Rattle.command_line.proofs.BegunEnding.{early, on_folder, refused_shown}
+use Rattle.command_line.proofs.BegunParts.{Behind, Found, after_context, after_profile, behind_kept, clean_there, found_comes, found_silent, in_silence, none_lasts, none_put, none_taken, none_told, profile_comes, profile_silent, Profile}
+use Rattle.command_line.proofs.Refusals.{refile_refuses}
+use Rattle.command_line.proofs.WordEnding.{refusal_of, refused_by}
 
 -- two readings use no held name of a folder
 none_held : (run : ℕ) (path folder : List ℕ) (a b : Answer) → HasHeldNone run (Folder path folder) (after_context path a b)
@@ -161,7 +159,7 @@ module _ (run : ℕ) (few : run < 2 ^ 128) (caller : Caller) (words_ : List (Lis
           where
             more : (later : List runs.Deed) (i : Hand) (r : Result Unit CommandFault) → Silent later i r × So later i r → Plainly later i r
             more later i (Ok u) s = (s.0.0 ∙ silent, refile_on b folder there (Ok []) (acts later) (s.1.0, (s.1.1, refl)))
-            more later i (Err e) s = (s.0.0 ∙ silent, first_more (λ k own. Behind a b own × ShowsRefile run path refiling k own) Shows (λ x own q. inr (refile_on b folder there (Err x) own q)) e (acts later) s.1)
+            more later i (Err e) s = (s.0.0 ∙ silent, first_more (λ k own. Behind a b own × ShowsRefile run path refiling k own) Shows (λ x own q. inr (inr (refile_on b folder there (Err x) own q))) e (acts later) s.1)
 
       -- and the one that begins by reading the context
       refile_begun_keeps : (past : List runs.Deed) → acts past ≡ after_profile a → NoneFailed (acts past) → said_of past ≡ [] → Keeps Silence past fresh (refile_begun run profile words) Plainly
@@ -175,27 +173,10 @@ module _ (run : ℕ) (few : run < 2 ^ 128) (caller : Caller) (words_ : List (Lis
 
     -- what the words of `refile` refuse
     module _ (past : List runs.Deed) (is : acts past ≡ after_profile a) (clean : NoneFailed (acts past)) (silent : said_of past ≡ []) where
-      abbrev RefileShown : Result RefileWords Ended → Type 0
-      RefileShown (Ok words) = Unit {0}
-      RefileShown (Err x) = IsEndedFirst Shows x.fault (acts past)
-
-      wrong : (w : Wrong) (word : Option (List ℕ)) → IsEndedFirst Shows (wrong_ended w word).fault (acts past)
-      wrong w word = none_let_go (inl (wrong_word (a, is))) clean
-
-      names_shown : (words : RefileWords) (wrongs : List (List ℕ)) → RefileShown (unless_wrong words wrongs)
-      names_shown words [] = tt
-      names_shown words (word ∷ wrongs) = none_let_go (inl (wrong_folder (a, is))) clean
-
-      targets_shown : (words : List (List ℕ)) (items : List Item) (names : List (List ℕ)) → RefileShown (targets_said words items names)
-      targets_shown words items [] = wrong (missing_after words) None
-      targets_shown words items (target ∷ others) = names_shown (words_of (source_of items) target others items) (wrong_names items)
-
-      items_shown : (words : List (List ℕ)) (r : Result (List Item) Wrong) → RefileShown (items_said words r)
-      items_shown words (Ok items) = targets_shown words items (targets items)
-      items_shown words (Err w) = wrong w None
-
-      refile_refused : (words : List (List ℕ)) (x : Ended) → refile_said profile words ≡ Err x → IsEndedFirst Shows x.fault (acts past)
-      refile_refused words x e = subst RefileShown e (items_shown (profile_words (codes "refile") profile ++ words) (read_in refile_table 0 (profile_words (codes "refile") profile ++ words)))
+      refile_refused : (word : List ℕ) (rest : List (List ℕ)) → words_ ≡ word ∷ rest → named word ≡ Some Refile → (x : Ended) → refile_said profile (map chars rest) ≡ Err x → IsEndedFirst Shows x.fault (acts past)
+      refile_refused word rest is_words name x said =
+          ended_first Shows x.fault (acts past)
+          (refused_shown run few caller words_ a x past is (refile_refuses profile (map chars rest) x said) (refused_by caller words_ a word rest is_words (Some Refile) name x.fault (refusal_of (refile_said profile (map chars rest)) x said)) clean)
 
       -- the command by its words, refused or not
       by_refile : (word : List ℕ) (rest : List (List ℕ)) → words_ ≡ word ∷ rest → named word ≡ Some Refile → Keeps Silence past fresh (refile_by run profile (refile_said profile (map chars rest))) EndsFirst
@@ -203,7 +184,7 @@ module _ (run : ℕ) (few : run < 2 ^ 128) (caller : Caller) (words_ : List (Lis
         where
           go : (r : Result RefileWords Ended) → refile_said profile (map chars rest) ≡ r → Keeps Silence past fresh (refile_by run profile r) EndsFirst
           go (Ok words) said = plain_keeps past fresh (refile_begun run profile words) (refile_begun_keeps word rest is_words name words said past is clean silent)
-          go (Err x) said = stops past fresh x silent (refile_refused (map chars rest) x said)
+          go (Err x) said = stops past fresh x silent (refile_refused word rest is_words name x said)
 
       by_words : (words : List (List ℕ)) → words_ ≡ words → command_of words ≡ Some Refile → Keeps Silence past fresh (command_by run caller profile words) EndsFirst
       by_words [] is_words name = cc (name)
@@ -215,11 +196,11 @@ module _ (run : ℕ) (few : run < 2 ^ 128) (caller : Caller) (words_ : List (Lis
   refile_ends_by refiles =
       keeps_bind Silence [] fresh (lifted plain (text_read Home profile_name)) (after (λ text. command_by run caller (entries_in text) words_)) _ EndsFirst
       (in_silence none_told [] fresh (lifted plain (text_read Home profile_name)) (OfActs Reads) refl (profile_silent [] fresh)
-      (comes_keeps [] [] fresh (lifted plain (text_read Home profile_name)) Reads refl (comes_clean [] fresh (lifted plain (text_read Home profile_name)) (Profile run few caller words_) (λ m. m) (profile_comes run few caller words_))))
+      (comes_keeps [] [] fresh (lifted plain (text_read Home profile_name)) Reads refl (comes_clean [] fresh (lifted plain (text_read Home profile_name)) Profile (λ m. m) profile_comes)))
       go
     where
       Reads : Outcome (Result (List ℕ) Ended)
-      Reads later j r = NoneFailed later × Profile run few caller words_ later j r
+      Reads later j r = NoneFailed later × Profile later j r
 
       go : (later : List runs.Deed) (j : Hand) (r : Result (List ℕ) Ended) → (said_of later ≡ []) × OfActs Reads later j r → Keeps Silence later j (after (λ text. command_by run caller (entries_in text) words_) r) EndsFirst
       go later j (Ok text) q =

@@ -30,7 +30,8 @@ use Rattle.command_words.specs.declared.rmm.RmmWords.{RmmWords}
 use Rattle.command_words.specs.declared.scan.ScanWords.{ScanWords}
 use Rattle.format_compiler.specs.Grammar.{Format}
 use Rattle.message_lines.specs.Finding.{format_named, LIMIT_FORMAT}
-use Rattle.command_words.specs.LookWords.{unless_wide, wrong_widths}
+use Rattle.command_words.specs.BadValues.{first_of, unless_bad}
+use Rattle.command_words.specs.LookWords.{wrong_widths}
 use Rattle.command_line.specs.Incorporating.{job_by, job_looked, job_on, job_with, plain_job}
 use Rattle.command_line.specs.Looking.{asked_by, ScanAsked, scan_asked}
 use Rattle.command_line.proofs.FormatRefuses.{format_refuses, IsFormatRefusal}
@@ -57,7 +58,7 @@ one_refuses words items (Ok (Some word)) = named_refuses items word
 one_refuses words items (Err wrong) = (refusal.BadSwitch wrong.place wrong.why, refl)
 
 items_refuse : (words : List (List ℕ)) (r : Result (List Item) Wrong) → Refuses (items_said words r)
-items_refuse words (Ok items) = one_refuses words items (unless_wide (wrong_widths items) (one_folder (folders items)))
+items_refuse words (Ok items) = one_refuses words items (unless_bad (first_of (wrong_widths items)) (one_folder (folders items)))
 items_refuse words (Err wrong) = (refusal.BadSwitch wrong.place wrong.why, refl)
 
 -- the words of `scan`
@@ -190,7 +191,7 @@ inc_one_refuses words items (Ok (Some word)) = inc_named_refuses items word
 inc_one_refuses words items (Err wrong) = (refusal.BadSwitch wrong.place wrong.why, refl)
 
 inc_items_refuse : (words : List (List ℕ)) (r : Result (List Item) Wrong) → IncRefuses (inc_items words r)
-inc_items_refuse words (Ok items) = inc_one_refuses words items (unless_wide (wrong_widths items) (folder_alone items))
+inc_items_refuse words (Ok items) = inc_one_refuses words items (unless_bad (first_of (wrong_widths items)) (folder_alone items))
 inc_items_refuse words (Err wrong) = (refusal.BadSwitch wrong.place wrong.why, refl)
 
 inc_refuse : (profile : List NamedValue) (words : List (List ℕ)) → IncRefuses (inc_said profile words)

@@ -16,7 +16,8 @@ use Rattle.command_words.specs.declared.ended.Ended.{Ended}
 use Rattle.command_words.specs.declared.inc.IncWords.{IncWords}
 use Rattle.format_compiler.specs.Grammar.{Format}
 use Rattle.message_lines.specs.Finding.{format_named}
-use Rattle.command_words.specs.LookWords.{unless_wide, wrong_widths}
+use Rattle.command_words.specs.BadValues.{first_of, unless_bad}
+use Rattle.command_words.specs.LookWords.{wrong_widths}
 use Rattle.command_line.specs.Incorporating.{job_by, job_looked, job_on, job_with, plain_job, unseen_of}
 use Rattle.command_line.specs.Profile.{folder_of}
 use Rattle.command_line.specs.declared.caller.Caller.{Caller}
@@ -37,7 +38,7 @@ folder_valid all items (Ok word) words e = said_valid items word words e
 folder_valid all items (Err wrong) words e = no_ok _ words e
 
 words_valid : (all : List (List ℕ)) (r : Result (List Item) Wrong) (words : IncWords) → items_said all r ≡ Ok words → IsValid words.folder
-words_valid all (Ok items) words e = folder_valid all items (unless_wide (wrong_widths items) (folder_alone items)) words e
+words_valid all (Ok items) words e = folder_valid all items (unless_bad (first_of (wrong_widths items)) (folder_alone items)) words e
 words_valid all (Err wrong) words e = no_ok _ words e
 
 -- what holds of the folder that is acted on holds of the job's

@@ -2,7 +2,6 @@
 -- first.
 use Rattle.std.specs.Prelude.{◌≡◌, ◌⊎◌, ◌++◌, ℕ, List, [], ◌∷◌, map, Option, None, Some, Result, Ok, Err}
 use Rattle.std.specs.Str.{chars}
-use Rattle.mh_base.specs.declared.word.WordWhy.{WordWhy}
 use Rattle.mh_profile.specs.declared.named_value.NamedValue.{NamedValue}
 use Rattle.folder_files.specs.Deeds.{Deed, did}
 use Rattle.folder_files.specs.declared.place.Place.TheVariants.{Home, Mail}
@@ -14,11 +13,13 @@ use Rattle.step_plans.specs.ContextCommit.{LIMIT_BYTES, context_name}
 use Rattle.step_plans.specs.declared.command_fault.CommandFault.{CommandFault}
 use Rattle.step_plans.specs.declared.command_fault.CommandFault.TheVariants as fault
 use Rattle.command_stages.specs.Texts.{too_large}
-use Rattle.message_lines.specs.Finding.{long_format}
 use Rattle.opened_folders.specs.Endings.{ShowsEnd}
 use Rattle.mark_command.specs.MarkAnswers.{HasMarked, ShowsListing, TellsMarks, mark_answers}
 use Rattle.mark_command.specs.declared.job.MarkAct.{MarkAct}
 use Rattle.mark_command.specs.declared.job.MarkJob.{MarkJob}
+use Rattle.pick_command.specs.PickAnswers.{HasFound, HasFoundListed, ShowsListing as ShowsPickListing, ShowsPicking, TellsNone, TellsSome}
+use Rattle.pick_command.specs.declared.job.PickJob.{PickJob}
+use Rattle.pick_command.specs.declared.job.PickMarks.{PickMarks}
 use Rattle.inc_command.specs.IncAnswers.{IsTextOfNew, ShowsIncorporating}
 use Rattle.inc_command.specs.IncJob.{IncJob}
 use Rattle.refile_command.specs.RefileAnswers.{ShowsRefile}
@@ -32,39 +33,31 @@ use Rattle.command_words.specs.RefileWords.{refile_said}
 use Rattle.command_words.specs.RmmWords.{rmm_said}
 use Rattle.command_words.specs.declared.ended.Ended.{Ended}
 use Rattle.command_words.specs.declared.mark.MarkWords.{MarkWords}
+use Rattle.command_words.specs.declared.pick.PickWords.{PickWords}
 use Rattle.command_words.specs.declared.refile.RefileWords.{RefileWords}
 use Rattle.command_words.specs.declared.rmm.RmmWords.{RmmWords}
-use Rattle.command_line.specs.Causes.{ReadsContext, ReadsProfile, ShowsCommandFault}
-use Rattle.command_line.specs.Command.{mark_job, refile_job, rmm_job}
+use Rattle.command_line.specs.Causes.{IsWrongStored, ShowsCommandFault}
+use Rattle.command_line.specs.Command.{mark_job, pick_job, picked_by, refile_job, rmm_job}
 use Rattle.command_line.specs.CommandNames.{named}
 use Rattle.command_line.specs.CommandPledge.{entries_by, path_by}
 use Rattle.command_line.specs.Incorporating.{job_by}
 use Rattle.command_line.specs.Profile.{folder_of, path_of, profile_name}
+use Rattle.command_line.specs.WordCauses.{IsRefusedByWords}
 use Rattle.command_line.specs.declared.name.CommandName.{CommandName}
-use Rattle.command_line.specs.declared.name.CommandName.TheVariants.{Inc, Mark, Refile, Rmm, Scan}
+use Rattle.command_line.specs.declared.name.CommandName.TheVariants.{Inc, Mark, Pick, Refile, Rmm, Scan}
 use Rattle.command_line.specs.declared.caller.Caller.{Caller}
 
--- what shows how it ended before it came to a folder
+-- what shows how it ended before it came to a folder, once the words are read
 pub data ShowsEarly : CommandFault → List Deed → Type 0 where
-  -- a word, of the profile perhaps, is wrong, or is the name of no folder or no sequence; the profile was read, and that is all
-  wrong_word : {place : ℕ} {why : WordWhy} {own : List Deed} → ReadsProfile own
-      → ShowsEarly (fault.Refused (refusal.BadSwitch place why)) own
-  wrong_folder : {word : List ℕ} {own : List Deed} → ReadsProfile own
-      → ShowsEarly (fault.Refused (refusal.BadFolder word)) own
-  wrong_name : {word : List ℕ} {own : List Deed} → ReadsProfile own
-      → ShowsEarly (fault.Refused (refusal.BadSequenceName word)) own
-  -- the format that words name is wrong from this byte on, or too long
-  wrong_format : {at : ℕ} {own : List Deed} → ReadsProfile own → ShowsEarly (fault.Refused (refusal.BadFormat at)) own
-  wide_format : {l : ℕ} {own : List Deed} → ReadsProfile own → ShowsEarly (long_format l) own
   -- what is stored as the current folder is no folder's name
-  wrong_stored : {word : List ℕ} {own : List Deed} → ReadsContext own
+  wrong_stored : {word : List ℕ} {own : List Deed} → IsWrongStored word own
       → ShowsEarly (fault.Refused (refusal.BadFolder word)) own
   -- the profile is too long
   long_profile : {l : ℕ} → ShowsEarly (too_large l) (did (Read Home profile_name LIMIT_BYTES) (Long l) ∷ [])
   -- the context is
-  long_context : {l : ℕ} {path : List ℕ} {a : Answer}
+  long_context : {l : ℕ} {a : Answer}
       → ShowsEarly (too_large l)
-      (did (Read (Mail path) context_name LIMIT_BYTES) (Long l) ∷ (did (Read Home profile_name LIMIT_BYTES) a ∷ []))
+      (did (Read (Mail (path_by a)) context_name LIMIT_BYTES) (Long l) ∷ (did (Read Home profile_name LIMIT_BYTES) a ∷ []))
 
 -- a `mark` that only lists tells of the sequences that it read, with these entries of the context; or it is refused as a
 -- command that looks, its words by what it read
@@ -81,6 +74,23 @@ abbrev pub ShowsMarking : ℕ → List ℕ → MarkJob → List NamedValue → R
     → Option MarkAct → Type 0
 ShowsMarking run path job context r own None = ShowsLooking run path job context r own
 ShowsMarking run path job context r own (Some a) = ShowsChanging run path job a r own
+
+-- a `pick` that marks nothing: at its end it had found messages, which this text tells; or it is refused as a command that looks, or since no message
+-- matches, and its words, or that none matches, by what it read
+abbrev pub ShowsFinding : ℕ → List ℕ → PickJob → List NamedValue → Result (List ℕ) CommandFault → List Deed → Type 0
+ShowsFinding run path job context (Ok said) own = TellsSome (HasFoundListed path job context) job said own
+ShowsFinding run path job context (Err e) own =
+    (ShowsCommandFault run e own ⊎ (e ≡ fault.Refused refusal.NoMatch)) × ShowsPickListing path job context e own
+
+-- one that marks them: at its end it had found messages on the folder that it began, which this text tells; or this shows its fault
+abbrev pub ShowsMarkingFound : ℕ → List ℕ → PickJob → PickMarks → Result (List ℕ) CommandFault → List Deed → Type 0
+ShowsMarkingFound run path job p (Ok said) own = TellsSome (HasFound run path job) job said own
+ShowsMarkingFound run path job p (Err e) own = ShowsPicking run path job p e own
+
+abbrev pub ShowsPickJob : ℕ → List ℕ → PickJob → List NamedValue → Result (List ℕ) CommandFault → List Deed
+    → Option PickMarks → Type 0
+ShowsPickJob run path job context r own None = ShowsFinding run path job context r own
+ShowsPickJob run path job context r own (Some p) = ShowsMarkingFound run path job p r own
 
 -- `rmm` on this folder: at its end it had removed the messages that the job's words choose, and said nothing; or this
 -- shows its fault
@@ -102,7 +112,15 @@ ShowsMark run profile context folder r own (Ok words) =
     × ShowsMarking run (path_of profile) (mark_job folder words profile) context r own words.act
 ShowsMark run profile context folder r own (Err x) = ⊥
 
--- the same of `rmm`
+-- the same of `pick`
+abbrev pub ShowsPick : ℕ → List NamedValue → List NamedValue → List ℕ → Result (List ℕ) CommandFault → List Deed
+    → Result PickWords Ended → Type 0
+ShowsPick run profile context folder r own (Ok words) =
+    (folder_of words.folder context profile ≡ Ok folder)
+    × ShowsPickJob run (path_of profile) (pick_job folder words profile) context r own words.marks
+ShowsPick run profile context folder r own (Err x) = ⊥
+
+-- of `rmm`
 abbrev pub ShowsRmm : ℕ → List NamedValue → List NamedValue → List ℕ → Result (List ℕ) CommandFault → List Deed
     → Result RmmWords Ended → Type 0
 ShowsRmm run profile context folder r own (Ok words) =
@@ -132,6 +150,8 @@ ShowsNamed run caller profile context folder r own words (Some Inc) =
 ShowsNamed run caller profile context folder r own words (Some Scan) = ⊥
 ShowsNamed run caller profile context folder r own words (Some Mark) =
     ShowsMark run profile context folder r own (mark_said profile (map chars words))
+ShowsNamed run caller profile context folder r own words (Some Pick) =
+    ShowsPick run profile context folder r own (picked_by caller profile (map chars words))
 ShowsNamed run caller profile context folder r own words (Some Refile) =
     ShowsRefileWords run profile context folder r own (refile_said profile (map chars words))
 ShowsNamed run caller profile context folder r own words (Some Rmm) =
@@ -160,9 +180,10 @@ pub record ShowsOnFolder (run : ℕ) (caller : Caller) (words : List (List ℕ))
       ∷ did (Read Home profile_name LIMIT_BYTES) profile ∷ []
   pub shows : ShowsWords run caller (entries_by profile) (entries_by context) folder r own words
 
--- what shows each fault of a command that may begin a folder
+-- what shows each fault of a command that may begin a folder: its words are refused, or it ended early, or on its folder
 abbrev pub ShowsFault : ℕ → Caller → List (List ℕ) → CommandFault → List Deed → Type 0
-ShowsFault run caller words e own = ShowsEarly e own ⊎ ShowsOnFolder run caller words (Err e) own
+ShowsFault run caller words e own =
+    IsRefusedByWords caller words e own ⊎ (ShowsEarly e own ⊎ ShowsOnFolder run caller words (Err e) own)
 
 -- the words name `inc`, and this is its job by them
 abbrev pub TakesInBy : Caller → List NamedValue → List (List ℕ) → IncJob → Type 0
@@ -185,7 +206,40 @@ pub record TellsNewMail (run : ℕ) (caller : Caller) (words : List (List ℕ)) 
   pub by_words : TakesInBy caller (entries_by profile) words job
   pub told : IsTextOfNew run (path_by profile) job own text
 
+-- of a `pick`, by what it marks: no message was found, and this text says so
+abbrev pub TellsNoneBy : ℕ → List ℕ → PickJob → List NamedValue → List ℕ → List Deed → Option PickMarks → Type 0
+TellsNoneBy run path job context text own None = TellsNone (HasFoundListed path job context) job text own
+TellsNoneBy run path job context text own (Some p) = TellsNone (HasFound run path job) job text own
+
+-- the words of `pick`, the context or the profile name a folder, and this is its job there
+abbrev pub IsPickOn : List NamedValue → List NamedValue → PickJob → Result PickWords Ended → Type 0
+IsPickOn profile context job (Ok words) =
+    (folder : List ℕ) × (folder_of words.folder context profile ≡ Ok folder) × (job ≡ pick_job folder words profile)
+IsPickOn profile context job (Err x) = ⊥
+
+-- the words name `pick`, and this is its job by them
+abbrev pub PicksBy : Caller → List NamedValue → List NamedValue → List (List ℕ) → PickJob → Type 0
+PicksBy caller profile context [] job = ⊥
+PicksBy caller profile context (word ∷ words) job =
+    (named word ≡ Some Pick) × IsPickOn profile context job (picked_by caller profile (map chars words))
+
+-- `pick` says that no message matches before it is refused: the call read the profile and the context, and this text says so
+pub record TellsNoMatch (run : ℕ) (caller : Caller) (words : List (List ℕ)) (text : List ℕ) (own : List Deed) : Type 0 where
+  pub profile : Answer
+  pub context : Answer
+  pub newer : List Deed
+  pub begun :
+      own
+      ≡ newer
+      ++ did (Read (Mail (path_by profile)) context_name LIMIT_BYTES) context
+      ∷ did (Read Home profile_name LIMIT_BYTES) profile ∷ []
+  pub job : PickJob
+  pub by_words : PicksBy caller (entries_by profile) (entries_by context) words job
+  pub told : TellsNoneBy run (path_by profile) job (entries_by context) text own job.marks
+
 -- by what these deeds show, this is the text of the command on its folder: that of the sequences that `mark` made or read,
--- where it lists; or what `inc` has told so far
+-- where it lists; that of the messages that `pick` found, or that it found none; or what `inc` has told so far
 abbrev pub TellsOnFolder : ℕ → Caller → List (List ℕ) → List ℕ → List Deed → Type 0
-TellsOnFolder run caller words text own = ShowsOnFolder run caller words (Ok text) own ⊎ TellsNewMail run caller words text own
+TellsOnFolder run caller words text own =
+    ShowsOnFolder run caller words (Ok text) own
+    ⊎ (TellsNewMail run caller words text own ⊎ TellsNoMatch run caller words text own)

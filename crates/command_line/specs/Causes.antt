@@ -1,5 +1,6 @@
 -- What shows how a command ended: its run's own deeds in the call, the newest first.
-use Rattle.std.specs.Prelude.{◌≡◌, ◌⊎◌, ℕ, List, [], ◌∷◌}
+use Rattle.std.specs.Prelude.{◌≡◌, ◌⊎◌, ℕ, false, List, [], ◌∷◌}
+use Rattle.mh_base.specs.Folders.{is_folder_name, without_plus}
 use Rattle.mh_base.specs.Entries.{entry_text}
 use Rattle.mh_base.specs.declared.entry.Entry.TheVariants.{Sequences}
 use Rattle.folder_files.specs.Deeds.{Deed, did}
@@ -15,16 +16,20 @@ use Rattle.step_plans.specs.Endings.{IsHeld, IsMeddled, IsLongRead, IsLongText}
 use Rattle.step_plans.specs.declared.command_fault.CommandFault.{CommandFault}
 use Rattle.step_plans.specs.declared.command_fault.CommandFault.TheVariants as fault
 use Rattle.command_stages.specs.Current.{current_change}
-use Rattle.message_lines.specs.Finding.{LIMIT_FORMAT}
-use Rattle.command_line.specs.Profile.{profile_name}
+use Rattle.command_line.specs.CommandPledge.{entries_by, path_by}
+use Rattle.command_line.specs.Profile.{profile_name, stored_of}
 
--- the profile was read, and that is all
-abbrev pub ReadsProfile : List Deed → Type 0
-ReadsProfile own = (a : Answer) × (own ≡ did (step.Read Home profile_name LIMIT_BYTES) a ∷ [])
-
--- the profile was read and then the context of a mail directory, and that is all
-abbrev pub ReadsContext : List Deed → Type 0
-ReadsContext own = (mail : List ℕ) × (a : Answer) × (b : Answer) × (own ≡ did (step.Read (Mail mail) context_name LIMIT_BYTES) b ∷ (did (step.Read Home profile_name LIMIT_BYTES) a ∷ []))
+-- the profile was read, and then the context of the mail directory that it names, and that is all; by these this word is the current folder's stored
+-- name, or else the profile's or `inbox`, and it is the name of no folder
+pub record IsWrongStored (word : List ℕ) (own : List Deed) : Type 0 where
+  pub profile : Answer
+  pub context : Answer
+  pub reads :
+      own
+      ≡ did (step.Read (Mail (path_by profile)) context_name LIMIT_BYTES) context
+      ∷ (did (step.Read Home profile_name LIMIT_BYTES) profile ∷ [])
+  pub stored : stored_of (entries_by context) (entries_by profile) ≡ word
+  pub wrong : is_folder_name (without_plus word) ≡ false
 
 -- the newest step listed the folder of this name in a mail directory, and it isn't there
 abbrev pub IsFolderGone : List ℕ → List Deed → Type 0
@@ -40,17 +45,17 @@ IsFolderRead own = (mail : List ℕ) × (name : List ℕ) × (names : List (List
 abbrev pub IsAboveLimit : ℕ → List Deed → Type 0
 IsAboveLimit l own = ((place : Place) × (name : List ℕ) × IsLongRead place name l own) ⊎ ((mail : List ℕ) × (folder : List ℕ) × IsLongText (Mail mail) (current_change folder) l own)
 
--- what shows each refusal; the others never come
+-- what shows each refusal once the words are read; the others never come
 abbrev pub ShowsRefusal : Refusal → List Deed → Type 0
-ShowsRefusal (refusal.BadSwitch place why) own = ReadsProfile own
-ShowsRefusal (refusal.BadFolder s) own = ReadsProfile own ⊎ ReadsContext own
+ShowsRefusal (refusal.BadSwitch place why) own = ⊥
+ShowsRefusal (refusal.BadFolder s) own = IsWrongStored s own
 ShowsRefusal (refusal.NoFolder s) own = IsFolderGone s own
 ShowsRefusal (refusal.BadSpec s) own = IsFolderRead own
 ShowsRefusal (refusal.Absent s) own = IsFolderRead own
 ShowsRefusal (refusal.EmptyRange s) own = IsFolderRead own
 ShowsRefusal (refusal.EmptySequence s) own = IsFolderRead own
 ShowsRefusal (refusal.BadSequenceName s) own = ⊥
-ShowsRefusal (refusal.BadFormat n) own = ReadsProfile own
+ShowsRefusal (refusal.BadFormat n) own = ⊥
 ShowsRefusal (refusal.BadDate s) own = ⊥
 ShowsRefusal (refusal.BadExpr n) own = ⊥
 ShowsRefusal refusal.NoMatch own = ⊥
@@ -61,7 +66,7 @@ ShowsRefusal (refusal.Full s) own = ⊥
 ShowsRefusal (refusal.BadDraft n) own = ⊥
 ShowsRefusal (refusal.NoPart s) own = ⊥
 ShowsRefusal (refusal.WouldReplace s) own = ⊥
-ShowsRefusal (refusal.TooLarge l limit) own = ((limit ≡ LIMIT_BYTES) × IsAboveLimit l own) ⊎ ((limit ≡ LIMIT_FORMAT) × ReadsProfile own)
+ShowsRefusal (refusal.TooLarge l limit) own = (limit ≡ LIMIT_BYTES) × IsAboveLimit l own
 ShowsRefusal refusal.DropGrown own = ⊥
 ShowsRefusal (refusal.NoFile path) own = ⊥
 ShowsRefusal refusal.DropChanged own = ⊥

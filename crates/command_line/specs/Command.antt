@@ -13,6 +13,8 @@ use Rattle.command_stages.specs.Texts.{Commanded, text_read}
 use Rattle.mh_looks.specs.Scan.{entries_seen, scan}
 use Rattle.mh_looks.specs.ScanJob.{ScanJob}
 use Rattle.mark_command.specs.Mark.{mark}
+use Rattle.pick_command.specs.Pick.{pick}
+use Rattle.pick_command.specs.declared.job.PickJob.{PickJob}
 use Rattle.mark_command.specs.declared.job.MarkJob.{MarkJob}
 use Rattle.inc_command.specs.Inc.{inc}
 use Rattle.inc_command.specs.IncJob.{IncJob}
@@ -22,11 +24,13 @@ use Rattle.refile_command.specs.declared.job.RefileJob.{RefileJob}
 use Rattle.refile_command.specs.declared.job.RmmJob.{RmmJob}
 use Rattle.command_words.specs.declared.ended.Ended.{Ended}
 use Rattle.command_words.specs.declared.mark.MarkWords.{MarkWords}
+use Rattle.command_words.specs.declared.pick.PickWords.{PickWords}
 use Rattle.command_words.specs.declared.refile.RefileWords.{RefileWords}
 use Rattle.command_words.specs.declared.rmm.RmmWords.{RmmWords}
 use Rattle.command_words.specs.Ended.{plain, wrong_word, Ending}
 use Rattle.command_words.specs.IncWords.{inc_said}
 use Rattle.command_words.specs.MarkWords.{mark_said}
+use Rattle.command_words.specs.PickWords.{pick_said}
 use Rattle.command_words.specs.RefileWords.{refile_said}
 use Rattle.command_words.specs.RmmWords.{rmm_said}
 use Rattle.command_words.specs.ScanWords.{scan_said}
@@ -36,7 +40,7 @@ use Rattle.command_line.specs.Looking.{ScanAsked, scan_asked, unseen_known}
 use Rattle.command_line.specs.Profile.{folder_of, negation_of, path_of, profile_name}
 use Rattle.command_line.specs.declared.caller.Caller.{Caller}
 use Rattle.command_line.specs.declared.name.CommandName.{CommandName}
-use Rattle.command_line.specs.declared.name.CommandName.TheVariants.{Inc, Mark, Refile, Rmm, Scan}
+use Rattle.command_line.specs.declared.name.CommandName.TheVariants.{Inc, Mark, Pick, Refile, Rmm, Scan}
 
 -- the context is read, and the run knows its entries
 unfoldable pub context_seen : List NamedValue → Commanded Unit
@@ -84,6 +88,23 @@ mark_begun run profile words = do
 abbrev pub mark_by : ℕ → List NamedValue → Result MarkWords Ended → Ending Unit
 mark_by run profile (Ok words) = lifted plain (mark_begun run profile words)
 mark_by run profile (Err e) = Return (Err e)
+
+-- what the words of `pick` say, whose dates are named by the caller's clock
+abbrev pub picked_by : Caller → List NamedValue → List (List ℕ) → Result PickWords Ended
+picked_by caller profile words = pick_said caller.clock.moment caller.clock.offset profile words
+
+abbrev pub pick_job : List ℕ → PickWords → List NamedValue → PickJob
+pick_job folder words profile =
+    record { folder = folder; specs = words.specs; expr = words.expr; marks = words.marks; list = words.list; negation = negation_of profile }
+
+unfoldable pub pick_begun : ℕ → List NamedValue → PickWords → Commanded Unit
+pick_begun run profile words = do
+  folder ← folder_found profile words.folder
+  pick run (path_of profile) (pick_job folder words profile)
+
+abbrev pub pick_by : ℕ → List NamedValue → Result PickWords Ended → Ending Unit
+pick_by run profile (Ok words) = lifted plain (pick_begun run profile words)
+pick_by run profile (Err e) = Return (Err e)
 
 abbrev pub rmm_job : List ℕ → RmmWords → List NamedValue → RmmJob
 rmm_job folder words profile = record { folder = folder; specs = words.specs; unlink = words.unlink; negation = negation_of profile }
@@ -138,6 +159,7 @@ word_by run caller profile word words None = Return (Err (no_command (Some word)
 word_by run caller profile word words (Some Inc) = inc_by run profile (job_by caller profile (inc_said profile (map chars words)))
 word_by run caller profile word words (Some Scan) = scan_by run profile (scan_asked caller (scan_said profile (map chars words)))
 word_by run caller profile word words (Some Mark) = mark_by run profile (mark_said profile (map chars words))
+word_by run caller profile word words (Some Pick) = pick_by run profile (picked_by caller profile (map chars words))
 word_by run caller profile word words (Some Refile) = refile_by run profile (refile_said profile (map chars words))
 word_by run caller profile word words (Some Rmm) = rmm_by run profile (rmm_said profile (map chars words))
 

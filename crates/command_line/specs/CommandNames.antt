@@ -1,13 +1,17 @@
 -- The commands that there are, by name.
 use Rattle.std.specs.Prelude.{ℕ, Bool, true, false, List, [], ◌∷◌, Option, None, Some, bytes_eq, codes, if◌then◌else◌}
 use Rattle.command_line.specs.declared.name.CommandName.{CommandName}
-use Rattle.command_line.specs.declared.name.CommandName.TheVariants.{Inc, Mark, Refile, Rmm, Scan}
+use Rattle.command_line.specs.declared.name.CommandName.TheVariants.{Inc, Mark, Pick, Refile, Rmm, Scan}
 
 -- the command of this name
 abbrev pub named : List ℕ → Option CommandName
 named word =
     if bytes_eq word (codes "inc") then Some Inc
-    else (if bytes_eq word (codes "scan") then Some Scan else (if bytes_eq word (codes "mark") then Some Mark else (if bytes_eq word (codes "rmm") then Some Rmm else (if bytes_eq word (codes "refile") then Some Refile else None))))
+    else (if bytes_eq word (codes "scan") then Some Scan
+    else (if bytes_eq word (codes "mark") then Some Mark
+    else (if bytes_eq word (codes "rmm") then Some Rmm
+    else (if bytes_eq word (codes "refile") then Some Refile
+    else (if bytes_eq word (codes "pick") then Some Pick else None)))))
 
 -- the command that the words of a call name
 abbrev pub command_of : List (List ℕ) → Option CommandName
@@ -20,6 +24,7 @@ begins_folders None = false
 begins_folders (Some Inc) = true
 begins_folders (Some Scan) = false
 begins_folders (Some Mark) = true
+begins_folders (Some Pick) = true
 begins_folders (Some Refile) = true
 begins_folders (Some Rmm) = true
 
@@ -29,6 +34,7 @@ makes_folders None = false
 makes_folders (Some Inc) = true
 makes_folders (Some Scan) = false
 makes_folders (Some Mark) = false
+makes_folders (Some Pick) = false
 makes_folders (Some Refile) = true
 makes_folders (Some Rmm) = false
 
@@ -38,5 +44,6 @@ shows_ends None = false
 shows_ends (Some Inc) = true
 shows_ends (Some Scan) = false
 shows_ends (Some Mark) = true
+shows_ends (Some Pick) = true
 shows_ends (Some Refile) = false
 shows_ends (Some Rmm) = true

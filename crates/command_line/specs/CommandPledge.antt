@@ -20,6 +20,7 @@ use Rattle.step_plans.specs.Settled.{AreSettled}
 use Rattle.step_plans.specs.declared.command_fault.CommandFault.{CommandFault}
 use Rattle.mh_looks.specs.ScanPledge.{scan_pledge}
 use Rattle.mark_command.specs.MarkPledge.{pledge_by}
+use Rattle.pick_command.specs.PickPledge.{pledge_by as pick_pledge_by}
 use Rattle.inc_command.specs.IncPledge.{inc_pledge}
 use Rattle.inc_command.specs.IncJob.{IncJob}
 use Rattle.refile_command.specs.RefilePledge.{refile_pledge}
@@ -30,14 +31,15 @@ use Rattle.command_words.specs.RefileWords.{refile_said}
 use Rattle.command_words.specs.RmmWords.{rmm_said}
 use Rattle.command_words.specs.declared.ended.Ended.{Ended}
 use Rattle.command_words.specs.declared.mark.MarkWords.{MarkWords}
+use Rattle.command_words.specs.declared.pick.PickWords.{PickWords}
 use Rattle.command_words.specs.declared.refile.RefileWords.{RefileWords}
 use Rattle.command_words.specs.declared.rmm.RmmWords.{RmmWords}
-use Rattle.command_line.specs.Command.{mark_job, refile_job, rmm_job}
+use Rattle.command_line.specs.Command.{mark_job, pick_job, picked_by, refile_job, rmm_job}
 use Rattle.command_line.specs.CommandNames.{command_of, named}
 use Rattle.command_line.specs.Incorporating.{job_by}
 use Rattle.command_line.specs.Profile.{folder_of, path_of, profile_name}
 use Rattle.command_line.specs.declared.name.CommandName.{CommandName}
-use Rattle.command_line.specs.declared.name.CommandName.TheVariants.{Inc, Mark, Refile, Rmm, Scan}
+use Rattle.command_line.specs.declared.name.CommandName.TheVariants.{Inc, Mark, Pick, Refile, Rmm, Scan}
 use Rattle.command_line.specs.declared.caller.Caller.{Caller}
 
 -- the text that was read; the empty one where there is none
@@ -71,7 +73,16 @@ abbrev pub marks_pledge : ℕ → List NamedValue → List NamedValue → Result
 marks_pledge run profile context (Ok words) = on_named run profile words (folder_of words.folder context profile)
 marks_pledge run profile context (Err e) = scan_pledge run (path_of profile)
 
--- the same of `rmm`
+-- the same of `pick`, by what it marks
+abbrev pub pick_on_named : ℕ → List NamedValue → PickWords → Result (List ℕ) CommandFault → Pledge
+pick_on_named run profile words (Ok folder) = pick_pledge_by run (path_of profile) (pick_job folder words profile) words.marks
+pick_on_named run profile words (Err e) = scan_pledge run (path_of profile)
+
+abbrev pub picks_pledge : ℕ → List NamedValue → List NamedValue → Result PickWords Ended → Pledge
+picks_pledge run profile context (Ok words) = pick_on_named run profile words (folder_of words.folder context profile)
+picks_pledge run profile context (Err e) = scan_pledge run (path_of profile)
+
+-- of `rmm`
 abbrev pub rmm_on_named : ℕ → List NamedValue → RmmWords → Result (List ℕ) CommandFault → Pledge
 rmm_on_named run profile words (Ok folder) = rmm_pledge run (path_of profile) (rmm_job folder words profile)
 rmm_on_named run profile words (Err e) = scan_pledge run (path_of profile)
@@ -99,6 +110,7 @@ word_pledge run caller profile context words None = scan_pledge run (path_of pro
 word_pledge run caller profile context words (Some Inc) = incs_pledge run profile (job_by caller profile (inc_said profile (map chars words)))
 word_pledge run caller profile context words (Some Scan) = scan_pledge run (path_of profile)
 word_pledge run caller profile context words (Some Mark) = marks_pledge run profile context (mark_said profile (map chars words))
+word_pledge run caller profile context words (Some Pick) = picks_pledge run profile context (picked_by caller profile (map chars words))
 word_pledge run caller profile context words (Some Refile) = refiles_pledge run profile context (refile_said profile (map chars words))
 word_pledge run caller profile context words (Some Rmm) = rmms_pledge run profile context (rmm_said profile (map chars words))
 
@@ -114,6 +126,7 @@ IsDone None path own = AreFinished (Mail path) context_name own
 IsDone (Some Inc) path own = AreSettled own
 IsDone (Some Scan) path own = AreFinished (Mail path) context_name own
 IsDone (Some Mark) path own = AreSettled own
+IsDone (Some Pick) path own = AreSettled own
 IsDone (Some Refile) path own = AreSettled own
 IsDone (Some Rmm) path own = AreSettled own
 

@@ -1,5 +1,6 @@
 pub mod BegunCauses
 pub mod Causes
+pub mod Clock
 pub mod Command
 pub mod CommandMarks
 pub mod CommandNames
@@ -8,3 +9,4 @@ pub mod Incorporating
 pub mod Looking
 pub mod Outcomes
 pub mod Profile
+pub mod WordCauses

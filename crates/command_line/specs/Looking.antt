@@ -20,7 +20,7 @@ use Rattle.command_line.specs.declared.caller.Caller.{Caller}
 use Rattle.command_line.specs.declared.scanning.ScanLook.{ScanLook}
 
 abbrev pub sight_by : Caller → LookWords → Sight
-sight_by caller words = record { width = words.width; moment = caller.moment; user = caller.user }
+sight_by caller words = record { width = words.width; moment = caller.clock.moment; user = caller.user }
 
 -- what is written of a message: what the format makes of it
 abbrev pub spoken_by : Caller → LookWords → Format → Standing → Writing

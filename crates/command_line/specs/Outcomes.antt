@@ -11,6 +11,7 @@ use Rattle.mh_looks.specs.Outcomes.{scan_work}
 use Rattle.opened_folders.specs.BegunWork.{Homes}
 use Rattle.opened_folders.specs.HomesOf.{homes_at}
 use Rattle.mark_command.specs.Outcomes.{mark_work}
+use Rattle.pick_command.specs.Outcomes.{pick_work}
 use Rattle.inc_command.specs.IncOutcome.{inc_work, with_folder_made}
 use Rattle.inc_command.specs.IncJob.{IncJob}
 use Rattle.refile_command.specs.MadeFolder.{or_empty}
@@ -24,16 +25,17 @@ use Rattle.command_words.specs.RmmWords.{rmm_said}
 use Rattle.command_words.specs.ScanWords.{scan_said}
 use Rattle.command_words.specs.declared.ended.Ended.{Ended}
 use Rattle.command_words.specs.declared.mark.MarkWords.{MarkWords}
+use Rattle.command_words.specs.declared.pick.PickWords.{PickWords}
 use Rattle.command_words.specs.declared.refile.RefileWords.{RefileWords}
 use Rattle.command_words.specs.declared.rmm.RmmWords.{RmmWords}
-use Rattle.command_line.specs.Command.{job_of, mark_job, no_command, refile_job, rmm_job}
+use Rattle.command_line.specs.Command.{job_of, mark_job, no_command, pick_job, picked_by, refile_job, rmm_job}
 use Rattle.command_line.specs.CommandNames.{named}
 use Rattle.command_line.specs.Incorporating.{job_by}
 use Rattle.command_line.specs.Looking.{ScanAsked, scan_asked}
 use Rattle.command_line.specs.Profile.{folder_of, path_of, profile_name}
 use Rattle.command_line.specs.declared.caller.Caller.{Caller}
 use Rattle.command_line.specs.declared.name.CommandName.{CommandName}
-use Rattle.command_line.specs.declared.name.CommandName.TheVariants.{Inc, Mark, Refile, Rmm, Scan}
+use Rattle.command_line.specs.declared.name.CommandName.TheVariants.{Inc, Mark, Pick, Refile, Rmm, Scan}
 
 abbrev pub plainly : Result Unit CommandFault → Result Unit Ended
 plainly (Ok u) = Ok u
@@ -89,6 +91,15 @@ abbrev pub mark_words_work : Meeting → Mailbox → List NamedValue → Result 
 mark_words_work g m profile (Ok words) = of_stage (on_folder m profile words.folder (marks g m profile words))
 mark_words_work g m profile (Err e) = refused_at m e
 
+-- `pick`: so too where it marks
+abbrev pub picks : Meeting → Mailbox → List NamedValue → PickWords → FolderWork
+picks g m profile words context folder =
+    pick_work (path_of profile) (g.entries context) (g.homes (m.folders (Folder (path_of profile) folder))) (pick_job folder words profile) m
+
+abbrev pub pick_words_work : Meeting → Mailbox → List NamedValue → Result PickWords Ended → Work Ended
+pick_words_work g m profile (Ok words) = of_stage (on_folder m profile words.folder (picks g m profile words))
+pick_words_work g m profile (Err e) = refused_at m e
+
 -- `rmm`: so too
 abbrev pub rmms : Meeting → Mailbox → List NamedValue → RmmWords → FolderWork
 rmms g m profile words context folder =
@@ -123,6 +134,7 @@ word_work g m caller profile word words None = refused_at m (no_command (Some wo
 word_work g m caller profile word words (Some Inc) = inc_job_work g m profile (job_by caller profile (inc_said profile (map chars words)))
 word_work g m caller profile word words (Some Scan) = scan_words_work m profile (scan_asked caller (scan_said profile (map chars words)))
 word_work g m caller profile word words (Some Mark) = mark_words_work g m profile (mark_said profile (map chars words))
+word_work g m caller profile word words (Some Pick) = pick_words_work g m profile (picked_by caller profile (map chars words))
 word_work g m caller profile word words (Some Refile) = refile_words_work g m profile (refile_said profile (map chars words))
 word_work g m caller profile word words (Some Rmm) = rmm_words_work g m profile (rmm_said profile (map chars words))
 

@@ -14,6 +14,7 @@ use crate::Caller;
 use crate::incorporating::run_inc;
 use crate::marking::run_mark;
 use crate::name::CommandName;
+use crate::picking::run_pick;
 use crate::refiling::run_refile;
 use crate::removing::run_rmm;
 use crate::scanning::run_scan;
@@ -60,6 +61,7 @@ fn run_word<F: Files, O: Sink>(
     match CommandName::read(word) {
         Some(CommandName::Inc) => run_inc(alloc, run, files, out, profile, caller, rest),
         Some(CommandName::Scan) => run_scan(alloc, run, files, out, profile, caller, rest),
+        Some(CommandName::Pick) => run_pick(alloc, run, files, out, profile, caller, rest),
         Some(CommandName::Mark) => run_mark(alloc, run, files, out, profile, rest),
         Some(CommandName::Refile) => run_refile(alloc, run, files, profile, rest),
         Some(CommandName::Rmm) => run_rmm(alloc, run, files, profile, rest),

@@ -8,11 +8,12 @@ mod incorporating;
 mod look;
 mod marking;
 mod name;
+mod picking;
 mod profile;
 mod refiling;
 mod removing;
 mod scanning;
 
-pub use caller::Caller;
+pub use caller::{Caller, Clock};
 pub use command::run_command;
 pub use name::CommandName;

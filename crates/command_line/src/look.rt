@@ -26,7 +26,7 @@ pub(crate) fn look(alloc: Global, caller: &Caller, words: &LookWords) -> Result<
     Ok(Look {
         program,
         width: words.width,
-        moment: caller.moment,
+        moment: caller.clock.moment(),
         user: caller.user.duplicate(alloc)?,
     })
 }

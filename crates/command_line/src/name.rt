@@ -7,6 +7,7 @@ ghost use Rattle.command_line.specs.CommandNames.{named};
 pub enum CommandName {
     Inc,
     Scan,
+    Pick,
     Mark,
     Refile,
     Rmm,
@@ -27,6 +28,8 @@ impl CommandName {
             Some(CommandName::Rmm)
         } else if word == "refile" {
             Some(CommandName::Refile)
+        } else if word == "pick" {
+            Some(CommandName::Pick)
         } else {
             None
         }

@@ -1,3 +1,4 @@
+mod FieldNames
 pub mod Items
 pub mod Lasts
 pub mod Places
@@ -8,3 +9,4 @@ pub mod SaidRefileFolders
 pub mod SaidRmmFolder
 pub mod SequenceNames
 pub mod Texts
+pub mod Widths

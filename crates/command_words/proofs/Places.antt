@@ -4,7 +4,7 @@ use Rattle.std.proofs.Math.Seq.{drop-cons}
 use Rattle.std.proofs.lemmas.List.{drop_all}
 use Rattle.mh_words.specs.declared.item.Item.{Item}
 use Rattle.std.specs.List.{flat_map}
-use Rattle.command_words.specs.IncWords.{first_of}
+use Rattle.command_words.specs.BadValues.{first_of}
 
 next : (l : List Item) (i : ℕ) (x : Item) → i < length l → x ≡ get_or l i x → drop i l ≡ x ∷ drop (i + 1) l
 next l i x h is = rw (add-one, drop-cons l i x) (ap (λ y. y ∷ drop (suc i) l) (sym is))

@@ -7,9 +7,10 @@ use Rattle.mh_words.specs.declared.item.Item.TheVariants.{Folder, Message, Switc
 use Rattle.mh_words.specs.Whole.{Wrong, read_in}
 use Rattle.mh_profile.specs.declared.named_value.NamedValue.{NamedValue}
 use Rattle.step_plans.specs.declared.command_fault.CommandFault.{CommandFault}
+use Rattle.command_words.specs.BadValues.{first_of, unless_bad}
 use Rattle.command_words.specs.Ended.{plain, wrong_at}
 use Rattle.command_words.specs.FolderWords.{folders, one_folder, named_folder}
-use Rattle.command_words.specs.LookWords.{look_of, unless_wide, wrong_widths}
+use Rattle.command_words.specs.LookWords.{look_of, wrong_widths}
 use Rattle.command_words.specs.Switches.{last_choice, last_of, values}
 use Rattle.command_words.specs.Tables.{inc_table}
 use Rattle.command_words.specs.Words.{profile_words}
@@ -27,10 +28,6 @@ place_in (Component name value place) = []
 -- the places of all of them
 abbrev pub message_places : List Item → List ℕ
 message_places items = flat_map place_in items
-
-abbrev pub first_of : List ℕ → Option ℕ
-first_of [] = None
-first_of (place ∷ places) = Some place
 
 abbrev pub extra : ℕ → Wrong
 extra place = record { place = place; why = Extra }
@@ -70,7 +67,7 @@ folder_said words items (Ok word) = said_folder items word
 folder_said words items (Err wrong) = Err (wrong_at words wrong)
 
 abbrev pub items_said : List (List ℕ) → Result (List Item) Wrong → Result IncWords Ended
-items_said words (Ok items) = folder_said words items (unless_wide (wrong_widths items) (folder_alone items))
+items_said words (Ok items) = folder_said words items (unless_bad (first_of (wrong_widths items)) (folder_alone items))
 items_said words (Err wrong) = Err (wrong_at words wrong)
 
 -- what the words of `inc` say, those of the profile first, or the refusal: of a switch before that of a word that is too many or of a width

@@ -1,10 +1,13 @@
+pub mod BadValues
 pub mod Columns
 pub mod Ended
+pub mod FieldNames
 pub mod FolderWords
 pub mod IncWords
 pub mod LookWords
 pub mod MarkWords
 pub mod MessageWords
+pub mod PickWords
 pub mod RefileFolders
 pub mod RefileWords
 pub mod Results

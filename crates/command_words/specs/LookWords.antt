@@ -1,11 +1,9 @@
 -- What words say of the lines of messages.
-use Rattle.std.specs.Prelude.{ℕ, ◌==◌, Bool, false, nat_lt, List, [], ◌∷◌, Option, None, Some, Result, Ok, Err, if◌then◌else◌}
+use Rattle.std.specs.Prelude.{ℕ, ◌==◌, List, [], ◌∷◌, Option, None, Some, if◌then◌else◌}
 use Rattle.std.specs.List.{flat_map}
 use Rattle.std.specs.Str.{encode_utf8_all}
-use Rattle.mh_base.specs.declared.word.WordWhy.TheVariants.{BadValue, Extra}
 use Rattle.mh_words.specs.declared.item.Item.{Item}
 use Rattle.mh_words.specs.declared.item.Item.TheVariants.{Folder, Message, Switch, Component}
-use Rattle.mh_words.specs.Whole.{Wrong}
 use Rattle.command_words.specs.Columns.{columns_in}
 use Rattle.command_words.specs.Switches.{last_of, values}
 use Rattle.command_words.specs.declared.look.LookWords.{LookWords}
@@ -47,14 +45,3 @@ wrong_width_in (Component name value place) = []
 -- the places of all of them
 abbrev pub wrong_widths : List Item → List ℕ
 wrong_widths items = flat_map wrong_width_in items
-
--- a word that is too many, or before it a width that is none
-abbrev pub earliest : List ℕ → Wrong → Wrong
-earliest [] wrong = wrong
-earliest (place ∷ places) wrong = if nat_lt place wrong.place then record { place = place; why = BadValue } else wrong
-
--- where a width is none, the words are wrong
-abbrev pub unless_wide : List ℕ → Result (Option (List ℕ)) Wrong → Result (Option (List ℕ)) Wrong
-unless_wide places (Err wrong) = Err (earliest places wrong)
-unless_wide [] (Ok word) = Ok word
-unless_wide (place ∷ places) (Ok word) = Err (record { place = place; why = BadValue })

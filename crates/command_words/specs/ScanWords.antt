@@ -4,9 +4,10 @@ use Rattle.mh_words.specs.declared.item.Item.{Item}
 use Rattle.mh_words.specs.Whole.{Wrong, read_in}
 use Rattle.mh_profile.specs.declared.named_value.NamedValue.{NamedValue}
 use Rattle.step_plans.specs.declared.command_fault.CommandFault.{CommandFault}
+use Rattle.command_words.specs.BadValues.{first_of, unless_bad}
 use Rattle.command_words.specs.Ended.{plain, wrong_at}
 use Rattle.command_words.specs.FolderWords.{folders, one_folder, named_folder}
-use Rattle.command_words.specs.LookWords.{look_of, unless_wide, wrong_widths}
+use Rattle.command_words.specs.LookWords.{look_of, wrong_widths}
 use Rattle.command_words.specs.MessageWords.{messages, names_or}
 use Rattle.command_words.specs.Switches.{last_choice}
 use Rattle.command_words.specs.Tables.{scan_table}
@@ -32,7 +33,7 @@ folder_said words items (Ok word) = said_folder items word
 folder_said words items (Err wrong) = Err (wrong_at words wrong)
 
 abbrev pub items_said : List (List ℕ) → Result (List Item) Wrong → Result ScanWords Ended
-items_said words (Ok items) = folder_said words items (unless_wide (wrong_widths items) (one_folder (folders items)))
+items_said words (Ok items) = folder_said words items (unless_bad (first_of (wrong_widths items)) (one_folder (folders items)))
 items_said words (Err wrong) = Err (wrong_at words wrong)
 
 -- what the words of `scan` say, those of the profile first, or the refusal: of a switch before that of a second folder or of a width that is

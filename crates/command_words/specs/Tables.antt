@@ -1,5 +1,5 @@
 -- The switches of commands.
-use Rattle.std.specs.Prelude.{ℕ, List, [], ◌∷◌, codes, false}
+use Rattle.std.specs.Prelude.{ℕ, List, [], ◌∷◌, codes, true, false}
 use Rattle.mh_words.specs.declared.table.Kind.{Kind}
 use Rattle.mh_words.specs.declared.table.Kind.TheVariants.{Flag, Value}
 use Rattle.mh_words.specs.declared.table.Switch.{Switch}
@@ -42,3 +42,17 @@ refile_table = table_of (switch (codes "link") Flag ∷ switch (codes "nolink") 
 -- the switches of `rmm`
 abbrev pub rmm_table : SwitchTable
 rmm_table = table_of (switch (codes "unlink") Flag ∷ switch (codes "nounlink") Flag ∷ [])
+
+abbrev pub table_with_components : List Switch → SwitchTable
+table_with_components switches = record { switches = switches; components = true }
+
+-- the switches of `pick`
+abbrev pub pick_table : SwitchTable
+pick_table =
+    table_with_components
+    (switch (codes "and") Flag ∷ switch (codes "or") Flag ∷ switch (codes "not") Flag ∷ switch (codes "lbrace") Flag ∷
+    switch (codes "rbrace") Flag ∷ switch (codes "from") Value ∷ switch (codes "to") Value ∷ switch (codes "cc") Value ∷
+    switch (codes "subject") Value ∷ switch (codes "date") Value ∷ switch (codes "search") Value ∷ switch (codes "before") Value ∷
+    switch (codes "after") Value ∷ switch (codes "datefield") Value ∷ switch (codes "sequence") Value ∷ switch (codes "public") Flag ∷
+    switch (codes "nopublic") Flag ∷ switch (codes "zero") Flag ∷ switch (codes "nozero") Flag ∷ switch (codes "list") Flag ∷
+    switch (codes "nolist") Flag ∷ [])

@@ -2,10 +2,10 @@
 ghost use Rattle.std.specs.Prelude.{◌≡◌, IfOk, Ok, map};
 ghost use Rattle.std.specs.Str.{chars};
 ghost use Rattle.std.specs.String.{string_bytes};
+ghost use Rattle.command_words.specs.BadValues.{first_of};
 ghost use Rattle.command_words.specs.Results.{IsOneFolder, IsSaid};
 ghost use Rattle.command_words.specs.IncWords.{
   words_of,
-  first_of,
   folder_alone as folder_alone_of,
   items_said as items_said_of,
   inc_said,
@@ -13,9 +13,10 @@ ghost use Rattle.command_words.specs.IncWords.{
   place_in,
 };
 
+use crate::bad_value::wrong_earliest;
 use crate::ended::Ended;
 use crate::folder_word::{folder_said, folder_word};
-use crate::look::{LookWords, look, wrong_earliest, wrong_width};
+use crate::look::{LookWords, look, wrong_width};
 use crate::switches::{last_choice, last_word, values};
 use crate::tables::{
     CHANGECUR, FILE, NOCHANGECUR, NOSILENT, NOTRUNCATE, SILENT, TRUNCATE, inc_table,
@@ -109,7 +110,7 @@ fn items_said(alloc: Global, words: &TextList, items: &ItemList) -> Result<IncWo
             let folder = folder_said(alloc, word)?;
             Ok(words_said(alloc, items, folder)?)
         }
-        Err(second) => Err(wrong_earliest(alloc, words, items, second)?),
+        Err(second) => Err(wrong_earliest(alloc, words, wrong_width(items), second)?),
     }
 }
 

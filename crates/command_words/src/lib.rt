@@ -1,12 +1,15 @@
 //! What the words of a command say: its profile's words first, then its own.
 #![tactic(auto)]
 
+mod bad_value;
 mod ended;
+mod field_name;
 mod folder_word;
 mod inc;
 mod look;
 mod mark;
 mod message_words;
+mod pick;
 mod refile;
 mod rmm;
 mod scan;
@@ -21,6 +24,7 @@ pub use folder_word::read_folder;
 pub use inc::{IncWords, inc_words};
 pub use look::LookWords;
 pub use mark::{MarkWords, mark_words};
+pub use pick::{PickWords, pick_words};
 pub use refile::{RefileWords, refile_words};
 pub use rmm::{RmmWords, rmm_words};
 pub use scan::{ScanWords, scan_words};

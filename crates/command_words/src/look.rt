@@ -1,22 +1,19 @@
 // What words say of the lines of messages.
-ghost use Rattle.std.specs.Prelude.{◌≡◌, ◌≤◌, ◌∷◌, [], IfOk, IfSome};
+ghost use Rattle.std.specs.Prelude.{◌≡◌, IfOk};
+ghost use Rattle.std.specs.List.{list_all};
 ghost use Rattle.std.specs.Str.{encode_utf8_all};
-ghost use Rattle.mh_base.specs.declared.word.WordWhy.TheVariants.{Extra};
-ghost use Rattle.command_words.specs.Columns.{columns_in, digits_within};
-ghost use Rattle.command_words.specs.Ended.{wrong_at as wrong_at_of};
-ghost use Rattle.command_words.specs.IncWords.{first_of};
-ghost use Rattle.command_words.specs.LookWords.{earliest, last_behind, look_of, width_in, wrong_width_in, wrong_widths};
+ghost use Rattle.command_words.specs.BadValues.{first_of};
+ghost use Rattle.command_words.specs.Columns.{columns_in, is_digit as is_digit_of, within_columns};
+ghost use Rattle.command_words.specs.LookWords.{last_behind, look_of, width_in, wrong_width_in, wrong_widths};
 
-use crate::ended::Ended;
 use crate::switches::{last_word, values};
 use crate::tables::{FORMAT, WIDTH};
-use crate::wrong_word::wrong_at;
-use mh_base::{Text, TextList, WordWhy};
+use mh_base::Text;
 use mh_words::{Item, ItemList};
 use std::alloc::{AllocError, Global};
 
 /// The widest line, in columns.
-const WIDEST: u64 = 10_000;
+const WIDEST: u32 = 10_000;
 
 /// The format of lines, where words name one, and the columns that they have at most.
 #[derive(Drop)]
@@ -25,42 +22,42 @@ pub struct LookWords {
     pub width: u32,
 }
 
-/// The number that one more digit makes of this one.
-fn with_digit(number: u32, digit: u8) -> Option<u32>
-    ensures value { result ≡ digits_within number (digit ∷ []) }
-    ensures small { IfSome result (λ n. n ≤ 10000) }
+fn is_digit(byte: u8) -> bool
+    ensures { result ≡ is_digit_of byte }
 {
-    if !(48 <= digit && digit <= 57) {
-        return None;
-    }
-    let longer = number as u64 * 10 + (digit - 48) as u64;
-    if longer <= WIDEST {
-        Some(longer as u32)
+    48 <= byte && byte <= 57
+}
+
+fn are_digits(text: &[u8]) -> bool
+    ensures { result ≡ list_all is_digit_of text.now }
+{
+    text.iter().all(|byte| is_digit(*byte))
+}
+
+/// So many columns, if they are 1 to 10,000.
+fn within(columns: u32) -> Option<u32>
+    ensures { result ≡ within_columns columns }
+{
+    if 1 <= columns && columns <= WIDEST {
+        Some(columns)
     } else {
         None
     }
-}
-
-/// The number that digits write, if it is 10,000 at most.
-fn number(digits: &[u8]) -> Option<u32>
-    ensures value { result ≡ digits_within 0 digits.now }
-    ensures small { IfSome result (λ n. n ≤ 10000) }
-{
-    let mut number = 0;
-    let mut rest = digits;
-    while let Some((digit, behind)) = rest.split_first() {
-        number = with_digit(number, *digit)?;
-        rest = behind;
-    }
-    Some(number)
 }
 
 /// The columns that a word says, from 1 to 10,000.
 fn columns(word: &Text) -> Option<u32>
     ensures { result ≡ columns_in (encode_utf8_all word.now) }
 {
-    let number = number(word.as_str().as_bytes())?;
-    if number == 0 { None } else { Some(number) }
+    let text = word.as_str();
+    if are_digits(text.as_bytes()) {
+        match text.parse::<u32>() {
+            Ok(columns) => within(columns),
+            Err(_) => None,
+        }
+    } else {
+        None
+    }
 }
 
 /// The width so far, with one item more.
@@ -133,19 +130,4 @@ pub(crate) fn wrong_width(items: &ItemList) -> Option<u64>
         }
     }
     None
-}
-
-/// The refusal of a word that is too many, or of a width before it that is none.
-pub(crate) fn wrong_earliest(
-    alloc: Global,
-    words: &TextList,
-    items: &ItemList,
-    second: u64,
-) -> Result<Ended, AllocError>
-    ensures { IfOk result (λ e. e ≡ wrong_at_of words.now (earliest (wrong_widths items.now) (record { place = second; why = Extra }))) }
-{
-    match wrong_width(items) {
-        Some(place) if place < second => wrong_at(alloc, words, place, WordWhy::BadValue),
-        _ => wrong_at(alloc, words, second, WordWhy::Extra),
-    }
 }

@@ -9,9 +9,10 @@ ghost use Rattle.command_words.specs.ScanWords.{
   scan_said,
 };
 
+use crate::bad_value::wrong_earliest;
 use crate::ended::Ended;
 use crate::folder_word::{folder_said, folder_word};
-use crate::look::{LookWords, look, wrong_earliest, wrong_width};
+use crate::look::{LookWords, look, wrong_width};
 use crate::message_words::messages_or;
 use crate::switches::last_choice;
 use crate::tables::{NOREVERSE, REVERSE, scan_table};
@@ -60,7 +61,7 @@ fn items_said(alloc: Global, words: &TextList, items: &ItemList) -> Result<ScanW
             let folder = folder_said(alloc, word)?;
             Ok(words_said(alloc, items, folder)?)
         }
-        Err(second) => Err(wrong_earliest(alloc, words, items, second)?),
+        Err(second) => Err(wrong_earliest(alloc, words, wrong_width(items), second)?),
     }
 }
 

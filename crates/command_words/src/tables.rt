@@ -6,6 +6,7 @@ ghost use Rattle.command_words.specs.Tables.{
   scan_table as scan_table_of,
   mark_table as mark_table_of,
   inc_table as inc_table_of,
+  pick_table as pick_table_of,
   refile_table as refile_table_of,
   rmm_table as rmm_table_of,
 };
@@ -55,6 +56,23 @@ pub(crate) const NOCHANGECUR: u64 = 6;
 pub(crate) const SILENT: u64 = 7;
 
 pub(crate) const NOSILENT: u64 = 8;
+
+// The places of those switches of `pick` in its table that are no part of its expression.
+pub(crate) const PICK_DATEFIELD: u64 = 13;
+
+pub(crate) const PICK_SEQUENCE: u64 = 14;
+
+pub(crate) const PICK_PUBLIC: u64 = 15;
+
+pub(crate) const PICK_NOPUBLIC: u64 = 16;
+
+pub(crate) const PICK_ZERO: u64 = 17;
+
+pub(crate) const PICK_NOZERO: u64 = 18;
+
+pub(crate) const PICK_LIST: u64 = 19;
+
+pub(crate) const PICK_NOLIST: u64 = 20;
 
 // The places of the switches of `refile` in its table.
 pub(crate) const LINK: u64 = 0;
@@ -158,5 +176,37 @@ pub(crate) fn rmm_table(alloc: Global) -> Result<SwitchTable, AllocError>
     Ok(SwitchTable {
         switches,
         components: false,
+    })
+}
+
+/// The switches of `pick`, in the order of `pick_expr::SWITCHES`.
+pub(crate) fn pick_table(alloc: Global) -> Result<SwitchTable, AllocError>
+    ensures { IfOk result (λ table. table ≡ pick_table_of) }
+{
+    let mut switches = List::new(alloc);
+    push_switch(alloc, &mut switches, "and", Kind::Flag)?;
+    push_switch(alloc, &mut switches, "or", Kind::Flag)?;
+    push_switch(alloc, &mut switches, "not", Kind::Flag)?;
+    push_switch(alloc, &mut switches, "lbrace", Kind::Flag)?;
+    push_switch(alloc, &mut switches, "rbrace", Kind::Flag)?;
+    push_switch(alloc, &mut switches, "from", Kind::Value)?;
+    push_switch(alloc, &mut switches, "to", Kind::Value)?;
+    push_switch(alloc, &mut switches, "cc", Kind::Value)?;
+    push_switch(alloc, &mut switches, "subject", Kind::Value)?;
+    push_switch(alloc, &mut switches, "date", Kind::Value)?;
+    push_switch(alloc, &mut switches, "search", Kind::Value)?;
+    push_switch(alloc, &mut switches, "before", Kind::Value)?;
+    push_switch(alloc, &mut switches, "after", Kind::Value)?;
+    push_switch(alloc, &mut switches, "datefield", Kind::Value)?;
+    push_switch(alloc, &mut switches, "sequence", Kind::Value)?;
+    push_switch(alloc, &mut switches, "public", Kind::Flag)?;
+    push_switch(alloc, &mut switches, "nopublic", Kind::Flag)?;
+    push_switch(alloc, &mut switches, "zero", Kind::Flag)?;
+    push_switch(alloc, &mut switches, "nozero", Kind::Flag)?;
+    push_switch(alloc, &mut switches, "list", Kind::Flag)?;
+    push_switch(alloc, &mut switches, "nolist", Kind::Flag)?;
+    Ok(SwitchTable {
+        switches,
+        components: true,
     })
 }

@@ -41,16 +41,15 @@ use Rattle.opened_folders.proofs.HomesFound.{homes_there}
 use Rattle.opened_folders.specs.Endings.{IsEndedBy}
 use Rattle.refile_command.specs.RefileAnswers.{IsEndedFirst}
 use Rattle.command_line.specs.BegunCauses.{ShowsFault, ShowsOnFolder}
-use Rattle.command_line.specs.Causes.{ShowsCommandFault}
 use Rattle.command_line.specs.Command.{command}
 use Rattle.command_words.specs.Ended.{ended_cause}
 use Rattle.command_line.specs.CommandNames.{begins_folders, command_of, makes_folders}
 use Rattle.command_line.specs.Outcomes.{work_of}
 use Rattle.command_line.specs.declared.name.CommandName.{CommandName}
-use Rattle.command_line.specs.declared.name.CommandName.TheVariants.{Inc, Mark, Refile, Rmm, Scan}
+use Rattle.command_line.specs.declared.name.CommandName.TheVariants.{Inc, Mark, Pick, Refile, Rmm, Scan}
 use Rattle.command_words.specs.declared.ended.Ended.{Ended}
 use Rattle.command_line.proofs.BegunEnding.{run_ends_by, run_tells}
-use Rattle.command_line.proofs.Ending.{EndsAs, run_ends}
+use Rattle.command_line.proofs.Ending.{EndsAs, ShowsLooked, run_ends}
 use Rattle.command_line.proofs.Giving.{IsLateEnd, DecidesEnd, ByFault, CommandEnds, command_gives}
 use Rattle.command_line.proofs.FolderChars.{AreUtf8}
 use Rattle.command_line.proofs.MarksKept.{command_keeps_marks}
@@ -108,6 +107,7 @@ looks_made None looks made = cc (made)
 looks_made (Some Inc) looks made = cc (looks)
 looks_made (Some Scan) looks made = cc (made)
 looks_made (Some Mark) looks made = cc (made)
+looks_made (Some Pick) looks made = cc (made)
 looks_made (Some Refile) looks made = cc (looks)
 looks_made (Some Rmm) looks made = cc (made)
 
@@ -197,17 +197,17 @@ module _ (c : Call) (plan : FollowsItsPlan c) where
 
   -- what is shown where the plan of a command returned that looks
   module _ (looks : LooksOnly c) where
-    shown_at : (r : Result Unit Ended) → outcome ≡ r → exit ≡ Returned r → EndsAs run (deeds_in went.log) plan.left r
+    shown_at : (r : Result Unit Ended) → outcome ≡ r → exit ≡ Returned r → EndsAs run (caller_of c.setting) c.words (deeds_in went.log) plan.left r
     shown_at r is e = run_ends run (caller_of c.setting) c.words looks (deeds_in went.log) plan.left r (subst (λ x. Runs (command run (caller_of c.setting) c.words) fresh (deeds_in went.log) plan.left x) e went.runs)
 
     -- a fault of the plan is shown
-    fault_shown : (r : Result Unit Ended) (s : Status) (k : CommandFault) → outcome ≡ r → ended_status r ≡ s → (s ≡ Done → ⊥) → ((f : CommandFault) → fault_status f ≡ s → f ≡ k) → command_cause k ≡ OfPlan → ShowsCommandFault run k steps × (Made IsFailed steps → ⊥)
+    fault_shown : (r : Result Unit Ended) (s : Status) (k : CommandFault) → outcome ≡ r → ended_status r ≡ s → (s ≡ Done → ⊥) → ((f : CommandFault) → fault_status f ≡ s → f ≡ k) → command_cause k ≡ OfPlan → ShowsLooked run (caller_of c.setting) c.words k steps × (Made IsFailed steps → ⊥)
     fault_shown (Ok tt) s k is e never only cause = absurd (never (sym e))
     fault_shown (Err x) s k is e never only cause =
         let f : x.fault ≡ k = only x.fault e in
         let at : exit ≡ Returned (Err x) = ap (exit_of ended_cause) is ∙ (exit_fault x k f ∙ ap (exit_by {T = Unit {0}} x) cause) in
         let shows = shown_at (Err x) is at in
-        (subst (λ j. ShowsCommandFault run j steps) f shows.0, shows.1)
+        (subst (λ j. ShowsLooked run (caller_of c.setting) c.words j steps) f shows.0, shows.1)
 
   -- and of one that may begin a folder
   module _ (few : run < 2 ^ 128) (may : MayBegin c) where

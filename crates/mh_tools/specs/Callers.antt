@@ -3,4 +3,4 @@ use Rattle.command_line.specs.declared.caller.Caller.{Caller}
 use Rattle.mh_tools.specs.Setting.{SettingParts}
 
 abbrev pub caller_of : SettingParts → Caller
-caller_of setting = record { user = setting.user; moment = setting.moment }
+caller_of setting = record { user = setting.user; clock = record { moment = setting.moment; offset = setting.offset } }

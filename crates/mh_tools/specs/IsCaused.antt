@@ -1,5 +1,5 @@
 -- Where each answer of `mh` comes from.
-use Rattle.std.specs.Prelude.{◌≡◌, ◌≢◌, ℕ, true, List, [], Some, Ok}
+use Rattle.std.specs.Prelude.{◌≡◌, ◌≢◌, ◌⊎◌, ℕ, true, List, [], Some, Ok}
 use Rattle.mh_base.specs.Counts.{Rose}
 use Rattle.mh_base.specs.Streams.{Adds}
 use Rattle.folder_files.specs.Deeds.{Deed}
@@ -18,6 +18,7 @@ use Rattle.refile_command.specs.RefileAnswers.{IsShownFirst}
 use Rattle.command_line.specs.BegunCauses.{ShowsFault, ShowsOnFolder, TellsOnFolder}
 use Rattle.command_line.specs.Causes.{ShowsRefusal}
 use Rattle.command_line.specs.CommandNames.{command_of, shows_ends}
+use Rattle.command_line.specs.WordCauses.{IsRefusedByWords}
 use Rattle.command_line.specs.declared.name.CommandName.TheVariants.{Refile}
 use Rattle.mh_tools.specs.Calls.{Call, LooksOnly, MadeBy}
 use Rattle.mh_tools.specs.TellsWhatItSaw.{outcome_on}
@@ -28,7 +29,8 @@ use Rattle.mh_tools.specs.Callers.{caller_of}
 -- only where there is a text to write. Locked comes only of a mail directory, after that lock was held by another run 64 times. Meddled comes only where
 -- a directory was gone that the run had looked for, made or locked, or a name that it had met, or where its fresh name was taken.
 pub record IsShown (c : Call) (deeds : List Deed) : Type 0 where
-  pub refused : (r : Refusal) → c.status ≡ Refused r → ShowsRefusal r deeds × (Made IsFailed deeds → ⊥)
+  pub refused : (r : Refusal) → c.status ≡ Refused r
+      → (IsRefusedByWords (caller_of c.setting) c.words (fault.Refused r) deeds ⊎ ShowsRefusal r deeds) × (Made IsFailed deeds → ⊥)
   pub out : c.status ≡ Faulted Out → (m : Mailbox) → MailboxAgrees m deeds → (outcome_on c m).output ≢ []
   pub locked : (place : Place) → c.status ≡ Locked place → ((mail : List ℕ) × (place ≡ Mail mail) × IsHeld place TRIES deeds) × (Made IsFailed deeds → ⊥)
   pub meddled : (place : Place) (name : List ℕ) → c.status ≡ Meddled place name → IsMeddled c.setting.run place name deeds × (Made IsFailed deeds → ⊥)

@@ -1,9 +1,9 @@
 // What a run is given beside its words.
 ghost use Rattle.std.specs.Prelude.{◌≡◌, MatchOption};
+ghost use Rattle.mail_dates.specs.Clocks.{IsSetting};
 ghost use Rattle.mh_tools.specs.Callers.{caller_of};
-ghost use Rattle.mh_tools.specs.Setting.{IsSetting};
 
-use command_line::Caller;
+use command_line::{Caller, Clock};
 use mh_base::Text;
 use std::marker::Model;
 
@@ -12,18 +12,15 @@ use std::marker::Model;
 #[derive(Drop)]
 pub struct Setting {
     run: u128,
-    offset_minutes: i32,
     caller: Caller,
 }
 
 impl Model for Setting {
-    ghost use Rattle.mh_tools.specs.Setting.{SettingParts, IsSetting};
+    ghost use Rattle.mh_tools.specs.Setting.{SettingParts};
 
     ghost Value = { SettingParts };
 
-    ghost view = { λ s. record { run = s.run; moment = s.caller.moment; offset = s.offset_minutes; user = s.caller.user } };
-
-    ghost invariant = { λ s. IsSetting s.caller.moment s.offset_minutes };
+    ghost view = { λ s. record { run = s.run; moment = s.caller.clock.moment; offset = s.caller.clock.offset; user = s.caller.user } };
 }
 
 impl Setting {
@@ -31,16 +28,11 @@ impl Setting {
     pub fn new(run: u128, now: i64, offset_minutes: i32, user: Text) -> Option<Setting>
         ensures { MatchOption result (IsSetting now offset_minutes → ⊥) (λ s. IsSetting now offset_minutes × (s ≡ record { run = run; moment = now; offset = offset_minutes; user = user })) }
     {
-        if 0 <= now && now <= 253_402_000_000 && -1439 <= offset_minutes && offset_minutes <= 1439 {
-            let moment = now;
-            Some(Setting {
-                run,
-                offset_minutes,
-                caller: Caller { user, moment },
-            })
-        } else {
-            None
-        }
+        let clock = Clock::new(now, offset_minutes)?;
+        Some(Setting {
+            run,
+            caller: Caller { user, clock },
+        })
     }
 
     pub fn run(&self) -> u128

@@ -1,0 +1,51 @@
+-- How the words of a call are refused, and what shows it.
+use Rattle.std.specs.Prelude.{◌≡◌, ℕ, List, [], ◌∷◌, map, Option, None, Some, Result, Ok, Err}
+use Rattle.std.specs.Str.{chars}
+use Rattle.mh_profile.specs.declared.named_value.NamedValue.{NamedValue}
+use Rattle.folder_files.specs.Deeds.{Deed, did}
+use Rattle.folder_files.specs.declared.place.Place.TheVariants.{Home}
+use Rattle.folder_files.specs.declared.step.Answer.{Answer}
+use Rattle.folder_files.specs.declared.step.Step.TheVariants.{Read}
+use Rattle.step_plans.specs.ContextCommit.{LIMIT_BYTES}
+use Rattle.step_plans.specs.declared.command_fault.CommandFault.{CommandFault}
+use Rattle.command_words.specs.IncWords.{inc_said}
+use Rattle.command_words.specs.MarkWords.{mark_said}
+use Rattle.command_words.specs.RefileWords.{refile_said}
+use Rattle.command_words.specs.RmmWords.{rmm_said}
+use Rattle.command_words.specs.ScanWords.{scan_said}
+use Rattle.command_words.specs.declared.ended.Ended.{Ended}
+use Rattle.command_line.specs.Command.{no_command, picked_by}
+use Rattle.command_line.specs.CommandNames.{named}
+use Rattle.command_line.specs.CommandPledge.{entries_by}
+use Rattle.command_line.specs.Incorporating.{job_by}
+use Rattle.command_line.specs.Looking.{scan_asked}
+use Rattle.command_line.specs.Profile.{profile_name}
+use Rattle.command_line.specs.declared.caller.Caller.{Caller}
+use Rattle.command_line.specs.declared.name.CommandName.{CommandName}
+use Rattle.command_line.specs.declared.name.CommandName.TheVariants.{Inc, Mark, Pick, Refile, Rmm, Scan}
+
+-- the refusal, where there is one
+abbrev pub refusal_in : {A : Type 0} → Result A Ended → Option CommandFault
+refusal_in (Ok said) = None
+refusal_in (Err e) = Some e.fault
+
+-- that of the words behind a command's name, by the entries of the profile and by who calls: a word, the name of a folder, of a sequence or of a
+-- field, a format, a date or an expression is wrong, or the command lacks one
+abbrev pub named_refusal : Caller → List NamedValue → List (List ℕ) → Option CommandName → Option CommandFault
+named_refusal caller profile words None = Some (no_command None).fault
+named_refusal caller profile words (Some Inc) = refusal_in (job_by caller profile (inc_said profile (map chars words)))
+named_refusal caller profile words (Some Scan) = refusal_in (scan_asked caller (scan_said profile (map chars words)))
+named_refusal caller profile words (Some Mark) = refusal_in (mark_said profile (map chars words))
+named_refusal caller profile words (Some Pick) = refusal_in (picked_by caller profile (map chars words))
+named_refusal caller profile words (Some Refile) = refusal_in (refile_said profile (map chars words))
+named_refusal caller profile words (Some Rmm) = refusal_in (rmm_said profile (map chars words))
+
+-- that of all words of a call
+abbrev pub words_refusal : Caller → List NamedValue → List (List ℕ) → Option CommandFault
+words_refusal caller profile [] = Some (no_command None).fault
+words_refusal caller profile (word ∷ words) = named_refusal caller profile words (named word)
+
+-- the profile was read, and that is all; by its entries the words are refused so
+pub data IsRefusedByWords (caller : Caller) (words : List (List ℕ)) : CommandFault → List Deed → Type 0 where
+  by_words : {a : Answer} {e : CommandFault} → words_refusal caller (entries_by a) words ≡ Some e
+      → IsRefusedByWords caller words e (did (Read Home profile_name LIMIT_BYTES) a ∷ [])
