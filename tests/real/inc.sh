@@ -45,15 +45,6 @@ head -c 67108864 /dev/zero | cmp -s - "$home/Mail/inbox/2" && passed=$((passed +
 row 'a drop that is too long by a byte' "$home" 1 '' 'mh: too large: 268435457 bytes, limit 268435456\n' inc
 rm -r "$home"
 
-# What counts a thing in this file's tests, or none: `N passed, M failed` on its last line.
-sums() {
-    local last
-    last=$(python3 "$top/tests/real/inc.py" "$room/mh" "$room/$1" "$1" | tee "$room/inc.txt" | tail -n 1)
-    sed '$d' "$room/inc.txt"
-    passed=$((passed + ${last%% passed*}))
-    last=${last#* passed, }
-    failed=$((failed + ${last%% failed*}))
-}
-sums calls
-sums deaths
-sums cost
+counted inc.py calls calls
+counted inc.py deaths deaths
+counted inc.py cost cost

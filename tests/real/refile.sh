@@ -17,14 +17,5 @@ row 'a folder is missing' "$home" 1 '' 'mh: missing word\n' refile 1
 flock "$home/Mail/a/.mh_lock" env -i HOME="$home" "$room/mh" refile 1 +a > "$room/out.txt" 2> "$room/err.txt"
 if [ $? = 3 ] && [ "$(cat "$room/err.txt")" = 'mh: +a is locked' ] && [ -f "$home/Mail/inbox/1" ]; then passed=$((passed + 1)); else failed=$((failed + 1)); echo 'failed: a locked destination'; fi
 
-# What counts a thing in this file's tests, or none: `N passed, M failed` on its last line.
-moves() {
-    local last
-    last=$(python3 "$top/tests/real/refile.py" "$room/mh" "$room/$1" "$1" | tee "$room/refile.txt" | tail -n 1)
-    sed '$d' "$room/refile.txt"
-    passed=$((passed + ${last%% passed*}))
-    last=${last#* passed, }
-    failed=$((failed + ${last%% failed*}))
-}
-moves deaths
-moves rivals
+counted refile.py deaths deaths
+counted refile.py rivals rivals
