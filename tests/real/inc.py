@@ -35,7 +35,7 @@ def fill(count, size=0):
     shutil.rmtree(HOME, ignore_errors=True)
     os.makedirs(INBOX)
     with open(f"{HOME}/.mh_profile", "w") as f:
-        f.write("MailDrop: drop\nUnseen-Sequence: unseen\n")
+        f.write("Path: Mail\nMailDrop: drop\nUnseen-Sequence: unseen\n")
     with open(DROP, "w") as f:
         for n in range(1, count + 1):
             f.write(f"From user{n % 10}@many.example Tue Jun  2 10:00:00 2026\n{message(n, size)}\n")
