@@ -98,7 +98,7 @@ def mailbox(home, count, sequences):
 
 
 def run(home, *words):
-    ran = subprocess.run(words, env={"HOME": home, **ANN}, stdin=subprocess.DEVNULL, stdout=subprocess.PIPE, stderr=subprocess.PIPE)
+    ran = subprocess.run(words, env={"HOME": home, **ANN}, stdin=subprocess.DEVNULL, stdout=subprocess.PIPE, stderr=subprocess.PIPE, timeout=60)
     return ran.stdout.decode(errors="replace").split("\n"), ran.returncode, ran.stderr.decode(errors="replace").strip()
 
 
