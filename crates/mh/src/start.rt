@@ -1,4 +1,5 @@
 // What the system says of the user, the moment and the words.
+use crate::help::is_command;
 use crate::offset::read_offset;
 use mh_base::{Bytes, Text};
 use mh_tools::Setting;
@@ -9,10 +10,11 @@ use std::io::{ErrorKind, Read};
 use std::time::{SystemTime, UNIX_EPOCH};
 use std::{env, io};
 
-/// Why a call could not begin.
+/// Why a call could not begin, or not say what was asked.
 #[derive(Drop)]
 pub enum StartFault {
     NoSetting,
+    Output,
     Memory,
 }
 
@@ -38,7 +40,7 @@ impl From<io::Error> for StartFault {
     }
 }
 
-/// The words without the program's name, the home directory, and the setting.
+/// The words of the call, the home directory, and the setting.
 #[derive(Drop)]
 pub struct Start {
     pub words: Vec<String>,
@@ -46,9 +48,30 @@ pub struct Start {
     pub setting: Setting,
 }
 
-fn words(rt: &HostRuntime) -> Result<Vec<String>, StartFault> {
+/// The last segment of a path.
+fn last_segment(path: &str) -> &str {
+    match path.rsplit_once('/') {
+        Some((_, name)) => name,
+        None => path,
+    }
+}
+
+/// The command of whose name the program is called, if it is one.
+fn called_command(program: &str) -> Option<&str> {
+    let name = last_segment(program);
+    if is_command(name) { Some(name) } else { None }
+}
+
+/// The words behind the program's name; a command by whose name it is called stands before them.
+pub fn read_words(rt: &HostRuntime) -> Result<Vec<String>, StartFault> {
     let mut words = Vec::new(rt.alloc());
-    for word in env::args(rt)?.skip(1) {
+    let mut args = env::args(rt)?;
+    if let Some(program) = args.next() {
+        if let Some(command) = called_command(program.as_str()) {
+            words.push(String::from_str(rt.alloc(), command)?)?;
+        }
+    }
+    for word in args {
         words.push(word)?;
     }
     Ok(words)
@@ -65,7 +88,7 @@ fn variable(rt: &HostRuntime, name: &str) -> Result<Option<String>, StartFault> 
 }
 
 /// `HOME`, else the current directory; an empty `HOME` counts as missing.
-fn home(rt: &HostRuntime) -> Result<String, StartFault> {
+pub fn read_home(rt: &HostRuntime) -> Result<String, StartFault> {
     match variable(rt, "HOME")? {
         Some(home) if !home.is_empty() => Ok(home),
         _ => Ok(String::from_str(rt.alloc(), env::current_dir(rt)?.as_path().as_str())?),
@@ -90,10 +113,7 @@ fn now(rt: &HostRuntime) -> Result<i64, StartFault> {
 
 /// The user's name: the last segment of the home directory.
 fn user(alloc: Global, home: &str) -> Result<Text, AllocError> {
-    match home.rsplit_once('/') {
-        Some((_, user)) => Text::from_str(alloc, user),
-        None => Text::from_str(alloc, home),
-    }
+    Text::from_str(alloc, last_segment(home))
 }
 
 /// A run number that no other run has, as far as 16 random bytes can promise.
@@ -103,13 +123,14 @@ fn run_number(rt: &HostRuntime) -> Result<u128, StartFault> {
     Ok(u128::from_le_bytes(bytes))
 }
 
-pub fn read_start(rt: &HostRuntime) -> Result<Start, StartFault> {
+/// What a command is called with, by these words.
+pub fn read_start(rt: &HostRuntime, words: Vec<String>) -> Result<Start, StartFault> {
     let alloc = rt.alloc();
-    let home = home(rt)?;
+    let home = read_home(rt)?;
     let user = user(alloc, home.as_str())?;
     let setting = Setting::new(run_number(rt)?, now(rt)?, offset(rt)?, user);
     Ok(Start {
-        words: words(rt)?,
+        words,
         home: Bytes::from_slice(alloc, home.as_str().as_bytes())?,
         setting: setting.ok_or(StartFault::NoSetting)?,
     })

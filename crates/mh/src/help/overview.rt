@@ -1,0 +1,24 @@
+// The first page.
+
+pub const PAGE: &str = "\
+usage: mh COMMAND [WORDS]
+
+Mail is kept as files: each message is a file whose name is its number, each
+folder a directory below the mail directory.
+
+  inc      takes new mail in
+  scan     prints a line for each message
+  pick     finds messages by what they say
+  mark     adds messages to sequences, takes them out, lists sequences
+  refile   moves messages to other folders
+  rmm      removes messages
+
+A folder is written with a plus sign: +inbox. Messages are numbers, ranges and
+names: 3, 5-9, first, last, cur, prev, next, all, last:10, and sequences. A
+switch begins with a hyphen and may be cut short: -rev is -reverse.
+
+  mh help COMMAND   tells of one command
+  mh help errors    tells what each line of error means, and what to do
+  mh --version      tells the version
+
+";
