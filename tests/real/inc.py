@@ -4,6 +4,7 @@ import random
 import re
 import resource
 import shutil
+import signal
 import subprocess
 import sys
 import tempfile
@@ -144,30 +145,64 @@ int main(int argc, char **argv) {
 """
 
 
+class Turns:
+    """A command that is run in turns with another, so that both meet the same disk: the seconds that it had, and what it used."""
+
+    def __init__(self, *words):
+        self.words, self.took, self.pid, self.usage, self.status = words, 0.0, None, None, None
+
+    def turn(self, seconds):
+        """Lets it go on for so long, or to its end."""
+        begin = time.monotonic()
+        if self.pid is None:
+            self.pid = subprocess.Popen(self.words, env={"HOME": HOME}, stdout=subprocess.DEVNULL).pid
+        else:
+            os.kill(self.pid, signal.SIGCONT)
+        while self.usage is None and time.monotonic() < begin + seconds:
+            time.sleep(0.002)
+            ended, status, usage = os.wait4(self.pid, os.WNOHANG)
+            if ended:
+                self.status, self.usage = os.waitstatus_to_exitcode(status), usage
+        if self.usage is None:
+            os.kill(self.pid, signal.SIGSTOP)
+        self.took += time.monotonic() - begin
+
+
+def in_turns(*commands, seconds=0.3):
+    """Runs them all to their ends."""
+    while any(it.usage is None for it in commands):
+        for it in commands:
+            if it.usage is None:
+                it.turn(seconds)
+
+
+def floor_program(where):
+    """The durable steps alone, compiled; none where there is no compiler."""
+    if not shutil.which("gcc"):
+        return None
+    with open(f"{where}/floor.c", "w") as f:
+        f.write(FLOOR)
+    subprocess.run(["gcc", "-O2", "-o", f"{where}/floor", f"{where}/floor.c"], check=True)
+    return f"{where}/floor"
+
+
 def cost():
-    """The time of inc beside that of the same durable steps in C, and beside nmh's, where these are there."""
+    """The time of inc beside that of the same durable steps in C, in turns, and beside nmh's, where these are there."""
     base = os.environ.get("MH_COST")
     count = int(base) if base else 2000
     size = min(2500, 200_000_000 // count)
     fill(count, size)
-    before = resource.getrusage(resource.RUSAGE_CHILDREN).ru_utime
-    start = time.monotonic()
-    ran = inc()
-    took = time.monotonic() - start
-    used = resource.getrusage(resource.RUSAGE_CHILDREN)
-    check(f"{count:,} messages", ran.returncode == 0 and len(stored()) == count)
-    print(f"inc of {count:,} messages of {size:,} bytes: {took:.2f} s, of which {used.ru_utime - before:.2f} s its own; at most {used.ru_maxrss // 1024} MB")
-    if shutil.which("gcc"):
-        with tempfile.TemporaryDirectory() as where:
-            with open(f"{where}/floor.c", "w") as f:
-                f.write(FLOOR)
-            subprocess.run(["gcc", "-O2", "-o", f"{where}/floor", f"{where}/floor.c"], check=True)
-            shutil.rmtree(INBOX)
-            os.makedirs(INBOX)
-            start = time.monotonic()
-            subprocess.run([f"{where}/floor", INBOX, str(count), str(size)], check=True)
-            floor = time.monotonic() - start
-        print(f"the same durable steps alone: {floor:.2f} s; {took / floor:.2f} times")
+    os.makedirs(f"{HOME}/floor")
+    run = Turns(PROGRAM, "inc")
+    with tempfile.TemporaryDirectory() as where:
+        program = floor_program(where)
+        floor = Turns(program, f"{HOME}/floor", str(count), str(size)) if program else None
+        in_turns(*(it for it in (run, floor) if it))
+    check(f"{count:,} messages", run.status == 0 and len(stored()) == count)
+    print(f"inc of {count:,} messages of {size:,} bytes: {run.took:.2f} s, of which {run.usage.ru_utime:.2f} s its own; at most {run.usage.ru_maxrss // 1024} MB")
+    if floor:
+        check("the durable steps", floor.status == 0)
+        print(f"the same durable steps alone, in turns with it: {floor.took:.2f} s; {run.took / floor.took:.2f} times")
     for program in ("/usr/bin/mh/inc", "/usr/local/nmh/bin/inc"):
         if os.path.exists(program):
             fill(count, size)
