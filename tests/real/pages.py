@@ -191,9 +191,35 @@ def completions():
         check("folders in fish", sorted(ran.stdout.split()) == ["+work", "+work/later"], ran.stdout + ran.stderr)
 
 
+def newcomer():
+    """What somebody meets in an empty home directory, as docs/FIRST-TEN-MINUTES.md has it."""
+    home = ROOM / "newcomer"
+    home.mkdir()
+    text = "From: Ann Lee <ann@a.example>\nSubject: Dinner\nDate: Tue, 02 Jun 2026 12:00:00 +0000\n\nAt eight?\n"
+    (home / "drop").write_text(f"From ann@a.example Tue Jun  2 12:00:00 2026\n{text}")
+    line = "06/02 Ann Lee            Dinner<<At eight?\n"
+    steps = [
+        ("", 1, "", "no command"),
+        ("scan", 1, "", "no such folder: +inbox"),
+        ("inc", 1, "", "no mail to incorporate"),
+        ("inc -file drop", 0, f"Incorporating new mail into inbox...\n\n   1+ {line}", ""),
+        ("scan inbox", 1, "", "no messages in sequence: inbox"),
+        ("show", 1, "", "unknown command: show"),
+        ("mark -sequence todo cur", 0, "", ""),
+        ("scan todo", 0, f"   1+ {line}", ""),
+        ("refile +done", 0, "", ""),
+        ("scan +done", 0, f"   1  {line}", ""),
+        ("rmm 1", 0, "", ""),
+    ]
+    for words, status, out, err in steps:
+        ran = subprocess.run([PROGRAM, *words.split()], cwd=home, env={"HOME": str(home)}, capture_output=True, text=True)
+        check(f"a newcomer's mh {words}", (ran.returncode, ran.stdout, ran.stderr) == (status, out, err and f"mh: {err}\n"), ran.stdout + ran.stderr)
+    check("what was removed stays behind a comma", (home / "Mail/done/,1").read_text() == text)
+
+
 for name in ("bin/mh", "links/scan", "links/other"):
     (ROOM / name).parent.mkdir(parents=True, exist_ok=True)
     (ROOM / name).symlink_to(PROGRAM)
-for part in (switches, examples, pages, help_pages, errors, links, installed, completions):
+for part in (switches, examples, pages, help_pages, errors, links, installed, completions, newcomer):
     part()
 print(f"{passed} passed, {failed} failed")
