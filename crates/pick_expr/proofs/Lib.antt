@@ -10,5 +10,6 @@ pub mod PickLemmas
 mod PlaceLemmas
 mod ProgressLemmas
 mod RefusalLemmas
+mod RestingLemmas
 mod ValueLemmas
 pub mod WholeLemmas

@@ -1,8 +1,8 @@
 -- One bit more.
-use Rattle.std.proofs.Common.{◌≡◌, ℕ, ◌*◌, ◌%◌, ◌^◌, ◌<◌, ◌==◌, ◌||◌, true, false, refl, ap, ◌∙◌, inl, inr, bit_or, eq-eqb}
-use Rattle.std.specs.Int.{bit_at, w128}
-use Rattle.std.proofs.lemmas.Bool.{cases_eq, ne_eqb}
-use Rattle.std.proofs.lemmas.Nat.Bits.{bit_at_set_same, bit_at_set_other}
+use Rattle.std.proofs.Common.{◌≡◌, ℕ, ◌*◌, ◌%◌, ◌^◌, ◌<◌, ◌==◌, ◌||◌, true, false, refl, ap, ◌∙◌, inl, inr, arith, bit_or, eq-eqb}
+use Rattle.std.specs.Int.{bit_at, trailing_zeros, w128}
+use Rattle.std.proofs.lemmas.Bool.{cases_eq, cases_lt, ne_eqb}
+use Rattle.std.proofs.lemmas.Nat.Bits.{bit_at_set_same, bit_at_set_other, bit_at-trailing_zeros, bit_at-zero}
 
 pub placed : (n k : ℕ) → k < 128 → (i : ℕ) → (bit_at (bit_or n (1 * 2 ^ k % 2 ^ 128)) i == 1) ≡ (i == k || (bit_at n i == 1))
 placed n k within i =
@@ -13,4 +13,14 @@ placed n k within i =
       | inr ne ↦ (let miss : (i == k) ≡ false = ne_eqb i k ne in
           let same : bit_at (bit_or n (1 * 2 ^ k % 2 ^ 128)) i ≡ bit_at n i = bit_at_set_other w128 n k within i ne in
           rw (same, miss) refl)
+    ]
+
+-- no bit is set below the lowest one
+pub below_least : (n k : ℕ) → n < 2 ^ 128 → k ≡ trailing_zeros w128 n → (i : ℕ) → i < k → (bit_at n i == 1) ≡ false
+below_least n k fits is_least i low =
+    elim (cases_lt 0 n) [
+      | inl some ↦ (let lowest = bit_at-trailing_zeros w128 n some fits in
+          ap (λ z. z == 1) (lowest.2 i (omega (arith, is_least))))
+      | inr none ↦ (let zero_is : n ≡ 0 = omega arith in
+          ap (λ z. bit_at z i == 1) zero_is ∙ ap (λ z. z == 1) (bit_at-zero i))
     ]

@@ -8,6 +8,7 @@ pub mod Places
 pub mod Progress
 pub mod Reading
 pub mod Refusals
+pub mod Resting
 pub mod Signs
 pub mod Spots
 pub mod Steps

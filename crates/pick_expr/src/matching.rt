@@ -1,7 +1,7 @@
-// Pieces of lines that fit, found from a line's end on: the set of the places in a pattern from which
-// the elements that are left fit what was passed.
+// Steps from a line's end on: the set of the places in a pattern from which the elements that are left
+// fit what was passed.
 ghost use Rattle.std.specs.Prelude.{◌≡◌, ℕ, List, [], ◌∷◌, ◌≤◌, Bool, length};
-ghost use Rattle.pick_expr.specs.Finishing.{AreFinishing, finishes, found_by, goes_on, starred};
+ghost use Rattle.pick_expr.specs.Finishing.{AreFinishing, goes_on, starred};
 
 use crate::Element;
 use crate::places::Places;
@@ -12,8 +12,8 @@ fn fits_on(element: &Element, byte: u8, here: bool, behind: bool, behind_now: bo
     ensures { result ≡ goes_on element.now byte here behind behind_now }
 {
     match element {
-        Element::Once(atom) => atom.admits(byte) && behind,
-        Element::AnyNumber(atom) => behind_now || atom.admits(byte) && here,
+        Element::Once(atom) => behind && atom.admits(byte),
+        Element::AnyNumber(atom) => behind_now || here && atom.admits(byte),
     }
 }
 
@@ -24,7 +24,7 @@ fn is_starred(element: &Element) -> bool
 }
 
 /// The places at a line's end.
-fn last_places(elements: &[Element]) -> Places
+pub(crate) fn last_places(elements: &[Element]) -> Places
     requires { length elements.now ≤ 127 }
     ensures { (to_end : Bool) → AreFinishing elements.now to_end [] result }
 {
@@ -38,50 +38,26 @@ fn last_places(elements: &[Element]) -> Places
     places
 }
 
-/// The places one byte before.
-fn step(elements: &[Element], to_end: bool, places: Places, byte: u8) -> Places
+/// The places one byte before. Where none is set up to the next place, none is set before it either.
+pub(crate) fn step(elements: &[Element], to_end: bool, places: Places, byte: u8) -> Places
     requires { length elements.now ≤ 127 }
     ensures { (rest : List ℕ) → AreFinishing elements.now to_end rest places
         → AreFinishing elements.now to_end (byte ∷ rest) result }
 {
+    let least = places.least();
     let mut at = elements.len();
     let mut next = Places::none().with_if(at, !to_end);
+    let mut behind = places.has(at);
+    let mut behind_now = next.has(at);
     while at > 0 {
-        let behind = places.has(at);
-        let behind_now = next.has(at);
+        if at < least && !behind_now {
+            return next;
+        }
         at -= 1;
         let here = places.has(at);
-        next = next.with_if(at, fits_on(&elements[at], byte, here, behind, behind_now));
+        behind_now = fits_on(&elements[at], byte, here, behind, behind_now);
+        next = next.with_if(at, behind_now);
+        behind = here;
     }
     next
-}
-
-/// Whether the elements fit a piece at the line's start.
-pub(crate) fn reaches_start(elements: &[Element], to_end: bool, line: &[u8]) -> bool
-    requires { length elements.now ≤ 127 }
-    ensures { result ≡ finishes elements.now to_end line.now }
-{
-    let mut places = last_places(elements);
-    let mut at = line.len();
-    while at > 0 {
-        at -= 1;
-        places = step(elements, to_end, places, line[at]);
-    }
-    places.has(0)
-}
-
-/// Whether they fit a piece anywhere in the line.
-pub(crate) fn found(elements: &[Element], to_end: bool, line: &[u8]) -> bool
-    requires { length elements.now ≤ 127 }
-    ensures { result ≡ found_by (finishes elements.now to_end) line.now }
-{
-    let mut places = last_places(elements);
-    let mut found = places.has(0);
-    let mut at = line.len();
-    while at > 0 {
-        at -= 1;
-        places = step(elements, to_end, places, line[at]);
-        found = places.has(0) || found;
-    }
-    found
 }

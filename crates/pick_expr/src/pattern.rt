@@ -4,7 +4,8 @@ ghost use Rattle.std.specs.Str.{encode_utf8_all};
 ghost use Rattle.pick_expr.specs.Reading.{pattern_in};
 
 use crate::elements::{ReadElements, read_elements};
-use crate::matching::{found, reaches_start};
+use crate::finding::{found, reaches_start};
+use crate::resting::Resting;
 use crate::{Element, PatternFault};
 use mh_base::{List, Text};
 use std::alloc::Global;
@@ -17,27 +18,31 @@ pub struct Pattern {
     elements: List<Element>,
     from_start: bool,
     to_end: bool,
+    resting: Resting,
 }
 
 impl Model for Pattern {
     ghost use Rattle.std.specs.Prelude.{◌≤◌, length};
     ghost use Rattle.pick_expr.specs.Fitting.{Shape};
+    ghost use Rattle.pick_expr.specs.Resting.{IsResting};
 
     ghost Value = { Shape };
 
     ghost view = { λ p. record { elements = p.elements; from_start = p.from_start; to_end = p.to_end } };
 
-    ghost invariant = { λ p. length p.elements ≤ 127 };
+    ghost invariant = { λ p. (length p.elements ≤ 127) × IsResting p.elements p.to_end p.resting };
 }
 
 fn shaped(read: ReadElements, from_start: bool) -> Pattern
     requires { length read.elements ≤ 127 }
     ensures { result ≡ record { elements = read.elements; from_start = from_start; to_end = read.to_end } }
 {
+    let resting = Resting::of(read.elements.as_slice(), read.to_end);
     Pattern {
         elements: read.elements,
         from_start,
         to_end: read.to_end,
+        resting,
     }
 }
 
@@ -68,9 +73,9 @@ impl Pattern {
     {
         let elements = self.elements.as_slice();
         if self.from_start {
-            reaches_start(elements, self.to_end, line)
+            reaches_start(elements, self.to_end, &self.resting, line)
         } else {
-            found(elements, self.to_end, line)
+            found(elements, self.to_end, &self.resting, line)
         }
     }
 

@@ -1,5 +1,5 @@
 // Small sets of numbers.
-ghost use Rattle.std.specs.Prelude.{◌≡◌, ℕ, ◌<◌, ◌==◌, ◌&&◌, ◌||◌, false};
+ghost use Rattle.std.specs.Prelude.{◌≡◌, ℕ, ◌<◌, ◌==◌, ◌&&◌, ◌||◌, IsTrue, false};
 ghost use Rattle.pick_expr.specs.Places.{has_place};
 
 /// A set of numbers below 128.
@@ -37,5 +37,19 @@ impl Places {
         ensures { (i : ℕ) → has_place result i ≡ ((i == place && is_in) || has_place self i) }
     {
         if is_in { self.with(place) } else { self }
+    }
+
+    /// Whether both are the same set.
+    pub const fn is(self, other: Places) -> bool
+        ensures { IsTrue result → self ≡ other }
+    {
+        self.bits == other.bits
+    }
+
+    /// Its least number, or 128 if it has none.
+    pub const fn least(self) -> usize
+        ensures { (i : ℕ) → i < result → has_place self i ≡ false }
+    {
+        self.bits.trailing_zeros() as usize
     }
 }
