@@ -6,6 +6,7 @@ mod FinishLemmas
 pub mod FitLemmas
 mod GrammarLemmas
 mod LineLemmas
+mod MaskLemmas
 pub mod PickLemmas
 mod PlaceLemmas
 mod ProgressLemmas

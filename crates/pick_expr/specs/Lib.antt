@@ -3,6 +3,7 @@ pub mod Finishing
 pub mod Fitting
 pub mod Grammar
 pub mod Lines
+pub mod Masks
 pub mod Picks
 pub mod Places
 pub mod Progress

@@ -3,6 +3,7 @@ use Rattle.std.specs.Prelude.{◌≡◌, ℕ, Bool, true, false, List, [], ◌�
 use Rattle.pick_expr.specs.declared.element.Element.{Element}
 use Rattle.pick_expr.specs.declared.places.Places.{Places}
 use Rattle.pick_expr.specs.declared.resting.Resting.{Resting}
+use Rattle.pick_expr.specs.Masks.{AreMasksOf}
 use Rattle.pick_expr.specs.Finishing.{AreFinishing, finishes, found_by}
 
 -- the places are those of more of a line, if they are those of this end of it, and no further piece is found there
@@ -20,3 +21,4 @@ AreIdle elements to_end places idle = (byte : ℕ) → slice_index_or idle byte 
 pub record IsResting (elements : List Element) (to_end : Bool) (r : Resting) : Type 0 where
   pub last : AreFinishing elements to_end [] r.last
   pub idle : AreIdle elements to_end r.rest r.idle
+  pub masks : AreMasksOf elements to_end r.masks

@@ -4,7 +4,6 @@ ghost use Rattle.pick_expr.specs.Finishing.{finishes, found_by};
 ghost use Rattle.pick_expr.specs.Resting.{IsResting};
 
 use crate::Element;
-use crate::matching::step;
 use crate::resting::Resting;
 
 /// Whether the elements fit a piece at the line's start.
@@ -21,7 +20,7 @@ pub(crate) fn reaches_start(
     let mut places = resting.last;
     let mut at = resting.pass(places, line, line.len());
     while at > 0 {
-        places = step(elements, to_end, places, line[at - 1]);
+        places = resting.step(elements, to_end, places, line[at - 1]);
         at = resting.pass(places, line, at - 1);
     }
     places.has(0)
@@ -39,7 +38,7 @@ pub(crate) fn found(elements: &[Element], to_end: bool, resting: &Resting, line:
     }
     let mut at = resting.pass(places, line, line.len());
     while at > 0 {
-        places = step(elements, to_end, places, line[at - 1]);
+        places = resting.step(elements, to_end, places, line[at - 1]);
         if places.has(0) {
             return true;
         }

@@ -13,6 +13,7 @@ mod frame;
 mod halves;
 mod lexeme;
 mod lines;
+mod masks;
 mod matching;
 mod member;
 mod one_test;

@@ -38,7 +38,7 @@ pub(crate) fn last_places(elements: &[Element]) -> Places
     places
 }
 
-/// The places one byte before. Where none is set up to the next place, none is set before it either.
+/// The places one byte before. It ends early where no place that is left can be set.
 pub(crate) fn step(elements: &[Element], to_end: bool, places: Places, byte: u8) -> Places
     requires { length elements.now ≤ 127 }
     ensures { (rest : List ℕ) → AreFinishing elements.now to_end rest places

@@ -8,7 +8,7 @@ use crate::finding::{found, reaches_start};
 use crate::resting::Resting;
 use crate::{Element, PatternFault};
 use mh_base::{List, Text};
-use std::alloc::Global;
+use std::alloc::{AllocError, Global};
 use std::marker::Model;
 
 /// A pattern, which contracts see as its atoms with their stars, and whether the piece of a line that
@@ -33,17 +33,17 @@ impl Model for Pattern {
     ghost invariant = { λ p. (length p.elements ≤ 127) × IsResting p.elements p.to_end p.resting };
 }
 
-fn shaped(read: ReadElements, from_start: bool) -> Pattern
+fn shaped(alloc: Global, read: ReadElements, from_start: bool) -> Result<Pattern, AllocError>
     requires { length read.elements ≤ 127 }
-    ensures { result ≡ record { elements = read.elements; from_start = from_start; to_end = read.to_end } }
+    ensures { IfOk result (λ p. p ≡ record { elements = read.elements; from_start = from_start; to_end = read.to_end }) }
 {
-    let resting = Resting::of(read.elements.as_slice(), read.to_end);
-    Pattern {
+    let resting = Resting::of(alloc, read.elements.as_slice(), read.to_end)?;
+    Ok(Pattern {
         elements: read.elements,
         from_start,
         to_end: read.to_end,
         resting,
-    }
+    })
 }
 
 impl Pattern {
@@ -61,7 +61,7 @@ impl Pattern {
             _ => (false, bytes),
         };
         match read_elements(alloc, elements)? {
-            Some(read) => Ok(shaped(read, from_start)),
+            Some(read) => Ok(shaped(alloc, read, from_start)?),
             None => Err(PatternFault::Bad),
         }
     }

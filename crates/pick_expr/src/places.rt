@@ -1,5 +1,5 @@
 // Small sets of numbers.
-ghost use Rattle.std.specs.Prelude.{◌≡◌, ℕ, ◌<◌, ◌==◌, ◌&&◌, ◌||◌, IsTrue, false};
+ghost use Rattle.std.specs.Prelude.{◌≡◌, ℕ, ◌+◌, ◌<◌, ◌==◌, ◌&&◌, ◌||◌, IsTrue, false};
 ghost use Rattle.pick_expr.specs.Places.{has_place};
 
 /// A set of numbers below 128.
@@ -51,5 +51,32 @@ impl Places {
         ensures { (i : ℕ) → i < result → has_place self i ≡ false }
     {
         self.bits.trailing_zeros() as usize
+    }
+
+    /// Each number less one; 0 is left out.
+    pub const fn less_one(self) -> Places
+        ensures { (i : ℕ) → has_place result i ≡ has_place self (i + 1) }
+    {
+        Places {
+            bits: self.bits >> 1,
+        }
+    }
+
+    /// The numbers that both have.
+    pub const fn and(self, other: Places) -> Places
+        ensures { (i : ℕ) → has_place result i ≡ (has_place self i && has_place other i) }
+    {
+        Places {
+            bits: self.bits & other.bits,
+        }
+    }
+
+    /// The numbers of both.
+    pub const fn or(self, other: Places) -> Places
+        ensures { (i : ℕ) → has_place result i ≡ (has_place self i || has_place other i) }
+    {
+        Places {
+            bits: self.bits | other.bits,
+        }
     }
 }

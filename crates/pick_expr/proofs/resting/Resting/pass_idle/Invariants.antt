@@ -1,4 +1,4 @@
-use Rattle.std.proofs.Common.{◌≡◌, ℕ, ◌≤◌, Bool, List, drop, length}
+use Rattle.std.proofs.Common.{◌≤◌, Bool, List, drop}
 use Rattle.pick_expr.specs.declared.element.Element.{Element}
 use Rattle.pick_expr.specs.Resting.{IsResting, Passes}
 use Rattle.pick_expr.proofs.resting.Resting.pass_idle.Given as goal
