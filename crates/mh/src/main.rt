@@ -5,6 +5,7 @@ mod help;
 mod mail_directory;
 mod offset;
 mod start;
+mod streams;
 
 use folder_files::HostFiles;
 use help::{Help, say};
@@ -14,6 +15,7 @@ use mh_tools::mh;
 use start::{Start, StartFault, read_home, read_start, read_words};
 use std::io::Write;
 use std::process::ExitCode;
+use streams::fill_closed;
 
 /// The exit statuses of a call that could not begin, and of one that could not write.
 const FAULT: u8 = 2;
@@ -51,6 +53,7 @@ fn run(rt: &HostRuntime, words: Vec<String>) -> Result<u8, StartFault> {
 }
 
 fn answer(rt: &HostRuntime) -> Result<u8, StartFault> {
+    let _streams = fill_closed(rt)?;
     let words = read_words(rt)?;
     match help::asked(&words) {
         Some(help) => tell(rt, help),
