@@ -17,7 +17,7 @@ if [ ! -x "$program" ]; then
     exit 1
 fi
 install -D -m 755 "$program" "$prefix/bin/mh"
-for page in "$top"/man/*.1; do install -D -m 644 "$page" "$prefix/share/man/man1/${page##*/}"; done
+for page in "$top"/man/*.[15]; do install -D -m 644 "$page" "$prefix/share/man/man${page##*.}/${page##*/}"; done
 install -D -m 644 "$top/completion/mh.bash" "$prefix/share/bash-completion/completions/mh"
 install -D -m 644 "$top/completion/_mh" "$prefix/share/zsh/site-functions/_mh"
 install -D -m 644 "$top/completion/mh.fish" "$prefix/share/fish/vendor_completions.d/mh.fish"

@@ -37,8 +37,8 @@ def tables():
     return found
 
 
-def page_text(name):
-    return (TOP / f"man/{name}.1").read_text()
+def page_text(name, section=1):
+    return (TOP / f"man/{name}.{section}").read_text()
 
 
 def page_switches(text):
@@ -72,22 +72,31 @@ def switches():
             check(f"{file}: {command}", line is not None and words_switches(line[1]) == known[command], line)
 
 
+def functions():
+    """The functions of formats, by the code, and those of the page."""
+    code = (TOP / "crates/format_compiler/src/function.rt").read_text()
+    table = code[code.index("pub const FUNCTIONS") :]
+    known = {it.lower() for it in re.findall(r"Function::(\w+)", table[: table.index("];")])}
+    part = page_text("mh-format", 5).split(".Ss Functions")[1].split(".Sh EXAMPLES")[0]
+    told = {it for line in re.findall(r"^\.It Ic (.*)$", part, re.M) for it in line.replace(",", " ").split()}
+    check("functions of mh-format(5)", len(known) == 56 and told == known, told ^ known)
+
+
 def examples():
     """What the pages print is printed."""
-    for name in ["mh"] + [f"mh-{it}" for it in COMMANDS]:
+    for name, section in [("mh", 1), ("mh-format", 5)] + [(f"mh-{it}", 1) for it in COMMANDS]:
         home = ROOM / name
         shutil.copytree(TOP / "crates/mh/data", home)
-        block = re.search(r"^\.Sh EXAMPLES\n\.Bd -literal\n(.*?)\n\.Ed", page_text(name), re.S | re.M)
-        check(f"examples of {name}(1)", block is not None)
-        if block is None:
-            continue
-        for part in re.split(r"^\$ ", block[1].replace("\\e", "\\").replace("\\&", ""), flags=re.M)[1:]:
+        text = page_text(name, section)
+        blocks = re.findall(r"^\.Bd -literal\n(\$ .*?)\n\.Ed", text[text.index("\n.Sh EXAMPLES\n") :], re.S | re.M)
+        check(f"examples of {name}({section})", len(blocks) == 1)
+        for part in re.split(r"^\$ ", "\n".join(blocks).replace("\\e", "\\").replace("\\&", ""), flags=re.M)[1:]:
             line, _, wanted = part.partition("\n")
             if line.startswith("cat "):
                 (home / line[4:]).write_text(wanted)
                 continue
             ran = subprocess.run(["sh", "-c", line], cwd=home, env={"HOME": str(home), "PATH": f"{ROOM}/bin:/usr/bin:/bin"}, stdout=subprocess.PIPE, stderr=subprocess.STDOUT, text=True)
-            check(f"{name}(1): {line}", ran.stdout.rstrip("\n") == wanted.rstrip("\n"), f"\n{ran.stdout}")
+            check(f"{name}({section}): {line}", ran.stdout.rstrip("\n") == wanted.rstrip("\n"), f"\n{ran.stdout}")
 
 
 def pages():
@@ -95,9 +104,9 @@ def pages():
     if not shutil.which("mandoc"):
         print("mandoc is not installed: the pages are not looked at")
         return
-    for page in sorted((TOP / "man").glob("*.1")):
+    for page in sorted((TOP / "man").glob("*.[15]")):
         ran = subprocess.run(["mandoc", "-T", "lint", page.name], cwd=page.parent, capture_output=True, text=True)
-        check(f"mandoc: {page.name}", ran.stdout + ran.stderr == "", ran.stdout)
+        check(f"mandoc: {page.name}", ran.stdout == "", ran.stdout)
 
 
 def help_pages():
@@ -153,7 +162,7 @@ def installed():
     check("install.sh", ran.returncode == 0, ran.stderr)
     check("the program that is installed", run("--version", program=str(usr / "bin/mh")).stdout.startswith("mh "))
     check("its links", all(os.readlink(usr / "bin" / it) == "mh" for it in COMMANDS))
-    check("its pages", sorted(it.name for it in (usr / "share/man/man1").iterdir()) == sorted(it.name for it in (TOP / "man").glob("*.1")))
+    check("its pages", sorted(it.name for it in (usr / "share/man").glob("man*/*")) == sorted(it.name for it in (TOP / "man").iterdir()))
     there = ["bash-completion/completions/mh", "zsh/site-functions/_mh", "fish/vendor_completions.d/mh.fish"]
     check("its completions", all((usr / "share" / it).is_file() for it in there))
     ran = subprocess.run([str(TOP / "install.sh"), str(ROOM / "none")], env={"DESTDIR": str(ROOM / "dest"), "PATH": os.environ["PATH"]}, capture_output=True, text=True)
@@ -220,6 +229,6 @@ def newcomer():
 for name in ("bin/mh", "links/scan", "links/other"):
     (ROOM / name).parent.mkdir(parents=True, exist_ok=True)
     (ROOM / name).symlink_to(PROGRAM)
-for part in (switches, examples, pages, help_pages, errors, links, installed, completions, newcomer):
+for part in (switches, functions, examples, pages, help_pages, errors, links, installed, completions, newcomer):
     part()
 print(f"{passed} passed, {failed} failed")
