@@ -32,7 +32,11 @@ fn mail_directory(rt: &HostRuntime, home: &str) -> Result<String, StartFault> {
     let text = profile_text(rt, home)?;
     let profile = Entries::read(rt.alloc(), text.as_bytes())?;
     match profile.get(b"Path")? {
-        Some(path) => below(rt, home, std::str::from_utf8(path.as_slice()).unwrap_or("Mail")),
+        Some(path) => below(
+            rt,
+            home,
+            std::str::from_utf8(path.as_slice()).unwrap_or("Mail"),
+        ),
         None => below(rt, home, "Mail"),
     }
 }
