@@ -8,6 +8,8 @@ names 'it left its folder' "$home/Mail/inbox" '.mh_lock\n.mh_sequences\n1\n3\n'
 names 'it is in the one' "$home/Mail/a" '.mh_lock\n1\n'
 same 'and in the other' "$home/Mail/in/b/1" "${second%x}"
 same 'its marks left with it' "$home/Mail/inbox/.mh_sequences" 'todo: 1 3\n'
+stat -c %a "$home/Mail/in" "$home/Mail/in/b" "$home/Mail/in/b/1" "$home/Mail/context" > "$room/modes.txt"
+same 'what it makes is for its owner alone' "$room/modes.txt" '700\n700\n600\n600\n'
 same 'the source is the current folder' "$home/Mail/context" 'Current-Folder: inbox\n'
 row 'a message is copied' "$home" 0 '' '' refile -link first +a
 names 'it stays' "$home/Mail/inbox" '.mh_lock\n.mh_sequences\n1\n3\n'

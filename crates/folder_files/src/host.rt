@@ -8,12 +8,14 @@ mod fault;
 mod locks;
 mod paths;
 mod reading;
+mod room;
 
 use crate::{Answer, Files, Step};
 use fault::HostFault;
 use locks::HeldLocks;
 use mh_base::{Bytes, Duplicate};
 use paths::Paths;
+use room::ReadRoom;
 use std::alloc::{AllocError, Global};
 
 /// Real directories, by the system's calls. They tell no story: that their steps are those of
@@ -23,6 +25,7 @@ pub struct HostFiles {
     rt: HostRuntime,
     paths: Paths,
     locks: HeldLocks,
+    room: ReadRoom,
     faults: u64,
 }
 
@@ -33,6 +36,7 @@ impl HostFiles {
             rt,
             paths: Paths::new(home.duplicate(alloc)?),
             locks: HeldLocks::new(alloc),
+            room: ReadRoom::new(alloc),
             faults: 0,
         })
     }
@@ -45,13 +49,13 @@ impl HostFiles {
         match step {
             Step::List(place) => reading::list(rt, alloc, &self.paths, place),
             Step::Read(place, name, limit) => {
-                reading::read(rt, alloc, &self.paths, place, name, *limit)
+                reading::read(rt, alloc, &self.paths, &mut self.room, place, name, *limit)
             }
             Step::ReadFile(path, limit) => {
-                reading::read_file(rt, alloc, &self.paths, path, *limit)
+                reading::read_file(rt, alloc, &self.paths, &mut self.room, path, *limit)
             }
             Step::ReadDrop { path, from, most } => {
-                reading::read_drop(rt, alloc, &self.paths, path, *from, *most)
+                reading::read_drop(rt, alloc, &self.paths, &mut self.room, path, *from, *most)
             }
             Step::MakeFolder(place) => changing::make_folder(rt, alloc, &self.paths, place),
             Step::Create(place, name, bytes) => {

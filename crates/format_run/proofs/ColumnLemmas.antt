@@ -230,3 +230,8 @@ row_free_by false w written e =
 -- of a line on which this was written
 pub row_free : (w : ℕ) (written : List ℕ) → free (with_more (empty_line w) written) ≡ w - columns_of written
 row_free w written = row_free_by (nat_le (columns_of written) (w - columns_of [])) w written refl
+
+-- a closed line takes nothing of what stands behind
+pub closed_more : (start line : Kept) (before behind whole : List ℕ) → line ≡ with_more start before → line.closed ≡ true → before ++ behind ≡ whole → line ≡ with_more start whole
+closed_more start line before behind whole was shut_one is =
+    sym (put_shut line behind shut_one) ∙ ap (λ l. with_more l behind) was ∙ more_both start before behind ∙ ap (with_more start) is

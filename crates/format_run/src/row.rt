@@ -1,9 +1,12 @@
 // Lines that have a limited number of columns.
 ghost use Rattle.std.specs.Prelude.{◌≡◌, ◌≤◌, ◌-◌, ◌∷◌, [], OnOk, replicate};
 ghost use Rattle.std.specs.Str.{chars};
+ghost use Rattle.mail_text.specs.OneLine.{written};
+ghost use Rattle.mail_text.specs.Stripping.{stripped};
 ghost use Rattle.format_run.specs.Columns.{empty_line, free as free_of, with_more, columns_of};
 
 use crate::columns::columns;
+use mail_text::{Spot, is_gap};
 use mh_base::Text;
 use std::alloc::{AllocError, Global};
 use std::marker::Model;
@@ -98,6 +101,9 @@ impl Row {
         ensures { OnOk result (self.new ≡ with_more self.old (chars text.now)) }
     {
         for c in text.chars() {
+            if self.closed {
+                return Ok(());
+            }
             self.put(c)?;
         }
         Ok(())
@@ -107,6 +113,41 @@ impl Row {
         ensures { OnOk result (self.new ≡ with_more self.old text.now) }
     {
         self.put_str(text.as_str())
+    }
+
+    /// Adds what one line has of a text's character at this spot.
+    fn put_at(&mut self, spot: Spot, c: char) -> Result<(), AllocError>
+        ensures { OnOk result (self.new ≡ with_more self.old (written spot c)) }
+    {
+        if is_gap(c) {
+            return Ok(());
+        }
+        if spot.has_space() {
+            self.put(' ')?;
+            return self.put(c);
+        }
+        self.put(c)
+    }
+
+    fn put_stripped_str(&mut self, text: &str) -> Result<(), AllocError>
+        ensures { OnOk result (self.new ≡ with_more self.old (stripped (chars text.now))) }
+    {
+        let mut spot = Spot::Front;
+        for c in text.chars() {
+            if self.closed {
+                return Ok(());
+            }
+            self.put_at(spot, c)?;
+            spot = spot.behind(c);
+        }
+        Ok(())
+    }
+
+    /// Adds the text with single spaces.
+    pub fn put_stripped(&mut self, text: &Text) -> Result<(), AllocError>
+        ensures { OnOk result (self.new ≡ with_more self.old (stripped text.now)) }
+    {
+        self.put_stripped_str(text.as_str())
     }
 
     /// Adds bytes, each as the character of its number.

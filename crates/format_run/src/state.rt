@@ -1,5 +1,6 @@
 // What a format's parts work on.
 ghost use Rattle.std.specs.Prelude.{◌≡◌, ◌≤◌, ◌∷◌, [], OnOk};
+ghost use Rattle.mail_text.specs.Stripping.{stripped};
 ghost use Rattle.format_run.specs.Columns.{columns_of, with_more};
 ghost use Rattle.format_run.specs.Decimals.{printed_number};
 ghost use Rattle.format_run.specs.Stepping.{adding, start_of, weighed};
@@ -10,7 +11,6 @@ use crate::decimals::put_number;
 use crate::numbers::truth;
 use crate::row::Row;
 use format_compiler::Width;
-use mail_text::strip;
 use mh_base::Text;
 use std::alloc::{AllocError, Global};
 
@@ -22,12 +22,12 @@ pub struct LineState {
     pub(crate) row: Row,
 }
 
-/// Prints the longest front of a text that fits into so many columns, and spaces behind it.
+/// Prints the longest front of a text on one line that fits into so many columns, and spaces behind it.
 fn put_field(alloc: Global, row: &mut Row, columns: u16, text: &Text) -> Result<(), AllocError>
-    ensures { OnOk result (row.new ≡ with_more row.old (field_of columns text.now)) }
+    ensures { OnOk result (row.new ≡ with_more row.old (field_of columns (stripped text.now))) }
 {
     let mut field = Row::new(alloc, u32::from(columns));
-    field.put_text(text)?;
+    field.put_stripped(text)?;
     row.put_text(field.text())?;
     row.fill(field.unfilled() as usize, ' ')
 }
@@ -41,10 +41,9 @@ pub(crate) fn put_stripped(
 ) -> Result<(), AllocError>
     ensures { OnOk result (row.new ≡ with_more row.old (printed_text width text.now)) }
 {
-    let stripped = strip(alloc, text)?;
     match width {
-        None => row.put_text(&stripped),
-        Some(width) => put_field(alloc, row, width.columns, &stripped),
+        None => row.put_stripped(text),
+        Some(width) => put_field(alloc, row, width.columns, text),
     }
 }
 

@@ -1,7 +1,7 @@
 mod Emptiness
 mod Fronts
+pub mod Lining
 mod Marking
-mod Parting
 mod PartMarks
 mod PartReading
 mod PartShowing

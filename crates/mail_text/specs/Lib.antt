@@ -4,6 +4,7 @@ pub mod Charsets
 pub mod EncodedWords
 pub mod Encodings
 pub mod Marks
+pub mod OneLine
 pub mod ShownAddress
 pub mod ShownBytes
 pub mod ShownPieces

@@ -15,4 +15,4 @@ mod stripping;
 pub use address::Shown;
 pub use encoded_words::decode_words;
 pub use shown_bytes::show_bytes;
-pub use stripping::strip;
+pub use stripping::{Spot, is_gap, strip};

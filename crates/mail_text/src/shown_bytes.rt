@@ -22,12 +22,9 @@ fn put_valid(text: &mut Text, bytes: &[u8]) -> Result<(), AllocError>
     Ok(())
 }
 
-/// The characters of UTF-8 (RFC 3629, section 4). Each byte that is part of no character, looked at from the left, is a question
-/// mark.
-pub fn show_bytes(alloc: Global, bytes: &[u8]) -> Result<Text, AllocError>
-    ensures pieces { IfOk result (λ text. IsShownAs bytes.now text) }
-    ensures alone { IfOk result (λ text. AsNoOther bytes.now text) }
-    ensures value { IfOk result (λ text. text ≡ shown bytes.now) }
+/// The characters of bytes of which some are part of none.
+fn show_broken(alloc: Global, bytes: &[u8]) -> Result<Text, AllocError>
+    ensures { IfOk result (λ text. text ≡ shown bytes.now) }
 {
     let mut text = Text::new(alloc);
     let mut rest = bytes;
@@ -38,5 +35,25 @@ pub fn show_bytes(alloc: Global, bytes: &[u8]) -> Result<Text, AllocError>
         (_, rest) = behind.split_at(1);
     }
     put_valid(&mut text, rest)?;
+    Ok(text)
+}
+
+fn show(alloc: Global, bytes: &[u8]) -> Result<Text, AllocError>
+    ensures { IfOk result (λ text. text ≡ shown bytes.now) }
+{
+    match from_utf8(bytes) {
+        Ok(text) => Text::from_str(alloc, text),
+        Err(_) => show_broken(alloc, bytes),
+    }
+}
+
+/// The characters of UTF-8 (RFC 3629, section 4). Each byte that is part of no character, looked at from the left, is a question
+/// mark.
+pub fn show_bytes(alloc: Global, bytes: &[u8]) -> Result<Text, AllocError>
+    ensures pieces { IfOk result (λ text. IsShownAs bytes.now text) }
+    ensures alone { IfOk result (λ text. AsNoOther bytes.now text) }
+    ensures value { IfOk result (λ text. text ≡ shown bytes.now) }
+{
+    let text = show(alloc, bytes)?;
     Ok(text)
 }

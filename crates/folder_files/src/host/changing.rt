@@ -8,9 +8,9 @@ use crate::{Answer, FilePath, Place};
 use mh_base::{Bytes, Name};
 use std::alloc::Global;
 use std::fs;
-use std::fs::{File, OpenOptions};
+use std::fs::{DirBuilder, File, OpenOptions};
 use std::io::Write;
-use std::os::unix::fs::{MetadataExt, OpenOptionsExt};
+use std::os::unix::fs::{DirBuilderExt, MetadataExt, OpenOptionsExt};
 
 /// How deep a path of missing directories may be.
 const DEPTH: u32 = 1024;
@@ -36,10 +36,17 @@ fn sync_parent(rt: &HostRuntime, path: &str) -> Result<(), HostFault> {
     }
 }
 
+/// Mail is its owner's alone.
+fn create_directory(rt: &HostRuntime, path: &str) -> Result<Found<()>, HostFault> {
+    let mut builder = DirBuilder::new();
+    builder.mode(0o700);
+    looked_up(builder.create(rt, path))
+}
+
 /// A directory below one that is there, made where it is missing, and safe in the one that holds
 /// it: who made it before may have died before that.
 fn make_one(rt: &HostRuntime, path: &str) -> Result<Found<()>, HostFault> {
-    let found = looked_up(fs::create_dir(rt, path))?;
+    let found = create_directory(rt, path)?;
     match found {
         Found::Gone => Ok(Found::Gone),
         found => {
@@ -101,7 +108,6 @@ pub(crate) fn make_folder(
     }
 }
 
-/// Mail is its owner's alone.
 fn create_new(rt: &HostRuntime, path: &str) -> Result<Found<File>, HostFault> {
     let mut options = OpenOptions::new();
     options.write(true);

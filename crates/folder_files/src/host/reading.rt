@@ -4,6 +4,7 @@ ghost use Rattle.folder_files.specs.Rows.{IsNamesRow, IsReadRow, IsPieceRow};
 
 use super::fault::{Found, HostFault, looked_up};
 use super::paths::Paths;
+use super::room::ReadRoom;
 use crate::{Answer, FilePath, Place};
 use mh_base::{Bytes, Name, NameList};
 use std::alloc::Global;
@@ -74,15 +75,32 @@ fn open_plain(rt: &HostRuntime, path: &str) -> Result<Found<(File, u64)>, HostFa
 }
 
 /// At most so many bytes of an open file, from its present place on.
-fn read_most(alloc: Global, file: File, likely: u64, most: u64) -> Result<Bytes, HostFault> {
-    let mut bytes = Vec::with_capacity(alloc, likely as usize)?;
-    file.take(most).read_to_end(&mut bytes)?;
+fn read_most(
+    alloc: Global,
+    room: &mut ReadRoom,
+    file: File,
+    likely: u64,
+    most: u64,
+) -> Result<Bytes, HostFault> {
+    let mut file = file.take(most);
+    let front = room.front(&mut file)?;
+    let mut bytes = Vec::with_capacity(alloc, front.bytes.len().max(likely as usize))?;
+    bytes.extend_from_slice(front.bytes)?;
+    if !front.ends {
+        file.read_to_end(&mut bytes)?;
+    }
     Ok(Bytes::from_vec(bytes))
 }
 
 /// A file's bytes, unless there are more than the limit; of a file that grows, no more than one
 /// byte beyond it is read.
-fn read_within(rt: &HostRuntime, alloc: Global, path: &str, limit: u64) -> Result<Answer, HostFault>
+fn read_within(
+    rt: &HostRuntime,
+    alloc: Global,
+    room: &mut ReadRoom,
+    path: &str,
+    limit: u64,
+) -> Result<Answer, HostFault>
     ensures { IfOk result IsReadRow }
 {
     let (file, length) = match open_plain(rt, path)? {
@@ -93,7 +111,7 @@ fn read_within(rt: &HostRuntime, alloc: Global, path: &str, limit: u64) -> Resul
     if length > limit {
         return Ok(Answer::Long(length));
     }
-    let bytes = read_most(alloc, file, length, limit.saturating_add(1))?;
+    let bytes = read_most(alloc, room, file, length, limit.saturating_add(1))?;
     let length = bytes.len() as u64;
     if length > limit {
         return Ok(Answer::Long(length));
@@ -105,6 +123,7 @@ pub(crate) fn read(
     rt: &HostRuntime,
     alloc: Global,
     paths: &Paths,
+    room: &mut ReadRoom,
     place: &Place,
     name: &Name,
     limit: u64,
@@ -112,25 +131,27 @@ pub(crate) fn read(
     ensures { IfOk result IsReadRow }
 {
     let path = paths.entry(alloc, place, name)?;
-    read_within(rt, alloc, path.as_str(), limit)
+    read_within(rt, alloc, room, path.as_str(), limit)
 }
 
 pub(crate) fn read_file(
     rt: &HostRuntime,
     alloc: Global,
     paths: &Paths,
+    room: &mut ReadRoom,
     path: &FilePath,
     limit: u64,
 ) -> Result<Answer, HostFault>
     ensures { IfOk result IsReadRow }
 {
     let path = paths.file(alloc, path)?;
-    read_within(rt, alloc, path.as_str(), limit)
+    read_within(rt, alloc, room, path.as_str(), limit)
 }
 
 /// A piece of an open file of this length, and nothing of what was written behind it since.
 fn read_piece(
     alloc: Global,
+    room: &mut ReadRoom,
     mut file: File,
     from: u64,
     most: u64,
@@ -140,7 +161,7 @@ fn read_piece(
 {
     let wanted = most.min(length.saturating_sub(from));
     file.seek(SeekFrom::Start(from))?;
-    let piece = read_most(alloc, file, wanted, wanted)?;
+    let piece = read_most(alloc, room, file, wanted, wanted)?;
     if piece.len() as u64 > wanted {
         return Err(HostFault::Failed);
     }
@@ -151,6 +172,7 @@ pub(crate) fn read_drop(
     rt: &HostRuntime,
     alloc: Global,
     paths: &Paths,
+    room: &mut ReadRoom,
     path: &FilePath,
     from: u64,
     most: u64,
@@ -164,7 +186,7 @@ pub(crate) fn read_drop(
         Found::Exists => return Err(HostFault::Failed),
     };
     Ok(Answer::Piece {
-        bytes: read_piece(alloc, file, from, most, length)?,
+        bytes: read_piece(alloc, room, file, from, most, length)?,
         length,
     })
 }
