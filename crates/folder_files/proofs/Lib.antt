@@ -1,16 +1,6 @@
 pub mod Worked
-pub mod Cuts
 pub mod Kinding
-pub mod Pieces
-pub mod Storing
-pub mod Discards
-pub mod Sinces
 pub mod Walking
-pub mod Originals
-pub mod Annotating
-pub mod Found
-pub mod Onces
-pub mod Owns
 pub mod Names
 pub mod Sameness
 pub mod Changes

@@ -10,7 +10,6 @@ pub mod Histories
 pub mod Named
 pub mod Places
 pub mod Rows
-pub mod Seen
 pub mod Standing
 pub mod Steps
 pub mod Story

@@ -16,9 +16,10 @@ ghost use Rattle.folder_room.specs.declared.script.Happening.TheVariants as happ
 use crate::course::Course;
 use crate::images::has_ended;
 use crate::script::{Happening, KeepList, Prompt};
-use folder_files::{After, Answer, Event, Step, may_step};
+use folder_files::{After, Answer, Event, Step};
 use mh_base::Duplicate;
 use std::alloc::{AllocError, Global};
+use step_discipline::may_step;
 
 /// What the script has for this call, in its order.
 pub fn turn_at<'a>(

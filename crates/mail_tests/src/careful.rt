@@ -1,8 +1,9 @@
 // Small histories of run 7, and the steps that it may make after them. A letter is a step with its
 // answer; a history is a word, the oldest step first.
-use folder_files::{After, Answer, Event, FilePath, History, Place, Step, may_step};
+use folder_files::{After, Answer, Event, FilePath, History, Place, Step};
 use mh_base::{Bytes, FolderName, Name, Text};
 use std::alloc::Global;
+use step_discipline::may_step;
 
 const RUN: u128 = 7;
 

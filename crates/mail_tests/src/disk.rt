@@ -6,7 +6,8 @@ use file_plans::{
     ask_read_file, ask_rename, ask_sync_file, ask_sync_folder, ask_unlink, ask_unlock, attempt,
     attempt_unlock, hear, say,
 };
-use folder_files::{Answer, FilePath, HostFiles, Place, Step};
+use folder_files::{Answer, FilePath, Place, Step};
+use host_files::HostFiles;
 use mh_base::{FolderName, Name, PlainSink, PlainSource, Text};
 use std::alloc::Global;
 use std::fs;

@@ -4,7 +4,8 @@ use crate::disk::{
 };
 use crate::given::bytes_of;
 use file_plans::{Reading, ask, ask_make_folder, ask_read_file};
-use folder_files::{Answer, FilePath, HostFiles, Place, Step};
+use folder_files::{Answer, FilePath, Place, Step};
+use host_files::HostFiles;
 use mh_base::{FolderName, Text};
 use std::alloc::Global;
 use std::fs;

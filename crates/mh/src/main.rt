@@ -7,8 +7,8 @@ mod offset;
 mod start;
 mod streams;
 
-use folder_files::HostFiles;
 use help::{Help, say};
+use host_files::HostFiles;
 use mail_directory::say_mail_directory;
 use mh_base::{StdSink, StdSource};
 use mh_tools::mh;

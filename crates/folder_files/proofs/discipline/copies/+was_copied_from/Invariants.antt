@@ -1,5 +1,0 @@
-use Rattle.std.proofs.Common.{length}
-use Rattle.folder_files.proofs.discipline.copies.+was_copied_from.Given as goal
-
-abbrev pub decreases-was_copied_from : goal.decreases-was_copied_from
-decreases-was_copied_from l = length l.own.now

@@ -1,9 +1,0 @@
-use Rattle.std.proofs.Common.{rules}
-use Rattle.folder_files.proofs.Onces.{once_here, once_there}
-use Rattle.folder_files.proofs.discipline.copies.+was_copy_put.Goals as goal
-
-pub returns-then-is_copy_put : goal.returns-then-is_copy_put
-returns-then-is_copy_put t c = once_here _ c.args.own.now c.in-Some.older.now c.in-Some.deed.now _ (search rules) (search rules) (search rules)
-
-pub returns-else-is_copy_put : goal.returns-else-is_copy_put
-returns-else-is_copy_put t c = once_there _ c.args.own.now c.in-Some.older.now c.in-Some.deed.now _ (search rules) (search rules) (search rules)

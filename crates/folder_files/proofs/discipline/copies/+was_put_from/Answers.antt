@@ -1,9 +1,0 @@
-use Rattle.std.proofs.Common.{rules}
-use Rattle.folder_files.proofs.Onces.{once_here, once_there}
-use Rattle.folder_files.proofs.discipline.copies.+was_put_from.Goals as goal
-
-pub returns-then-is_put_from : goal.returns-then-is_put_from
-returns-then-is_put_from t c = once_here _ c.args.own.now c.in-Some.older.now c.in-Some.deed.now _ (search rules) (search rules) (search rules)
-
-pub returns-else-is_put_from : goal.returns-else-is_put_from
-returns-else-is_put_from t c = once_there _ c.args.own.now c.in-Some.older.now c.in-Some.deed.now _ (search rules) (search rules) (search rules)

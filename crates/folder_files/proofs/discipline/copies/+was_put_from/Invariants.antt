@@ -1,5 +1,0 @@
-use Rattle.std.proofs.Common.{length}
-use Rattle.folder_files.proofs.discipline.copies.+was_put_from.Given as goal
-
-abbrev pub decreases-was_put_from : goal.decreases-was_put_from
-decreases-was_put_from l = length l.own.now

@@ -1,6 +1,0 @@
-use Rattle.std.proofs.Common.{rules}
-use Rattle.folder_files.proofs.Found.{neither_iff}
-use Rattle.folder_files.proofs.discipline.copies.is_put_from.Goals as goal
-
-pub returns-in-None : goal.returns-in-None
-returns-in-None c = neither_iff _ _ (λ s. c.in-None.ensures c.args.put.now.place.now c.args.put.now.temp.now s) (search rules)

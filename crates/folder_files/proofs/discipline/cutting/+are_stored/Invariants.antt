@@ -1,5 +1,0 @@
-use Rattle.std.proofs.Common.{length, ◌-◌}
-use Rattle.folder_files.proofs.discipline.cutting.+are_stored.Given as goal
-
-abbrev pub decreases-are_stored : goal.decreases-are_stored
-decreases-are_stored l = length l.own.now - l.at

@@ -1,5 +1,0 @@
-use Rattle.std.proofs.Common.{refl}
-use Rattle.folder_files.proofs.discipline.discarding.is_succeeded.Goals as goal
-
-pub returns-in-None : goal.returns-in-None
-returns-in-None c = (λ t bytes r. absurd (c.in-None.ensures bytes r), λ h. refl)

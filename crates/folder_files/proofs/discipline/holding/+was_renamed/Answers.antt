@@ -1,9 +1,0 @@
-use Rattle.std.proofs.Common.{rules}
-use Rattle.folder_files.proofs.Onces.{once_here, once_there}
-use Rattle.folder_files.proofs.discipline.holding.+was_renamed.Goals as goal
-
-pub returns-then-is_renamed : goal.returns-then-is_renamed
-returns-then-is_renamed t c = once_here _ c.args.own.now c.in-Some.older.now c.in-Some.deed.now _ (search rules) (search rules) (search rules)
-
-pub returns-else-is_renamed : goal.returns-else-is_renamed
-returns-else-is_renamed t c = once_there _ c.args.own.now c.in-Some.older.now c.in-Some.deed.now _ (search rules) (search rules) (search rules)

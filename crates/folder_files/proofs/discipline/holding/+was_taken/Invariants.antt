@@ -1,5 +1,0 @@
-use Rattle.std.proofs.Common.{length}
-use Rattle.folder_files.proofs.discipline.holding.+was_taken.Given as goal
-
-abbrev pub decreases-was_taken : goal.decreases-was_taken
-decreases-was_taken l = length l.own.now

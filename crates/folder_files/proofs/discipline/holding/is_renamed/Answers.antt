@@ -1,6 +1,0 @@
-use Rattle.std.proofs.Common.{rules}
-use Rattle.folder_files.proofs.Found.{neither_iff}
-use Rattle.folder_files.proofs.discipline.holding.is_renamed.Goals as goal
-
-pub returns-in-None : goal.returns-in-None
-returns-in-None c = neither_iff _ _ (λ e. c.in-None.ensures _ e) (search rules)

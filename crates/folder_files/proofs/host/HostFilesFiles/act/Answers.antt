@@ -1,6 +1,0 @@
-use Rattle.std.proofs.Common.{[]}
-use Rattle.folder_files.specs.declared.event.After.TheVariants.{Made}
-use Rattle.folder_files.proofs.host.HostFilesFiles.act.Goals as goal
-
-pub returns-clause-step : goal.returns-clause-step
-returns-clause-step c = ([], Made, tt)

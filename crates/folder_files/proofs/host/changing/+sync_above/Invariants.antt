@@ -1,4 +1,0 @@
-use Rattle.folder_files.proofs.host.changing.+sync_above.Given as goal
-
-abbrev pub decreases-sync_above : goal.decreases-sync_above
-decreases-sync_above l = l.depth

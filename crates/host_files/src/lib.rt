@@ -1,0 +1,12 @@
+//! Real directories: the steps of folder_files by the system's calls.
+#![tactic(auto)]
+
+mod changing;
+mod fault;
+mod files;
+mod locks;
+mod paths;
+mod reading;
+mod room;
+
+pub use files::HostFiles;

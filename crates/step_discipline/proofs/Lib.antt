@@ -1,0 +1,11 @@
+mod Annotating
+mod Cuts
+mod DeedWalks
+mod Discards
+mod Found
+mod Onces
+mod Originals
+mod Owns
+mod Pieces
+mod Sinces
+mod Storing
