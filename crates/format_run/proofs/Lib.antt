@@ -1,7 +1,4 @@
-pub mod ColumnLemmas
-pub mod DecimalLemmas
 pub mod LineLemmas
-pub mod LongestLemmas
 pub mod RunLemmas
 pub mod SearchLemmas
 pub mod StepLemmas

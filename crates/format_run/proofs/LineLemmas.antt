@@ -5,11 +5,11 @@ use Rattle.format_compiler.specs.Grammar.{Format}
 use Rattle.format_compiler.specs.declared.instruction.Instruction.{Instruction}
 use Rattle.format_run.specs.declared.state.LineState.{LineState}
 use Rattle.format_run.specs.Viewed.{Viewed}
-use Rattle.format_run.specs.Columns.{Kept, empty_line, fit, with_more}
+use Rattle.line_rows.specs.Columns.{Kept, empty_line, fit, with_more}
 use Rattle.format_run.specs.Meaning.{Progress, line_of, meaning, start_of}
 use Rattle.format_run.specs.Running.{line_by, run}
 use Rattle.format_run.specs.Stepping as step
-use Rattle.format_run.proofs.ColumnLemmas.{as_wide, field_held, more_none}
+use Rattle.line_rows.proofs.ColumnLemmas.{as_wide, field_held, more_none}
 use Rattle.format_run.proofs.RunLemmas.{run_code}
 use Rattle.format_run.proofs.StepLemmas.{at}
 use Rattle.format_run.proofs.WidthLemmas.{run_wide}

@@ -18,13 +18,13 @@ use Rattle.format_run.specs.declared.answer.Outcome.TheVariants as outcomes
 use Rattle.format_run.specs.declared.state.LineState.{LineState}
 use Rattle.format_run.specs.Viewed.{Viewed}
 use Rattle.format_run.specs.Answers.{Seen, answer_of}
-use Rattle.format_run.specs.Columns.{Kept, empty_line, free, with_more}
+use Rattle.line_rows.specs.Columns.{Kept, empty_line, free, with_more}
 use Rattle.format_run.specs.Meaning.{Progress, takes_source, width_inside}
 use Rattle.format_run.specs.Meaning as meant
 use Rattle.format_run.specs.Stepping.{Evaluated, adding, applied, evaluated, evaluated_around, judged, printed, seen, settled, sourced, tested, with_result}
-use Rattle.format_run.specs.Texts.{printed_text}
+use Rattle.line_rows.specs.Fields.{printed_text}
 use Rattle.format_run.specs.Values.{value_of}
-use Rattle.format_run.proofs.ColumnLemmas.{as_wide, more_both, row_free}
+use Rattle.line_rows.proofs.ColumnLemmas.{as_wide, more_both, row_free}
 
 -- the code's state where this was written
 abbrev pub at : Progress → LineState

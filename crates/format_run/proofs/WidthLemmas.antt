@@ -22,9 +22,9 @@ use Rattle.format_run.specs.Answers.{answer_of}
 use Rattle.format_run.specs.Meaning.{takes_source, width_inside}
 use Rattle.format_run.specs.Stepping.{Evaluated, adding, applied, evaluated, evaluated_around, given, holds, judged, printed, seen, settled, sourced, tested, with_result, with_text}
 use Rattle.format_run.specs.Running.{run}
-use Rattle.format_run.specs.Texts.{printed_text}
+use Rattle.line_rows.specs.Fields.{printed_text}
 use Rattle.format_run.specs.Values.{value_of}
-use Rattle.format_run.proofs.ColumnLemmas.{as_wide}
+use Rattle.line_rows.proofs.ColumnLemmas.{as_wide}
 
 abbrev wide : LineState → ℕ
 wide s = s.row.width

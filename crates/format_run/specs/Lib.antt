@@ -1,8 +1,6 @@
 pub mod Addresses
 pub mod Answers
-pub mod Columns
 pub mod Dates
-pub mod Decimals
 pub mod Meaning
 pub mod Numbers
 pub mod Running

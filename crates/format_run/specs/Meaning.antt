@@ -19,10 +19,10 @@ use Rattle.format_run.specs.declared.answer.Outcome.{Outcome}
 use Rattle.format_run.specs.declared.answer.Outcome.TheVariants as outcomes
 use Rattle.format_run.specs.Viewed.{Viewed}
 use Rattle.format_run.specs.Answers.{Seen, answer_of, is_empty}
-use Rattle.format_run.specs.Columns.{columns_of, fit}
-use Rattle.format_run.specs.Decimals.{printed_number}
+use Rattle.line_rows.specs.Columns.{columns_of, fit}
+use Rattle.line_rows.specs.Decimals.{printed_number}
 use Rattle.format_run.specs.Numbers.{is_not_zero, truth}
-use Rattle.format_run.specs.Texts.{printed_text}
+use Rattle.line_rows.specs.Fields.{printed_text}
 use Rattle.format_run.specs.Values.{value_of}
 
 -- the state: a number, a text, and all that was written so far on a line of this width, of which the line shows what fits

@@ -17,11 +17,11 @@ use Rattle.format_run.specs.declared.answer.Outcome.TheVariants as outcomes
 use Rattle.format_run.specs.declared.state.LineState.{LineState}
 use Rattle.format_run.specs.Viewed.{Viewed}
 use Rattle.format_run.specs.Answers.{Seen, answer_of, is_empty}
-use Rattle.format_run.specs.Columns.{empty_line, free, with_more}
-use Rattle.format_run.specs.Decimals.{printed_number}
+use Rattle.line_rows.specs.Columns.{empty_line, free, with_more}
+use Rattle.line_rows.specs.Decimals.{printed_number}
 use Rattle.format_run.specs.Meaning.{takes_source, width_inside}
 use Rattle.format_run.specs.Numbers.{is_not_zero, truth}
-use Rattle.format_run.specs.Texts.{printed_text}
+use Rattle.line_rows.specs.Fields.{printed_text}
 use Rattle.format_run.specs.Values.{value_of}
 
 -- before anything is printed

@@ -1,9 +1,6 @@
 -- What functions make of texts. 34 is a quote mark, 92 a backslash, and 48 to 57 are the digits.
-use Rattle.std.specs.Prelude.{ℕ, ◌+◌, ◌-◌, ◌*◌, ◌==◌, ◌&&◌, ◌||◌, Bool, nat_le, min, List, [], ◌∷◌, ◌++◌, length, take, replicate, bytes_eq, Option, Some, None, ℤ, pos, if◌then◌else◌}
+use Rattle.std.specs.Prelude.{ℕ, ◌+◌, ◌-◌, ◌*◌, ◌==◌, ◌&&◌, ◌||◌, Bool, nat_le, min, List, [], ◌∷◌, length, take, bytes_eq, ℤ, pos, if◌then◌else◌}
 use Rattle.std.specs.List.{suffix_len}
-use Rattle.mail_text.specs.Stripping.{stripped}
-use Rattle.format_compiler.specs.declared.width.Width.{Width}
-use Rattle.format_run.specs.Columns.{columns_of, fit}
 
 -- a text begins with this one
 abbrev pub begins : List ℕ → List ℕ → Bool
@@ -39,12 +36,3 @@ number_behind n (c ∷ text) = if is_digit c then number_behind (n * 10 + (c - 4
 -- the number that the digits at a text's front write, or the greatest of 64 bits
 abbrev pub leading_number : List ℕ → ℤ
 leading_number text = pos (min (number_behind 0 text) 9223372036854775807)
-
--- the longest front of a text that fits into a field, and spaces behind it
-abbrev pub field : ℕ → List ℕ → List ℕ
-field columns text = fit columns text ++ replicate (columns - columns_of (fit columns text)) 32
-
--- a text as it is printed: stripped, and with a width as a field of it
-abbrev pub printed_text : Option Width → List ℕ → List ℕ
-printed_text None text = stripped text
-printed_text (Some w) text = field w.columns (stripped text)

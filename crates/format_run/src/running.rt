@@ -3,7 +3,7 @@ ghost use Rattle.std.specs.Prelude.{◌≡◌, ◌≤◌, ◌∷◌, List, drop,
 ghost use Rattle.format_compiler.specs.Code.{IsCodeOf};
 ghost use Rattle.format_compiler.specs.Grammar.{Format};
 ghost use Rattle.format_compiler.specs.declared.instruction.Instruction.{Instruction as InstructionOf};
-ghost use Rattle.format_run.specs.Columns.{IsLongestFit, columns_of};
+ghost use Rattle.line_rows.specs.Columns.{IsLongestFit, columns_of};
 ghost use Rattle.format_run.specs.Meaning.{line_of, written_by};
 ghost use Rattle.format_run.specs.Running.{line_by, run as run_of};
 

@@ -1,16 +1,14 @@
 // What a format's parts work on.
 ghost use Rattle.std.specs.Prelude.{◌≡◌, ◌≤◌, ◌∷◌, [], OnOk};
-ghost use Rattle.mail_text.specs.Stripping.{stripped};
-ghost use Rattle.format_run.specs.Columns.{columns_of, with_more};
-ghost use Rattle.format_run.specs.Decimals.{printed_number};
+ghost use Rattle.line_rows.specs.Columns.{columns_of, with_more};
+ghost use Rattle.line_rows.specs.Decimals.{printed_number};
+ghost use Rattle.line_rows.specs.Fields.{printed_text};
 ghost use Rattle.format_run.specs.Stepping.{adding, start_of, weighed};
-ghost use Rattle.format_run.specs.Texts.{field as field_of, printed_text};
 
 use crate::characters::is_empty;
-use crate::decimals::put_number;
 use crate::numbers::truth;
-use crate::row::Row;
 use format_compiler::Width;
+use line_rows::{Row, put_number, put_printed};
 use mh_base::Text;
 use std::alloc::{AllocError, Global};
 
@@ -20,31 +18,6 @@ pub struct LineState {
     pub(crate) number: i64,
     pub(crate) text: Text,
     pub(crate) row: Row,
-}
-
-/// Prints the longest front of a text on one line that fits into so many columns, and spaces behind it.
-fn put_field(alloc: Global, row: &mut Row, columns: u16, text: &Text) -> Result<(), AllocError>
-    ensures { OnOk result (row.new ≡ with_more row.old (field_of columns (stripped text.now))) }
-{
-    let mut field = Row::new(alloc, u32::from(columns));
-    field.put_stripped(text)?;
-    row.put_text(field.text())?;
-    row.fill(field.unfilled() as usize, ' ')
-}
-
-/// Prints a text on one line.
-pub(crate) fn put_stripped(
-    alloc: Global,
-    row: &mut Row,
-    width: Option<Width>,
-    text: &Text,
-) -> Result<(), AllocError>
-    ensures { OnOk result (row.new ≡ with_more row.old (printed_text width text.now)) }
-{
-    match width {
-        None => row.put_stripped(text),
-        Some(width) => put_field(alloc, row, width.columns, text),
-    }
 }
 
 impl LineState {
@@ -72,7 +45,7 @@ impl LineState {
     ) -> Result<(), AllocError>
         ensures { OnOk result (self.new ≡ adding (printed_text width self.old.text) self.old) }
     {
-        put_stripped(alloc, &mut self.row, width, &self.text)
+        put_printed(alloc, &mut self.row, width, &self.text)
     }
 
     /// Prints the text as it is.

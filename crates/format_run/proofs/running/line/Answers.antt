@@ -1,8 +1,8 @@
 use Rattle.std.proofs.Common.{ap, sym, subst, ◌∙◌, arith}
 use Rattle.format_run.specs.declared.state.LineState.{LineState}
-use Rattle.format_run.specs.Columns.{IsLongestFit}
+use Rattle.line_rows.specs.Columns.{IsLongestFit}
 use Rattle.format_run.specs.Meaning.{written_by}
-use Rattle.format_run.proofs.LongestLemmas.{longest_fit}
+use Rattle.line_rows.proofs.LongestLemmas.{longest_fit}
 use Rattle.format_run.specs.Running.{run}
 use Rattle.format_run.proofs.LineLemmas.{line_shown}
 use Rattle.format_run.proofs.WidthLemmas.{run_wide}

@@ -1,6 +1,0 @@
-use Rattle.std.proofs.Common.{◌≡◌}
-use Rattle.format_run.specs.Columns.{with_more}
-use Rattle.format_run.proofs.row.Row.put_str.Given as goal
-
-abbrev pub invariant-loop-c : goal.invariant-loop-c
-invariant-loop-c l = l.self ≡ with_more l.initial.self l.yielded

@@ -1,0 +1,3 @@
+pub mod ColumnLemmas
+mod DecimalLemmas
+pub mod LongestLemmas
