@@ -8,6 +8,7 @@ mod drops;
 mod formats;
 mod lines;
 mod mime;
+mod order;
 mod rows;
 mod texts;
 
