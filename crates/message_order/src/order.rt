@@ -1,5 +1,5 @@
 // Messages in order.
-ghost use Rattle.std.specs.Prelude.{IfOk};
+ghost use Rattle.std.specs.Prelude.{◌≡◌, ℕ, List, IfOk};
 ghost use Rattle.message_order.specs.Order.{AreInOrder};
 
 use mh_base::MsgNum;
@@ -12,7 +12,8 @@ pub fn in_order<K: Ord>(
 ) -> Result<Vec<MsgNum>, AllocError>
 where
     K: Drop,
-    ensures { IfOk result (λ numbers. AreInOrder K.cmp keyed.items numbers.items) }
+    ensures order { IfOk result (λ numbers. AreInOrder K.cmp keyed.items numbers.items) }
+    ensures alone { (other : List ℕ) → IfOk result (λ numbers. AreInOrder K.cmp keyed.items other → other ≡ numbers.items) }
 {
     keyed.sort()?;
     let mut numbers = Vec::new(alloc);
