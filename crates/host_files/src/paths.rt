@@ -21,7 +21,10 @@ fn text(bytes: &[u8]) -> Result<&str, HostFault> {
 
 /// A name below a directory; the empty path is the current directory.
 fn below(alloc: Global, base: &str, name: &str) -> Result<String, HostFault> {
-    let mut path = String::from_str(alloc, if base.is_empty() { "." } else { base })?;
+    let base = if base.is_empty() { "." } else { base };
+    let room = base.len().saturating_add(name.len()).saturating_add(1);
+    let mut path = String::with_capacity(alloc, room)?;
+    path.push_str(base)?;
     if !path.ends_with('/') {
         path.push('/')?;
     }
@@ -30,7 +33,16 @@ fn below(alloc: Global, base: &str, name: &str) -> Result<String, HostFault> {
 }
 
 /// The path of a directory with one slash where several stand, and none at its end.
-fn tidied(alloc: Global, path: &str) -> Result<String, HostFault> {
+fn tidied(alloc: Global, path: String) -> Result<String, HostFault> {
+    if path.contains("//") || path.ends_with('/') {
+        joined(alloc, path.as_str())
+    } else {
+        Ok(path)
+    }
+}
+
+/// The segments of a path with one slash between them.
+fn joined(alloc: Global, path: &str) -> Result<String, HostFault> {
     let mut tidy = String::new(alloc);
     if path.starts_with('/') {
         tidy.push('/')?;
@@ -62,7 +74,7 @@ impl Paths {
     /// A mail directory.
     fn mail(&self, alloc: Global, path: &Bytes) -> Result<String, HostFault> {
         let path = self.from_home(alloc, text(path.as_slice())?)?;
-        tidied(alloc, path.as_str())
+        tidied(alloc, path)
     }
 
     /// How long the path of this place's mail directory is; of another place, its own path.
@@ -76,7 +88,10 @@ impl Paths {
 
     pub(crate) fn place(&self, alloc: Global, place: &Place) -> Result<String, HostFault> {
         match place {
-            Place::Home => tidied(alloc, text(self.home.as_slice())?),
+            Place::Home => {
+                let home = String::from_str(alloc, text(self.home.as_slice())?)?;
+                tidied(alloc, home)
+            }
             Place::Work => Ok(String::from_str(alloc, ".")?),
             Place::Mail(path) => self.mail(alloc, path),
             Place::Folder(path, name) => {
