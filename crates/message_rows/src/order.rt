@@ -15,7 +15,7 @@ fn show_subject(alloc: Global, given: &[u8], told: &mut Bytes) -> Result<(), Fai
 
 /// Seconds, or `-` where there is no date.
 fn date(word: &[u8]) -> Result<Option<i64>, Fail> {
-    if word == b"-" {
+    if word == b"-".as_slice() {
         Ok(None)
     } else {
         Ok(Some(signed(word)?))
