@@ -20,7 +20,8 @@ its status tells how it ended:
    no messages in sequence            mh mark lists the sequences; a folder has
                                       a plus sign before it: mh scan +inbox
    bad sequence name                  letters first, then letters and digits;
-                                      not cur, all, first, last, new, prev or next
+                                      not cur, all, first, last, new, prev or
+                                      next
    bad format at byte N               of -format, counted from 0
    bad date, bad expression           mh help pick
    no messages match                  no message passed the tests of mh pick
