@@ -2,6 +2,7 @@
 ghost use Rattle.std.specs.Prelude.{IfOk};
 ghost use Rattle.folder_files.specs.Rows.{IsMakeRow, IsNewRow, IsOldRow, IsCutRow};
 
+use crate::drop_lock::lock_to_cut;
 use crate::fault::{Found, HostFault, after_change, changed, looked_up};
 use crate::paths::Paths;
 use folder_files::{Answer, FilePath, Place};
@@ -255,12 +256,10 @@ pub(crate) fn unlink(
 }
 
 /// Cuts an open drop of this length to nothing, under the system's lock on the file (`flock`).
-fn cut_locked(file: &File, length: u64) -> Result<Answer, HostFault>
+fn cut_locked(rt: &HostRuntime, file: &File, length: u64) -> Result<Answer, HostFault>
     ensures { IfOk result IsCutRow }
 {
-    if file.try_lock().is_err() {
-        return Err(HostFault::Failed);
-    }
+    lock_to_cut(rt, file)?;
     if file.metadata()?.len() != length {
         return Ok(Answer::Grown);
     }
@@ -287,7 +286,7 @@ pub(crate) fn cut_drop(
     let mut options = OpenOptions::new();
     options.write(true);
     match looked_up(options.open(rt, path.as_str()))? {
-        Found::There(file) => cut_locked(&file, length),
+        Found::There(file) => cut_locked(rt, &file, length),
         Found::Gone => Ok(Answer::Gone),
         Found::Exists => Err(HostFault::Failed),
     }

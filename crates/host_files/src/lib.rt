@@ -2,6 +2,7 @@
 #![tactic(auto)]
 
 mod changing;
+mod drop_lock;
 mod fault;
 mod files;
 mod locks;

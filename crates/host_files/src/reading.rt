@@ -2,6 +2,7 @@
 ghost use Rattle.std.specs.Prelude.{IfOk, length as count, ◌≤◌};
 ghost use Rattle.folder_files.specs.Rows.{IsNamesRow, IsReadRow, IsPieceRow};
 
+use crate::drop_lock::lock_to_read;
 use crate::fault::{Found, HostFault, looked_up};
 use crate::paths::Paths;
 use crate::room::ReadRoom;
@@ -180,11 +181,13 @@ pub(crate) fn read_drop(
     ensures { IfOk result (IsPieceRow most) }
 {
     let path = paths.file(alloc, path)?;
-    let (file, length) = match open_plain(rt, path.as_str())? {
+    let (file, _) = match open_plain(rt, path.as_str())? {
         Found::There(opened) => opened,
         Found::Gone => return Ok(Answer::Gone),
         Found::Exists => return Err(HostFault::Failed),
     };
+    lock_to_read(rt, &file)?;
+    let length = file.metadata()?.len();
     Ok(Answer::Piece {
         bytes: read_piece(alloc, room, file, from, most, length)?,
         length,
