@@ -1,4 +1,5 @@
-"""Tests of `inc` on real directories: inc.py PROGRAM DIRECTORY calls, deaths or cost. The last line is 'N passed, M failed'."""
+"""Tests of `inc` on real directories: inc.py PROGRAM DIRECTORY calls, delivery, deaths or cost. The last line is 'N passed, M failed'."""
+import fcntl
 import os
 import random
 import re
@@ -90,6 +91,24 @@ def calls():
     check("the drop is cut once", len(drop_cuts) == 1)
     others = [k for k in every_sync if "drop" not in lines[k]]
     check("after all other syncs and all lines", bool(drop_cuts) and all(k < drop_cuts[0] for k in others + writes))
+
+
+def delivery():
+    """A message that is delivered in two writes, under the drop's lock, while inc runs: it comes whole."""
+    fill(1)
+    with open(DROP, "ab") as f:
+        fcntl.flock(f, fcntl.LOCK_EX)
+        text = ("From a@b Tue Jun  2 10:00:00 2026\n" + message(2) + "\n").encode()
+        f.write(text[:60])
+        f.flush()
+        run = subprocess.Popen([PROGRAM, "inc"], env={"HOME": HOME}, stdout=subprocess.PIPE, stderr=subprocess.PIPE)
+        time.sleep(0.4)
+        check("inc waits for a delivery", run.poll() is None)
+        f.write(text[60:])
+    out, err = run.communicate(timeout=20)
+    check("inc beside a delivery", run.returncode == 0 and err == b"")
+    check("both messages are whole", stored() == {1: message(1), 2: message(2)})
+    check("the drop is empty", os.path.getsize(DROP) == 0)
 
 
 def deaths(times=50, count=50):
@@ -212,5 +231,5 @@ def cost():
     shutil.rmtree(HOME)
 
 
-{"calls": calls, "deaths": deaths, "cost": cost}[WHAT]()
+{"calls": calls, "delivery": delivery, "deaths": deaths, "cost": cost}[WHAT]()
 print(f"{passed} passed, {failed} failed")

@@ -46,5 +46,6 @@ row 'a drop that is too long by a byte' "$home" 1 '' 'mh: too large: 268435457 b
 rm -r "$home"
 
 counted inc.py calls calls
+counted inc.py delivery delivery
 counted inc.py deaths deaths
 counted inc.py cost cost
