@@ -150,6 +150,7 @@ STEPS = [
      earlier(f"unlink   {INBOX}/dead-held_3", f"link     {INBOX}/dead-held_3")),
     ("a cut that is not the last", steps.cut_last, "inc", earlier("cut", "rename")),
     ("a cut without its lock", steps.cut_last, "inc", without("lock     drop")),
+    ("a drop that is read without its lock", steps.read_shared, "inc", without("share    drop")),
     ("a change without the lock", steps.under_lock, "mark", without(f"lock     {INBOX}")),
     ("a change after the lock", steps.under_lock, "mark", earlier(f"unlock   {INBOX}", "create")),
     ("a change that is never synced", steps.safe_at_last, "rmm", lambda lines: [it for it in lines if it != f"sync     {INBOX}"]),

@@ -110,7 +110,8 @@ class Trace:
         if call == "write" and opened and opened.group(1) in "12":
             return Event("output", [first_words(given)])
         if call == "flock" and file:
-            return Event("lock", [os.path.dirname(file)] if file.endswith(".mh_lock") else [file], answer)
+            kind = "share" if "LOCK_SH" in given else "lock"
+            return Event(kind, [os.path.dirname(file)] if file.endswith(".mh_lock") else [file], answer)
         if call in ("write", "fsync", "fdatasync", "ftruncate", "fcntl") and file:
             return Event({"write": "write", "fcntl": "fcntl", "ftruncate": "cut"}.get(call, "sync"), [file], answer)
         kinds = {"mkdir": "mkdir", "mkdirat": "mkdir", "link": "link", "linkat": "link", "unlink": "unlink", "unlinkat": "unlink",
@@ -235,6 +236,12 @@ def cut_last(events):
     return bad
 
 
+def read_shared(events):
+    """A drop is read under its lock, which others may share."""
+    return [f"the drop is read without its lock, as call {k}" for k, it in enumerate(events)
+            if it.kind == "read" and it.names == ["drop"] and not any(one.kind == "share" and one.names == ["drop"] and not one.answer for one in events[:k])]
+
+
 def under_lock(events):
     """Names of a folder, and of the mail directory, change under that directory's lock alone."""
     bad, locked = [], set()
@@ -271,7 +278,7 @@ def replaced_never(events):
     return bad
 
 
-RULES = [synced_files, synced_lines, synced_discards, cut_last, under_lock, safe_at_last, replaced_never]
+RULES = [synced_files, synced_lines, synced_discards, cut_last, read_shared, under_lock, safe_at_last, replaced_never]
 
 
 def expected(name):
