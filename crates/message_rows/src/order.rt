@@ -1,7 +1,7 @@
 // The order of messages.
 use message_order::{filled_dates, in_order, subject_key, text_key};
 use mh_base::{Bytes, MsgNum};
-use row_text::{from, number, show_line, show_quoted_line, signed, text, word};
+use row_text::{from, number, show_line, show_number, show_quoted_line, signed, text, word};
 use std::alloc::Global;
 use std::test::Fail;
 
@@ -65,15 +65,10 @@ fn all_keyed(alloc: Global, words: &[Bytes]) -> Result<Vec<(Vec<u8>, MsgNum)>, F
     Ok(all)
 }
 
-fn show_message(alloc: Global, message: MsgNum, told: &mut Bytes) -> Result<(), Fail> {
-    let number = message.get();
-    show_line(told, format!(in alloc; "{number}")?.as_str())
-}
-
 fn show_order(alloc: Global, words: &[Bytes], told: &mut Bytes) -> Result<(), Fail> {
     let all = all_keyed(alloc, words)?;
     for n in &in_order(alloc, all)? {
-        show_message(alloc, *n, told)?;
+        show_number(alloc, told, u64::from(n.get()))?;
     }
     Ok(())
 }
