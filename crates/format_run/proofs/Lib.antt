@@ -1,3 +1,4 @@
+mod LazyLemmas
 pub mod LineLemmas
 pub mod RunLemmas
 pub mod SearchLemmas

@@ -1,6 +1,7 @@
 pub mod Addresses
 pub mod Answers
 pub mod Dates
+pub mod Lazy
 pub mod Meaning
 pub mod Numbers
 pub mod Running

@@ -7,6 +7,7 @@ mod answers;
 mod characters;
 mod dates;
 mod evaluating;
+mod lazy;
 mod names;
 mod numbers;
 mod running;

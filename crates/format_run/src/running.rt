@@ -4,11 +4,12 @@ ghost use Rattle.format_compiler.specs.Code.{IsCodeOf};
 ghost use Rattle.format_compiler.specs.Grammar.{Format};
 ghost use Rattle.format_compiler.specs.declared.instruction.Instruction.{Instruction as InstructionOf};
 ghost use Rattle.line_rows.specs.Columns.{IsLongestFit, columns_of};
+ghost use Rattle.format_run.specs.Lazy.{meant};
 ghost use Rattle.format_run.specs.Meaning.{line_of, written_by};
 ghost use Rattle.format_run.specs.Running.{line_by, run as run_of};
 
 use crate::View;
-use crate::state::LineState;
+use crate::lazy::LazyState;
 use format_compiler::{Instruction, Program};
 use mh_base::Text;
 use std::alloc::{AllocError, Global};
@@ -18,10 +19,10 @@ use std::alloc::{AllocError, Global};
 fn step(
     alloc: Global,
     view: &View,
-    state: &mut LineState,
+    state: &mut LazyState,
     instruction: &Instruction,
 ) -> Result<usize, AllocError>
-    ensures { IfOk result (λ skipped. (code : List InstructionOf) → run_of view.now 0 (instruction.now ∷ code) state.old ≡ run_of view.now skipped code state.new) }
+    ensures { IfOk result (λ skipped. (code : List InstructionOf) → run_of view.now 0 (instruction.now ∷ code) (meant state.old) ≡ run_of view.now skipped code (meant state.new)) }
 {
     match instruction {
         Instruction::Print(piece) => {
@@ -47,10 +48,10 @@ fn behind(code: &[Instruction], skipped: usize) -> &[Instruction]
 fn run(
     alloc: Global,
     view: &View,
-    state: &mut LineState,
+    state: &mut LazyState,
     code: &[Instruction],
 ) -> Result<(), AllocError>
-    ensures { OnOk result (state.new ≡ run_of view.now 0 code.now state.old) }
+    ensures { OnOk result (meant state.new ≡ run_of view.now 0 code.now (meant state.old)) }
 {
     let mut rest = code;
     while let Some((instruction, following)) = rest.split_first() {
@@ -67,7 +68,7 @@ pub fn line(alloc: Global, program: &Program, view: &View, width: u32) -> Result
     ensures run { IfOk result (λ text. text ≡ line_by view.now width program.now) }
     ensures within { IfOk result (λ text. columns_of text ≤ width) }
 {
-    let mut state = LineState::new(alloc, width);
+    let mut state = LazyState::new(alloc, width);
     run(alloc, view, &mut state, program.instructions())?;
     Ok(state.into_text())
 }

@@ -1,7 +1,8 @@
 // The values of a message's components.
-ghost use Rattle.std.specs.Prelude.{◌≡◌, codes, IfOk, take};
+ghost use Rattle.std.specs.Prelude.{◌≡◌, codes, IfOk, take, if◌then◌else◌};
 ghost use Rattle.mail_headers.specs.Fields.{same_name};
 ghost use Rattle.mail_headers.specs.Message.{body_of};
+ghost use Rattle.mail_text.specs.Stripping.{stripped};
 ghost use Rattle.format_run.specs.Values.{shown_body, shown_field, value_named, value_of};
 ghost use Rattle.mail_headers.specs.Fields.{fields_of, first_value};
 
@@ -21,10 +22,17 @@ fn body_front<'a>(message: &Message<'a>) -> &'a [u8]
     front
 }
 
+/// What the body's first bytes show, on as many lines as they have.
+fn raw_body(alloc: Global, message: &Message) -> Result<Text, AllocError>
+    ensures { IfOk result (λ text. stripped text ≡ shown_body message.now) }
+{
+    show_bytes(alloc, body_front(message))
+}
+
 fn body_value(alloc: Global, message: &Message) -> Result<Text, AllocError>
     ensures { IfOk result (λ text. text ≡ shown_body message.now) }
 {
-    let shown = show_bytes(alloc, body_front(message))?;
+    let shown = raw_body(alloc, message)?;
     strip(alloc, &shown)
 }
 
@@ -65,4 +73,33 @@ pub(crate) fn component_value(
     ensures { IfOk result (λ text. text ≡ value_of name.now message.now) }
 {
     named_value(alloc, message, name.as_str().as_bytes())
+}
+
+/// A component's value. Where it is raw, it is meant on one line.
+#[derive(Drop)]
+pub(crate) struct RawValue {
+    pub(crate) text: Text,
+    pub(crate) raw: bool,
+}
+
+/// The value of the component of this name, of which a body is raw.
+pub(crate) fn raw_value(
+    alloc: Global,
+    message: &Message,
+    name: &Text,
+) -> Result<RawValue, AllocError>
+    ensures { IfOk result (λ v. (if v.raw then stripped v.text else v.text) ≡ value_of name.now message.now) }
+{
+    let name = name.as_str().as_bytes();
+    if is_body(name) {
+        Ok(RawValue {
+            text: raw_body(alloc, message)?,
+            raw: true,
+        })
+    } else {
+        Ok(RawValue {
+            text: field_value(alloc, message, name)?,
+            raw: false,
+        })
+    }
 }

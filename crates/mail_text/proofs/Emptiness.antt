@@ -4,7 +4,7 @@ use Rattle.std.specs.Str.{encode_utf8_all}
 use Rattle.std.proofs.lemmas.Bool.Decides.{nat_tests}
 use Rattle.std.proofs.lemmas.Str.{length-le-encodes}
 
-not_zero : (n : ℕ) → 1 ≤ n → eqb n 0 ≡ false
+pub not_zero : (n : ℕ) → 1 ≤ n → eqb n 0 ≡ false
 not_zero n le = grind (arith, nat_tests)
 
 pub emptiness : (cs bytes : List ℕ) (r : Bool) → bytes ≡ encode_utf8_all cs → r ≡ eqb (length bytes) 0 → r ≡ eqb (length cs) 0

@@ -9,5 +9,6 @@ mod PartsWorked
 mod Quoted
 mod Showing
 mod Spelling
+pub mod StrippedTwice
 mod Wording
 mod Words

@@ -3,6 +3,7 @@ use Rattle.format_run.specs.declared.state.LineState.{LineState}
 use Rattle.line_rows.specs.Columns.{IsLongestFit}
 use Rattle.format_run.specs.Meaning.{written_by}
 use Rattle.line_rows.proofs.LongestLemmas.{longest_fit}
+use Rattle.format_run.specs.Lazy.{meant}
 use Rattle.format_run.specs.Running.{run}
 use Rattle.format_run.proofs.LineLemmas.{line_shown}
 use Rattle.format_run.proofs.WidthLemmas.{run_wide}
@@ -10,7 +11,7 @@ use Rattle.format_run.proofs.running.line.Goals as goal
 
 pub returns-clause-meaning : goal.returns-clause-meaning
 returns-clause-meaning c = λ f is.
-    line_shown c.args.view.now f c.args.width c.into_text.result c.new-state.result c.run.new.state c.instructions.result.now c.new-state.ensures (c.instructions.ensures ∙ is) c.in_ok-run.ensures c.into_text.ensures.value
+    line_shown c.args.view.now f c.args.width c.into_text.result (meant c.new-state.result) (meant c.run.new.state) c.instructions.result.now c.new-state.ensures (c.instructions.ensures ∙ is) c.in_ok-run.ensures c.into_text.ensures.value
 
 pub returns-clause-longest : goal.returns-clause-longest
 returns-clause-longest c = λ f is.
@@ -18,7 +19,7 @@ returns-clause-longest c = λ f is.
 
 pub returns-clause-within : goal.returns-clause-within
 returns-clause-within c =
-    let kept = run_wide c.args.view.now 0 c.instructions.result.now c.new-state.result in
+    let kept = run_wide c.args.view.now 0 c.instructions.result.now (meant c.new-state.result) in
     let ran = ap (λ (s : LineState). s.row.width) c.in_ok-run.ensures in
     let start = ap (λ (s : LineState). s.row.width) c.new-state.ensures in
     omega (arith, c.into_text.ensures.within)
@@ -27,4 +28,4 @@ pub returns-clause-run : goal.returns-clause-run
 returns-clause-run c =
     c.into_text.ensures.value
     ∙ ap (λ (s : LineState). s.row.characters)
-    (c.in_ok-run.ensures ∙ ap (λ code. run c.args.view.now 0 code c.new-state.result) c.instructions.ensures ∙ ap (run c.args.view.now 0 c.args.program.now) c.new-state.ensures)
+    (c.in_ok-run.ensures ∙ ap (λ code. run c.args.view.now 0 code (meant c.new-state.result)) c.instructions.ensures ∙ ap (run c.args.view.now 0 c.args.program.now) c.new-state.ensures)
