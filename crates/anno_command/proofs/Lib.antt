@@ -1,0 +1,3 @@
+pub mod AnnoPledged
+pub mod HeldNone
+pub mod Listed

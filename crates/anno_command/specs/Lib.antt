@@ -1,0 +1,2 @@
+pub mod Anno
+pub mod AnnoPledge

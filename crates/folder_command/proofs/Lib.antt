@@ -1,0 +1,4 @@
+pub mod FolderAlone
+pub mod FolderPledged
+pub mod Orderly
+pub mod WordsGiven

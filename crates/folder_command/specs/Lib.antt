@@ -1,0 +1,3 @@
+pub mod Folder
+pub mod Summary
+pub mod Values

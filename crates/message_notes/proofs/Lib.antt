@@ -1,0 +1,5 @@
+pub mod Limits
+pub mod NotedGiven
+pub mod NotedPledged
+pub mod PutAtGiven
+pub mod Turns

@@ -1,0 +1,10 @@
+pub mod ChangesEnd
+pub mod ChangesMind
+pub mod ChangesPledged
+pub mod ChangesSay
+pub mod FoldersGiven
+pub mod LooksEnd
+pub mod LooksRefused
+pub mod LooksSay
+pub mod Loops
+pub mod ToldAlone

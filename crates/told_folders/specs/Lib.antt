@@ -1,0 +1,6 @@
+pub mod Answers
+pub mod Outcomes
+pub mod Plans
+pub mod Pledge
+pub mod Tasks
+pub mod ToldAlone
