@@ -28,7 +28,7 @@ rising low [] rise ok = tt
 rising low (n ∷ ns) rise ok = (ok.0, apart_from n ns (λ k e. let le = from_on (n + 1) ns rise.1 k e in omega (arith, le)), rising (n + 1) ns rise.1 ok.1)
 
 -- words choose as they do for `rmm`
-abbrev like : AnnoJob → RmmJob
+abbrev pub like : AnnoJob → RmmJob
 like job = record { folder = job.folder; specs = job.specs; unlink = false; negation = job.negation }
 
 pub chosen_messages : (job : AnnoJob) (listing : List Run) (m : Marked) (numbers : List ℕ) → chosen_from job listing m ≡ Ok numbers → AreRuns listing → AreMessages numbers

@@ -1,2 +1,4 @@
 pub mod Anno
+pub mod AnnoAlone
+pub mod AnnoOutcome
 pub mod AnnoPledge

@@ -4,6 +4,7 @@ ghost use Rattle.file_plans.specs.Follows.{Follows, by_hand};
 ghost use Rattle.step_plans.specs.CommandFaults.{command_cause};
 ghost use Rattle.command_stages.specs.Chosen.{IsValue};
 ghost use Rattle.anno_command.specs.Anno.{anno as anno_plan, chosen_from, last_in, opened_noted, said_noted};
+ghost use Rattle.anno_command.specs.AnnoAlone.{NotesIfUnfaulted};
 ghost use Rattle.anno_command.specs.AnnoPledge.{PromisesSteps};
 
 use crate::AnnoJob;
@@ -95,6 +96,7 @@ pub fn anno<F: Files>(
     job: &AnnoJob,
 ) -> Result<(), CommandFault>
     ensures plan { Follows hand.old.run command_cause (anno_plan hand.old.run hand.old.mail job.now) (by_hand hand.old.kept (F.state files.old)) (by_hand hand.new.kept (F.state files.new)) result }
+    ensures alone { NotesIfUnfaulted hand.old.run hand.old.mail job.now hand.old.kept result (F.state files.old) (F.state files.new) }
     ensures steps { PromisesSteps hand.old.run hand.old.mail job.now (by_hand hand.old.kept (F.state files.old)) (by_hand hand.new.kept (F.state files.new)) }
     ensures run { hand.new.run ≡ hand.old.run }
     ensures mail { hand.new.mail ≡ hand.old.mail }

@@ -1,5 +1,7 @@
-//! Tests of `folder` on a mailbox in memory. There is nothing here but tests.
+//! Tests of `folder` and `anno` on a mailbox in memory. There is nothing here but tests.
 #![tactic(auto)]
 
+#[cfg(test)]
+mod annos;
 #[cfg(test)]
 mod folders;

@@ -117,18 +117,18 @@ module _ (run : ℕ) (few : run < 2 ^ 128) (p : Place) (lines : List ℕ) (n : �
   twice true o u = refl
   twice false o u = refl
 
-  -- where the held name stood for nothing before, nothing but the message is changed
-  noted_so : c.texts p held ≡ None → with_text stored p held None ≡ noted_in c p lines n bytes
-  noted_so free = ap (λ x. with_text (with_text held_aside p x (Some new)) p held None) (sym (number_is n)) ∙ (λ i. record { there = c.there; texts = λ q x. each q x i; outside = c.outside })
+  -- nothing but the message is changed
+  noted_so : with_text stored p held None ≡ noted_in c p run lines n bytes
+  noted_so = ap (λ x. with_text (with_text held_aside p x (Some new)) p held None) (sym (number_is n)) ∙ (λ i. record { there = c.there; texts = λ q x. each q x i; outside = c.outside })
     where
-      each : (q : Place) (x : List ℕ) → (with_text (with_text held_aside p number (Some new)) p held None).texts q x ≡ (noted_in c p lines n bytes).texts q x
+      each : (q : Place) (x : List ℕ) → (with_text (with_text held_aside p number (Some new)) p held None).texts q x ≡ (noted_in c p run lines n bytes).texts q x
       each =
-          at_name p held (λ q x. (with_text (with_text held_aside p number (Some new)) p held None).texts q x ≡ (noted_in c p lines n bytes).texts q x)
-          (rw (place_is p, bytes_self held, apart) (sym free)) (λ q x off. rw off (twice (is_at p number q x) (Some new) (c.texts q x)))
+          at_name p held (λ q x. (with_text (with_text held_aside p number (Some new)) p held None).texts q x ≡ (noted_in c p run lines n bytes).texts q x)
+          (rw (place_is p, bytes_self held) refl) (λ q x off. rw off (twice (is_at p number q x) (Some new) (c.texts q x)))
 
   -- the message stands with the lines; or memory was wanting; or it is too long, by itself or with the lines, and is held aside
   abbrev pub Noted : List ℕ → Hand → View → Hand → List ℕ → Result ℕ PlanFault → Type 0
-  Noted ns h z j left (Ok m) = (nat_lt LIMIT_BYTES (length bytes) ≡ false) × (nat_lt LIMIT_BYTES (length new) ≡ false) × (m ≡ n) × (z.contents ≡ noted_in c p lines n bytes) × (ns ≡ n ∷ z.numbers) × (j ≡ used h)
+  Noted ns h z j left (Ok m) = (nat_lt LIMIT_BYTES (length bytes) ≡ false) × (nat_lt LIMIT_BYTES (length new) ≡ false) × (m ≡ n) × (z.contents ≡ noted_in c p run lines n bytes) × (ns ≡ n ∷ z.numbers) × (j ≡ used h)
   Noted ns h z j left (Err e) = (e ≡ fault.Memory) ⊎ ((l : List ℕ) × (readable l ≡ Err e) × ((l ≡ bytes) ⊎ ((nat_lt LIMIT_BYTES (length bytes) ≡ false) × (l ≡ new))) × (z.contents ≡ held_aside) × (z.numbers ≡ ns))
 
   there_still : stored.there p ≡ true
@@ -137,13 +137,13 @@ module _ (run : ℕ) (few : run < 2 ^ 128) (p : Place) (lines : List ℕ) (n : �
   abbrev ending : ℕ → Planned ℕ
   ending m = held_discarded p held >>= (λ gone. Return (Ok m))
 
-  module _ (free : c.texts p held ≡ None) (ns : List ℕ) (h : Hand) (none : nat_lt h.next (2 ^ 64) ≡ true → c.texts p (temp_name run h.next) ≡ None) where
+  module _ (ns : List ℕ) (h : Hand) (none : nat_lt h.next (2 ^ 64) ≡ true → c.texts p (temp_name run h.next) ≡ None) where
     discarded : nat_lt LIMIT_BYTES (length bytes) ≡ false → nat_lt LIMIT_BYTES (length new) ≡ false → (z : View) (left : List ℕ) → z.contents ≡ stored → ns ≡ n ∷ z.numbers → Gives (by_view true) z (used h) left (ending n) (Noted ns h)
     unfolding Gives
     discarded short fits z left is numbers =
         gives_on (by_view true) z (used h) left (held_discarded p held) (λ gone. Return (Ok n)) (Leaves true z.numbers (with_text stored p held None) (used h) Never) (Noted ns h)
         (discard_gives p held stored there_still held_still z.numbers z (used h) left ((λ e. is), refl))
-        (λ y i rest u l. (short, fits, refl, l.is.0 refl ∙ noted_so free, numbers ∙ ap (λ ms. n ∷ ms) (sym l.is.1), l.hand)) (λ y i rest e f. absurd f)
+        (λ y i rest u l. (short, fits, refl, l.is.0 refl ∙ noted_so, numbers ∙ ap (λ ms. n ∷ ms) (sym l.is.1), l.hand)) (λ y i rest e f. absurd f)
 
     abbrev storing : List ℕ → Planned ℕ
     storing b = stored_at run p n b top >>= (λ m. ending m)

@@ -1,7 +1,9 @@
-//! Tests of messages that are put into a folder of a mailbox in memory, and of what stands on that. There is nothing here but tests.
+//! Tests of messages that are put into a folder of a mailbox in memory, that get lines, and that change places. There is nothing here but tests.
 #![tactic(auto)]
 
 #[cfg(test)]
 mod notes;
+#[cfg(test)]
+mod places;
 #[cfg(test)]
 mod puts;

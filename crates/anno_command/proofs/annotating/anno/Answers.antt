@@ -2,6 +2,7 @@ use Rattle.std.proofs.Common.{refl}
 use Rattle.file_plans.proofs.Following.{go, no_room, stop}
 use Rattle.opened_folders.proofs.EndingParts.{ends_so}
 use Rattle.anno_command.specs.Anno.{anno}
+use Rattle.anno_command.proofs.AnnoAlone.{anno_alone}
 use Rattle.anno_command.proofs.AnnoPledged.{anno_promises}
 use Rattle.anno_command.proofs.annotating.anno.Goals as goal
 
@@ -27,3 +28,12 @@ returns-in_err-opened-clause-steps g c = λ few lines. anno_promises _ few _ _ l
 
 pub returns-clause-steps : goal.returns-clause-steps
 returns-clause-steps g c = λ few lines. anno_promises _ few _ _ lines _ _ _ (returns-clause-plan g c)
+
+pub returns-in_err-place-clause-alone : goal.returns-in_err-place-clause-alone
+returns-in_err-place-clause-alone g c = anno_alone _ _ _ _ _ _ _ _ (returns-in_err-place-clause-plan g c)
+
+pub returns-in_err-opened-clause-alone : goal.returns-in_err-opened-clause-alone
+returns-in_err-opened-clause-alone g c = anno_alone _ _ _ _ _ _ _ _ (returns-in_err-opened-clause-plan g c)
+
+pub returns-clause-alone : goal.returns-clause-alone
+returns-clause-alone g c = anno_alone _ _ _ _ _ _ _ _ (returns-clause-plan g c)

@@ -1,0 +1,12 @@
+use Rattle.std.proofs.Common.{Result, drop}
+use Rattle.file_plans.specs.Plan.{Hand}
+use Rattle.file_plans.specs.Follows.{Follows, State, by_hand}
+use Rattle.step_plans.specs.PlanFaults.{plan_cause}
+use Rattle.step_plans.specs.declared.fault.PlanFault.{PlanFault}
+use Rattle.message_places.specs.Arranging.{all_taken}
+use Rattle.message_places.proofs.taking.take_all.Given as goal
+
+abbrev pub invariant-loop-number : goal.invariant-loop-number
+invariant-loop-number g l =
+    (h : Hand) (z : State) (r : Result Unit PlanFault) → Follows l.run plan_cause (all_taken l.run l.place (drop l.number-index l.numbers)) (by_hand h (g.F.Files.state l.files)) z r
+    → Follows l.run plan_cause (all_taken l.run l.place l.numbers) (by_hand h (g.F.Files.state l.fn.files)) z r

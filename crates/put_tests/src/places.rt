@@ -1,0 +1,64 @@
+// Messages of one folder that change places, in the mailbox in memory.
+use folder_room::PromptList;
+use message_places::{Move, arrange};
+use mh_base::{Bytes, List, MsgNum};
+use row_mailboxes::{Given, place};
+use row_rooms::Scene;
+use row_text::words;
+use std::alloc::Global;
+use std::test::Fail;
+
+/// A number that a message may have.
+fn number(n: u32) -> Result<MsgNum, Fail> {
+    match MsgNum::new(n) {
+        Some(number) => Ok(number),
+        None => Err("no number of a message".into()),
+    }
+}
+
+/// The first message goes to the third place and the third to the first: whether each ended there.
+fn are_arranged(alloc: Global, scene: &mut Scene) -> Result<bool, Fail> {
+    let mail = Bytes::from_slice(alloc, b"Mail")?;
+    let place = place(alloc, &mail, b"+inbox")?;
+    let (one, three) = (number(1)?, number(3)?);
+    let mut takes = List::new(alloc);
+    takes.push(one)?;
+    takes.push(three)?;
+    let mut moves = List::new(alloc);
+    moves.push(Move {
+        from: one,
+        slot: three,
+    })?;
+    moves.push(Move {
+        from: three,
+        slot: one,
+    })?;
+    let room = &mut *scene.room;
+    match arrange(
+        alloc,
+        7,
+        room,
+        &place,
+        takes.as_slice(),
+        moves.as_slice(),
+        3,
+    ) {
+        Ok(ends) => Ok(ends.as_slice() == [three, one].as_slice()),
+        Err(_) => Ok(false),
+    }
+}
+
+const WANTED: &[u8] = b"+inbox 1=\"three\" 2=\"two\" 3=\"one\"\n";
+
+#[test]
+fn messages_change_places(rt: HostRuntime) -> Result<(), Fail> {
+    let alloc = rt.alloc();
+    let mut given = Given::new(alloc)?;
+    given.line(&words(alloc, b"+inbox 1 one 2 two 3 three")?)?;
+    let mut scene = Scene::new(alloc, &given, PromptList::new(alloc))?;
+    assert!(rt; are_arranged(alloc, &mut scene)?);
+    let mut told = Bytes::new(alloc);
+    scene.line(&words(alloc, b"show +inbox")?, &mut told)?;
+    assert!(rt; told.as_slice() == WANTED);
+    Ok(())
+}
