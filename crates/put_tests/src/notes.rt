@@ -10,7 +10,7 @@ use std::test::Fail;
 use step_plans::Hand;
 
 /// A folder with three messages.
-fn inbox(alloc: Global) -> Result<Scene, Fail> {
+pub fn inbox(alloc: Global) -> Result<Scene, Fail> {
     let mut given = Given::new(alloc)?;
     given.line(&words(alloc, b"+inbox 1 one 2 two 3 three")?)?;
     Scene::new(alloc, &given, PromptList::new(alloc))
@@ -42,13 +42,20 @@ fn are_noted(alloc: Global, scene: &mut Scene) -> Result<bool, Fail> {
 
 const WANTED: &[u8] = b"+inbox 1=\"Note: hi\\none\" 2=\"two\" 3=\"Note: hi\\nthree\"\n";
 
+/// What is shown of the folder then.
+fn left(alloc: Global) -> Result<Bytes, Fail> {
+    let mut scene = inbox(alloc)?;
+    let mut told = Bytes::new(alloc);
+    if are_noted(alloc, &mut scene)? {
+        scene.line(&words(alloc, b"show +inbox")?, &mut told)?;
+    }
+    Ok(told)
+}
+
 #[test]
 fn messages_get_lines(rt: HostRuntime) -> Result<(), Fail> {
     let alloc = rt.alloc();
-    let mut scene = inbox(alloc)?;
-    assert!(rt; are_noted(alloc, &mut scene)?);
-    let mut told = Bytes::new(alloc);
-    scene.line(&words(alloc, b"show +inbox")?, &mut told)?;
+    let told = left(alloc)?;
     assert!(rt; told.as_slice() == WANTED);
     Ok(())
 }
