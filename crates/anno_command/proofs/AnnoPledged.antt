@@ -70,7 +70,7 @@ temp_unheld temp held is same other = not_both (is_held (kind_of held)) other (s
 committed_unheld : (q : Place) (name held : List ℕ) → is_committed q name ≡ true → name ≡ held → is_held (kind_of held) ≡ true → ⊥
 committed_unheld q name held is same other = let e = is_committed_quiet q name is in let f = held_stands held other in absurd (let no : true ≡ false = sym f ∙ (ap (λ z. is_standing z) (sym same) ∙ e) in cc (no))
 
-module _ (run : ℕ) (few : run < 2 ^ 128) (path : List ℕ) (job : AnnoJob) (notes : are_annotations job.lines ≡ true) where
+module _ (run : ℕ) (few : run < 2 ^ 128) (path : List ℕ) (job : AnnoJob) where
   abbrev w : Pledge
   w = anno_pledge run path job
 
@@ -87,7 +87,7 @@ module _ (run : ℕ) (few : run < 2 ^ 128) (path : List ℕ) (job : AnnoJob) (no
   chosen_kept : (n : ℕ) → KeptBy AnyStep (WasChosen run path job n)
   chosen_kept n own s a any f = record { listing = f.listing; text = f.text; context = f.context; seen = seen_kept run p mail f.listing f.text f.context own s a tt f.seen; numbers = f.numbers; chosen = f.chosen; one = f.one }
 
-  lets : LetsBegin path job.folder (Annotating path job.folder every_message job.lines) (NotesSo run path job)
+  pub lets : LetsBegin path job.folder (Annotating path job.folder every_message job.lines) (NotesSo run path job)
   lets = record {
     kinds = λ own kind s k. inl k;
     makes = λ own q. ((λ number held n e k h. absurd (cc (e))), (λ held e h. absurd (cc (e))), (λ r temp number e is. absurd (cc (e))));
@@ -120,158 +120,159 @@ module _ (run : ℕ) (few : run < 2 ^ 128) (path : List ℕ) (job : AnnoJob) (no
   abbrev begins : Begins w path job.folder
   begins = work.begins run few path job.folder MakesNothing (Annotating path job.folder every_message job.lines) no_piece (NotesSo run path job) lets nothing_kept
 
-  -- nothing is asked of numbers
-  abbrev Known : ℕ → List Deed → Type 0
-  Known n own = Unit {0}
+  module _ (notes : are_annotations job.lines ≡ true) where
+    -- nothing is asked of numbers
+    abbrev Known : ℕ → List Deed → Type 0
+    Known n own = Unit {0}
 
-  abbrev Now : ℕ → List ℕ → List Deed → Type 0
-  Now n bytes own = HasReadHeld p bytes own
+    abbrev Now : ℕ → List ℕ → List Deed → Type 0
+    Now n bytes own = HasReadHeld p bytes own
 
-  chosen_number : (n : ℕ) → IsMsgNum n → IsChosen every_message (entry_text (Number n))
-  chosen_number n ok = (n, kind_of-entry_text (Number n) ok, in_up 1 999999 n ok.0 (let l = ok.1 in omega (arith, l)))
+    chosen_number : (n : ℕ) → IsMsgNum n → IsChosen every_message (entry_text (Number n))
+    chosen_number n ok = (n, kind_of-entry_text (Number n) ok, in_up 1 999999 n ok.0 (let l = ok.1 in omega (arith, l)))
 
-  held_any : (n : ℕ) → IsMsgNum n → is_held (kind_of (entry_text (Held run n))) ≡ true
-  held_any n ok = is_held_any run (entry_text (Held run n)) (is_held_so run few n ok)
+    held_any : (n : ℕ) → IsMsgNum n → is_held (kind_of (entry_text (Held run n))) ≡ true
+    held_any n ok = is_held_any run (entry_text (Held run n)) (is_held_so run few n ok)
 
-  takes_one : (n : ℕ) (own : List Deed) → IsMsgNum n → WasChosen run path job n own → LetsTake w p n own
-  takes_one n own ok may = record {
-    makes = inr (inl (refl, entry_text (Number n), chosen_number n ok, entry_text (Held run n), refl));
-    may = (
-      (λ number held k e kind h.
-          let from : entry_text (Number n) ≡ number = cc (e) in
-          let same : Number n ≡ Number k = sym (kind_of-entry_text (Number n) ok) ∙ (ap kind_of from ∙ kind) in
-          let alike : n ≡ k = cc (same) in subst (λ z. WasChosen run path job z own) alike may),
-      (λ held e h. absurd (cc (e))),
-      (λ r temp number e is. absurd (cc (e))),
-    );
-  }
-
-  discards_one : (n : ℕ) (own : List Deed) → IsMsgNum n → (anew : HasPutAnew run p (entry_text (Held run n)) job.lines own) → WasTaken run p (entry_text (Held run n)) anew.before → LetsDiscard w p (entry_text (Held run n)) own
-  discards_one n own ok anew taken = record {
-    makes = inr (inr (inr (refl, refl)));
-    may = (
-      (λ number held k e kind h. absurd (cc (e))),
-      (λ held e h. let same : entry_text (Held run n) ≡ held = cc (e) in inr (subst (λ z. WasTakenAndNoted run p z job.lines own) same (record { anew = anew; taken = taken }))),
-      (λ r temp number e is. absurd (cc (e))),
-    );
-  }
-
-  puts_one : (n : ℕ) (bytes : List ℕ) → IsMsgNum n → PutsMessages w p (job.lines ++ bytes) Known (Some n) (HasReadHeld p bytes)
-  puts_one n bytes ok = record {
-    serves = begins.serves;
-    puts = λ own temp number ready f. inr (inr (inl (bytes, f, (refl, temp, number, refl, ready))));
-    link = λ own temp k is_own is_number_ reach ready f. (
-      (λ number held m e kind h. absurd (cc (e))),
-      (λ held e h. absurd (cc (e))),
-      (λ r other number e is.
-          let same : p ≡ r = cc (e) in
-          let alike : temp ≡ other = cc (e) in (
-            sym same,
-            (
-              bytes,
-              subst (λ z. HasReadHeld z bytes own) same f,
-              subst (λ z. WasReady z other (job.lines ++ bytes) own) same (subst (λ z. WasReady p z (job.lines ++ bytes) own) alike ready),
-            ),
-          )),
-    );
-    kept = λ k own s a any f. tt;
-    linked = λ own temp k. tt;
-    met = λ own temp k. tt;
-    made_now = λ own temp f. on (on f);
-    met_now = λ own temp k f. on f;
-  }
-
-  lets_note : LetsNote w few p refl job.lines notes Known Now (WasChosen run path job)
-  lets_note = record {
-    takes = takes_one;
-    reads = λ n bytes own ok may. now (entry_text (Held run n), held_any n ok, (LIMIT_BYTES, refl));
-    puts = puts_one;
-    discards = discards_one;
-    lasts = chosen_kept;
-    known = λ n own s a any f. tt;
-  }
-
-  -- the work on a folder that was begun
-  module _ (begin own : List Deed) (o : Opened) (b : HasBegun w begin path job.folder own o) (none : HasHeldNone run p own) where
-    abbrev told : Marked
-    told = told_within o.listing b.text b.context job.folder
-
-    -- what was settled is so still, and what was read
-    abbrev Going : List Deed → Type 0
-    Going later = (AreSettled own → AreSettled later) × HaveSeen run p mail o.listing b.text b.context later
-
-    going_on : KeptBy LeavesSettled Going
-    going_on later s a leaves f = ((λ x. settled_kept later s a leaves (f.0 x)), seen_kept run p mail o.listing b.text b.context later s a tt f.1)
-
-    moves : NotesKeep w few p refl job.lines notes Known Now LeavesSettled Going
-    moves = record {
-      kept = going_on;
-      take = λ n ok. held_uncommitted run few n ok p;
-      read = λ n ok. tt;
-      put = record { create = λ temp bytes. tt; sync = λ temp. tt; link = λ temp number is. tt; unlink = λ temp is. tt };
-      safe = tt;
-      gone = λ n ok. tt;
+    takes_one : (n : ℕ) (own : List Deed) → IsMsgNum n → WasChosen run path job n own → LetsTake w p n own
+    takes_one n own ok may = record {
+      makes = inr (inl (refl, entry_text (Number n), chosen_number n ok, entry_text (Held run n), refl));
+      may = (
+        (λ number held k e kind h.
+            let from : entry_text (Number n) ≡ number = cc (e) in
+            let same : Number n ≡ Number k = sym (kind_of-entry_text (Number n) ok) ∙ (ap kind_of from ∙ kind) in
+            let alike : n ≡ k = cc (same) in subst (λ z. WasChosen run path job z own) alike may),
+        (λ held e h. absurd (cc (e))),
+        (λ r temp number e is. absurd (cc (e))),
+      );
     }
 
-    abbrev AllMay : List ℕ → List Deed → Type 0
-    AllMay ns later = noting.AllMay w few p refl job.lines notes Known Now (WasChosen run path job) lets_note LeavesSettled Going moves ns later
+    discards_one : (n : ℕ) (own : List Deed) → IsMsgNum n → (anew : HasPutAnew run p (entry_text (Held run n)) job.lines own) → WasTaken run p (entry_text (Held run n)) anew.before → LetsDiscard w p (entry_text (Held run n)) own
+    discards_one n own ok anew taken = record {
+      makes = inr (inr (inr (refl, refl)));
+      may = (
+        (λ number held k e kind h. absurd (cc (e))),
+        (λ held e h. let same : entry_text (Held run n) ≡ held = cc (e) in inr (subst (λ z. WasTakenAndNoted run p z job.lines own) same (record { anew = anew; taken = taken }))),
+        (λ r temp number e is. absurd (cc (e))),
+      );
+    }
 
-    module _ (numbers : List ℕ) (is : chosen_from job o.listing told ≡ Ok numbers) where
-      all_may : (ns : List ℕ) → ((k : ℕ) → lists ns k ≡ true → is_among k numbers ≡ true) → AllMay ns own
-      all_may [] among = tt
-      all_may (n ∷ ns) among = (
-        record { listing = o.listing; text = b.text; context = b.context; seen = b.seen; numbers = numbers; chosen = is; one = first_of {F = λ k. is_among k numbers ≡ true} n ns among },
-        all_may ns (rest_of {F = λ k. is_among k numbers ≡ true} n ns among),
-      )
+    puts_one : (n : ℕ) (bytes : List ℕ) → IsMsgNum n → PutsMessages w p (job.lines ++ bytes) Known (Some n) (HasReadHeld p bytes)
+    puts_one n bytes ok = record {
+      serves = begins.serves;
+      puts = λ own temp number ready f. inr (inr (inl (bytes, f, (refl, temp, number, refl, ready))));
+      link = λ own temp k is_own is_number_ reach ready f. (
+        (λ number held m e kind h. absurd (cc (e))),
+        (λ held e h. absurd (cc (e))),
+        (λ r other number e is.
+            let same : p ≡ r = cc (e) in
+            let alike : temp ≡ other = cc (e) in (
+              sym same,
+              (
+                bytes,
+                subst (λ z. HasReadHeld z bytes own) same f,
+                subst (λ z. WasReady z other (job.lines ++ bytes) own) same (subst (λ z. WasReady p z (job.lines ++ bytes) own) alike ready),
+              ),
+            )),
+      );
+      kept = λ k own s a any f. tt;
+      linked = λ own temp k. tt;
+      met = λ own temp k. tt;
+      made_now = λ own temp f. on (on f);
+      met_now = λ own temp k f. on f;
+    }
 
-      are : AreMessages numbers
-      are = chosen_messages job o.listing told numbers is (listed_runs run p mail o.listing b.text b.context own b.seen)
+    lets_note : LetsNote w few p refl job.lines notes Known Now (WasChosen run path job)
+    lets_note = record {
+      takes = takes_one;
+      reads = λ n bytes own ok may. now (entry_text (Held run n), held_any n ok, (LIMIT_BYTES, refl));
+      puts = puts_one;
+      discards = discards_one;
+      lasts = chosen_kept;
+      known = λ n own s a any f. tt;
+    }
 
-      noted_goes : (h : Hand) → Goes w own h (messages_noted run p job.lines numbers (last_in o.listing)) (okay (Of Going))
-      noted_goes h =
-          goes_more w own h (messages_noted run p job.lines numbers (last_in o.listing))
-          (okay (noting.AllDone w few p refl job.lines notes Known Now (WasChosen run path job) lets_note LeavesSettled Going moves numbers)) (okay (Of Going))
-          (okay_more (noting.AllDone w few p refl job.lines notes Known Now (WasChosen run path job) lets_note LeavesSettled Going moves numbers) (Of Going) (λ later j u f. f.1))
-          (noting.messages_go w few p refl job.lines notes Known Now (WasChosen run path job) lets_note LeavesSettled Going moves numbers are (last_in o.listing) (last_small o.listing (listed_runs run p mail o.listing b.text b.context own b.seen)) own h tt (all_may numbers (λ k e. e)) (spared_of run p own none numbers are) ((λ x. x), b.seen) b.held.lock)
+    -- the work on a folder that was begun
+    module _ (begin own : List Deed) (o : Opened) (b : HasBegun w begin path job.folder own o) (none : HasHeldNone run p own) where
+      abbrev told : Marked
+      told = told_within o.listing b.text b.context job.folder
 
-    by_value : (value : Result (List ℕ) CommandFault) → chosen_from job o.listing told ≡ value → (h : Hand) → Goes w own h (after (λ numbers. lifted (of_plan job.folder) (messages_noted run p job.lines numbers (last_in o.listing))) value) (okay (Of Going))
-    by_value (Ok numbers) is h = goes_lifted w own h (of_plan job.folder) (messages_noted run p job.lines numbers (last_in o.listing)) (Of Going) (noted_goes numbers is h)
-    by_value (Err e) is h = goes_end w own h e (Of Going)
+      -- what was settled is so still, and what was read
+      abbrev Going : List Deed → Type 0
+      Going later = (AreSettled own → AreSettled later) × HaveSeen run p mail o.listing b.text b.context later
 
-    at_place : (q : Place) (seen : Marked) → q ≡ p → seen ≡ told → (h : Hand) → Goes w own h (Return (chosen_from job o.listing seen) >>= (λ numbers. lifted (of_plan job.folder) (messages_noted run q job.lines numbers (last_in o.listing)))) (okay (Of Going))
-    unfolding Goes bind ◌>>=◌
-    at_place q seen place is h = rw (place, is) (by_value (chosen_from job o.listing told) refl h)
+      going_on : KeptBy LeavesSettled Going
+      going_on later s a leaves f = ((λ x. settled_kept later s a leaves (f.0 x)), seen_kept run p mail o.listing b.text b.context later s a tt f.1)
 
-    said_goes : (h : Hand) → Goes w own h (said_noted run job o) (okay (Of Going))
-    unfolding said_noted
-    said_goes h = at_place o.place o.sequences b.place b.sequences h
+      moves : NotesKeep w few p refl job.lines notes Known Now LeavesSettled Going
+      moves = record {
+        kept = going_on;
+        take = λ n ok. held_uncommitted run few n ok p;
+        read = λ n ok. tt;
+        put = record { create = λ temp bytes. tt; sync = λ temp. tt; link = λ temp number is. tt; unlink = λ temp is. tt };
+        safe = tt;
+        gone = λ n ok. tt;
+      }
 
-    opened_goes : (h : Hand) → Goes w own h (opened_noted run path job o) (okay (Of (λ later. AreSettled own → AreSettled later)))
-    unfolding opened_noted
-    opened_goes h =
-        goes_then w own h (said_noted run job o) (λ noted. made_current run path job.folder) (Of Going) (Of (λ later. AreSettled own → AreSettled later)) (said_goes h)
-        (λ later j u f.
-        goes_more w later j (made_current run path job.folder) (okay (Of (λ end. AreSettled later → AreSettled end))) (okay (Of (λ end. AreSettled own → AreSettled end)))
-        (okay_more (Of (λ end. AreSettled later → AreSettled end)) (Of (λ end. AreSettled own → AreSettled end)) (λ end i v g s. g (f.0 s)))
-        (current_goes run few path job.folder MakesNothing (Annotating path job.folder every_message job.lines) no_piece (NotesSo run path job) lets nothing_kept later j o.listing b.text b.context f.1))
+      abbrev AllMay : List ℕ → List Deed → Type 0
+      AllMay ns later = noting.AllMay w few p refl job.lines notes Known Now (WasChosen run path job) lets_note LeavesSettled Going moves ns later
 
-  -- the folder is begun, and the run holds nothing aside itself
-  abbrev Began : List Deed → Outcome Opened
-  Began own later j o = HasBegun w own path job.folder later o × HasHeldNone run p later
+      module _ (numbers : List ℕ) (is : chosen_from job o.listing told ≡ Ok numbers) where
+        all_may : (ns : List ℕ) → ((k : ℕ) → lists ns k ≡ true → is_among k numbers ≡ true) → AllMay ns own
+        all_may [] among = tt
+        all_may (n ∷ ns) among = (
+          record { listing = o.listing; text = b.text; context = b.context; seen = b.seen; numbers = numbers; chosen = is; one = first_of {F = λ k. is_among k numbers ≡ true} n ns among },
+          all_may ns (rest_of {F = λ k. is_among k numbers ≡ true} n ns among),
+        )
 
-  begun_sparing : (own : List Deed) (h : Hand) → HasHeldNone run p own → Goes w own h (begun run p mail job.folder) (okay (Began own))
-  begun_sparing own h none =
-      goes_more w own h (begun run p mail job.folder) (okay (λ later j o. HasHeldNone run p later × HasBegun w own path job.folder later o)) (okay (Began own))
-      (okay_more (λ later j o. HasHeldNone run p later × HasBegun w own path job.folder later o) (Began own) (λ later j o f. (f.1, f.0)))
-      (keeping w (Spares run few path job.folder) (HasHeldNone run p) (none_kept run few path job.folder) own h (begun run p mail job.folder) (λ later j o. HasBegun w own path job.folder later o) (asks_begun (Spares run few path job.folder) run p mail (begins_sparing run few path job.folder) job.folder) none
-      (begun_goes w few path job.folder begins own h))
+        are : AreMessages numbers
+        are = chosen_messages job o.listing told numbers is (listed_runs run p mail o.listing b.text b.context own b.seen)
 
-  -- `anno` keeps the rules of its pledge, where its run has used none of its held names before
-  pub anno_keeps : (past : List Done) (h : Hand) → HasHeldNone run p (acts past) → Sound w (acts past) h → Keeps (rules_of w) past h (anno run path job) (IfOkay (Still (acts past)))
-  unfolding anno
-  anno_keeps past h none sound =
-      opened_keeps run few path job.folder MakesNothing (Annotating path job.folder every_message job.lines) no_piece (NotesSo run path job) lets nothing_kept (HasHeldNone run p) (begun run p mail job.folder) (opened_noted run path job) past
-      (λ later o b i s. opened_goes (acts past) later o b.0 b.1 i) h sound (begun_sparing (acts past) h none)
+        noted_goes : (h : Hand) → Goes w own h (messages_noted run p job.lines numbers (last_in o.listing)) (okay (Of Going))
+        noted_goes h =
+            goes_more w own h (messages_noted run p job.lines numbers (last_in o.listing))
+            (okay (noting.AllDone w few p refl job.lines notes Known Now (WasChosen run path job) lets_note LeavesSettled Going moves numbers)) (okay (Of Going))
+            (okay_more (noting.AllDone w few p refl job.lines notes Known Now (WasChosen run path job) lets_note LeavesSettled Going moves numbers) (Of Going) (λ later j u f. f.1))
+            (noting.messages_go w few p refl job.lines notes Known Now (WasChosen run path job) lets_note LeavesSettled Going moves numbers are (last_in o.listing) (last_small o.listing (listed_runs run p mail o.listing b.text b.context own b.seen)) own h tt (all_may numbers (λ k e. e)) (spared_of run p own none numbers are) ((λ x. x), b.seen) b.held.lock)
 
-  pub anno_promises : (x y : State) (result : Result Unit CommandFault) → Follows run command_cause (anno run path job) x y result → Promises w x y
-  anno_promises x y result f = keeps_pledge w command_cause (anno run path job) x y result (IfOkay (Still [])) (anno_keeps [] x.hand (λ n ok. tt) (record { numbered = tt; unfailed = λ z. elim z [ ] })) f
+      by_value : (value : Result (List ℕ) CommandFault) → chosen_from job o.listing told ≡ value → (h : Hand) → Goes w own h (after (λ numbers. lifted (of_plan job.folder) (messages_noted run p job.lines numbers (last_in o.listing))) value) (okay (Of Going))
+      by_value (Ok numbers) is h = goes_lifted w own h (of_plan job.folder) (messages_noted run p job.lines numbers (last_in o.listing)) (Of Going) (noted_goes numbers is h)
+      by_value (Err e) is h = goes_end w own h e (Of Going)
+
+      at_place : (q : Place) (seen : Marked) → q ≡ p → seen ≡ told → (h : Hand) → Goes w own h (Return (chosen_from job o.listing seen) >>= (λ numbers. lifted (of_plan job.folder) (messages_noted run q job.lines numbers (last_in o.listing)))) (okay (Of Going))
+      unfolding Goes bind ◌>>=◌
+      at_place q seen place is h = rw (place, is) (by_value (chosen_from job o.listing told) refl h)
+
+      said_goes : (h : Hand) → Goes w own h (said_noted run job o) (okay (Of Going))
+      unfolding said_noted
+      said_goes h = at_place o.place o.sequences b.place b.sequences h
+
+      opened_goes : (h : Hand) → Goes w own h (opened_noted run path job o) (okay (Of (λ later. AreSettled own → AreSettled later)))
+      unfolding opened_noted
+      opened_goes h =
+          goes_then w own h (said_noted run job o) (λ noted. made_current run path job.folder) (Of Going) (Of (λ later. AreSettled own → AreSettled later)) (said_goes h)
+          (λ later j u f.
+          goes_more w later j (made_current run path job.folder) (okay (Of (λ end. AreSettled later → AreSettled end))) (okay (Of (λ end. AreSettled own → AreSettled end)))
+          (okay_more (Of (λ end. AreSettled later → AreSettled end)) (Of (λ end. AreSettled own → AreSettled end)) (λ end i v g s. g (f.0 s)))
+          (current_goes run few path job.folder MakesNothing (Annotating path job.folder every_message job.lines) no_piece (NotesSo run path job) lets nothing_kept later j o.listing b.text b.context f.1))
+
+    -- the folder is begun, and the run holds nothing aside itself
+    abbrev Began : List Deed → Outcome Opened
+    Began own later j o = HasBegun w own path job.folder later o × HasHeldNone run p later
+
+    begun_sparing : (own : List Deed) (h : Hand) → HasHeldNone run p own → Goes w own h (begun run p mail job.folder) (okay (Began own))
+    begun_sparing own h none =
+        goes_more w own h (begun run p mail job.folder) (okay (λ later j o. HasHeldNone run p later × HasBegun w own path job.folder later o)) (okay (Began own))
+        (okay_more (λ later j o. HasHeldNone run p later × HasBegun w own path job.folder later o) (Began own) (λ later j o f. (f.1, f.0)))
+        (keeping w (Spares run few path job.folder) (HasHeldNone run p) (none_kept run few path job.folder) own h (begun run p mail job.folder) (λ later j o. HasBegun w own path job.folder later o) (asks_begun (Spares run few path job.folder) run p mail (begins_sparing run few path job.folder) job.folder) none
+        (begun_goes w few path job.folder begins own h))
+
+    -- `anno` keeps the rules of its pledge, where its run has used none of its held names before
+    pub anno_keeps : (past : List Done) (h : Hand) → HasHeldNone run p (acts past) → Sound w (acts past) h → Keeps (rules_of w) past h (anno run path job) (IfOkay (Still (acts past)))
+    unfolding anno
+    anno_keeps past h none sound =
+        opened_keeps run few path job.folder MakesNothing (Annotating path job.folder every_message job.lines) no_piece (NotesSo run path job) lets nothing_kept (HasHeldNone run p) (begun run p mail job.folder) (opened_noted run path job) past
+        (λ later o b i s. opened_goes (acts past) later o b.0 b.1 i) h sound (begun_sparing (acts past) h none)
+
+    pub anno_promises : (x y : State) (result : Result Unit CommandFault) → Follows run command_cause (anno run path job) x y result → Promises w x y
+    anno_promises x y result f = keeps_pledge w command_cause (anno run path job) x y result (IfOkay (Still [])) (anno_keeps [] x.hand (λ n ok. tt) (record { numbered = tt; unfailed = λ z. elim z [ ] })) f

@@ -1,7 +1,10 @@
 pub mod AnnoAlone
+pub mod AnnoEnds
 pub mod AnnoEntries
 pub mod AnnoGiven
 pub mod AnnoPledged
 pub mod HeldNone
 pub mod Listed
+pub mod NotedEnds
 pub mod NotedMail
+pub mod WishedEnds

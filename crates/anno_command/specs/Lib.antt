@@ -1,4 +1,5 @@
 pub mod Anno
 pub mod AnnoAlone
+pub mod AnnoAnswers
 pub mod AnnoOutcome
 pub mod AnnoPledge

@@ -50,7 +50,7 @@ module _ (P : Step → Type 0) (F : List Deed → Type 0) (keeps : KeptBy P F) (
   tries_kept temp is base _ untried f = f
   tries_kept temp is base _ (tried {own = older} n t) f = keeps older (step.Link p temp (decimal n)) answer.Exists (asks.link temp (decimal n) is) (tries_kept temp is base older t f)
 
-  put_kept : (bytes : List ℕ) (own : List Deed) (m : ℕ) (later : List Deed) → IsPutBy run p bytes own m later → F own → F later
+  pub put_kept : (bytes : List ℕ) (own : List Deed) (m : ℕ) (later : List Deed) → IsPutBy run p bytes own m later → F own → F later
   put_kept bytes own m later b f =
       subst F (sym b.deeds)
       (keeps b.linked (step.Unlink p b.temp) answer.Done (asks.unlink b.temp b.is_own)
