@@ -1,9 +1,10 @@
 -- The end of a field.
-use Rattle.std.proofs.Common.{◌≡◌, ℕ, suc, ◌+◌, ◌<◌, ◌≤◌, Bool, true, false, List, [], ◌∷◌, length, get_or, drop, refl, sym, ◌∙◌, ap, arith, add-one, length-drop, append-nil, ◌++◌}
-use Rattle.std.proofs.lemmas.List.{drop_all}
+use Rattle.std.proofs.Common.{◌≡◌, ℕ, zero, suc, ◌+◌, ◌-◌, ◌<◌, ◌≤◌, Bool, true, false, List, [], ◌∷◌, length, get_or, take, drop, refl, sym, ◌∙◌, ap, arith, add-one, length-drop, append-nil, ◌++◌}
+use Rattle.std.proofs.lemmas.List.{drop_all, drop-drop, get_or-drop, take_rest}
+use Rattle.std.proofs.lemmas.Bool.{eqb-true}
 use Rattle.mail_headers.specs.Unfolding.{joined}
 use Rattle.std.specs.Prelude.{◌&&◌, ◌==◌, not, if◌then◌else◌}
-use Rattle.std.proofs.Math.Seq.{drop-cons}
+use Rattle.std.proofs.Math.Seq.{drop-cons, drop-length}
 use Rattle.mail_headers.specs.Lines.{folded_len, continues}
 
 choose : (b : Bool) (n : ℕ) → (if b then 1 else 1 + n) ≤ 1 + n
@@ -13,6 +14,10 @@ choose false n = omega arith
 some_len : (b : Bool) (n : ℕ) → 1 ≤ (if b then 1 else 1 + n)
 some_len true n = omega arith
 some_len false n = omega arith
+
+empty_len : {bytes : List ℕ} → bytes ≡ [] → folded_len bytes ≡ 0
+unfolding folded_len
+empty_len e = rw e refl
 
 pub folded_len-le : (bytes : List ℕ) → folded_len bytes ≤ length bytes
 unfolding folded_len
@@ -48,11 +53,76 @@ goes_on bytes i b n lt is e test =
     let step : folded_len (drop i bytes) ≡ 1 + folded_len (drop (i + 1) bytes) = ap folded_len (cut_at bytes i b lt is) ∙ inside b (drop (i + 1) bytes) test in
     omega arith
 
-pub all_folded : (bytes : List ℕ) (i : ℕ) → length bytes ≤ i → i + folded_len (drop i bytes) ≡ folded_len bytes → length bytes ≡ folded_len bytes
-all_folded bytes i le e =
-    let short = folded_len-le (drop i bytes) in
-    let whole = folded_len-le bytes in
-    omega (arith, length-drop i bytes)
+-- none of the first bytes is a line feed
+abbrev pub HasNoFeed : List ℕ → ℕ → Type 0
+HasNoFeed bytes count = (k : ℕ) → k < count → get_or bytes k 0 == 10 ≡ true → ⊥
+
+no_feed : (t : Bool) (other : Bool) → (t ≡ true → ⊥) → t && other ≡ false
+no_feed true other denied = absurd (denied refl)
+no_feed false other denied = refl
+
+-- bytes without a line feed are of the field
+pub passed : (count : ℕ) (bytes : List ℕ) → count ≤ length bytes → HasNoFeed bytes count → folded_len bytes ≡ count + folded_len (drop count bytes)
+passed zero bytes le none = omega arith
+passed (suc count) [] le none = absurd (omega arith)
+passed (suc count) (b ∷ bs) le none =
+    inside b bs (no_feed (b == 10) (not (continues bs)) (none zero (omega arith)))
+    ∙ ap (λ n. 1 + n) (passed count bs (omega arith) (λ k lt. none (suc k) (omega arith))) ∙ omega arith
+
+-- the next line feed
+pub at_feed : (bytes : List ℕ) (from count n : ℕ) → from + count < length bytes → HasNoFeed (drop from bytes) count → from + folded_len (drop from bytes) ≡ n →
+    (from + count) + folded_len (drop (from + count) bytes) ≡ n
+at_feed bytes from count n lt none e =
+    let size = length-drop from bytes in
+    let step = passed count (drop from bytes) (omega arith) none in
+    let rest : drop count (drop from bytes) ≡ drop (from + count) bytes = drop-drop count from bytes ∙ ap (λ n. drop n bytes) (omega arith) in
+    let same : folded_len (drop count (drop from bytes)) ≡ folded_len (drop (from + count) bytes) = ap folded_len rest in
+    omega (arith)
+
+-- the bytes from a place on, as slices have them
+abbrev pub sliced : List ℕ → ℕ → List ℕ
+sliced bytes from = take (length bytes - from) (drop from bytes)
+
+-- the next line feed was found
+pub record IsFeed (bytes : List ℕ) (from count n : ℕ) : Type 0 where
+  pub inside : from + count < length bytes
+  pub is : 10 ≡ get_or bytes (from + count) 0
+  pub left : (from + count) + folded_len (drop (from + count) bytes) ≡ n
+
+pub feed_found : (bytes : List ℕ) (from count n : ℕ) → from ≤ length bytes → count < length (sliced bytes from) →
+    ((k : ℕ) → 0 ≤ k → k < count → get_or (sliced bytes from) k 0 == 10 ≡ true → ⊥) → get_or (sliced bytes from) count 0 == 10 ≡ true →
+    from + folded_len (drop from bytes) ≡ n → IsFeed bytes from count n
+feed_found bytes from count n le lt none found e =
+    let same : sliced bytes from ≡ drop from bytes = take_rest bytes from in
+    let size : length (sliced bytes from) ≡ length bytes - from = rw same (length-drop from bytes) in
+    let before : HasNoFeed (drop from bytes) count = λ k less is. none k (omega arith) less (rw same is) in
+    let inside_of : from + count < length bytes = omega arith in
+    record {
+      inside = inside_of;
+      is = sym (sym (get_or-drop from bytes count 0) ∙ ap (λ l. get_or l count 0) (sym same) ∙ eqb-true _ _ found);
+      left = at_feed bytes from count n inside_of before e;
+    }
+
+-- what follows a line feed continues the field where its slice does
+same_there : (bytes : List ℕ) (end : ℕ) (b : Bool) → b ≡ continues (sliced bytes end) → continues (drop end bytes) ≡ b
+same_there bytes end b e = ap continues (sym (take_rest bytes end)) ∙ sym e
+
+pub no_more : (bytes : List ℕ) (end : ℕ) (b : Bool) → b ≡ continues (sliced bytes end) → b ≡ false → 10 == 10 && not (continues (drop end bytes)) ≡ true
+no_more bytes end b e is = rw (same_there bytes end b e ∙ is) refl
+
+pub some_more : (bytes : List ℕ) (end : ℕ) (b : Bool) → b ≡ continues (sliced bytes end) → b ≡ true → 10 == 10 && not (continues (drop end bytes)) ≡ false
+some_more bytes end b e is = rw (same_there bytes end b e ∙ is) refl
+
+-- no line feed is left
+pub none_left : (bytes : List ℕ) (from n : ℕ) → from ≤ length bytes →
+    ((k : ℕ) → 0 ≤ k → k < length (sliced bytes from) → get_or (sliced bytes from) k 0 == 10 ≡ true → ⊥) → from + folded_len (drop from bytes) ≡ n → length bytes ≡ n
+none_left bytes from n le none e =
+    let same : sliced bytes from ≡ drop from bytes = take_rest bytes from in
+    let size : length (sliced bytes from) ≡ length bytes - from = rw same (length-drop from bytes) in
+    let rest : length (drop from bytes) ≡ length bytes - from = length-drop from bytes in
+    let all = passed (length (drop from bytes)) (drop from bytes) (omega arith) (λ k less is. none k (omega arith) (omega arith) (rw same is)) in
+    let end : folded_len (drop (length (drop from bytes)) (drop from bytes)) ≡ 0 = empty_len (drop-length (drop from bytes)) in
+    omega arith
 
 pub all_joined : (value text : List ℕ) (i : ℕ) → length value ≤ i → text ++ joined (drop i value) ≡ joined value → text ≡ joined value
 unfolding joined

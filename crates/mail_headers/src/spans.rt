@@ -3,6 +3,8 @@ ghost use Rattle.std.specs.Prelude.{◌≡◌, ◌==◌, ◌&&◌, not, ◌≤�
 ghost use Rattle.std.specs.List.{prefix_len};
 ghost use Rattle.mail_headers.specs.Lines.{is_name_byte, is_blank, continues as continues_field, folded_len, without_end, without_feed, empty_line_len};
 
+use memchr::memchr;
+
 /// How many bytes of a field's name stand at the front (RFC 5322, section 3.6.8).
 pub fn name_len(text: &[u8]) -> usize
     ensures value { result ≡ prefix_len is_name_byte text.now }
@@ -32,23 +34,19 @@ fn continues(bytes: &[u8]) -> bool
     }
 }
 
-fn ends_field(byte: u8, rest: &[u8]) -> bool
-    ensures { result ≡ (byte == 10 && not (continues_field rest.now)) }
-{
-    byte == b'\n' && !continues(rest)
-}
-
 /// The length of the first line with all lines that continue it (RFC 5322, section 2.2.3), their
 /// ends included.
 pub fn folded_line_len(bytes: &[u8]) -> usize
     ensures value { result ≡ folded_len bytes.now }
     ensures inside { result ≤ length bytes.now }
 {
-    for (i, byte) in bytes.iter().enumerate() {
-        let (_, rest) = bytes.split_at(i + 1);
-        if ends_field(*byte, rest) {
-            return i + 1;
+    let mut from = 0;
+    while let Some(count) = memchr(b'\n', &bytes[from..]) {
+        let end = from + count + 1;
+        if !continues(&bytes[end..]) {
+            return end;
         }
+        from = end;
     }
     bytes.len()
 }
