@@ -4,6 +4,7 @@ _mh_switches() {
     case $1 in
         inc) echo "-format -width -file -truncate -notruncate -changecur -nochangecur -silent -nosilent" ;;
         scan) echo "-format -width -reverse -noreverse" ;;
+        folder) echo "" ;;
         pick) echo "-and -or -not -lbrace -rbrace -from -to -cc -subject -date -search -before -after -datefield -sequence -public -nopublic -zero -nozero -list -nolist" ;;
         mark) echo "-add -delete -list -sequence -public -nopublic -zero -nozero" ;;
         refile) echo "-link -nolink -src" ;;
@@ -38,11 +39,11 @@ _mh() {
     fi
     COMPREPLY=()
     if [ "$COMP_CWORD" -lt "$first" ]; then
-        COMPREPLY=($(compgen -W "inc scan pick mark refile rmm help --help --version" -- "$word"))
+        COMPREPLY=($(compgen -W "inc scan folder pick mark refile rmm help --help --version" -- "$word"))
         return
     fi
     if [ "$command" = help ]; then
-        COMPREPLY=($(compgen -W "inc scan pick mark refile rmm errors" -- "$word"))
+        COMPREPLY=($(compgen -W "inc scan folder pick mark refile rmm errors" -- "$word"))
         return
     fi
     for each in "${COMP_WORDS[@]:first}"; do
@@ -61,7 +62,7 @@ _mh() {
 
 complete -F _mh mh
 # Links to the program by the names of its commands.
-for _mh_name in inc scan pick mark refile rmm; do
+for _mh_name in inc scan folder pick mark refile rmm; do
     if [ -n "$(type -P "$_mh_name")" ] && [ "$(readlink -f "$(type -P "$_mh_name")")" = "$(readlink -f "$(type -P mh)")" ]; then complete -F _mh "$_mh_name"; fi
 done
 unset _mh_name

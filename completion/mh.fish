@@ -6,6 +6,8 @@ function __mh_switches
             echo "-format -width -file -truncate -notruncate -changecur -nochangecur -silent -nosilent"
         case scan
             echo "-format -width -reverse -noreverse"
+        case folder
+            echo ""
         case pick
             echo "-and -or -not -lbrace -rbrace -from -to -cc -subject -date -search -before -after -datefield -sequence -public -nopublic -zero -nozero -list -nolist"
         case mark
@@ -39,9 +41,9 @@ end
 function __mh_words
     set -l before (commandline -opc)
     if not set -q before[2]
-        string split ' ' -- "inc scan pick mark refile rmm help --help --version"
+        string split ' ' -- "inc scan folder pick mark refile rmm help --help --version"
     else if test $before[2] = help
-        string split ' ' -- "inc scan pick mark refile rmm errors"
+        string split ' ' -- "inc scan folder pick mark refile rmm errors"
     else
         switch (commandline -ct)
             case '-*'

@@ -85,6 +85,12 @@ def pick_words(*more):
     return lambda rng, numbers, large: Case(["pick", f"+{SOURCE}", "-subject", str(rng.randint(0, 9)), "-or", "-subject", "message", *more])
 
 
+def folder(rng, numbers, large):
+    """A message becomes the current one, by words that choose the same one when the command is run again."""
+    first, last = sorted(rng.choices(numbers, k=2))
+    return Case(["folder", f"+{SOURCE}", rng.choice([str(first), f"{first}-{last}", "last", "todo", "todo:last"])])
+
+
 # The commands that change something. A later command is one entry more, with a kind of its own in `stands` where none of these fits it.
 COMMANDS = {
     "inc": inc,
@@ -100,6 +106,7 @@ COMMANDS = {
     "mark -delete -nopublic": mark_words("-sequence", "mine", "-delete", "-nopublic"),
     "pick -sequence": pick_words("-sequence", "todo", "-sequence", "found"),
     "pick -sequence -nopublic": pick_words("-sequence", "mine", "-nopublic"),
+    "folder": folder,
 }
 
 

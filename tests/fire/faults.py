@@ -16,6 +16,9 @@ SOURCE = "inbox"
 FAULT = re.compile(rb"mh: (fault of files|fault of output|no setting)\n")
 REFUSAL = re.compile(rb"mh: [^\n]+\n")
 
+# The commands that write to the output where all is well.
+TELL = ("inc", "scan", "folder", "folder with a message")
+
 # The commands that are tried under faults: their words, which messages may move, and where they go. A later command is one entry more.
 COMMANDS = {
     "inc": (["inc"], (), [SOURCE]),
@@ -26,6 +29,8 @@ COMMANDS = {
     "pick": (["pick", f"+{SOURCE}", "-subject", "message", "-sequence", "y"], (), []),
     "rmm": (["rmm", f"+{SOURCE}", "2-5"], (2, 3, 4, 5), []),
     "scan": (["scan", f"+{SOURCE}"], (), []),
+    "folder": (["folder", f"+{SOURCE}"], (), []),
+    "folder with a message": (["folder", f"+{SOURCE}", "3-4"], (), []),
 }
 
 
@@ -101,6 +106,9 @@ def completed(before, end, name):
     if name.startswith("mark"):
         found = end.private(SOURCE) if "nopublic" in name else end.public[SOURCE]
         return [] if found.get("x") == {1, 2, 3, 4} else [f"the sequence x is {found.get('x')}"]
+    if name.startswith("folder"):
+        cur = end.public[SOURCE].get("cur")
+        return [] if cur == {3 if "message" in name else 1} else [f"the current message is {cur}"]
     return []
 
 
@@ -232,12 +240,12 @@ def limited(program, tally, name, kind, limit, set_limit):
 def bad_output(program, tally, rng):
     """An output that is full, or whose reader has gone, or that is closed."""
     kinds = ("full", "gone", "closed")
-    for kind, name in itertools.chain(itertools.product(kinds, ("inc", "scan")), endless(rng, itertools.product(kinds, COMMANDS))):
+    for kind, name in itertools.chain(itertools.product(kinds, TELL[:2]), endless(rng, itertools.product(kinds, COMMANDS))):
         box = mailbox(program, f"{tally.room}/outputs")
         before = box.look()
         ran = with_output(box, kind, COMMANDS[name][0])
         tally.count.check(f"{name}, bad output: {kind}: nothing is written elsewhere", written_elsewhere(box))
-        yield tally.tried("bad output", name, kind, box, before, ran, lambda: None, faulty=kind != "closed" and name in ("inc", "scan"))
+        yield tally.tried("bad output", name, kind, box, before, ran, lambda: None, faulty=kind != "closed" and name in TELL)
 
 
 def with_output(box, kind, words):

@@ -23,6 +23,8 @@ ALLOWED = {
     "mark": {0: r"", 3: LOCKED},
     # which messages there are to find changes meanwhile
     "pick": {0: r"", 1: r"no messages match", 3: LOCKED},
+    # the messages that become current never leave
+    "folder": {0: r"", 3: LOCKED},
     # the sequence may be empty
     "rmm": {0: r"", 1: r"no messages in sequence: victims", 3: LOCKED},
     # the drop may be empty, or have grown when it is to be cut; a fault (2) only where a delivery had the drop's lock meanwhile
@@ -159,6 +161,34 @@ class Marker:
         return (look.public[folder] if name == self.public else look.private(folder)).get(name, set())
 
 
+class Teller:
+    """Makes messages that stay the current ones, of a folder where nobody else does so: it knows which it must be at any time."""
+
+    LINE = re.compile(rb"b\+ has \d+ messages \(1-\d+\)(?:; cur=(\d+))?\.\n")
+
+    def __init__(self):
+        self.expected = None
+
+    def step(self, scene, rng):
+        """A look at the folder, or a new current message. Where the mail directory is locked it may have been set."""
+        n = rng.choice([None, *STAY])
+        ran = scene.run("folder", "+b", *([str(n)] if n else []))
+        line, before, after = self.LINE.fullmatch(ran.out), self.expected, n or self.expected
+        if line:
+            self.expected = after
+        elif "mail directory" in ran.err:
+            self.expected = self.seen(scene, [before, after])
+        if line and line.group(1) != (after and str(after).encode()) or not line and ran.status == 0:
+            scene.bad.append(f"folder told {ran.out} of a folder whose current message is {after}")
+
+    def seen(self, scene, allowed):
+        """The current message by the files; it must be one of those."""
+        found = next(iter(scene.box.look().public["b"].get("cur", ())), None)
+        if found not in allowed:
+            scene.bad.append(f"the current message of b is {found}, none of {allowed}")
+        return found
+
+
 def picker(scene, rng):
     """Finds red messages and marks them, in a sequence that nobody else touches."""
     scene.run("pick", f"+{rng.choice('ab')}", "-subject", "red", "-sequence", "red")
@@ -249,15 +279,16 @@ def books(scene, markers):
 
 def episode(program, home, rng, seconds):
     """One mailbox with its rivals, for so many seconds: the scene, and all complaints."""
-    scene, markers = Scene(program, home, rng, seconds), [Marker("ours", "mine"), Marker("theirs", "hers")]
+    scene, markers, teller = Scene(program, home, rng, seconds), [Marker("ours", "mine"), Marker("theirs", "hers")], Teller()
     # The refilers, which need both locks, rest less than the others.
-    steps = [(refiler("a", "b"), 1.5), (refiler("b", "a"), 1.5), (markers[0].step, 4), (markers[1].step, 4), (picker, 4), (janitor, 6),
-             (incorporator, 4), (deliverer, 1), (reader, 1)]
+    steps = [(refiler("a", "b"), 1.5), (refiler("b", "a"), 1.5), (markers[0].step, 4), (markers[1].step, 4), (teller.step, 4), (picker, 4),
+             (janitor, 6), (incorporator, 4), (deliverer, 1), (reader, 1)]
     threads = [threading.Thread(target=until_end, args=(scene, *it, random.Random(rng.random())), daemon=True) for it in steps]
     for it in threads:
         it.start()
     for it in threads:
         it.join()
+    teller.seen(scene, [teller.expected])
     return scene, scene.bad + books(scene, markers)
 
 
@@ -270,7 +301,7 @@ def run(program, seconds, room, count, rng, only=""):
         count.check(f"rivals, episode {episodes + 1}", bad, [("box", f"{room}/box")])
         runs += scene.runs
         killed, episodes, messages = killed + scene.killed, episodes + 1, messages + len(scene.known)
-    idle = [it for it in ("refile", "mark", "pick", "inc", "scan") if not runs[it, 0]]
+    idle = [it for it in ("refile", "mark", "folder", "pick", "inc", "scan") if not runs[it, 0]]
     count.check("rivals: each got something done", [f"no {it} ended well" for it in idle])
     print(f"  {episodes} episodes, {messages} messages, {sum(runs.values())} runs, {killed} of the rivals killed")
     for command in ALLOWED:

@@ -47,6 +47,8 @@ TRACES = [
     ("mark-nopublic", tiny, ["mark", "+inbox", "2", "-sequence", "x", "-nopublic"]),
     ("pick-sequence", tiny, ["pick", "+inbox", "-subject", "message 2", "-sequence", "x"]),
     ("scan", tiny, ["scan", "+inbox", "1"]),
+    ("folder", tiny, ["folder", "+inbox"]),
+    ("folder-message", tiny, ["folder", "+inbox", "2-3"]),
     ("mend", left_by_the_dead, ["mark", "+inbox", "1", "-sequence", "x"]),
 ]
 

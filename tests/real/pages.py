@@ -11,7 +11,7 @@ from pathlib import Path
 
 PROGRAM, ROOM = sys.argv[1], Path(sys.argv[2])
 TOP = Path(__file__).resolve().parent.parent.parent
-COMMANDS = ["inc", "mark", "pick", "refile", "rmm", "scan"]
+COMMANDS = ["folder", "inc", "mark", "pick", "refile", "rmm", "scan"]
 passed = failed = 0
 
 
@@ -184,8 +184,9 @@ def completions():
     (home / "Mail/work/later").mkdir(parents=True)
     (home / "Mail/work/.mh_sequences").write_text("done: 1\n")
     check("commands", completed(home, "mh", "r") == ["refile", "rmm"])
-    check("pages of help", completed(home, "mh", "help", "e") == ["errors"])
+    check("pages of help", completed(home, "mh", "help", "e") == ["errors"] and completed(home, "mh", "help", "f") == ["folder"])
     check("switches", completed(home, "mh", "scan", "-r") == ["-reverse"])
+    check("no switches", completed(home, "mh", "folder", "-") == [])
     check("switches of a link", completed(home, "scan", "-no") == ["-noreverse"])
     check("folders", completed(home, "mh", "scan", "+w") == ["+work", "+work/later"])
     check("sequences of the current folder", completed(home, "mh", "scan", "t") == ["todo"])
@@ -212,6 +213,7 @@ def newcomer():
         ("scan", 1, "", "no such folder: +inbox"),
         ("inc", 1, "", "no mail to incorporate"),
         ("inc -file drop", 0, f"Incorporating new mail into inbox...\n\n   1+ {line}", ""),
+        ("folder", 0, "inbox+ has 1 message (1-1); cur=1.\n", ""),
         ("scan inbox", 1, "", "no messages in sequence: inbox"),
         ("show", 1, "", "unknown command: show"),
         ("mark -sequence todo cur", 0, "", ""),

@@ -48,7 +48,7 @@ use Rattle.anno_command.proofs.AnnoPledged.{lets}
 use Rattle.anno_command.proofs.Listed.{last_small, like}
 use Rattle.anno_command.proofs.NotedEnds.{All, Moving, Plainly, noted_comes}
 
-first_listed : (n : ℕ) (ns : List ℕ) → lists (n ∷ ns) n ≡ true
+pub first_listed : (n : ℕ) (ns : List ℕ) → lists (n ∷ ns) n ≡ true
 first_listed n ns = ap (λ b. b || lists ns n) ((Decides-eqb n n).1 refl)
 
 other_listed : (m n : ℕ) (ns : List ℕ) → lists ns n ≡ true → lists (m ∷ ns) n ≡ true

@@ -2,9 +2,11 @@ pub mod AnnoAlone
 pub mod AnnoEnds
 pub mod AnnoEntries
 pub mod AnnoGiven
+pub mod AnnoMinds
 pub mod AnnoPledged
 pub mod HeldNone
 pub mod Listed
 pub mod NotedEnds
 pub mod NotedMail
+pub mod NotedMinds
 pub mod WishedEnds

@@ -1,8 +1,7 @@
 // Twenty thousand messages, each on a line of the default format, beside a plain read of their bytes.
 use crate::rates::{micros_since, plain, tell_things};
 use format_compiler::{FormatFault, Program, compile};
-use format_run::{View, line};
-use mail_headers::Message;
+use format_run::{IndexedMessage, View, line};
 use mh_base::{MsgNum, Text};
 use std::alloc::{AllocError, Global};
 use std::rt::Clock;
@@ -57,7 +56,7 @@ fn line_len(
         number,
         current: false,
         unseen: false,
-        message: Message::cut(message),
+        message: IndexedMessage::cut(alloc, message)?,
         moment: 1_780_394_400,
         user,
     };

@@ -45,6 +45,17 @@ use Rattle.pick_command.specs.Pick.{pick, pick_by as pick_by_marks}
 use Rattle.pick_command.specs.PickAnswers.{ShowsListing as ShowsPickListing, ShowsPicking}
 use Rattle.pick_command.specs.declared.job.PickJob.{PickJob}
 use Rattle.pick_command.specs.declared.job.PickMarks.{PickMarks}
+use Rattle.told_folders.specs.Answers.{HasChanged, ShowsListing as ShowsTellListing, TellsFolder, change_answers}
+use Rattle.told_folders.specs.Plans.{folder_changed, folder_looked}
+use Rattle.told_folders.specs.Tasks.{Task}
+use Rattle.told_folders.proofs.ChangesEnd.{changes_end as tells_end}
+use Rattle.told_folders.proofs.ChangesSay.{changes_say as tells_say}
+use Rattle.told_folders.proofs.LooksEnd.{looks_comes as tell_looks_comes, looks_job as tell_looks_job}
+use Rattle.told_folders.proofs.LooksRefused.{Refuses as TellRefuses, looks_refuses as tell_looks_refuses}
+use Rattle.told_folders.proofs.LooksSay.{listing_says as tell_listing_says}
+use Rattle.folder_command.specs.Folder.{folder as tell, folder_by, task_with}
+use Rattle.folder_command.specs.declared.job.FolderJob.{FolderJob}
+use Rattle.folder_command.proofs.Orderly.{orderly}
 use Rattle.inc_command.specs.Inc.{inc}
 use Rattle.inc_command.specs.IncAnswers.{ShowsInc, ShowsIncorporating}
 use Rattle.inc_command.specs.IncJob.{IncJob}
@@ -58,26 +69,28 @@ use Rattle.command_words.specs.Ended.{plain}
 use Rattle.command_words.specs.IncWords.{inc_said}
 use Rattle.command_words.specs.MarkWords.{mark_said}
 use Rattle.command_words.specs.RmmWords.{rmm_said}
+use Rattle.command_words.specs.TellWords.{tell_said}
 use Rattle.command_words.specs.declared.ended.Ended.{Ended}
+use Rattle.command_words.specs.declared.folder.FolderWords.{FolderWords}
 use Rattle.command_words.specs.declared.mark.MarkWords.{MarkWords}
 use Rattle.command_words.specs.declared.pick.PickWords.{PickWords}
 use Rattle.command_words.specs.declared.rmm.RmmWords.{RmmWords}
-use Rattle.command_line.specs.BegunCauses.{IsPickOn, PicksBy, ShowsEarly, ShowsFault, ShowsIncJob, ShowsMark, ShowsMarking, ShowsNamed, ShowsOnFolder, ShowsPick, ShowsPickJob, ShowsRemoving, ShowsRmm, TakesInBy, TellsNoneBy, TellsOnFolder, long_context, long_profile, wrong_stored}
+use Rattle.command_line.specs.BegunCauses.{IsPickOn, PicksBy, ShowsEarly, ShowsFault, ShowsIncJob, ShowsMark, ShowsMarking, ShowsNamed, ShowsOnFolder, ShowsPick, ShowsPickJob, ShowsRemoving, ShowsRmm, TakesInBy, TellsNoneBy, TellsOnFolder, long_context, long_profile, wrong_stored, ShowsTell, ShowsTelling}
 use Rattle.command_line.specs.Causes.{ShowsCommandFault}
-use Rattle.command_line.specs.Command.{command, command_by, context_entered, folder_found, inc_begun, inc_by, mark_begun, mark_by, mark_job, pick_begun, pick_by, pick_job, picked_by, rmm_begun, rmm_by, rmm_job, word_by}
+use Rattle.command_line.specs.Command.{command, command_by, context_entered, folder_found, inc_begun, inc_by, mark_begun, mark_by, mark_job, pick_begun, pick_by, pick_job, picked_by, rmm_begun, rmm_by, rmm_job, word_by, tell_begun, tell_by, tell_job}
 use Rattle.command_line.specs.CommandNames.{shows_ends, command_of, named}
 use Rattle.command_line.specs.CommandPledge.{entries_by}
 use Rattle.command_line.specs.Incorporating.{job_by}
 use Rattle.command_line.specs.Profile.{folder_of, path_of, profile_name}
 use Rattle.command_line.specs.WordCauses.{IsRefusedByWords}
 use Rattle.command_line.specs.declared.name.CommandName.{CommandName}
-use Rattle.command_line.specs.declared.name.CommandName.TheVariants.{Inc, Mark, Pick, Refile, Rmm, Scan}
+use Rattle.command_line.specs.declared.name.CommandName.TheVariants.{Folder as FolderCommand, Inc, Mark, Pick, Refile, Rmm, Scan}
 use Rattle.command_line.specs.declared.caller.Caller.{Caller}
 use Rattle.command_line.proofs.Ending.{scan_shows}
 use Rattle.command_line.proofs.IncEnding.{TakesIn, ToldSo, inc_comes}
 use Rattle.command_line.proofs.BegunParts.{Behind, Enters, Found, Profile, after_context, after_profile, behind_kept, clean_there, ended_more, entered_comes, entered_silent, found_comes, found_silent, in_silence, none_lasts, none_made, none_put, none_taken, none_told, numbered_there, profile_comes, profile_silent}
 use Rattle.command_line.proofs.PickEnding.{FindsEnd, FindsTold, MarksEnd, MarksTold, finds_come, marks_come}
-use Rattle.command_line.proofs.Refusals.{IsRefusal, job_refuses, mark_refuses, rmm_refuses}
+use Rattle.command_line.proofs.Refusals.{IsRefusal, job_refuses, mark_refuses, rmm_refuses, tell_refuses}
 use Rattle.command_line.proofs.SaidPick.{pick_refuses}
 use Rattle.command_line.proofs.WordEnding.{refusal_of, refused_by}
 
@@ -263,6 +276,109 @@ module _ (run : ℕ) (few : run < 2 ^ 128) (caller : Caller) (words_ : List (Lis
           where
             go : (later : List runs.Deed) (j : Hand) (r : Result (List ℕ) CommandFault) → (said_of later ≡ []) × OfActs (Finds words.folder) later j r → Keeps Speech later j (after (λ folder. mark run path (mark_job folder words profile)) r) Plainly
             go later j (Ok folder) q = mark_keeps later j folder q.1.1.0 q.1.1.1 q.1.1.2 q.1.1.3 q.1.0 q.0
+            go later j (Err e) q = stops_plainly later j e q.0 (early e (acts later) q.1.1 q.1.0)
+
+      -- `folder`
+      module _ (name : named word ≡ Some FolderCommand) (words : FolderWords) (said : tell_said profile (map chars rest) ≡ Ok words) where
+        tell_on : (b : Answer) (folder : List ℕ) → folder_of words.folder (entries_by b) profile ≡ Ok folder → (r : Result (List ℕ) CommandFault) (own : List Deed)
+            → Behind a b own × ShowsTelling run path (tell_job folder words profile) (entries_by b) r own words.specs → ShowsOnFolder run caller words_ r own
+        tell_on b folder there r own s =
+            on_folder word rest is_words b folder r own s.0
+            (subst (λ n. ShowsNamed run caller profile (entries_by b) folder r own rest n) (sym name)
+            (subst (λ m. ShowsTell run profile (entries_by b) folder r own m) (sym said) (there, s.1)))
+
+        module _ (past : List runs.Deed) (j : Hand) (folder : List ℕ) (b : Answer) (is : acts past ≡ after_context path a b) (first : j ≡ knowing (entries_by b) fresh) (there : folder_of words.folder (entries_by b) profile ≡ Ok folder) (clean : NoneFailed (acts past)) (silent : said_of past ≡ []) where
+          abbrev telling : FolderJob
+          telling = tell_job folder words profile
+
+          tell_begins : Clean run (acts past) j
+          tell_begins = clean_there a run b (acts past) j is first clean
+
+          setting : (spec : List ℕ) (specs : List (List ℕ)) → words.specs ≡ spec ∷ specs → Keeps Speech past j (folder_changed run path (task_with (spec ∷ specs) telling)) Plainly
+          setting spec specs is_specs =
+              keeps_more Speech past j (folder_changed run path (task_with (spec ∷ specs) telling)) Both Plainly more
+              (keeps_both Speech anything past j (folder_changed run path (task_with (spec ∷ specs) telling)) Says (EndsSo run few path folder (change_answers (task_with (spec ∷ specs) telling)) (Behind a b) (λ own. Unit {0}))
+              (speaks_more T Spoken (λ text own t. inl (tells text own t)) past j (folder_changed run path (task_with (spec ∷ specs) telling)) Says
+              (tells_say run few path (task_with (spec ∷ specs) telling) (orderly (spec ∷ specs) telling) (Behind a b) (behind_kept a b) past j silent ([], is) (record { numbered = tell_begins.numbered; unfailed = tell_begins.unfailed })))
+              (tells_end run few path (task_with (spec ∷ specs) telling) (Behind a b) (behind_kept a b) past j clean tell_begins (subst (PutsNone (Mail path)) (sym is) (none_put (Mail path) path a b))
+              (λ x n t. none_taken (Folder path folder) path a b x n (subst (λ o. Once (λ d older. IsTakenAway (Folder path folder) x d) o) is t)) ([], is)))
+            where
+              T : List ℕ → List Deed → Type 0
+              T text own = Behind a b own × HasChanged run path (task_with (spec ∷ specs) telling) text own
+
+              Says : List runs.Deed → Hand → Result Unit CommandFault → Type 0
+              Says later i r = IfOkay (λ last k u. T (said_of last) (acts last)) later i r
+
+              Both : List runs.Deed → Hand → Result Unit CommandFault → Type 0
+              Both later i r = Says later i r × EndsSo run few path folder (change_answers (task_with (spec ∷ specs) telling)) (Behind a b) (λ own. Unit {0}) later i r
+
+              tells : (text : List ℕ) (own : List Deed) → T text own → ShowsOnFolder run caller words_ (Ok text) own
+              tells text own t = tell_on b folder there (Ok text) own (t.0, subst (λ z. ShowsTelling run path telling (entries_by b) (Ok text) own z) (sym is_specs) t.1)
+
+              more : (later : List runs.Deed) (i : Hand) (r : Result Unit CommandFault) → Both later i r → Plainly later i r
+              more later i (Ok u) s = tells (said_of later) (acts later) s.0
+              more later i (Err e) s =
+                  ended_more (ShowsSo run few path folder (change_answers (task_with (spec ∷ specs) telling)) (Behind a b)) Shows
+                  (λ x own q. inr (inr (tell_on b folder there (Err x) own (q.0, subst (λ z. ShowsTelling run path telling (entries_by b) (Err x) own z) (sym is_specs) q.1)))) e (acts later) s.1
+
+          tell_looking : words.specs ≡ [] → Keeps Speech past j (folder_looked run path (task_with [] telling)) Plainly
+          tell_looking is_specs =
+              keeps_more Speech past j (folder_looked run path (task_with [] telling)) (λ later i r. Says later i r × OfActs Looks later i r) Plainly more
+              (keeps_both Speech anything past j (folder_looked run path (task_with [] telling)) Says (OfActs Looks)
+              (speaks_more T Spoken (λ text own t. inl (tells text own t)) past j (folder_looked run path (task_with [] telling)) Says (tell_listing_says run few path (task_with [] telling) (orderly [] telling) j (Behind a b) (behind_kept a b) past silent ([], is) tell_begins.numbered clean))
+              (comes_keeps past (acts past) j (folder_looked run path (task_with [] telling)) Looks refl
+              (comes_clean (acts past) j (folder_looked run path (task_with [] telling)) Looked clean
+              (comes_framed AnyStep (Behind a b) (behind_kept a b) (acts past) j (folder_looked run path (task_with [] telling)) LookedSo (asks_any (folder_looked run path (task_with [] telling))) ([], is)
+              (comes_both (acts past) j (folder_looked run path (task_with [] telling)) (ScanEnds run path (tell_looks_job (task_with [] telling)) j (numbered_there a b j first)) (TellRefuses run path (task_with [] telling) j)
+              (tell_looks_comes run path (task_with [] telling) j (numbered_there a b j first) (acts past) unmade) (tell_looks_refuses run path (task_with [] telling) j (acts past) unmade))))))
+            where
+              unmade : WasMade (Mail path) (temp_name run j.next) (acts past) → ⊥
+              unmade w = none_made (Mail path) (temp_name run j.next) path a b (subst (λ o. WasMade (Mail path) (temp_name run j.next) o) is w)
+
+              T : List ℕ → List Deed → Type 0
+              T text own = Behind a b own × TellsFolder path (task_with [] telling) (entries_seen j.context) text own
+
+              Says : List runs.Deed → Hand → Result Unit CommandFault → Type 0
+              Says later i r = IfOkay (λ last k u. T (said_of last) (acts last)) later i r
+
+              tells : (text : List ℕ) (own : List Deed) → T text own → ShowsOnFolder run caller words_ (Ok text) own
+              tells text own t =
+                  tell_on b folder there (Ok text) own
+                  (t.0, subst (λ z. ShowsTelling run path telling (entries_by b) (Ok text) own z) (sym is_specs) (subst (λ i. TellsFolder path (task_with [] telling) (entries_seen i.context) text own) first t.1))
+
+              LookedSo : Outcome (Result Unit CommandFault)
+              LookedSo later i r = ScanEnds run path (tell_looks_job (task_with [] telling)) j (numbered_there a b j first) later i r × TellRefuses run path (task_with [] telling) j later i r
+
+              Looked : Outcome (Result Unit CommandFault)
+              Looked later i r = Behind a b later × LookedSo later i r
+
+              Looks : Outcome (Result Unit CommandFault)
+              Looks later i r = NoneFailed later × Looked later i r
+
+              refuses : (e : CommandFault) (own : List Deed) → ShowsTellListing path (task_with [] telling) (entries_seen j.context) e own → ShowsTellListing path (task_with [] telling) (entries_by b) e own
+              refuses e own f = subst (λ i. ShowsTellListing path (task_with [] telling) (entries_seen i.context) e own) first f
+
+              more : (later : List runs.Deed) (i : Hand) (r : Result Unit CommandFault) → Says later i r × OfActs Looks later i r → Plainly later i r
+              more later i (Ok u) s = tells (said_of later) (acts later) s.0
+              more later i (Err e) s =
+                  looked e (acts later) (scan_shows run path folder e (acts later) s.1.1.1.0)
+                  (λ f. inr (inr (tell_on b folder there (Err e) (acts later) (s.1.1.0, subst (λ z. ShowsTelling run path telling (entries_by b) (Err e) (acts later) z) (sym is_specs) (f, refuses e (acts later) s.1.1.1.1))))) s.1.0
+
+          tell_keeps : Keeps Speech past j (tell run path telling) Plainly
+          unfolding tell
+          tell_keeps = go words.specs refl
+            where
+              go : (l : List (List ℕ)) → words.specs ≡ l → Keeps Speech past j (folder_by run path telling l) Plainly
+              go [] is_specs = tell_looking is_specs
+              go (spec ∷ specs) is_specs = setting spec specs is_specs
+
+        tell_begun_keeps : (past : List runs.Deed) → acts past ≡ after_profile a → NoneFailed (acts past) → said_of past ≡ [] → Keeps Speech past fresh (tell_begun run profile words) Plainly
+        unfolding tell_begun ◌>>=◌
+        tell_begun_keeps past is clean silent =
+            keeps_bind Speech past fresh (folder_found profile words.folder) (after (λ folder. tell run path (tell_job folder words profile))) _ Plainly (folder_keeps words.folder past is clean silent) go
+          where
+            go : (later : List runs.Deed) (j : Hand) (r : Result (List ℕ) CommandFault) → (said_of later ≡ []) × OfActs (Finds words.folder) later j r → Keeps Speech later j (after (λ folder. tell run path (tell_job folder words profile)) r) Plainly
+            go later j (Ok folder) q = tell_keeps later j folder q.1.1.0 q.1.1.1 q.1.1.2 q.1.1.3 q.1.0 q.0
             go later j (Err e) q = stops_plainly later j e q.0 (early e (acts later) q.1.1 q.1.0)
 
       -- `pick`
@@ -468,6 +584,12 @@ module _ (run : ℕ) (few : run < 2 ^ 128) (caller : Caller) (words_ : List (Lis
           go (Ok words) said = plain_keeps past fresh (rmm_begun run profile words) (rmm_begun_keeps word rest is_words name words said past is clean silent)
           go (Err x) said = stops past fresh x silent
               (refused_shown a x past is (rmm_refuses profile (map chars rest) x said) (refused_by caller words_ a word rest is_words (Some Rmm) name x.fault (refusal_of (rmm_said profile (map chars rest)) x said)) clean)
+      by_word word rest is_words (Some FolderCommand) name begins = go (tell_said profile (map chars rest)) refl
+        where
+          go : (r : Result FolderWords Ended) → tell_said profile (map chars rest) ≡ r → Keeps Speech past fresh (tell_by run profile r) EndsBy
+          go (Ok words) said = plain_keeps past fresh (tell_begun run profile words) (tell_begun_keeps word rest is_words name words said past is clean silent)
+          go (Err x) said = stops past fresh x silent
+              (refused_shown a x past is (tell_refuses profile (map chars rest) x said) (refused_by caller words_ a word rest is_words (Some FolderCommand) name x.fault (refusal_of (tell_said profile (map chars rest)) x said)) clean)
 
       by_words : (words : List (List ℕ)) → words_ ≡ words → shows_ends (command_of words) ≡ true → Keeps Speech past fresh (command_by run caller profile words) EndsBy
       by_words [] is_words begins = cc (begins)

@@ -40,9 +40,11 @@ use Rattle.command_words.specs.MarkWords.{folder_said as mark_words_said, items_
 use Rattle.command_words.specs.RefileWords.{items_said as refile_items, last_or, refile_said, source_of, targets, targets_said, unless_wrong, words_of, wrong_names}
 use Rattle.command_words.specs.RmmWords.{folder_said as rmm_words_said, items_said as rmm_items, rmm_said, said_folder as rmm_said_folder, with_folder as rmm_folder}
 use Rattle.command_words.specs.Switches.{values}
-use Rattle.command_words.specs.Tables.{inc_table, mark_table, pick_table, refile_table, rmm_table}
+use Rattle.command_words.specs.TellWords.{folder_and_message, folder_said as tell_words_said, items_said as tell_items, said_folder as tell_said_folder, second_of, tell_said, with_folder as tell_folder}
+use Rattle.command_words.specs.Tables.{folder_table, inc_table, mark_table, pick_table, refile_table, rmm_table}
 use Rattle.command_words.specs.Words.{profile_words, words_in}
 use Rattle.command_words.specs.declared.ended.Ended.{Ended}
+use Rattle.command_words.specs.declared.folder.FolderWords.{FolderWords}
 use Rattle.command_words.specs.declared.inc.IncWords.{IncWords}
 use Rattle.command_words.specs.declared.mark.MarkWords.{MarkWords}
 use Rattle.command_words.specs.declared.refile.RefileWords.{RefileWords}
@@ -265,6 +267,38 @@ rmm_chars profile words said f e =
     subst RmmChars e (rmm_items_chars (profile_words (codes "rmm") profile ++ words) (read_in rmm_table 0 (profile_words (codes "rmm") profile ++ words))
     (read_textual rmm_table 0 (profile_words (codes "rmm") profile ++ words) (texts_both (profile_words (codes "rmm") profile) words (shown_texts (words_in (unwrap_or (value_of (codes "rmm") profile) []))) f)))
 
+alone_chars : (r : Result (Option (List ℕ)) Wrong) (place : Option ℕ) → OneChars r → OneChars (inc_words.alone r place)
+alone_chars (Ok word) None f = f
+alone_chars (Ok word) (Some place) f = tt
+alone_chars (Err wrong) None f = tt
+alone_chars (Err wrong) (Some place) f = tt
+
+-- `folder`
+abbrev TellChars : Result FolderWords Ended → Type 0
+TellChars (Ok w) = HasChars w.folder
+TellChars (Err e) = Unit {0}
+
+tell_folder_chars : (items : List Item) (word : Option (List ℕ)) → HasChars word → TellChars (tell_said_folder items word)
+tell_folder_chars items None f = tt
+tell_folder_chars items (Some word) f = go (is_folder_name (without_plus word))
+  where
+    go : (b : Bool) → TellChars (tell_folder items (if b then Ok (without_plus word) else Err (fault.Refused (refusal.BadFolder word))))
+    go true = plus_chars word f
+    go false = tt
+
+tell_one_chars : (words : List (List ℕ)) (items : List Item) (r : Result (Option (List ℕ)) Wrong) → OneChars r → TellChars (tell_words_said words items r)
+tell_one_chars words items (Ok word) f = tell_folder_chars items word f
+tell_one_chars words items (Err wrong) f = tt
+
+tell_items_chars : (words : List (List ℕ)) (r : Result (List Item) Wrong) → Textual r → TellChars (tell_items words r)
+tell_items_chars words (Ok items) f = tell_one_chars words items (folder_and_message items) (alone_chars (one_folder (folders items)) (second_of (inc_words.message_places items)) (one_chars (folders items) (folder_texts items f)))
+tell_items_chars words (Err wrong) f = tt
+
+pub tell_chars : (profile : List NamedValue) (words : List (List ℕ)) (said : FolderWords) → AreTexts words → tell_said profile words ≡ Ok said → HasChars said.folder
+tell_chars profile words said f e =
+    subst TellChars e (tell_items_chars (profile_words (codes "folder") profile ++ words) (read_in folder_table 0 (profile_words (codes "folder") profile ++ words))
+    (read_textual folder_table 0 (profile_words (codes "folder") profile ++ words) (texts_both (profile_words (codes "folder") profile) words (shown_texts (words_in (unwrap_or (value_of (codes "folder") profile) []))) f)))
+
 -- `refile`
 targets_texts : (items : List Item) → AreTextual items → AreTexts (targets items)
 targets_texts [] f = tt
@@ -322,12 +356,6 @@ inc_folder_chars items (Some word) f = go (is_folder_name (without_plus word))
     go : (b : Bool) → IncChars (inc_words.with_folder items (if b then Ok (without_plus word) else Err (fault.Refused (refusal.BadFolder word))))
     go true = plus_chars word f
     go false = tt
-
-alone_chars : (r : Result (Option (List ℕ)) Wrong) (place : Option ℕ) → OneChars r → OneChars (inc_words.alone r place)
-alone_chars (Ok word) None f = f
-alone_chars (Ok word) (Some place) f = tt
-alone_chars (Err wrong) None f = tt
-alone_chars (Err wrong) (Some place) f = tt
 
 bad_chars : (bad : Option ℕ) (r : Result (Option (List ℕ)) Wrong) → OneChars r → OneChars (unless_bad bad r)
 bad_chars bad (Err wrong) f = tt

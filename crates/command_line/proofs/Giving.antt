@@ -42,6 +42,8 @@ use Rattle.opened_folders.proofs.WorkGiven.{WorkEnds}
 use Rattle.mark_command.proofs.MarkGiven.{mark_gives}
 use Rattle.pick_command.specs.Pick.{pick}
 use Rattle.pick_command.proofs.PickGiven.{pick_gives}
+use Rattle.folder_command.specs.Folder.{folder as tell}
+use Rattle.folder_command.proofs.FolderAlone.{folder_gives}
 use Rattle.refile_command.specs.Refile.{refile}
 use Rattle.refile_command.specs.RefileOutcome.{homes_of_all}
 use Rattle.refile_command.specs.Rmm.{rmm}
@@ -54,24 +56,26 @@ use Rattle.command_words.specs.MarkWords.{mark_said}
 use Rattle.command_words.specs.RefileWords.{refile_said}
 use Rattle.command_words.specs.RmmWords.{rmm_said}
 use Rattle.command_words.specs.ScanWords.{scan_said}
+use Rattle.command_words.specs.TellWords.{tell_said}
 use Rattle.command_words.specs.declared.ended.Ended.{Ended}
+use Rattle.command_words.specs.declared.folder.FolderWords.{FolderWords}
 use Rattle.command_words.specs.declared.mark.MarkWords.{MarkWords}
 use Rattle.command_words.specs.declared.pick.PickWords.{PickWords}
 use Rattle.command_words.specs.declared.refile.RefileWords.{RefileWords}
 use Rattle.command_words.specs.declared.rmm.RmmWords.{RmmWords}
 use Rattle.command_line.specs.Looking.{ScanAsked, scan_asked}
 use Rattle.command_words.proofs.SaidFolder.{IsValid}
-use Rattle.command_line.specs.Command.{context_seen, context_entered, folder_found, inc_begun, inc_by, job_of, mark_job, scan_begun, scan_by, mark_begun, mark_by, pick_begun, pick_by, pick_job, picked_by, refile_begun, refile_by, refile_job, rmm_begun, rmm_by, rmm_job, word_by, command_by, command}
+use Rattle.command_line.specs.Command.{context_seen, context_entered, folder_found, inc_begun, inc_by, job_of, mark_job, scan_begun, scan_by, mark_begun, mark_by, pick_begun, pick_by, pick_job, picked_by, refile_begun, refile_by, refile_job, rmm_begun, rmm_by, rmm_job, word_by, command_by, command, tell_begun, tell_by, tell_job}
 use Rattle.command_line.specs.CommandNames.{begins_folders, command_of, makes_folders, named}
 use Rattle.command_line.specs.Incorporating.{job_by}
-use Rattle.command_line.specs.Outcomes.{FolderWork, inc_job_work, incs, plainly, of_stage, in_folder, with_context, scans, scan_words_work, marks, mark_words_work, picks, pick_words_work, refiles, refile_words_work, rmms, rmm_words_work, word_work, named_work, with_profile, work_by, work_of, alone_meeting}
+use Rattle.command_line.specs.Outcomes.{FolderWork, inc_job_work, incs, plainly, of_stage, in_folder, with_context, scans, scan_words_work, marks, mark_words_work, picks, pick_words_work, refiles, refile_words_work, rmms, rmm_words_work, word_work, named_work, with_profile, work_by, work_of, alone_meeting, tell_words_work, tells}
 use Rattle.command_line.specs.Profile.{folder_of, path_of, profile_name}
 use Rattle.command_line.specs.declared.name.CommandName.{CommandName}
-use Rattle.command_line.specs.declared.name.CommandName.TheVariants.{Inc, Mark, Pick, Refile, Rmm, Scan}
+use Rattle.command_line.specs.declared.name.CommandName.TheVariants.{Folder as FolderCommand, Inc, Mark, Pick, Refile, Rmm, Scan}
 use Rattle.command_line.specs.declared.caller.Caller.{Caller}
-use Rattle.command_line.proofs.Refusals.{IsRefusal, folder_refuses, job_refuses, mark_refuses, refile_refuses, rmm_refuses, asked_refuses}
+use Rattle.command_line.proofs.Refusals.{IsRefusal, folder_refuses, job_refuses, mark_refuses, refile_refuses, rmm_refuses, asked_refuses, tell_refuses}
 use Rattle.command_line.proofs.SaidInc.{job_valid}
-use Rattle.command_line.proofs.SaidFolder.{acted_valid, mark_valid, refile_words_valid, rmm_words_valid}
+use Rattle.command_line.proofs.SaidFolder.{acted_valid, mark_valid, refile_words_valid, rmm_words_valid, tell_words_valid}
 use Rattle.command_line.proofs.SaidPick.{pick_refuses, pick_valid}
 
 -- an end that the last commit alone decides
@@ -297,6 +301,18 @@ mark_stage run c few homes profile words valid v h same unmet begun =
     (homes_at run ((mailbox_in c).folders (Folder (path_of profile) folder))) (homes (Folder (path_of profile) folder)) v.numbers (after_read v (Mail (path_of profile)) context_name) (knowing (entries_in text) h)
     (record { has = (same, refl); fresh = λ x. begun.names (path_of profile) folder x; unmet = λ x is_held. unmet (Folder (path_of profile) folder) x; hand = refl }) same refl refl)
 
+-- `folder` alone, from the context on
+tell_stage : (run : ℕ) (c : Contents) → run < 2 ^ 128 → AreAllHomes run c → (profile : List NamedValue) (words : FolderWords) → IsValid words.folder → (v : View) (h : Hand) (same : v.contents ≡ c) → (unmet : (p : Place) (x : List ℕ) → v.met p x ≡ false) → (begun : IsBegun v)
+    → Gives (by_view true) v h (stage true c profile words.folder v h same (λ e. begun) (tells (alone_meeting run) (mailbox_in c) profile words)).text (tell_begun run profile words) (WorkEnds (stage true c profile words.folder v h same (λ e. begun) (tells (alone_meeting run) (mailbox_in c) profile words)))
+unfolding tell_begun
+tell_stage run c few homes profile words valid v h same unmet begun =
+    stage_gives true c profile words.folder v h same (λ e. begun) (tells (alone_meeting run) (mailbox_in c) profile words) WorkEnds (mark_refused c) (λ folder. tell run (path_of profile) (tell_job folder words profile))
+    (λ text folder reads is.
+    let short = read_short (c.texts (Mail (path_of profile)) context_name) text reads in
+    folder_gives run (path_of profile) (tell_job folder words profile) few (acted_valid words.folder (entries_in text) profile folder valid is) c (entries_in text) (ap entries_in short.1) short.0
+    (homes_at run ((mailbox_in c).folders (Folder (path_of profile) folder))) (homes (Folder (path_of profile) folder)) v.numbers (after_read v (Mail (path_of profile)) context_name) (knowing (entries_in text) h)
+    (record { has = (same, refl); fresh = λ x. begun.names (path_of profile) folder x; unmet = λ x is_held. unmet (Folder (path_of profile) folder) x; hand = refl }) same refl refl)
+
 -- `pick` alone, from the context on
 pick_stage : (run : ℕ) (c : Contents) → run < 2 ^ 128 → AreAllHomes run c → (profile : List NamedValue) (words : PickWords) → IsValid words.folder → (v : View) (h : Hand) (same : v.contents ≡ c) → (unmet : (p : Place) (x : List ℕ) → v.met p x ≡ false) → (begun : IsBegun v)
     → Gives (by_view true) v h (stage true c profile words.folder v h same (λ e. begun) (picks (alone_meeting run) (mailbox_in c) profile words)).text (pick_begun run profile words) (WorkEnds (stage true c profile words.folder v h same (λ e. begun) (picks (alone_meeting run) (mailbox_in c) profile words)))
@@ -439,6 +455,21 @@ module _ (alone : Bool) (run : ℕ) (c : Contents) (few : run < 2 ^ 128) (homes 
         subst (λ b. Gives (by_view b) z fresh (mark_words_work (alone_meeting run) box profile (mark_said profile words)).text (mark_by run profile (mark_said profile words)) (CommandEnds b (mark_words_work (alone_meeting run) box profile (mark_said profile words)))) (sym only)
         (mark_words_true (homes only) (mark_said profile words) (λ said e. mark_valid profile words said e) (λ e is. mark_refuses profile words e is))
 
+    tell_words_true : AreAllHomes run c → (value : Result FolderWords Ended) → ((words : FolderWords) → value ≡ Ok words → IsValid words.folder) → ((e : Ended) → value ≡ Err e → IsRefusal e.fault)
+        → Gives (by_view true) z fresh (tell_words_work (alone_meeting run) box profile value).text (tell_by run profile value) (CommandEnds true (tell_words_work (alone_meeting run) box profile value))
+    unfolding Gives lifted mailbox_in
+    tell_words_true there (Ok words) valid r =
+        gives_bind (by_view true) z fresh (tell_words_work (alone_meeting run) box profile (Ok words)).text (tell_begun run profile words) (λ q. Return (converted plain q)) (WorkEnds (stage true c profile words.folder z fresh same (λ e. begun) (tells (alone_meeting run) box profile words)))
+        (CommandEnds true (tell_words_work (alone_meeting run) box profile (Ok words)))
+        (tell_stage run c few there profile words (valid words refl) z fresh same unmet begun)
+        (λ y j left q e. mark_ends (stage true c profile words.folder z fresh same (λ e. begun) (tells (alone_meeting run) box profile words)) y j left q e)
+    tell_words_true there (Err e) valid r = let is = r e refl in plain_refused true c e is.0 z fresh [] is.1 refl same
+
+    tell_words_give : alone ≡ true → (words : List (List ℕ)) → Gives (by_view alone) z fresh (tell_words_work (alone_meeting run) box profile (tell_said profile words)).text (tell_by run profile (tell_said profile words)) (CommandEnds alone (tell_words_work (alone_meeting run) box profile (tell_said profile words)))
+    tell_words_give only words =
+        subst (λ b. Gives (by_view b) z fresh (tell_words_work (alone_meeting run) box profile (tell_said profile words)).text (tell_by run profile (tell_said profile words)) (CommandEnds b (tell_words_work (alone_meeting run) box profile (tell_said profile words)))) (sym only)
+        (tell_words_true (homes only) (tell_said profile words) (λ said e. tell_words_valid profile words said e) (λ e is. tell_refuses profile words e is))
+
     pick_words_true : AreAllHomes run c → (value : Result PickWords Ended) → ((words : PickWords) → value ≡ Ok words → IsValid words.folder) → ((e : Ended) → value ≡ Err e → IsRefusal e.fault)
         → Gives (by_view true) z fresh (pick_words_work (alone_meeting run) box profile value).text (pick_by run profile value) (CommandEnds true (pick_words_work (alone_meeting run) box profile value))
     unfolding Gives lifted mailbox_in
@@ -509,6 +540,7 @@ module _ (alone : Bool) (run : ℕ) (c : Contents) (few : run < 2 ^ 128) (homes 
     by_word caller word words (Some Pick) only bare = pick_words_give (only refl) caller (map chars words)
     by_word caller word words (Some Refile) only bare = refile_words_give (only refl) (bare refl) (map chars words)
     by_word caller word words (Some Rmm) only bare = rmm_words_give (only refl) (map chars words)
+    by_word caller word words (Some FolderCommand) only bare = tell_words_give (only refl) (map chars words)
 
     by_name : (caller : Caller) (words : List (List ℕ)) → (begins_folders (command_of words) ≡ true → alone ≡ true) → (makes_folders (command_of words) ≡ true → IsBare c) → Gives (by_view alone) z fresh (named_work (alone_meeting run) box caller profile words).text (command_by run caller profile words) (CommandEnds alone (named_work (alone_meeting run) box caller profile words))
     unfolding Gives

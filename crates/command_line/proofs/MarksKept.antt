@@ -40,6 +40,13 @@ use Rattle.mark_command.specs.declared.job.MarkAct.{MarkAct}
 use Rattle.mark_command.specs.declared.job.MarkJob.{MarkJob}
 use Rattle.mark_command.proofs.MarkMinds.{changes_meet}
 use Rattle.mark_command.proofs.MarkPledged.{mark_keeps}
+use Rattle.told_folders.specs.Plans.{folder_changed}
+use Rattle.told_folders.specs.Pledge.{change_pledge, look_pledge}
+use Rattle.told_folders.proofs.ChangesMind.{changes_meet as tells_meet}
+use Rattle.told_folders.proofs.ChangesPledged.{changes_keep as tells_keep}
+use Rattle.folder_command.specs.Folder.{folder as tell, folder_by, pledge_by as tell_pledge_by, task_with}
+use Rattle.folder_command.specs.declared.job.FolderJob.{FolderJob}
+use Rattle.folder_command.proofs.Orderly.{orderly}
 use Rattle.refile_command.specs.HeldLeft.{RemovesUnheld}
 use Rattle.refile_command.specs.RefileHeld.{TakesUnheld}
 use Rattle.refile_command.specs.Rmm.{rmm}
@@ -51,26 +58,28 @@ use Rattle.command_words.specs.Ended.{ended_cause, plain}
 use Rattle.command_words.specs.MarkWords.{mark_said}
 use Rattle.command_words.specs.RefileWords.{refile_said}
 use Rattle.command_words.specs.RmmWords.{rmm_said}
+use Rattle.command_words.specs.TellWords.{tell_said}
 use Rattle.command_words.specs.declared.ended.Ended.{Ended}
+use Rattle.command_words.specs.declared.folder.FolderWords.{FolderWords}
 use Rattle.command_words.specs.declared.mark.MarkWords.{MarkWords}
 use Rattle.command_words.specs.declared.rmm.RmmWords.{RmmWords}
 use Rattle.command_words.proofs.SaidFolder.{IsValid}
-use Rattle.command_line.specs.Command.{command, mark_by, mark_job, picked_by, rmm_by, rmm_job, word_by}
+use Rattle.command_line.specs.Command.{command, mark_by, mark_job, picked_by, rmm_by, rmm_job, word_by, tell_by, tell_job}
 use Rattle.command_line.specs.CommandMarks.{IsTextName, KeepsCommandMarks, KeepsWhere}
 use Rattle.command_line.specs.CommandNames.{begins_folders, command_of, named}
-use Rattle.command_line.specs.CommandPledge.{entries_by, marks_pledge, on_named, rmm_on_named, rmms_pledge}
+use Rattle.command_line.specs.CommandPledge.{entries_by, marks_pledge, on_named, rmm_on_named, rmms_pledge, tell_on_named, tells_pledge}
 use Rattle.command_line.specs.Profile.{folder_of, path_of, profile_name}
 use Rattle.command_line.specs.declared.name.CommandName.{CommandName}
-use Rattle.command_line.specs.declared.name.CommandName.TheVariants.{Inc, Mark, Pick, Refile, Rmm, Scan}
+use Rattle.command_line.specs.declared.name.CommandName.TheVariants.{Folder as FolderCommand, Inc, Mark, Pick, Refile, Rmm, Scan}
 use Rattle.command_line.specs.declared.caller.Caller.{Caller}
 use Rattle.command_line.proofs.IncKept.{inc_kept}
 use Rattle.command_line.proofs.MindingPlans.{Minding, NothingMore, minding_kept, minding_where, minds_own, minds_with, ok_one, sound_so}
 use Rattle.command_line.proofs.MindsMarks.{command_keeps_sequences, minds_sequences}
-use Rattle.command_line.proofs.Pledging.{Answered, answers, context_keeps, context_step, known_sound, mark_acts, mark_onward, mark_words_keep, named_onward, on_context, onward_by, plan_by, profile_step, rmm_acts, rmm_onward, rmm_words_keep, two_readings, word_onward}
-use Rattle.command_line.proofs.FolderChars.{AreUtf8, HasChars, acted_chars, chars_texts, mark_chars, pick_chars, refile_chars, rmm_chars}
+use Rattle.command_line.proofs.Pledging.{Answered, answers, context_keeps, context_step, known_sound, mark_acts, mark_onward, mark_words_keep, named_onward, on_context, onward_by, plan_by, profile_step, rmm_acts, rmm_onward, rmm_words_keep, two_readings, word_onward, tell_acts, tell_onward, tell_words_keep}
+use Rattle.command_line.proofs.FolderChars.{AreUtf8, HasChars, acted_chars, chars_texts, mark_chars, pick_chars, refile_chars, rmm_chars, tell_chars}
 use Rattle.command_line.proofs.PickMarks.{pick_minding}
 use Rattle.command_line.proofs.RefileMarks.{refile_minding}
-use Rattle.command_line.proofs.SaidFolder.{acted_valid, mark_valid, refile_words_valid, rmm_words_valid}
+use Rattle.command_line.proofs.SaidFolder.{acted_valid, mark_valid, refile_words_valid, rmm_words_valid, tell_words_valid}
 use Rattle.command_line.proofs.SaidPick.{pick_valid}
 use Rattle.command_line.proofs.Begun.{Any, any_so, none_read, start_same}
 use Rattle.command_line.proofs.TwoAnswers.{follows_so, keeps_after, keeps_ended, rest_by}
@@ -100,6 +109,33 @@ module _ (run : ℕ) (path : List ℕ) (job : MarkJob) (valid : is_folder_name j
   looks_mind = record {
     public = λ mail folder sequence own s may. (minds_sequences run path).public mail folder sequence own s (looks_may own s may);
     private = λ mail folder sequence own s may. (minds_sequences run path).private mail folder sequence own s (looks_may own s may);
+  }
+
+-- so may a `folder` without words
+module _ (run : ℕ) (path : List ℕ) (job : FolderJob) (valid : is_folder_name job.folder ≡ true) where
+  tell_looks_marked : (own : List Deed) (s : Step) → Marks (look_pledge run path (task_with [] job)) own s → Marks (scan_pledge run path) own s
+  tell_looks_marked own (step.List p) m = tt
+  tell_looks_marked own (step.Read p n limit) m = tt
+  tell_looks_marked own (step.MakeFolder p) m = tt
+  tell_looks_marked own (step.Create p n b) m = tt
+  tell_looks_marked own (step.SyncFile p n) m = tt
+  tell_looks_marked own (step.SyncFolder p) m = tt
+  tell_looks_marked own (step.Link p a b) m = tt
+  tell_looks_marked own (step.Rename p temp name) m = λ is. let k = m is in record { old = k.old; new = k.new; is_base = k.is_base; created = k.created; made = (job.folder, valid, k.made.0, k.made.1) }
+  tell_looks_marked own (step.Unlink p a) m = tt
+  tell_looks_marked own (step.Lock p) m = tt
+  tell_looks_marked own (step.Unlock p) m = tt
+  tell_looks_marked own (step.ReadFile f limit) m = tt
+  tell_looks_marked own (step.ReadDrop f from most) m = tt
+  tell_looks_marked own (step.CutDrop f length_) m = tt
+
+  tell_looks_may : (own : List Deed) (s : Step) → MayAsk (look_pledge run path (task_with [] job)) own s → MayAsk (scan_pledge run path) own s
+  tell_looks_may own s m = record { is_own = m.is_own; marks = tell_looks_marked own s m.marks; steps = λ no. tt }
+
+  tell_looks_mind : MindsSequences (look_pledge run path (task_with [] job))
+  tell_looks_mind = record {
+    public = λ mail folder sequence own s may. (minds_sequences run path).public mail folder sequence own s (tell_looks_may own s may);
+    private = λ mail folder sequence own s may. (minds_sequences run path).private mail folder sequence own s (tell_looks_may own s may);
   }
 
 module _ (run : ℕ) (few : run < 2 ^ 128) (profile : List NamedValue) (h : Hand) where
@@ -178,6 +214,81 @@ module _ (run : ℕ) (few : run < 2 ^ 128) (profile : List NamedValue) (h : Hand
                 (λ c d sound. context_keeps (changes_pledge words (entries_by b) folder real text a) (two_readings profile c d) h sound profile words.folder (mark_acts run profile words) Any (reading_of b)
                 (λ other known. subst (λ z. Keeps (rules_of (changes_pledge words (entries_by b) folder real text a)) (two_readings profile c d) (knowing (entries_by b) h) (mark_acts run profile words z) (IfOkay Any)) (ok_one (folder_of words.folder (entries_by b) profile) folder other is known)
                 (acts_keep words (entries_by b) folder real text a some c d (known_sound (changes_pledge words (entries_by b) folder real text a) (acts (two_readings profile c d)) h (entries_by b) sound))));
+          }
+
+  -- a `folder` with words
+  module _ (words : FolderWords) (es : List NamedValue) (folder : List ℕ) (valid : is_folder_name folder ≡ true) (text : IsTextName folder) (specs : List (List ℕ)) where
+    abbrev tell_job_ : FolderJob
+    tell_job_ = tell_job folder words profile
+
+    abbrev sets_pledge : Pledge
+    sets_pledge = with_step (change_pledge run path (task_with specs tell_job_)) (λ own s. MindsAll (λ other. IsTold folder other) run own s)
+
+    told_minds : MindsSequencesOf IsTextName (with_step sets_pledge NoMore)
+    told_minds = minds_own folder (with_step sets_pledge NoMore) text (pledge_minds (λ other. IsTold folder other) (with_step sets_pledge NoMore) (λ own s may. may.0.1))
+
+    set_keeps : (c d : Answer) → Sound sets_pledge (acts (two_readings profile c d)) (knowing es h) → Keeps (rules_of sets_pledge) (two_readings profile c d) (knowing es h) (folder_changed run path (task_with specs tell_job_)) (IfOkay Any)
+    set_keeps c d sound =
+        keeps_more (rules_of sets_pledge) (two_readings profile c d) (knowing es h) (folder_changed run path (task_with specs tell_job_)) (IfOkay (Still (acts (two_readings profile c d)))) (IfOkay Any) (λ later i r q. any_so (Still (acts (two_readings profile c d))) later i r q)
+        (keeps_met (change_pledge run path (task_with specs tell_job_)) (λ own s. MindsAll (λ other. IsTold folder other) run own s) (two_readings profile c d) (acts (two_readings profile c d)) (knowing es h) (folder_changed run path (task_with specs tell_job_)) (IfOkay (Still (acts (two_readings profile c d)))) Anyhow refl
+        (tells_keep run few path (task_with specs tell_job_) (two_readings profile c d) (knowing es h) (sound_so (change_pledge run path (task_with specs tell_job_)) (λ own s. MindsAll (λ other. IsTold folder other) run own s) (acts (two_readings profile c d)) (knowing es h) sound))
+        (tells_meet run path (task_with specs tell_job_) (orderly specs tell_job_) (current_valid folder valid) (acts (two_readings profile c d)) (knowing es h) (none_read profile folder c d)))
+
+    sets_keep : (word : List ℕ) (rest : List (List ℕ)) → specs ≡ word ∷ rest → words.specs ≡ specs → (c d : Answer) → Sound sets_pledge (acts (two_readings profile c d)) (knowing es h) → Keeps (rules_of sets_pledge) (two_readings profile c d) (knowing es h) (tell_acts run profile words folder) (IfOkay Any)
+    unfolding tell
+    sets_keep word rest some is c d sound =
+        subst (λ o. Keeps (rules_of sets_pledge) (two_readings profile c d) (knowing es h) (folder_by run path tell_job_ o) (IfOkay Any)) (sym is)
+        (set_by specs word rest some (set_keeps c d sound))
+      where
+        set_by : (l : List (List ℕ)) (word : List ℕ) (rest : List (List ℕ)) → l ≡ word ∷ rest
+            → Keeps (rules_of sets_pledge) (two_readings profile c d) (knowing es h) (folder_changed run path (task_with l tell_job_)) (IfOkay Any)
+            → Keeps (rules_of sets_pledge) (two_readings profile c d) (knowing es h) (folder_by run path tell_job_ l) (IfOkay Any)
+        set_by [] word rest e k = cc (e)
+        set_by (x ∷ xs) word rest e k = k
+
+  abbrev tell_plan : Answer → FolderWords → Plan (Result Unit Ended)
+  tell_plan b words = Ask profile_step (λ c. rest_by (context_step profile) (tell_by run profile (Ok words)) (tell_onward run profile (Ok words)) b)
+
+  tell_minding : (b : Answer) (value : Result FolderWords Ended) → ((words : FolderWords) → value ≡ Ok words → IsValid words.folder × HasChars words.folder) → Minding run NoMore h (Ask profile_step (λ c. rest_by (context_step profile) (tell_by run profile value) (tell_onward run profile value) b))
+  unfolding tell_onward
+  tell_minding b (Err e) valid = record {
+    pledge = tells_pledge run profile (entries_by b) (Err e);
+    run_is = refl;
+    minds = minds_with (scan_pledge run path) NoMore (minds_sequences run path);
+    Q = _;
+    keeps = tell_words_keep run few profile h b (Err e);
+  }
+  tell_minding b (Ok words) valid = named_by (folder_of words.folder (entries_by b) profile) refl
+    where
+      named_by : (v : Result (List ℕ) CommandFault) → folder_of words.folder (entries_by b) profile ≡ v → Minding run NoMore h (tell_plan b words)
+      named_by (Err e) is = record {
+        pledge = tell_on_named run profile words (folder_of words.folder (entries_by b) profile);
+        run_is = ap (λ v. (tell_on_named run profile words v).run) is;
+        minds = subst (λ v. MindsSequencesOf IsTextName (with_step (tell_on_named run profile words v) NoMore)) (sym is) (minds_with (scan_pledge run path) NoMore (minds_sequences run path));
+        Q = _;
+        keeps = tell_words_keep run few profile h b (Ok words);
+      }
+      named_by (Ok folder) is = acted (acted_valid words.folder (entries_by b) profile folder (valid words refl).0 is) (acted_chars words.folder (entries_by b) profile folder (valid words refl).1 is) words.specs refl
+        where
+          acted : is_folder_name folder ≡ true → IsTextName folder → (o : List (List ℕ)) → words.specs ≡ o → Minding run NoMore h (tell_plan b words)
+          acted real text [] none = record {
+            pledge = tell_on_named run profile words (folder_of words.folder (entries_by b) profile);
+            run_is = ap (λ v. (tell_on_named run profile words v).run) is ∙ ap (λ o. (tell_pledge_by run path (tell_job folder words profile) o).run) none;
+            minds = subst (λ v. MindsSequencesOf IsTextName (with_step (tell_on_named run profile words v) NoMore)) (sym is)
+                (subst (λ o. MindsSequencesOf IsTextName (with_step (tell_pledge_by run path (tell_job folder words profile) o) NoMore)) (sym none)
+                (minds_with (look_pledge run path (task_with [] (tell_job folder words profile))) NoMore (tell_looks_mind run path (tell_job folder words profile) real)));
+            Q = _;
+            keeps = tell_words_keep run few profile h b (Ok words);
+          }
+          acted real text (word ∷ rest) some = record {
+            pledge = sets_pledge words (entries_by b) folder real text (word ∷ rest);
+            run_is = refl;
+            minds = told_minds words (entries_by b) folder real text (word ∷ rest);
+            Q = IfOkay Any;
+            keeps = keeps_after (sets_pledge words (entries_by b) folder real text (word ∷ rest)) Home (Mail path) profile_name context_name LIMIT_BYTES h (on_context profile words.folder (tell_acts run profile words) (reading_of b)) (IfOkay Any)
+                (λ c d sound. context_keeps (sets_pledge words (entries_by b) folder real text (word ∷ rest)) (two_readings profile c d) h sound profile words.folder (tell_acts run profile words) Any (reading_of b)
+                (λ other known. subst (λ z. Keeps (rules_of (sets_pledge words (entries_by b) folder real text (word ∷ rest))) (two_readings profile c d) (knowing (entries_by b) h) (tell_acts run profile words z) (IfOkay Any)) (ok_one (folder_of words.folder (entries_by b) profile) folder other is known)
+                (sets_keep words (entries_by b) folder real text (word ∷ rest) word rest refl some c d (known_sound (sets_pledge words (entries_by b) folder real text (word ∷ rest)) (acts (two_readings profile c d)) h (entries_by b) sound))));
           }
 
   -- `rmm`
@@ -261,6 +372,12 @@ module _ (run : ℕ) (few : run < 2 ^ 128) (caller : Caller) (word : List ℕ) (
       subst (λ z. Minding run NothingMore h (Ask profile_step (λ c. rest_by (context_step profile) (word_by run caller profile word words z) (word_onward run profile caller word words z) b))) (sym is)
       (mark_minding run few profile h b (mark_said profile (map chars words)) (λ said e. (mark_valid profile (map chars words) said e, mark_chars profile (map chars words) said (chars_texts words texts) e)))
 
+  tell_named : (profile : List NamedValue) (name : Option CommandName) → name ≡ Some FolderCommand → Minding run NothingMore h (Ask profile_step (λ c. rest_by (context_step profile) (word_by run caller profile word words name) (word_onward run profile caller word words name) b))
+  unfolding word_onward
+  tell_named profile name is =
+      subst (λ z. Minding run NothingMore h (Ask profile_step (λ c. rest_by (context_step profile) (word_by run caller profile word words z) (word_onward run profile caller word words z) b))) (sym is)
+      (tell_minding run few profile h b (tell_said profile (map chars words)) (λ said e. (tell_words_valid profile (map chars words) said e, tell_chars profile (map chars words) said (chars_texts words texts) e)))
+
   pick_named : (profile : List NamedValue) (name : Option CommandName) → name ≡ Some Pick → Minding run NothingMore h (Ask profile_step (λ c. rest_by (context_step profile) (word_by run caller profile word words name) (word_onward run profile caller word words name) b))
   unfolding word_onward
   pick_named profile name is =
@@ -285,6 +402,12 @@ module _ (run : ℕ) (few : run < 2 ^ 128) (caller : Caller) (word : List ℕ) (
   mark_read (reading.Content bytes) is = mark_named (entries_in bytes) (named word) is
   mark_read (reading.Long l) is = long_minding NothingMore l
   mark_read reading.Gone is = mark_named (entries_in []) (named word) is
+
+  tell_read : (r : Reading) → named word ≡ Some FolderCommand → Minding run NothingMore h (plan_by run few caller all r b)
+  unfolding onward_by named_onward lifted bind ◌>>=◌
+  tell_read (reading.Content bytes) is = tell_named (entries_in bytes) (named word) is
+  tell_read (reading.Long l) is = long_minding NothingMore l
+  tell_read reading.Gone is = tell_named (entries_in []) (named word) is
 
   pick_read : (r : Reading) → named word ≡ Some Pick → Minding run NothingMore h (plan_by run few caller all r b)
   unfolding onward_by named_onward lifted bind ◌>>=◌
@@ -312,6 +435,15 @@ module _ (run : ℕ) (few : run < 2 ^ 128) (caller : Caller) (x y : State) (resu
       go : Answered run few caller (word ∷ words) x.hand y.hand (deeds_in f.went.log) (exit_of ended_cause result) → KeepsSequencesOf IsTextName run x.files.story y.files.story
       go t =
           let m = mark_read run few caller word words texts x.hand t.second (reading_of t.first) is in
+          minding_kept run ended_cause (plan_by run few caller (word ∷ words) (reading_of t.first) t.second) x y result m
+          (follows_so run ended_cause (command run caller (word ∷ words)) (plan_by run few caller (word ∷ words) (reading_of t.first) t.second) x y result f t.runs) (start_same run ended_cause (command run caller (word ∷ words)) x y result f)
+
+  tell_kept : (word : List ℕ) (words : List (List ℕ)) → AreUtf8 words → named word ≡ Some FolderCommand → Follows run ended_cause (command run caller (word ∷ words)) x y result → KeepsSequencesOf IsTextName run x.files.story y.files.story
+  tell_kept word words texts is f = go (answers run few caller (word ∷ words) x y result f)
+    where
+      go : Answered run few caller (word ∷ words) x.hand y.hand (deeds_in f.went.log) (exit_of ended_cause result) → KeepsSequencesOf IsTextName run x.files.story y.files.story
+      go t =
+          let m = tell_read run few caller word words texts x.hand t.second (reading_of t.first) is in
           minding_kept run ended_cause (plan_by run few caller (word ∷ words) (reading_of t.first) t.second) x y result m
           (follows_so run ended_cause (command run caller (word ∷ words)) (plan_by run few caller (word ∷ words) (reading_of t.first) t.second) x y result f t.runs) (start_same run ended_cause (command run caller (word ∷ words)) x y result f)
 
@@ -348,6 +480,7 @@ module _ (run : ℕ) (few : run < 2 ^ 128) (caller : Caller) (x y : State) (resu
   by_name word words texts f (Some Pick) is = pick_kept word words texts is f
   by_name word words texts f (Some Refile) is = refile_kept word words texts is f
   by_name word words texts f (Some Rmm) is = rmm_kept word words texts is f
+  by_name word words texts f (Some FolderCommand) is = tell_kept word words texts is f
 
   pub command_keeps_marks : (words : List (List ℕ)) → AreUtf8 words → Follows run ended_cause (command run caller words) x y result → KeepsCommandMarks (command_of words) run x.files.story y.files.story
   command_keeps_marks [] texts f = command_keeps_sequences run few caller [] refl x y result f

@@ -42,6 +42,8 @@ use Rattle.mark_command.specs.Mark.{mark}
 use Rattle.mark_command.specs.MarkPledge.{pledge_by}
 use Rattle.mark_command.specs.declared.job.MarkAct.{MarkAct}
 use Rattle.mark_command.proofs.MarkPledged.{mark_keeps}
+use Rattle.folder_command.specs.Folder.{folder as tell, pledge_by as tell_pledge_by}
+use Rattle.folder_command.proofs.FolderPledged.{folder_keeps}
 use Rattle.pick_command.specs.Pick.{pick}
 use Rattle.pick_command.specs.PickPledge.{pledge_by as pick_pledge_by}
 use Rattle.pick_command.specs.declared.job.PickMarks.{PickMarks}
@@ -52,7 +54,9 @@ use Rattle.command_words.specs.MarkWords.{mark_said}
 use Rattle.command_words.specs.RefileWords.{refile_said}
 use Rattle.command_words.specs.RmmWords.{rmm_said}
 use Rattle.command_words.specs.ScanWords.{scan_said}
+use Rattle.command_words.specs.TellWords.{tell_said}
 use Rattle.command_words.specs.declared.ended.Ended.{Ended}
+use Rattle.command_words.specs.declared.folder.FolderWords.{FolderWords}
 use Rattle.command_words.specs.declared.mark.MarkWords.{MarkWords}
 use Rattle.command_words.specs.declared.pick.PickWords.{PickWords}
 use Rattle.command_words.specs.declared.refile.RefileWords.{RefileWords}
@@ -65,13 +69,13 @@ use Rattle.refile_command.specs.declared.job.RefileJob.{RefileJob}
 use Rattle.refile_command.proofs.RefileMoved.{HasHeldNone}
 use Rattle.refile_command.proofs.RefilePledged.{EndsRefiled, refile_keeps}
 use Rattle.refile_command.proofs.RmmPledged.{rmm_keeps}
-use Rattle.command_line.specs.Command.{command, command_by, context_entered, context_seen, folder_found, inc_begun, inc_by, job_of, mark_begun, mark_by, mark_job, no_command, pick_begun, pick_by, pick_job, picked_by, refile_begun, refile_by, refile_job, rmm_begun, rmm_by, rmm_job, scan_begun, scan_by, word_by}
+use Rattle.command_line.specs.Command.{command, command_by, context_entered, context_seen, folder_found, inc_begun, inc_by, job_of, mark_begun, mark_by, mark_job, no_command, pick_begun, pick_by, pick_job, picked_by, refile_begun, refile_by, refile_job, rmm_begun, rmm_by, rmm_job, scan_begun, scan_by, word_by, tell_begun, tell_by, tell_job}
 use Rattle.command_line.specs.CommandNames.{command_of, named}
-use Rattle.command_line.specs.CommandPledge.{IsDone, KeepsPledge, command_pledge, entries_by, incs_pledge, marks_pledge, on_named, path_by, pick_on_named, picks_pledge, refile_on_named, refiles_pledge, rmm_on_named, rmms_pledge, text_of, word_pledge}
+use Rattle.command_line.specs.CommandPledge.{IsDone, KeepsPledge, command_pledge, entries_by, incs_pledge, marks_pledge, on_named, path_by, pick_on_named, picks_pledge, refile_on_named, refiles_pledge, rmm_on_named, rmms_pledge, text_of, word_pledge, tell_on_named, tells_pledge}
 use Rattle.command_line.specs.Incorporating.{job_by}
 use Rattle.command_line.specs.Profile.{folder_of, path_of, profile_name}
 use Rattle.command_line.specs.declared.name.CommandName.{CommandName}
-use Rattle.command_line.specs.declared.name.CommandName.TheVariants.{Inc, Mark, Pick, Refile, Rmm, Scan}
+use Rattle.command_line.specs.declared.name.CommandName.TheVariants.{Folder as FolderCommand, Inc, Mark, Pick, Refile, Rmm, Scan}
 use Rattle.command_line.specs.declared.caller.Caller.{Caller}
 use Rattle.command_line.proofs.SaidFolder.{acted_valid, asked_valid}
 use Rattle.command_line.proofs.TwoAnswers.{Onward, TwoAnswers, acts_begin_with, follows_so, keeps_after, keeps_ended, may_read, rest_by, two_answers}
@@ -112,6 +116,9 @@ module _ (run : ℕ) (profile : List NamedValue) where
   abbrev pub mark_acts : MarkWords → List ℕ → Commanded Unit
   mark_acts words folder = mark run (path_of profile) (mark_job folder words profile)
 
+  abbrev pub tell_acts : FolderWords → List ℕ → Commanded Unit
+  tell_acts words folder = tell run (path_of profile) (tell_job folder words profile)
+
   abbrev pub pick_acts : PickWords → List ℕ → Commanded Unit
   pick_acts words folder = pick run (path_of profile) (pick_job folder words profile)
 
@@ -130,6 +137,11 @@ module _ (run : ℕ) (profile : List NamedValue) where
   unfolding mark_begun
   mark_onward (Ok words) = inr (λ b. on_context profile words.folder (mark_acts words) (reading_of b), context_asked profile words.folder (mark_acts words))
   mark_onward (Err e) = inl (Err e, refl)
+
+  unfoldable pub tell_onward : (value : Result FolderWords Ended) → Onward (context_step profile) (tell_by run profile value)
+  unfolding tell_begun
+  tell_onward (Ok words) = inr (λ b. on_context profile words.folder (tell_acts words) (reading_of b), context_asked profile words.folder (tell_acts words))
+  tell_onward (Err e) = inl (Err e, refl)
 
   unfoldable pub pick_onward : (value : Result PickWords Ended) → Onward (context_step profile) (pick_by run profile value)
   unfolding pick_begun
@@ -159,6 +171,7 @@ module _ (run : ℕ) (profile : List NamedValue) where
   word_onward caller word words (Some Pick) = pick_onward (picked_by caller profile (map chars words))
   word_onward caller word words (Some Refile) = refile_onward (refile_said profile (map chars words))
   word_onward caller word words (Some Rmm) = rmm_onward (rmm_said profile (map chars words))
+  word_onward caller word words (Some FolderCommand) = tell_onward (tell_said profile (map chars words))
 
   unfoldable pub named_onward : (caller : Caller) (words : List (List ℕ)) → Onward (context_step profile) (command_by run caller profile words)
   named_onward caller [] = inl (Err (no_command None), refl)
@@ -291,6 +304,37 @@ module _ (run : ℕ) (few : run < 2 ^ 128) (profile : List NamedValue) (h : Hand
       w = on_named run profile words (folder_of words.folder (entries_by b) profile)
   mark_words_keep b (Err e) = keeps_ended look Home profile_name LIMIT_BYTES h (Err e) (IfOkay (Finished (Some Mark) path)) (λ c. tt)
 
+  -- `folder`
+  tell_done : (a b : Answer) (later : List Done) (j : Hand) (r : Result Unit CommandFault) → IfOkay (Still (acts (two_readings profile a b))) later j r → IfOkay (Finished (Some FolderCommand) path) later j r
+  tell_done a b later j (Ok u) f = record { is_done = f.settled (two_settled profile a b); unfailed = f.unfailed }
+  tell_done a b later j (Err e) f = tt
+
+  module _ (words : FolderWords) (a b : Answer) (es : List NamedValue) (folder : List ℕ) where
+    abbrev TellKeeps : Pledge → Type 0
+    TellKeeps w = Sound w (acts (two_readings profile a b)) h → Keeps (rules_of w) (two_readings profile a b) (knowing es h) (tell_acts run profile words folder) (IfOkay (Finished (Some FolderCommand) path))
+
+    told_so : TellKeeps (tell_on_named run profile words (Ok folder))
+    unfolding tell
+    told_so sound =
+        let w = tell_on_named run profile words (Ok folder) in
+        keeps_more (rules_of w) (two_readings profile a b) (knowing es h) (tell_acts run profile words folder) (IfOkay (Still (acts (two_readings profile a b)))) (IfOkay (Finished (Some FolderCommand) path)) (tell_done a b)
+        (folder_keeps run few path (tell_job folder words profile) words.specs (two_readings profile a b) (knowing es h) (known_sound w (acts (two_readings profile a b)) h es sound))
+
+    told_at : folder_of words.folder es profile ≡ Ok folder → TellKeeps (tell_on_named run profile words (folder_of words.folder es profile))
+    told_at is = subst (λ v. TellKeeps (tell_on_named run profile words v)) (sym is) told_so
+
+  pub tell_words_keep : (b : Answer) (value : Result FolderWords Ended)
+      → Keeps (rules_of (tells_pledge run profile (entries_by b) value)) [] h (Ask profile_step (λ c. rest_by (context_step profile) (tell_by run profile value) (tell_onward run profile value) b)) (IfOkay (Finished (Some FolderCommand) path))
+  unfolding tell_onward
+  tell_words_keep b (Ok words) =
+      keeps_after w Home (Mail path) profile_name context_name LIMIT_BYTES h (on_context profile words.folder (tell_acts run profile words) (reading_of b)) (IfOkay (Finished (Some FolderCommand) path))
+      (λ c d sound. context_keeps w (two_readings profile c d) h sound profile words.folder (tell_acts run profile words) (Finished (Some FolderCommand) path) (reading_of b)
+      (λ folder is. told_at words c d (entries_by b) folder is sound))
+    where
+      w : Pledge
+      w = tell_on_named run profile words (folder_of words.folder (entries_by b) profile)
+  tell_words_keep b (Err e) = keeps_ended look Home profile_name LIMIT_BYTES h (Err e) (IfOkay (Finished (Some FolderCommand) path)) (λ c. tt)
+
   -- `pick`
   pick_done : (a b : Answer) (later : List Done) (j : Hand) (r : Result Unit CommandFault) → IfOkay (Still (acts (two_readings profile a b))) later j r → IfOkay (Finished (Some Pick) path) later j r
   pick_done a b later j (Ok u) f = record { is_done = f.settled (two_settled profile a b); unfailed = f.unfailed }
@@ -414,6 +458,7 @@ module _ (run : ℕ) (few : run < 2 ^ 128) (profile : List NamedValue) (h : Hand
   word_keeps caller b word words (Some Pick) = pick_words_keep b (picked_by caller profile (map chars words))
   word_keeps caller b word words (Some Refile) = refile_words_keep b (refile_said profile (map chars words))
   word_keeps caller b word words (Some Rmm) = rmm_words_keep b (rmm_said profile (map chars words))
+  word_keeps caller b word words (Some FolderCommand) = tell_words_keep b (tell_said profile (map chars words))
 
   named_keeps : (caller : Caller) (b : Answer) (words : List (List ℕ))
       → Keeps (rules_of (command_pledge run caller words profile (entries_by b))) [] h (Ask profile_step (λ c. rest_by (context_step profile) (command_by run caller profile words) (named_onward run profile caller words) b)) (IfOkay (Finished (command_of words) path))
@@ -437,6 +482,18 @@ pledge_run run caller (word ∷ words) profile context = go (named word)
     marks_by : (value : Result MarkWords Ended) → (marks_pledge run profile context value).run ≡ run
     marks_by (Ok said) = on said (folder_of said.folder context profile)
     marks_by (Err e) = refl
+
+    tells_by : (value : Result FolderWords Ended) → (tells_pledge run profile context value).run ≡ run
+    tells_by (Ok said) = by_folder (folder_of said.folder context profile)
+      where
+        by_specs : (folder : List ℕ) (specs : List (List ℕ)) → (tell_pledge_by run (path_of profile) (tell_job folder said profile) specs).run ≡ run
+        by_specs folder [] = refl
+        by_specs folder (word ∷ words) = refl
+
+        by_folder : (value : Result (List ℕ) CommandFault) → (tell_on_named run profile said value).run ≡ run
+        by_folder (Ok folder) = by_specs folder said.specs
+        by_folder (Err e) = refl
+    tells_by (Err e) = refl
 
     picks_by : (value : Result PickWords Ended) → (picks_pledge run profile context value).run ≡ run
     picks_by (Ok said) = by_folder (folder_of said.folder context profile)
@@ -478,6 +535,7 @@ pledge_run run caller (word ∷ words) profile context = go (named word)
     go (Some Pick) = picks_by (picked_by caller profile (map chars words))
     go (Some Refile) = refiles_by (refile_said profile (map chars words))
     go (Some Rmm) = removes_by (rmm_said profile (map chars words))
+    go (Some FolderCommand) = tells_by (tell_said profile (map chars words))
 
 module _ (run : ℕ) (few : run < 2 ^ 128) (caller : Caller) (words : List (List ℕ)) where
   -- the command, by what reading the profile gave

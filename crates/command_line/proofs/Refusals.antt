@@ -19,11 +19,13 @@ use Rattle.command_words.specs.RefileWords as refile_words
 use Rattle.command_words.specs.RefileWords.{refile_said}
 use Rattle.command_words.specs.RmmWords.{folder_said as rmm_words_said, items_said as rmm_items, rmm_said, with_folder as rmm_folder}
 use Rattle.command_words.specs.ScanWords.{folder_said, items_said, scan_said, with_folder}
+use Rattle.command_words.specs.TellWords.{folder_and_message, folder_said as tell_words_said, items_said as tell_items, tell_said, with_folder as tell_folder}
 use Rattle.command_words.specs.SequenceNames.{unless_wrong, wrong_names}
-use Rattle.command_words.specs.Tables.{inc_table, mark_table, refile_table, rmm_table, scan_table}
+use Rattle.command_words.specs.Tables.{folder_table, inc_table, mark_table, refile_table, rmm_table, scan_table}
 use Rattle.command_words.specs.Words.{profile_words}
 use Rattle.command_words.specs.declared.ended.Ended.{Ended}
 use Rattle.command_words.specs.declared.inc.IncWords.{IncWords}
+use Rattle.command_words.specs.declared.folder.FolderWords.{FolderWords}
 use Rattle.command_words.specs.declared.mark.MarkWords.{MarkWords}
 use Rattle.command_words.specs.declared.refile.RefileWords.{RefileWords}
 use Rattle.command_words.specs.declared.rmm.RmmWords.{RmmWords}
@@ -143,6 +145,30 @@ rmm_items_refuse words (Err wrong) = (refusal.BadSwitch wrong.place wrong.why, r
 -- the words of `rmm`
 pub rmm_refuses : (profile : List NamedValue) (words : List (List ℕ)) (e : Ended) → rmm_said profile words ≡ Err e → IsRefusal e.fault
 rmm_refuses profile words e is = subst RmmRefuses is (rmm_items_refuse (profile_words (codes "rmm") profile ++ words) (read_in rmm_table 0 (profile_words (codes "rmm") profile ++ words)))
+
+abbrev TellRefuses : Result FolderWords Ended → Type 0
+TellRefuses (Ok w) = Unit {0}
+TellRefuses (Err e) = IsRefusal e.fault
+
+tell_named_refuses : (items : List Item) (word : List ℕ) → TellRefuses (tell_folder items (named_folder word))
+tell_named_refuses items word = go (is_folder_name (without_plus word))
+  where
+    go : (b : Bool) → TellRefuses (tell_folder items (if b then Ok (without_plus word) else Err (fault.Refused (refusal.BadFolder word))))
+    go true = tt
+    go false = (refusal.BadFolder word, refl)
+
+tell_one_refuses : (words : List (List ℕ)) (items : List Item) (r : Result (Option (List ℕ)) Wrong) → TellRefuses (tell_words_said words items r)
+tell_one_refuses words items (Ok None) = tt
+tell_one_refuses words items (Ok (Some word)) = tell_named_refuses items word
+tell_one_refuses words items (Err wrong) = (refusal.BadSwitch wrong.place wrong.why, refl)
+
+tell_items_refuse : (words : List (List ℕ)) (r : Result (List Item) Wrong) → TellRefuses (tell_items words r)
+tell_items_refuse words (Ok items) = tell_one_refuses words items (folder_and_message items)
+tell_items_refuse words (Err wrong) = (refusal.BadSwitch wrong.place wrong.why, refl)
+
+-- the words of `folder`
+pub tell_refuses : (profile : List NamedValue) (words : List (List ℕ)) (e : Ended) → tell_said profile words ≡ Err e → IsRefusal e.fault
+tell_refuses profile words e is = subst TellRefuses is (tell_items_refuse (profile_words (codes "folder") profile ++ words) (read_in folder_table 0 (profile_words (codes "folder") profile ++ words)))
 
 -- the words of `refile`
 abbrev RefileRefuses : Result RefileWords Ended → Type 0

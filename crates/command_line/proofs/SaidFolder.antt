@@ -15,9 +15,11 @@ use Rattle.command_words.specs.MarkWords.{folder_said as mark_words_said, items_
 use Rattle.command_words.specs.RefileWords.{refile_said}
 use Rattle.command_words.specs.RmmWords.{rmm_said}
 use Rattle.command_words.specs.ScanWords.{scan_said}
-use Rattle.command_words.specs.Tables.{mark_table, refile_table, rmm_table, scan_table}
+use Rattle.command_words.specs.TellWords.{tell_said}
+use Rattle.command_words.specs.Tables.{folder_table, mark_table, refile_table, rmm_table, scan_table}
 use Rattle.command_words.specs.Words.{profile_words}
 use Rattle.command_words.specs.declared.ended.Ended.{Ended}
+use Rattle.command_words.specs.declared.folder.FolderWords.{FolderWords}
 use Rattle.command_words.specs.declared.mark.MarkWords.{MarkWords}
 use Rattle.command_words.specs.declared.refile.RefileWords.{RefileWords}
 use Rattle.command_words.specs.declared.rmm.RmmWords.{RmmWords}
@@ -30,6 +32,7 @@ use Rattle.command_line.specs.declared.caller.Caller.{Caller}
 use Rattle.command_words.proofs.SaidFolder.{IsValid, items_valid, named_valid, no_ok, ok_same}
 use Rattle.command_words.proofs.SaidRefileFolders.{NamesFolders, refile_valid}
 use Rattle.command_words.proofs.SaidRmmFolder.{rmm_valid}
+use Rattle.command_words.proofs.SaidTellFolder.{tell_valid}
 
 -- the folder acted on
 pub acted_valid : (said : Option (List ℕ)) (context profile : List NamedValue) (folder : List ℕ) → IsValid said → folder_of said context profile ≡ Ok folder → is_folder_name folder ≡ true
@@ -55,6 +58,10 @@ asked_valid caller profile words asked e = asked_so caller (scan_said profile wo
 -- the folder of the words of `rmm`
 pub rmm_words_valid : (profile : List NamedValue) (words : List (List ℕ)) (said : RmmWords) → rmm_said profile words ≡ Ok said → IsValid said.folder
 rmm_words_valid profile words said e = rmm_valid (profile_words (codes "rmm") profile ++ words) (read_in rmm_table 0 (profile_words (codes "rmm") profile ++ words)) said e
+
+-- the folder of the words of `folder`
+pub tell_words_valid : (profile : List NamedValue) (words : List (List ℕ)) (said : FolderWords) → tell_said profile words ≡ Ok said → IsValid said.folder
+tell_words_valid profile words said e = tell_valid (profile_words (codes "folder") profile ++ words) (read_in folder_table 0 (profile_words (codes "folder") profile ++ words)) said e
 
 -- the folders of the words of `refile`
 pub refile_words_valid : (profile : List NamedValue) (words : List (List ℕ)) (said : RefileWords) → refile_said profile words ≡ Ok said → NamesFolders said

@@ -20,6 +20,9 @@ use Rattle.mark_command.specs.declared.job.MarkJob.{MarkJob}
 use Rattle.pick_command.specs.PickAnswers.{HasFound, HasFoundListed, ShowsListing as ShowsPickListing, ShowsPicking, TellsNone, TellsSome}
 use Rattle.pick_command.specs.declared.job.PickJob.{PickJob}
 use Rattle.pick_command.specs.declared.job.PickMarks.{PickMarks}
+use Rattle.told_folders.specs.Answers.{HasChanged, ShowsListing as ShowsTellListing, TellsFolder, change_answers}
+use Rattle.folder_command.specs.Folder.{task_with}
+use Rattle.folder_command.specs.declared.job.FolderJob.{FolderJob}
 use Rattle.inc_command.specs.IncAnswers.{IsTextOfNew, ShowsIncorporating}
 use Rattle.inc_command.specs.IncJob.{IncJob}
 use Rattle.refile_command.specs.RefileAnswers.{ShowsRefile}
@@ -31,20 +34,22 @@ use Rattle.command_words.specs.IncWords.{inc_said}
 use Rattle.command_words.specs.MarkWords.{mark_said}
 use Rattle.command_words.specs.RefileWords.{refile_said}
 use Rattle.command_words.specs.RmmWords.{rmm_said}
+use Rattle.command_words.specs.TellWords.{tell_said}
 use Rattle.command_words.specs.declared.ended.Ended.{Ended}
+use Rattle.command_words.specs.declared.folder.FolderWords.{FolderWords}
 use Rattle.command_words.specs.declared.mark.MarkWords.{MarkWords}
 use Rattle.command_words.specs.declared.pick.PickWords.{PickWords}
 use Rattle.command_words.specs.declared.refile.RefileWords.{RefileWords}
 use Rattle.command_words.specs.declared.rmm.RmmWords.{RmmWords}
 use Rattle.command_line.specs.Causes.{IsWrongStored, ShowsCommandFault}
-use Rattle.command_line.specs.Command.{mark_job, pick_job, picked_by, refile_job, rmm_job}
+use Rattle.command_line.specs.Command.{mark_job, pick_job, picked_by, refile_job, rmm_job, tell_job}
 use Rattle.command_line.specs.CommandNames.{named}
 use Rattle.command_line.specs.CommandPledge.{entries_by, path_by}
 use Rattle.command_line.specs.Incorporating.{job_by}
 use Rattle.command_line.specs.Profile.{folder_of, path_of, profile_name}
 use Rattle.command_line.specs.WordCauses.{IsRefusedByWords}
 use Rattle.command_line.specs.declared.name.CommandName.{CommandName}
-use Rattle.command_line.specs.declared.name.CommandName.TheVariants.{Inc, Mark, Pick, Refile, Rmm, Scan}
+use Rattle.command_line.specs.declared.name.CommandName.TheVariants.{Folder as FolderCommand, Inc, Mark, Pick, Refile, Rmm, Scan}
 use Rattle.command_line.specs.declared.caller.Caller.{Caller}
 
 -- what shows how it ended before it came to a folder, once the words are read
@@ -92,6 +97,22 @@ abbrev pub ShowsPickJob : ℕ → List ℕ → PickJob → List NamedValue → R
 ShowsPickJob run path job context r own None = ShowsFinding run path job context r own
 ShowsPickJob run path job context r own (Some p) = ShowsMarkingFound run path job p r own
 
+-- a `folder` without words: at its end it told this of the folder that it read, with these entries of the context; or it is refused as a command that
+-- looks, by what it read
+abbrev pub ShowsTellingOf : ℕ → List ℕ → FolderJob → List NamedValue → Result (List ℕ) CommandFault → List Deed → Type 0
+ShowsTellingOf run path job context (Ok said) own = TellsFolder path (task_with [] job) context said own
+ShowsTellingOf run path job context (Err e) own = ShowsCommandFault run e own × ShowsTellListing path (task_with [] job) context e own
+
+-- one with words: at its end the least message that they choose is the current one, and it said this; or this shows its fault
+abbrev pub ShowsSetting : ℕ → List ℕ → FolderJob → List (List ℕ) → Result (List ℕ) CommandFault → List Deed → Type 0
+ShowsSetting run path job specs (Ok said) own = HasChanged run path (task_with specs job) said own
+ShowsSetting run path job specs (Err e) own = ShowsEnd run path job.folder (change_answers (task_with specs job)) e own
+
+abbrev pub ShowsTelling : ℕ → List ℕ → FolderJob → List NamedValue → Result (List ℕ) CommandFault → List Deed
+    → List (List ℕ) → Type 0
+ShowsTelling run path job context r own [] = ShowsTellingOf run path job context r own
+ShowsTelling run path job context r own (word ∷ words) = ShowsSetting run path job (word ∷ words) r own
+
 -- `rmm` on this folder: at its end it had removed the messages that the job's words choose, and said nothing; or this
 -- shows its fault
 abbrev pub ShowsRemoving : ℕ → List ℕ → RmmJob → Result (List ℕ) CommandFault → List Deed → Type 0
@@ -119,6 +140,14 @@ ShowsPick run profile context folder r own (Ok words) =
     (folder_of words.folder context profile ≡ Ok folder)
     × ShowsPickJob run (path_of profile) (pick_job folder words profile) context r own words.marks
 ShowsPick run profile context folder r own (Err x) = ⊥
+
+-- of `folder`
+abbrev pub ShowsTell : ℕ → List NamedValue → List NamedValue → List ℕ → Result (List ℕ) CommandFault → List Deed
+    → Result FolderWords Ended → Type 0
+ShowsTell run profile context folder r own (Ok words) =
+    (folder_of words.folder context profile ≡ Ok folder)
+    × ShowsTelling run (path_of profile) (tell_job folder words profile) context r own words.specs
+ShowsTell run profile context folder r own (Err x) = ⊥
 
 -- of `rmm`
 abbrev pub ShowsRmm : ℕ → List NamedValue → List NamedValue → List ℕ → Result (List ℕ) CommandFault → List Deed
@@ -156,6 +185,8 @@ ShowsNamed run caller profile context folder r own words (Some Refile) =
     ShowsRefileWords run profile context folder r own (refile_said profile (map chars words))
 ShowsNamed run caller profile context folder r own words (Some Rmm) =
     ShowsRmm run profile context folder r own (rmm_said profile (map chars words))
+ShowsNamed run caller profile context folder r own words (Some FolderCommand) =
+    ShowsTell run profile context folder r own (tell_said profile (map chars words))
 
 -- by the command that the first word names
 abbrev pub ShowsWords : ℕ → Caller → List NamedValue → List NamedValue → List ℕ → Result (List ℕ) CommandFault → List Deed
@@ -238,7 +269,7 @@ pub record TellsNoMatch (run : ℕ) (caller : Caller) (words : List (List ℕ)) 
   pub told : TellsNoneBy run (path_by profile) job (entries_by context) text own job.marks
 
 -- by what these deeds show, this is the text of the command on its folder: that of the sequences that `mark` made or read,
--- where it lists; that of the messages that `pick` found, or that it found none; or what `inc` has told so far
+-- where it lists; what `folder` tells; that of the messages that `pick` found, or that it found none; or what `inc` has told so far
 abbrev pub TellsOnFolder : ℕ → Caller → List (List ℕ) → List ℕ → List Deed → Type 0
 TellsOnFolder run caller words text own =
     ShowsOnFolder run caller words (Ok text) own

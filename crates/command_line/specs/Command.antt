@@ -16,6 +16,8 @@ use Rattle.mark_command.specs.Mark.{mark}
 use Rattle.pick_command.specs.Pick.{pick}
 use Rattle.pick_command.specs.declared.job.PickJob.{PickJob}
 use Rattle.mark_command.specs.declared.job.MarkJob.{MarkJob}
+use Rattle.folder_command.specs.Folder.{folder as tell}
+use Rattle.folder_command.specs.declared.job.FolderJob.{FolderJob}
 use Rattle.inc_command.specs.Inc.{inc}
 use Rattle.inc_command.specs.IncJob.{IncJob}
 use Rattle.refile_command.specs.Refile.{refile}
@@ -23,6 +25,7 @@ use Rattle.refile_command.specs.Rmm.{rmm}
 use Rattle.refile_command.specs.declared.job.RefileJob.{RefileJob}
 use Rattle.refile_command.specs.declared.job.RmmJob.{RmmJob}
 use Rattle.command_words.specs.declared.ended.Ended.{Ended}
+use Rattle.command_words.specs.declared.folder.FolderWords.{FolderWords}
 use Rattle.command_words.specs.declared.mark.MarkWords.{MarkWords}
 use Rattle.command_words.specs.declared.pick.PickWords.{PickWords}
 use Rattle.command_words.specs.declared.refile.RefileWords.{RefileWords}
@@ -34,13 +37,14 @@ use Rattle.command_words.specs.PickWords.{pick_said}
 use Rattle.command_words.specs.RefileWords.{refile_said}
 use Rattle.command_words.specs.RmmWords.{rmm_said}
 use Rattle.command_words.specs.ScanWords.{scan_said}
+use Rattle.command_words.specs.TellWords.{tell_said}
 use Rattle.command_line.specs.CommandNames.{named}
 use Rattle.command_line.specs.Incorporating.{job_by}
 use Rattle.command_line.specs.Looking.{ScanAsked, scan_asked, unseen_known}
 use Rattle.command_line.specs.Profile.{folder_of, negation_of, path_of, profile_name}
 use Rattle.command_line.specs.declared.caller.Caller.{Caller}
 use Rattle.command_line.specs.declared.name.CommandName.{CommandName}
-use Rattle.command_line.specs.declared.name.CommandName.TheVariants.{Inc, Mark, Pick, Refile, Rmm, Scan}
+use Rattle.command_line.specs.declared.name.CommandName.TheVariants.{Folder as FolderCommand, Inc, Mark, Pick, Refile, Rmm, Scan}
 
 -- the context is read, and the run knows its entries
 unfoldable pub context_seen : List NamedValue → Commanded Unit
@@ -118,6 +122,18 @@ abbrev pub rmm_by : ℕ → List NamedValue → Result RmmWords Ended → Ending
 rmm_by run profile (Ok words) = lifted plain (rmm_begun run profile words)
 rmm_by run profile (Err e) = Return (Err e)
 
+abbrev pub tell_job : List ℕ → FolderWords → List NamedValue → FolderJob
+tell_job folder words profile = record { folder = folder; specs = words.specs; negation = negation_of profile }
+
+unfoldable pub tell_begun : ℕ → List NamedValue → FolderWords → Commanded Unit
+tell_begun run profile words = do
+  folder ← folder_found profile words.folder
+  tell run (path_of profile) (tell_job folder words profile)
+
+abbrev pub tell_by : ℕ → List NamedValue → Result FolderWords Ended → Ending Unit
+tell_by run profile (Ok words) = lifted plain (tell_begun run profile words)
+tell_by run profile (Err e) = Return (Err e)
+
 -- the source is the folder that is acted on, and becomes the current one where the words name it
 abbrev pub refile_job : List ℕ → RefileWords → List NamedValue → RefileJob
 refile_job folder words profile = record {
@@ -162,6 +178,7 @@ word_by run caller profile word words (Some Mark) = mark_by run profile (mark_sa
 word_by run caller profile word words (Some Pick) = pick_by run profile (picked_by caller profile (map chars words))
 word_by run caller profile word words (Some Refile) = refile_by run profile (refile_said profile (map chars words))
 word_by run caller profile word words (Some Rmm) = rmm_by run profile (rmm_said profile (map chars words))
+word_by run caller profile word words (Some FolderCommand) = tell_by run profile (tell_said profile (map chars words))
 
 abbrev pub command_by : ℕ → Caller → List NamedValue → List (List ℕ) → Ending Unit
 command_by run caller profile [] = Return (Err (no_command None))

@@ -21,6 +21,7 @@ use Rattle.step_plans.specs.declared.command_fault.CommandFault.{CommandFault}
 use Rattle.mh_looks.specs.ScanPledge.{scan_pledge}
 use Rattle.mark_command.specs.MarkPledge.{pledge_by}
 use Rattle.pick_command.specs.PickPledge.{pledge_by as pick_pledge_by}
+use Rattle.folder_command.specs.Folder.{pledge_by as tell_pledge_by}
 use Rattle.inc_command.specs.IncPledge.{inc_pledge}
 use Rattle.inc_command.specs.IncJob.{IncJob}
 use Rattle.refile_command.specs.RefilePledge.{refile_pledge}
@@ -29,17 +30,19 @@ use Rattle.command_words.specs.IncWords.{inc_said}
 use Rattle.command_words.specs.MarkWords.{mark_said}
 use Rattle.command_words.specs.RefileWords.{refile_said}
 use Rattle.command_words.specs.RmmWords.{rmm_said}
+use Rattle.command_words.specs.TellWords.{tell_said}
 use Rattle.command_words.specs.declared.ended.Ended.{Ended}
+use Rattle.command_words.specs.declared.folder.FolderWords.{FolderWords}
 use Rattle.command_words.specs.declared.mark.MarkWords.{MarkWords}
 use Rattle.command_words.specs.declared.pick.PickWords.{PickWords}
 use Rattle.command_words.specs.declared.refile.RefileWords.{RefileWords}
 use Rattle.command_words.specs.declared.rmm.RmmWords.{RmmWords}
-use Rattle.command_line.specs.Command.{mark_job, pick_job, picked_by, refile_job, rmm_job}
+use Rattle.command_line.specs.Command.{mark_job, pick_job, picked_by, refile_job, rmm_job, tell_job}
 use Rattle.command_line.specs.CommandNames.{command_of, named}
 use Rattle.command_line.specs.Incorporating.{job_by}
 use Rattle.command_line.specs.Profile.{folder_of, path_of, profile_name}
 use Rattle.command_line.specs.declared.name.CommandName.{CommandName}
-use Rattle.command_line.specs.declared.name.CommandName.TheVariants.{Inc, Mark, Pick, Refile, Rmm, Scan}
+use Rattle.command_line.specs.declared.name.CommandName.TheVariants.{Folder as FolderCommand, Inc, Mark, Pick, Refile, Rmm, Scan}
 use Rattle.command_line.specs.declared.caller.Caller.{Caller}
 
 -- the text that was read; the empty one where there is none
@@ -82,6 +85,15 @@ abbrev pub picks_pledge : ℕ → List NamedValue → List NamedValue → Result
 picks_pledge run profile context (Ok words) = pick_on_named run profile words (folder_of words.folder context profile)
 picks_pledge run profile context (Err e) = scan_pledge run (path_of profile)
 
+-- of `folder`
+abbrev pub tell_on_named : ℕ → List NamedValue → FolderWords → Result (List ℕ) CommandFault → Pledge
+tell_on_named run profile words (Ok folder) = tell_pledge_by run (path_of profile) (tell_job folder words profile) words.specs
+tell_on_named run profile words (Err e) = scan_pledge run (path_of profile)
+
+abbrev pub tells_pledge : ℕ → List NamedValue → List NamedValue → Result FolderWords Ended → Pledge
+tells_pledge run profile context (Ok words) = tell_on_named run profile words (folder_of words.folder context profile)
+tells_pledge run profile context (Err e) = scan_pledge run (path_of profile)
+
 -- of `rmm`
 abbrev pub rmm_on_named : ℕ → List NamedValue → RmmWords → Result (List ℕ) CommandFault → Pledge
 rmm_on_named run profile words (Ok folder) = rmm_pledge run (path_of profile) (rmm_job folder words profile)
@@ -113,6 +125,7 @@ word_pledge run caller profile context words (Some Mark) = marks_pledge run prof
 word_pledge run caller profile context words (Some Pick) = picks_pledge run profile context (picked_by caller profile (map chars words))
 word_pledge run caller profile context words (Some Refile) = refiles_pledge run profile context (refile_said profile (map chars words))
 word_pledge run caller profile context words (Some Rmm) = rmms_pledge run profile context (rmm_said profile (map chars words))
+word_pledge run caller profile context words (Some FolderCommand) = tells_pledge run profile context (tell_said profile (map chars words))
 
 -- what a command pledges, by the user's name, its words, the entries of the profile and those of the context
 abbrev pub command_pledge : ℕ → Caller → List (List ℕ) → List NamedValue → List NamedValue → Pledge
@@ -129,6 +142,7 @@ IsDone (Some Mark) path own = AreSettled own
 IsDone (Some Pick) path own = AreSettled own
 IsDone (Some Refile) path own = AreSettled own
 IsDone (Some Rmm) path own = AreSettled own
+IsDone (Some FolderCommand) path own = AreSettled own
 
 -- the call began with the profile, which names the path of a mail directory, and with the context of that; it kept the pledge that these and
 -- its words make

@@ -12,6 +12,7 @@ use Rattle.opened_folders.specs.BegunWork.{Homes}
 use Rattle.opened_folders.specs.HomesOf.{homes_at}
 use Rattle.mark_command.specs.Outcomes.{mark_work}
 use Rattle.pick_command.specs.Outcomes.{pick_work}
+use Rattle.folder_command.specs.Folder.{folder_work}
 use Rattle.inc_command.specs.IncOutcome.{inc_work, with_folder_made}
 use Rattle.inc_command.specs.IncJob.{IncJob}
 use Rattle.refile_command.specs.MadeFolder.{or_empty}
@@ -23,19 +24,21 @@ use Rattle.command_words.specs.MarkWords.{mark_said}
 use Rattle.command_words.specs.RefileWords.{refile_said}
 use Rattle.command_words.specs.RmmWords.{rmm_said}
 use Rattle.command_words.specs.ScanWords.{scan_said}
+use Rattle.command_words.specs.TellWords.{tell_said}
 use Rattle.command_words.specs.declared.ended.Ended.{Ended}
+use Rattle.command_words.specs.declared.folder.FolderWords.{FolderWords}
 use Rattle.command_words.specs.declared.mark.MarkWords.{MarkWords}
 use Rattle.command_words.specs.declared.pick.PickWords.{PickWords}
 use Rattle.command_words.specs.declared.refile.RefileWords.{RefileWords}
 use Rattle.command_words.specs.declared.rmm.RmmWords.{RmmWords}
-use Rattle.command_line.specs.Command.{job_of, mark_job, no_command, pick_job, picked_by, refile_job, rmm_job}
+use Rattle.command_line.specs.Command.{job_of, mark_job, no_command, pick_job, picked_by, refile_job, rmm_job, tell_job}
 use Rattle.command_line.specs.CommandNames.{named}
 use Rattle.command_line.specs.Incorporating.{job_by}
 use Rattle.command_line.specs.Looking.{ScanAsked, scan_asked}
 use Rattle.command_line.specs.Profile.{folder_of, path_of, profile_name}
 use Rattle.command_line.specs.declared.caller.Caller.{Caller}
 use Rattle.command_line.specs.declared.name.CommandName.{CommandName}
-use Rattle.command_line.specs.declared.name.CommandName.TheVariants.{Inc, Mark, Pick, Refile, Rmm, Scan}
+use Rattle.command_line.specs.declared.name.CommandName.TheVariants.{Folder as FolderCommand, Inc, Mark, Pick, Refile, Rmm, Scan}
 
 abbrev pub plainly : Result Unit CommandFault → Result Unit Ended
 plainly (Ok u) = Ok u
@@ -100,6 +103,15 @@ abbrev pub pick_words_work : Meeting → Mailbox → List NamedValue → Result 
 pick_words_work g m profile (Ok words) = of_stage (on_folder m profile words.folder (picks g m profile words))
 pick_words_work g m profile (Err e) = refused_at m e
 
+-- `folder`: so too where words choose messages
+abbrev pub tells : Meeting → Mailbox → List NamedValue → FolderWords → FolderWork
+tells g m profile words context folder =
+    folder_work (path_of profile) (tell_job folder words profile) (g.entries context) (g.homes (m.folders (Folder (path_of profile) folder))) m
+
+abbrev pub tell_words_work : Meeting → Mailbox → List NamedValue → Result FolderWords Ended → Work Ended
+tell_words_work g m profile (Ok words) = of_stage (on_folder m profile words.folder (tells g m profile words))
+tell_words_work g m profile (Err e) = refused_at m e
+
 -- `rmm`: so too
 abbrev pub rmms : Meeting → Mailbox → List NamedValue → RmmWords → FolderWork
 rmms g m profile words context folder =
@@ -137,6 +149,7 @@ word_work g m caller profile word words (Some Mark) = mark_words_work g m profil
 word_work g m caller profile word words (Some Pick) = pick_words_work g m profile (picked_by caller profile (map chars words))
 word_work g m caller profile word words (Some Refile) = refile_words_work g m profile (refile_said profile (map chars words))
 word_work g m caller profile word words (Some Rmm) = rmm_words_work g m profile (rmm_said profile (map chars words))
+word_work g m caller profile word words (Some FolderCommand) = tell_words_work g m profile (tell_said profile (map chars words))
 
 abbrev pub named_work : Meeting → Mailbox → Caller → List NamedValue → List (List ℕ) → Work Ended
 named_work g m caller profile [] = refused_at m (no_command None)

@@ -18,6 +18,7 @@ use crate::picking::run_pick;
 use crate::refiling::run_refile;
 use crate::removing::run_rmm;
 use crate::scanning::run_scan;
+use crate::telling::run_folder;
 use command_stages::read_text;
 use command_words::Ended;
 use folder_files::{Files, Place, Refusal};
@@ -65,6 +66,7 @@ fn run_word<F: Files, O: Sink>(
         Some(CommandName::Mark) => run_mark(alloc, run, files, out, profile, rest),
         Some(CommandName::Refile) => run_refile(alloc, run, files, profile, rest),
         Some(CommandName::Rmm) => run_rmm(alloc, run, files, profile, rest),
+        Some(CommandName::Folder) => run_folder(alloc, run, files, out, profile, rest),
         None => {
             let word = Bytes::from_slice(alloc, word.as_bytes())?;
             Err(no_command(Some(word)))

@@ -13,6 +13,7 @@ mod profile;
 mod refiling;
 mod removing;
 mod scanning;
+mod telling;
 
 pub use caller::{Caller, Clock};
 pub use command::run_command;

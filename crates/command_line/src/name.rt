@@ -11,6 +11,7 @@ pub enum CommandName {
     Mark,
     Refile,
     Rmm,
+    Folder,
 }
 
 impl CommandName {
@@ -30,6 +31,8 @@ impl CommandName {
             Some(CommandName::Refile)
         } else if word == "pick" {
             Some(CommandName::Pick)
+        } else if word == "folder" {
+            Some(CommandName::Folder)
         } else {
             None
         }

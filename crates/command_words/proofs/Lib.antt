@@ -7,6 +7,7 @@ pub mod Said
 pub mod SaidFolder
 pub mod SaidRefileFolders
 pub mod SaidRmmFolder
+pub mod SaidTellFolder
 pub mod SequenceNames
 pub mod Texts
 pub mod Widths

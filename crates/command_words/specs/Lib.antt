@@ -16,4 +16,5 @@ pub mod ScanWords
 pub mod SequenceNames
 pub mod Switches
 pub mod Tables
+pub mod TellWords
 pub mod Words

@@ -39,6 +39,10 @@ inc_table =
 abbrev pub refile_table : SwitchTable
 refile_table = table_of (switch (codes "link") Flag ∷ switch (codes "nolink") Flag ∷ switch (codes "src") Value ∷ [])
 
+-- `folder` has none
+abbrev pub folder_table : SwitchTable
+folder_table = table_of []
+
 -- the switches of `rmm`
 abbrev pub rmm_table : SwitchTable
 rmm_table = table_of (switch (codes "unlink") Flag ∷ switch (codes "nounlink") Flag ∷ [])

@@ -7,6 +7,7 @@ ghost use Rattle.command_words.specs.FolderWords.{
   IsFolderSeen,
   IsSaidFolder,
 };
+ghost use Rattle.command_words.specs.IncWords.{alone};
 ghost use Rattle.command_words.specs.Results.{IsNamed, IsOneFolder};
 
 use folder_files::Refusal;
@@ -50,6 +51,22 @@ pub(crate) fn folder_word(items: &ItemList) -> Result<Option<&Text>, u64>
         found = folder_seen(found, item)?;
     }
     Ok(found)
+}
+
+/// The same beside messages' names of which this place is one too many: the earliest word that is.
+pub(crate) fn folder_beside(items: &ItemList, extra: Option<u64>) -> Result<Option<&Text>, u64>
+    ensures { IsOneFolder (alone (one_folder (folders_of items.now)) extra) result }
+{
+    match folder_word(items) {
+        Ok(word) => match extra {
+            Some(place) => Err(place),
+            None => Ok(word),
+        },
+        Err(second) => match extra {
+            Some(place) => Err(second.min(place)),
+            None => Err(second),
+        },
+    }
 }
 
 /// The folder of this word, where there is one.

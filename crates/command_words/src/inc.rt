@@ -15,7 +15,7 @@ ghost use Rattle.command_words.specs.IncWords.{
 
 use crate::bad_value::wrong_earliest;
 use crate::ended::Ended;
-use crate::folder_word::{folder_said, folder_word};
+use crate::folder_word::{folder_beside, folder_said};
 use crate::look::{LookWords, look, wrong_width};
 use crate::switches::{last_choice, last_word, values};
 use crate::tables::{
@@ -41,7 +41,7 @@ pub struct IncWords {
 }
 
 /// The place of the message's name that an item is.
-fn message_place(item: &Item) -> Option<u64>
+pub(crate) fn message_place(item: &Item) -> Option<u64>
     ensures { result ≡ first_of (place_in item.now) }
 {
     match item {
@@ -66,17 +66,7 @@ fn first_message(items: &ItemList) -> Option<u64>
 fn folder_alone(items: &ItemList) -> Result<Option<&Text>, u64>
     ensures { IsOneFolder (folder_alone_of items.now) result }
 {
-    let message = first_message(items);
-    match folder_word(items) {
-        Ok(word) => match message {
-            Some(place) => Err(place),
-            None => Ok(word),
-        },
-        Err(second) => match message {
-            Some(place) => Err(second.min(place)),
-            None => Err(second),
-        },
-    }
+    folder_beside(items, first_message(items))
 }
 
 fn words_said(

@@ -4,6 +4,7 @@
 mod bad_value;
 mod ended;
 mod field_name;
+mod folder;
 mod folder_word;
 mod inc;
 mod look;
@@ -20,6 +21,7 @@ mod words;
 mod wrong_word;
 
 pub use ended::Ended;
+pub use folder::{FolderWords, folder_words};
 pub use folder_word::read_folder;
 pub use inc::{IncWords, inc_words};
 pub use look::LookWords;

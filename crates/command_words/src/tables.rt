@@ -5,6 +5,7 @@ ghost use Rattle.command_words.specs.Tables.{
   switch as switch_of,
   scan_table as scan_table_of,
   mark_table as mark_table_of,
+  folder_table as folder_table_of,
   inc_table as inc_table_of,
   pick_table as pick_table_of,
   refile_table as refile_table_of,
@@ -164,6 +165,16 @@ pub(crate) fn refile_table(alloc: Global) -> Result<SwitchTable, AllocError>
         switches,
         components: false,
     })
+}
+
+/// `folder` has no switches.
+pub(crate) fn folder_table(alloc: Global) -> SwitchTable
+    ensures { result ≡ folder_table_of }
+{
+    SwitchTable {
+        switches: List::new(alloc),
+        components: false,
+    }
 }
 
 /// The switches of `rmm`.

@@ -1,3 +1,4 @@
+mod IndexLemmas
 mod LazyLemmas
 pub mod LineLemmas
 pub mod RunLemmas

@@ -7,6 +7,7 @@ mod answers;
 mod characters;
 mod dates;
 mod evaluating;
+mod indexed;
 mod lazy;
 mod names;
 mod numbers;
@@ -16,6 +17,7 @@ mod texts;
 mod values;
 mod view;
 
+pub use indexed::IndexedMessage;
 pub use running::line;
 pub use state::LineState;
 pub use view::View;

@@ -6,7 +6,8 @@ ghost use Rattle.mail_text.specs.Stripping.{stripped};
 ghost use Rattle.format_run.specs.Values.{shown_body, shown_field, value_named, value_of};
 ghost use Rattle.mail_headers.specs.Fields.{fields_of, first_value};
 
-use mail_headers::{Message, unfold};
+use crate::IndexedMessage;
+use mail_headers::unfold;
 use mail_text::{show_bytes, strip};
 use mh_base::Text;
 use std::alloc::{AllocError, Global};
@@ -14,7 +15,7 @@ use std::alloc::{AllocError, Global};
 const BODY_LIMIT: usize = 1024;
 
 /// The body's first bytes, as many as a line shows of it.
-fn body_front<'a>(message: &Message<'a>) -> &'a [u8]
+fn body_front<'a>(message: &IndexedMessage<'a>) -> &'a [u8]
     ensures { result.now ≡ take 1024 (body_of message.now) }
 {
     let body = message.body();
@@ -23,20 +24,20 @@ fn body_front<'a>(message: &Message<'a>) -> &'a [u8]
 }
 
 /// What the body's first bytes show, on as many lines as they have.
-fn raw_body(alloc: Global, message: &Message) -> Result<Text, AllocError>
+fn raw_body(alloc: Global, message: &IndexedMessage) -> Result<Text, AllocError>
     ensures { IfOk result (λ text. stripped text ≡ shown_body message.now) }
 {
     show_bytes(alloc, body_front(message))
 }
 
-fn body_value(alloc: Global, message: &Message) -> Result<Text, AllocError>
+fn body_value(alloc: Global, message: &IndexedMessage) -> Result<Text, AllocError>
     ensures { IfOk result (λ text. text ≡ shown_body message.now) }
 {
     let shown = raw_body(alloc, message)?;
     strip(alloc, &shown)
 }
 
-fn field_value(alloc: Global, message: &Message, name: &[u8]) -> Result<Text, AllocError>
+fn field_value(alloc: Global, message: &IndexedMessage, name: &[u8]) -> Result<Text, AllocError>
     ensures { IfOk result (λ text. text ≡ shown_field (first_value name.now (fields_of message.now))) }
 {
     match message.first(name) {
@@ -54,7 +55,7 @@ fn is_body(name: &[u8]) -> bool
     name.eq_ignore_ascii_case(b"body")
 }
 
-fn named_value(alloc: Global, message: &Message, name: &[u8]) -> Result<Text, AllocError>
+fn named_value(alloc: Global, message: &IndexedMessage, name: &[u8]) -> Result<Text, AllocError>
     ensures { IfOk result (λ text. text ≡ value_named name.now message.now) }
 {
     if is_body(name) {
@@ -67,7 +68,7 @@ fn named_value(alloc: Global, message: &Message, name: &[u8]) -> Result<Text, Al
 /// The value of the component of this name.
 pub(crate) fn component_value(
     alloc: Global,
-    message: &Message,
+    message: &IndexedMessage,
     name: &Text,
 ) -> Result<Text, AllocError>
     ensures { IfOk result (λ text. text ≡ value_of name.now message.now) }
@@ -85,7 +86,7 @@ pub(crate) struct RawValue {
 /// The value of the component of this name, of which a body is raw.
 pub(crate) fn raw_value(
     alloc: Global,
-    message: &Message,
+    message: &IndexedMessage,
     name: &Text,
 ) -> Result<RawValue, AllocError>
     ensures { IfOk result (λ v. (if v.raw then stripped v.text else v.text) ≡ value_of name.now message.now) }

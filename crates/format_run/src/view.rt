@@ -1,6 +1,6 @@
 // What a line is about.
 
-use mail_headers::Message;
+use crate::IndexedMessage;
 use mh_base::{MsgNum, Text};
 use std::marker::Model;
 
@@ -12,7 +12,7 @@ pub struct View<'a> {
     pub current: bool,
     /// Whether it is in an unseen sequence.
     pub unseen: bool,
-    pub message: Message<'a>,
+    pub message: IndexedMessage<'a>,
     /// Seconds from 1970-01-01 00:00:00 UTC.
     pub moment: i64,
     pub user: &'a Text,

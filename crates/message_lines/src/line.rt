@@ -5,8 +5,7 @@ ghost use Rattle.format_compiler.specs.Grammar.{Format};
 ghost use Rattle.message_lines.specs.MessageText.{coded, formed, line_of, sight_of};
 
 use crate::{Look, Standing};
-use format_run::{View, line};
-use mail_headers::Message;
+use format_run::{IndexedMessage, View, line};
 use mh_base::{Bytes, MsgNum};
 use std::alloc::{AllocError, Global};
 
@@ -25,7 +24,7 @@ pub fn message_line(
         number,
         current: standing.current,
         unseen: standing.unseen,
-        message: Message::cut(message),
+        message: IndexedMessage::cut(alloc, message)?,
         moment: look.moment,
         user: &look.user,
     };

@@ -1,7 +1,6 @@
 // Lines of formats for a message.
 use format_compiler::{FormatFault, Program, compile};
-use format_run::{View, line};
-use mail_headers::Message;
+use format_run::{IndexedMessage, View, line};
 use mh_base::{Bytes, MsgNum, Text};
 use row_text::{number, own, show_line, show_quoted_line, word};
 use std::alloc::Global;
@@ -11,13 +10,13 @@ use std::test::Fail;
 const NOW: i64 = 1_780_394_400;
 
 /// What is looked at, by its words: the message's number, how it stands, in how many columns, and its bytes.
-fn view<'a>(view: &'a [Bytes], user: &'a Text) -> Result<View<'a>, Fail> {
+fn view<'a>(alloc: Global, view: &'a [Bytes], user: &'a Text) -> Result<View<'a>, Fail> {
     let stands = word(view, 2)?;
     Ok(View {
         number: MsgNum::read(word(view, 1)?).ok_or("a message number")?,
         current: stands == b"current".as_slice(),
         unseen: stands == b"unseen".as_slice(),
-        message: Message::cut(word(view, 4)?),
+        message: IndexedMessage::cut(alloc, word(view, 4)?)?,
         moment: NOW,
         user,
     })
@@ -25,7 +24,7 @@ fn view<'a>(view: &'a [Bytes], user: &'a Text) -> Result<View<'a>, Fail> {
 
 fn show(alloc: Global, program: &Program, words: &[Bytes], told: &mut Bytes) -> Result<(), Fail> {
     let user = own(alloc, b"bob")?;
-    let view = view(words, &user)?;
+    let view = view(alloc, words, &user)?;
     let width = u32::try_from(number(word(words, 3)?)?)
         .ok()
         .ok_or("a width")?;

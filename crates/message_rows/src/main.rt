@@ -9,6 +9,7 @@ mod formats;
 mod lines;
 mod mime;
 mod order;
+mod parts;
 mod rows;
 mod texts;
 

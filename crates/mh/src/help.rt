@@ -1,6 +1,7 @@
 // What the program tells of itself, before any command runs.
 
 mod errors;
+mod folder;
 mod inc;
 mod mark;
 mod overview;
@@ -27,6 +28,7 @@ pub enum Help {
 /// The page of a command.
 fn command_page(word: &str) -> Option<&'static str> {
     match word {
+        "folder" => Some(folder::PAGE),
         "inc" => Some(inc::PAGE),
         "mark" => Some(mark::PAGE),
         "pick" => Some(pick::PAGE),

@@ -4,8 +4,7 @@ use crate::trees::parts;
 use crate::writing::write_parts;
 use crate::{Part, plain_line};
 use format_compiler::{FormatFault, Program, compile};
-use format_run::{View, line};
-use mail_headers::Message;
+use format_run::{IndexedMessage, View, line};
 use mh_base::{MsgNum, Text};
 use std::alloc::{AllocError, Global};
 use std::test::Fail;
@@ -84,7 +83,7 @@ fn compare_messages(
             number,
             current: number.get() == 23,
             unseen: number.get() == 456,
-            message: Message::cut(message),
+            message: IndexedMessage::cut(alloc, message)?,
             moment: 1_780_394_400,
             user,
         };

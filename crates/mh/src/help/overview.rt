@@ -8,6 +8,7 @@ folder a directory below the mail directory.
 
   inc      takes new mail in
   scan     prints a line for each message
+  folder   tells of a folder, and makes it the current one
   pick     finds messages by what they say
   mark     adds messages to sequences, takes them out, lists sequences
   refile   moves messages to other folders

@@ -1,0 +1,54 @@
+-- What the words of `folder` say.
+use Rattle.std.specs.Prelude.{◌++◌, codes, ℕ, Bool, true, false, List, [], ◌∷◌, Option, None, Some, Result, Ok, Err}
+use Rattle.mh_words.specs.declared.item.Item.{Item}
+use Rattle.mh_words.specs.Whole.{Wrong, read_in}
+use Rattle.mh_profile.specs.declared.named_value.NamedValue.{NamedValue}
+use Rattle.step_plans.specs.declared.command_fault.CommandFault.{CommandFault}
+use Rattle.command_words.specs.BadValues.{first_of}
+use Rattle.command_words.specs.Ended.{plain, wrong_at}
+use Rattle.command_words.specs.FolderWords.{folders, one_folder, named_folder}
+use Rattle.command_words.specs.IncWords.{alone, message_places}
+use Rattle.command_words.specs.MessageWords.{messages}
+use Rattle.command_words.specs.Tables.{folder_table}
+use Rattle.command_words.specs.Words.{profile_words}
+use Rattle.command_words.specs.declared.ended.Ended.{Ended}
+use Rattle.command_words.specs.declared.folder.FolderWords.{FolderWords}
+
+-- the second of these places
+abbrev pub second_of : List ℕ → Option ℕ
+second_of [] = None
+second_of (place ∷ places) = first_of places
+
+-- the second, where one was seen or none
+abbrev pub second_from : Bool → List ℕ → Option ℕ
+second_from false places = second_of places
+second_from true places = first_of places
+
+-- one folder or none, and one message's name or none: the earliest word that is too many is refused
+abbrev pub folder_and_message : List Item → Result (Option (List ℕ)) Wrong
+folder_and_message items = alone (one_folder (folders items)) (second_of (message_places items))
+
+-- what the items say beside the folder
+abbrev pub words_of : Option (List ℕ) → List Item → FolderWords
+words_of folder items = record { folder = folder; specs = messages items }
+
+abbrev pub with_folder : List Item → Result (List ℕ) CommandFault → Result FolderWords Ended
+with_folder items (Ok name) = Ok (words_of (Some name) items)
+with_folder items (Err e) = Err (plain e)
+
+abbrev pub said_folder : List Item → Option (List ℕ) → Result FolderWords Ended
+said_folder items None = Ok (words_of None items)
+said_folder items (Some word) = with_folder items (named_folder word)
+
+abbrev pub folder_said : List (List ℕ) → List Item → Result (Option (List ℕ)) Wrong → Result FolderWords Ended
+folder_said words items (Ok word) = said_folder items word
+folder_said words items (Err wrong) = Err (wrong_at words wrong)
+
+abbrev pub items_said : List (List ℕ) → Result (List Item) Wrong → Result FolderWords Ended
+items_said words (Ok items) = folder_said words items (folder_and_message items)
+items_said words (Err wrong) = Err (wrong_at words wrong)
+
+-- what the words of `folder` say, those of the profile first, or the refusal: of a switch before that of a word that is too many, and that before a
+-- wrong name
+abbrev pub tell_said : List NamedValue → List (List ℕ) → Result FolderWords Ended
+tell_said profile words = items_said (profile_words (codes "folder") profile ++ words) (read_in folder_table 0 (profile_words (codes "folder") profile ++ words))
