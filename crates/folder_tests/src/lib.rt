@@ -1,7 +1,9 @@
-//! Tests of `folder` and `anno` on a mailbox in memory. There is nothing here but tests.
+//! Tests of `folder`, `anno` and `sortm` on a mailbox in memory. There is nothing here but tests.
 #![tactic(auto)]
 
 #[cfg(test)]
 mod annos;
 #[cfg(test)]
 mod folders;
+#[cfg(test)]
+mod sorts;

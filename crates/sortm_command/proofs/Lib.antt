@@ -1,0 +1,10 @@
+pub mod Filled
+pub mod Keyed
+pub mod MovesMade
+pub mod Numbered
+pub mod Replies
+pub mod Restored
+pub mod Sorted
+pub mod Values
+pub mod Withdrawing
+pub mod Zipped
