@@ -9,6 +9,7 @@ _mh_switches() {
         mark) echo "-add -delete -list -sequence -public -nopublic -zero -nozero" ;;
         refile) echo "-link -nolink -src" ;;
         rmm) echo "-unlink -nounlink" ;;
+        anno) echo "-component -text -date -nodate" ;;
     esac
 }
 
@@ -39,11 +40,11 @@ _mh() {
     fi
     COMPREPLY=()
     if [ "$COMP_CWORD" -lt "$first" ]; then
-        COMPREPLY=($(compgen -W "inc scan folder pick mark refile rmm help --help --version" -- "$word"))
+        COMPREPLY=($(compgen -W "inc scan folder pick mark refile rmm anno help --help --version" -- "$word"))
         return
     fi
     if [ "$command" = help ]; then
-        COMPREPLY=($(compgen -W "inc scan folder pick mark refile rmm errors" -- "$word"))
+        COMPREPLY=($(compgen -W "inc scan folder pick mark refile rmm anno errors" -- "$word"))
         return
     fi
     for each in "${COMP_WORDS[@]:first}"; do
@@ -62,7 +63,7 @@ _mh() {
 
 complete -F _mh mh
 # Links to the program by the names of its commands.
-for _mh_name in inc scan folder pick mark refile rmm; do
+for _mh_name in inc scan folder pick mark refile rmm anno; do
     if [ -n "$(type -P "$_mh_name")" ] && [ "$(readlink -f "$(type -P "$_mh_name")")" = "$(readlink -f "$(type -P mh)")" ]; then complete -F _mh "$_mh_name"; fi
 done
 unset _mh_name

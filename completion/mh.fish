@@ -16,6 +16,8 @@ function __mh_switches
             echo "-link -nolink -src"
         case rmm
             echo "-unlink -nounlink"
+        case anno
+            echo "-component -text -date -nodate"
     end
 end
 
@@ -41,9 +43,9 @@ end
 function __mh_words
     set -l before (commandline -opc)
     if not set -q before[2]
-        string split ' ' -- "inc scan folder pick mark refile rmm help --help --version"
+        string split ' ' -- "inc scan folder pick mark refile rmm anno help --help --version"
     else if test $before[2] = help
-        string split ' ' -- "inc scan folder pick mark refile rmm errors"
+        string split ' ' -- "inc scan folder pick mark refile rmm anno errors"
     else
         switch (commandline -ct)
             case '-*'

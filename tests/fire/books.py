@@ -234,7 +234,18 @@ def cut_to(sequences, numbers):
     return {name: found for name, found in cut.items() if found}
 
 
-# The rules. Each gives complaints, and none where the rule holds.
+# What anno puts in front of messages here.
+NOTE = b"Noted: under fire\n"
+
+
+def bare(text):
+    """A message without the lines that anno put in front."""
+    while text.startswith(NOTE):
+        text = text[len(NOTE):]
+    return text
+
+
+# The rules. Each gives complaints, and none where the rule holds. A message with lines of anno in front is the same message.
 
 def renumbered(looks):
     """A number that led to one message never leads to another."""
@@ -243,16 +254,16 @@ def renumbered(looks):
         for late in looks[k + 1:]:
             for folder, texts in early.numbers.items():
                 later = late.numbers.get(folder, {})
-                bad += [f"number {n} of {folder} has another message" for n, text in texts.items() if n in later and later[n] != text]
+                bad += [f"number {n} of {folder} has another message" for n, text in texts.items() if n in later and bare(later[n]) != bare(text)]
     return bad
 
 
 def torn(look, known):
     """What stands at a number, as a backup or held aside is whole: one of the known messages, byte for byte."""
-    bad = []
+    bad, known = [], {bare(text) for text in known}
     for kind in (look.numbers, look.backups, look.held):
         for folder, texts in kind.items():
-            bad += [f"{name} of {folder} is no whole message" for name, text in texts.items() if text not in known]
+            bad += [f"{name} of {folder} is no whole message" for name, text in texts.items() if bare(text) not in known]
     return bad
 
 
@@ -313,6 +324,18 @@ def copied_whole(before, look, source, chosen, into):
     for folder in into:
         there = list(look.numbers.get(folder, {}).values())
         bad += [f"message {n} stands twice in {folder}" for n in chosen if there.count(before.numbers[source][n]) > 1]
+    return bad
+
+
+def noted_whole(before, look, source, chosen):
+    """A message that was to get lines stands at its number, or held aside as it was; at most one is on its way."""
+    bad, held = [], list(look.held.get(source, {}).values())
+    for n in chosen:
+        text, here = before.numbers[source][n], look.numbers[source].get(n)
+        if here is None and text not in held or here is not None and bare(here) != bare(text):
+            bad.append(f"message {n} of {source} is lost")
+    if len(held) > 1:
+        bad.append(f"{len(held)} messages are held aside at once")
     return bad
 
 

@@ -7,8 +7,8 @@ import subprocess
 import threading
 import time
 
-from books import (Box, acknowledged, copied_whole, drop_of, left_aside, message, moved, newcomers, refiled_whole, removed_whole,
-                   renumbered,
+from books import (NOTE, Box, acknowledged, copied_whole, drop_of, left_aside, message, moved, newcomers, noted_whole, refiled_whole,
+                   removed_whole, renumbered,
                    sequences_kept, taken_in, torn)
 
 SOURCE = "inbox"
@@ -91,6 +91,13 @@ def folder(rng, numbers, large):
     return Case(["folder", f"+{SOURCE}", rng.choice([str(first), f"{first}-{last}", "last", "todo", "todo:last"])])
 
 
+def anno(rng, numbers, large):
+    """Messages get a line in front."""
+    chosen = some(rng, numbers, large)
+    name, text = NOTE.decode().strip().split(": ")
+    return Case(["anno", f"+{SOURCE}", *as_words(chosen), "-component", name, "-text", text, "-nodate"], chosen, [SOURCE], "anno")
+
+
 # The commands that change something. A later command is one entry more, with a kind of its own in `stands` where none of these fits it.
 COMMANDS = {
     "inc": inc,
@@ -107,6 +114,7 @@ COMMANDS = {
     "pick -sequence": pick_words("-sequence", "todo", "-sequence", "found"),
     "pick -sequence -nopublic": pick_words("-sequence", "mine", "-nopublic"),
     "folder": folder,
+    "anno": anno,
 }
 
 
@@ -235,9 +243,11 @@ def stands(scene, look, case):
     if case.kind == "inc":
         comes = set(scene.after.texts()) - set(before.texts())
         return moved(before, look, SOURCE, ()) + newcomers(before, look, case.into, comes) + taken_in(look, SOURCE, before.drop)
-    leaves = case.kind in ("refile", "rmm", "unlink")
+    leaves = case.kind in ("refile", "rmm", "unlink", "anno")
     bad = moved(before, look, SOURCE, case.chosen if leaves else ()) + newcomers(before, look, case.into, comes)
-    if case.kind == "refile":
+    if case.kind == "anno":
+        bad += noted_whole(before, look, SOURCE, case.chosen)
+    elif case.kind == "refile":
         bad += refiled_whole(before, look, SOURCE, case.chosen, case.into)
     elif case.kind == "link":
         bad += copied_whole(before, look, SOURCE, case.chosen, case.into)
@@ -303,6 +313,9 @@ def ended(scene, look, end):
     elif case.kind in ("refile", "link"):
         texts = [scene.before.numbers[SOURCE][n] for n in case.chosen]
         bad += [f"a message is not in {folder}" for folder in case.into for text in texts if text not in end.numbers[folder].values()]
+    if case.kind == "anno":
+        bad = moved(scene.before, end, SOURCE, case.chosen) + noted_whole(scene.before, end, SOURCE, case.chosen)
+        bad += [f"message {n} has no line" for n in case.chosen if not end.numbers[SOURCE].get(n, b"").startswith(NOTE)]
     if leaves:
         bad += [f"message {n} did not leave" for n in case.chosen if n in end.numbers[SOURCE]]
     if case.kind == "rmm":

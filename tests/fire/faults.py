@@ -10,7 +10,7 @@ import signal
 import subprocess
 import time
 
-from books import NOBODY, Box, acknowledged, drop_of, left_aside, message, moved, newcomers, read_drop, taken_in, torn
+from books import NOBODY, NOTE, Box, acknowledged, bare, drop_of, left_aside, message, moved, newcomers, read_drop, taken_in, torn
 
 SOURCE = "inbox"
 FAULT = re.compile(rb"mh: (fault of files|fault of output|no setting)\n")
@@ -18,6 +18,9 @@ REFUSAL = re.compile(rb"mh: [^\n]+\n")
 
 # The commands that write to the output where all is well.
 TELL = ("inc", "scan", "folder", "folder with a message")
+
+# The words of anno that put its line in front of messages.
+NOTING = ["-component", NOTE.decode().split(":")[0], "-text", NOTE.decode().split(": ")[1].strip(), "-nodate"]
 
 # The commands that are tried under faults: their words, which messages may move, and where they go. A later command is one entry more.
 COMMANDS = {
@@ -31,6 +34,7 @@ COMMANDS = {
     "scan": (["scan", f"+{SOURCE}"], (), []),
     "folder": (["folder", f"+{SOURCE}"], (), []),
     "folder with a message": (["folder", f"+{SOURCE}", "3-4"], (), []),
+    "anno": (["anno", f"+{SOURCE}", "2-5", *NOTING], (2, 3, 4, 5), [SOURCE]),
 }
 
 
@@ -60,9 +64,9 @@ def nothing_lost(before, look, name, out, settled):
     bad += taken_in(look, SOURCE, before.drop) if name == "inc" else []
     bad += acknowledged(look, SOURCE, out) if name == "inc" else []
     there = look.texts() + list(look.held[SOURCE].values()) + list(look.backups[SOURCE].values())
-    bad += [f"message {n} is lost" for n in chosen if before.numbers[SOURCE][n] not in there]
+    bad += [f"message {n} is lost" for n in chosen if before.numbers[SOURCE][n] not in map(bare, there)]
     for n, text in before.numbers[SOURCE].items():
-        if look.numbers[SOURCE].get(n, text) != text:
+        if bare(look.numbers[SOURCE].get(n, text)) != text:
             bad.append(f"number {n} has another message")
     if settled:
         bad += left_aside(look, look.numbers)
@@ -103,6 +107,8 @@ def completed(before, end, name):
         return ["the drop is not empty"] if end.drop else []
     if name.startswith("refile"):
         return [f"message {n} is not in a" for n in range(2, 6) if before.numbers[SOURCE][n] not in end.numbers["a"].values()]
+    if name == "anno":
+        return [f"message {n} has no line" for n in range(2, 6) if not end.numbers[SOURCE].get(n, b"").startswith(NOTE)]
     if name.startswith("mark"):
         found = end.private(SOURCE) if "nopublic" in name else end.public[SOURCE]
         return [] if found.get("x") == {1, 2, 3, 4} else [f"the sequence x is {found.get('x')}"]

@@ -28,7 +28,7 @@ PIECES = {
                 b"x" * 300],
     "profile": [b"Path: ", b"Mail", b"MailDrop: drop", b"Inbox: ", b"Unseen-Sequence: ", b"Sequence-Negation: not", b"scan: -width 20",
                 b"inc: -silent", b"mark: -list", b"rmm: 1", b"refile: +a",
-                b"pick: -subject x", b"folder: 1", b"-format %(msg)", b":", b"\n", b"\n ", b" ", b"\0", b"\xff", b"cur", b"all", b"x" * 300],
+                b"pick: -subject x", b"folder: 1", b"anno: -component x", b"-format %(msg)", b":", b"\n", b"\n ", b" ", b"\0", b"\xff", b"cur", b"all", b"x" * 300],
     "format": [b"%(", b"%{", b"%<", b"%?", b"%|", b"%>", b"%;", b"%%", b"\\", b"\\n", b"}", b")", b"(", b"{", b" ", b"%4(msg)",
                b"%{subject}", b"%<{from}x%|y%>", b"%020(size)", b"%-9(msg)",
                b"%99999999999(msg)", b"9223372036854775807", b"-9223372036854775808", b"%(divide 0)", b"%(modulo 0)",
@@ -108,6 +108,7 @@ def some_command(rng):
     """A command that reads all that is there."""
     return rng.choice([["scan"], ["scan", "+inbox"], ["scan", "todo"], ["scan", "nottodo", "mine"], ["mark", "-list"],
                        ["folder"], ["folder", "todo"], ["folder", "+inbox", "2-3"],
+                       ["anno", "-component", "Noted"], ["anno", "todo", "-component", "Noted", "-text", "under fire", "-nodate"],
                        ["mark", "1", "-sequence", "todo"],
                        ["mark", "+inbox", "all", "-delete", "-sequence", "todo"], ["mark", "2", "-sequence", "mine", "-nopublic"],
                        ["pick", "-subject", "message"],
@@ -181,7 +182,7 @@ def hostile_pattern(rng):
 def hostile_words(rng):
     """Words that name messages, folders and switches."""
     case = Case(rng)
-    case.words = [rng.choice(["scan", "mark", "pick", "rmm", "refile", "inc", "folder"])]
+    case.words = [rng.choice(["scan", "mark", "pick", "rmm", "refile", "inc", "folder", "anno"])]
     for _ in range(rng.choice([1, 1, 1, 2, 3, 5])):
         case.words.append(word(rng, "word", rng.choice([b"1-3", b"last:2", b"todo:next", b"+inbox", b"cur"])))
     case.words = ["drop" if before == "-file" else it for before, it in zip([""] + case.words, case.words)]

@@ -8,7 +8,7 @@ import subprocess
 import threading
 import time
 
-from books import Box, drop_of, left_aside, read_drop, sequences_in, subject, torn
+from books import NOTE, Box, bare, drop_of, left_aside, read_drop, sequences_in, subject, torn
 
 STAY = (1, 2, 3)
 FORMAT = ["-format", "%4(msg) %(size) %{subject}", "-width", "200"]
@@ -25,6 +25,8 @@ ALLOWED = {
     "pick": {0: r"", 1: r"no messages match", 3: LOCKED},
     # the messages that become current never leave
     "folder": {0: r"", 3: LOCKED},
+    # the messages that get lines never leave
+    "anno": {0: r"", 3: LOCKED},
     # the sequence may be empty
     "rmm": {0: r"", 1: r"no messages in sequence: victims", 3: LOCKED},
     # the drop may be empty, or have grown when it is to be cut; a fault (2) only where a delivery had the drop's lock meanwhile
@@ -99,11 +101,16 @@ class Scene:
             seen = LINE.match(line)
             if seen is None and (line == "" or line.startswith("Incorporating new mail")):
                 continue
-            if seen is None or seen.group(3) not in self.known or int(seen.group(2)) != len(self.known[seen.group(3)]):
+            if seen is None or seen.group(3) not in self.known or not self.fits(seen.group(3), int(seen.group(2))):
                 self.bad.append(f"a line of a torn message: {line}")
             else:
                 found.append((int(seen.group(1)), seen.group(3)))
         return found
+
+    def fits(self, name, size):
+        """Whether the message has this size, with lines of anno in front or none."""
+        more = size - len(self.known[name])
+        return more >= 0 and more % len(NOTE) == 0
 
     def delivery_during(self, begin):
         """Whether a delivery had the drop's lock at some time since then."""
@@ -194,6 +201,12 @@ def picker(scene, rng):
     scene.run("pick", f"+{rng.choice('ab')}", "-subject", "red", "-sequence", "red")
 
 
+def annotator(scene, rng):
+    """Puts a line in front of messages that stay."""
+    name, text = NOTE.decode().strip().split(": ")
+    scene.run("anno", f"+{rng.choice('ab')}", *map(str, rng.sample(STAY, rng.randint(1, 2))), "-component", name, "-text", text, "-nodate", kill=rng.random() < 0.05, rng=rng)
+
+
 def janitor(scene, rng):
     """Finds the messages that are to go, and removes them by their sequence."""
     folder = rng.choice("ab")
@@ -267,7 +280,7 @@ def books(scene, markers):
     bad += [] if ran.returncode == (0 if waiting else 1) else [f"the last inc ended in {ran.returncode}: {ran.stderr}"]
     scene.told += scene.lines(ran.stdout)
     look = scene.box.look()
-    there = set(look.texts())
+    there = {bare(text) for text in look.texts()}
     bad += [f"{name} is lost" for name, text in scene.known.items() if text not in there and not name.endswith("victim")]
     bad += [f"{name} was told and is lost" for _, name in scene.told if scene.known[name] not in there and not name.endswith("victim")]
     bad += torn(look, set(scene.known.values())) + left_aside(look, "ab")
@@ -282,7 +295,7 @@ def episode(program, home, rng, seconds):
     scene, markers, teller = Scene(program, home, rng, seconds), [Marker("ours", "mine"), Marker("theirs", "hers")], Teller()
     # The refilers, which need both locks, rest less than the others.
     steps = [(refiler("a", "b"), 1.5), (refiler("b", "a"), 1.5), (markers[0].step, 4), (markers[1].step, 4), (teller.step, 4), (picker, 4),
-             (janitor, 6), (incorporator, 4), (deliverer, 1), (reader, 1)]
+             (annotator, 4), (janitor, 6), (incorporator, 4), (deliverer, 1), (reader, 1)]
     threads = [threading.Thread(target=until_end, args=(scene, *it, random.Random(rng.random())), daemon=True) for it in steps]
     for it in threads:
         it.start()
@@ -301,7 +314,7 @@ def run(program, seconds, room, count, rng, only=""):
         count.check(f"rivals, episode {episodes + 1}", bad, [("box", f"{room}/box")])
         runs += scene.runs
         killed, episodes, messages = killed + scene.killed, episodes + 1, messages + len(scene.known)
-    idle = [it for it in ("refile", "mark", "folder", "pick", "inc", "scan") if not runs[it, 0]]
+    idle = [it for it in ("refile", "mark", "folder", "pick", "anno", "inc", "scan") if not runs[it, 0]]
     count.check("rivals: each got something done", [f"no {it} ended well" for it in idle])
     print(f"  {episodes} episodes, {messages} messages, {sum(runs.values())} runs, {killed} of the rivals killed")
     for command in ALLOWED:

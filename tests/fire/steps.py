@@ -49,6 +49,7 @@ TRACES = [
     ("scan", tiny, ["scan", "+inbox", "1"]),
     ("folder", tiny, ["folder", "+inbox"]),
     ("folder-message", tiny, ["folder", "+inbox", "2-3"]),
+    ("anno", tiny, ["anno", "+inbox", "1", "3", "-component", "Noted", "-text", "so", "-nodate"]),
     ("mend", left_by_the_dead, ["mark", "+inbox", "1", "-sequence", "x"]),
 ]
 

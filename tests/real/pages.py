@@ -11,7 +11,7 @@ from pathlib import Path
 
 PROGRAM, ROOM = sys.argv[1], Path(sys.argv[2])
 TOP = Path(__file__).resolve().parent.parent.parent
-COMMANDS = ["folder", "inc", "mark", "pick", "refile", "rmm", "scan"]
+COMMANDS = ["anno", "folder", "inc", "mark", "pick", "refile", "rmm", "scan"]
 passed = failed = 0
 
 

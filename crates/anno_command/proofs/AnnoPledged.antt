@@ -30,7 +30,7 @@ use Rattle.step_plans.specs.Settled.{AreSettled}
 use Rattle.step_plans.specs.declared.command_fault.CommandFault.{CommandFault}
 use Rattle.step_plans.proofs.Facts.{LeavesSettled, settled_kept}
 use Rattle.step_plans.proofs.Going.{Goes, Outcome, Sound, goes_lifted, goes_more, goes_then, okay, okay_more}
-use Rattle.step_plans.proofs.Lasting.{KeptBy, keeping}
+use Rattle.step_plans.proofs.Lasting.{KeptBy, keeping, lasting}
 use Rattle.step_plans.proofs.Pledged.{Of}
 use Rattle.step_plans.proofs.Promising.{keeps_pledge}
 use Rattle.step_plans.proofs.Ruling.{rules_of}
@@ -38,7 +38,7 @@ use Rattle.step_plans.proofs.Stepping.{goes_end}
 use Rattle.message_puts.proofs.PutPledged.{PutsMessages}
 use Rattle.message_moves.proofs.MovePledged.{LetsDiscard, LetsTake, held_uncommitted, is_held_so}
 use Rattle.message_moves.proofs.RefilePledged.{AreMessages}
-use Rattle.message_notes.specs.Noted.{HasPutAnew}
+use Rattle.message_notes.specs.Noted.{HasNoted, HasPutAnew}
 use Rattle.message_notes.specs.Noting.{messages_noted}
 use Rattle.message_notes.proofs.NotedPledged as noting
 use Rattle.message_notes.proofs.NotedPledged.{LetsNote, NotesKeep}
@@ -56,8 +56,9 @@ use Rattle.refile_command.specs.RmmPledge.{every_message}
 use Rattle.refile_command.proofs.BeginsAsks.{asks_begun}
 use Rattle.refile_command.proofs.RefileMoved.{HasHeldNone}
 use Rattle.refile_command.proofs.RmmPledged.{in_up, listed_runs}
-use Rattle.refile_command.proofs.Selected.{first_of, rest_of}
+use Rattle.refile_command.proofs.Selected.{first_of, first_or, rest_of}
 use Rattle.anno_command.specs.Anno.{anno, chosen_from, last_in, opened_noted, said_noted}
+use Rattle.anno_command.specs.AnnoDone.{HasNotedChosen}
 use Rattle.anno_command.specs.AnnoPledge.{MakesNothing, NotesSo, WasChosen, WasTakenAndNoted, anno_pledge}
 use Rattle.anno_command.specs.declared.job.AnnoJob.{AnnoJob}
 use Rattle.anno_command.proofs.HeldNone.{Spares, begins_sparing, none_kept, spared_of}
@@ -86,6 +87,10 @@ module _ (run : ℕ) (few : run < 2 ^ 128) (path : List ℕ) (job : AnnoJob) whe
   -- what was chosen once stays so
   chosen_kept : (n : ℕ) → KeptBy AnyStep (WasChosen run path job n)
   chosen_kept n own s a any f = record { listing = f.listing; text = f.text; context = f.context; seen = seen_kept run p mail f.listing f.text f.context own s a tt f.seen; numbers = f.numbers; chosen = f.chosen; one = f.one }
+
+  -- and what was done with the messages that were chosen
+  pub noted_chosen_kept : KeptBy AnyStep (HasNotedChosen run path job)
+  noted_chosen_kept own s a any f = record { listing = f.listing; text = f.text; context = f.context; seen = seen_kept run p mail f.listing f.text f.context own s a tt f.seen; numbers = f.numbers; chosen = f.chosen; noted = λ n e. on (f.noted n e) }
 
   pub lets : LetsBegin path job.folder (Annotating path job.folder every_message job.lines) (NotesSo run path job)
   lets = record {
@@ -192,6 +197,10 @@ module _ (run : ℕ) (few : run < 2 ^ 128) (path : List ℕ) (job : AnnoJob) whe
       known = λ n own s a any f. tt;
     }
 
+    -- what was settled of commits is so still, and each of the messages got the lines
+    abbrev pub Worked : List Deed → List Deed → Type 0
+    Worked own later = (AreSettled own → AreSettled later) × HasNotedChosen run path job later
+
     -- the work on a folder that was begun
     module _ (begin own : List Deed) (o : Opened) (b : HasBegun w begin path job.folder own o) (none : HasHeldNone run p own) where
       abbrev told : Marked
@@ -203,6 +212,10 @@ module _ (run : ℕ) (few : run < 2 ^ 128) (path : List ℕ) (job : AnnoJob) whe
 
       going_on : KeptBy LeavesSettled Going
       going_on later s a leaves f = ((λ x. settled_kept later s a leaves (f.0 x)), seen_kept run p mail o.listing b.text b.context later s a tt f.1)
+
+      -- and each of the messages got the lines
+      abbrev Noted : List Deed → Type 0
+      Noted later = Going later × HasNotedChosen run path job later
 
       moves : NotesKeep w few p refl job.lines notes Known Now LeavesSettled Going
       moves = record {
@@ -228,39 +241,48 @@ module _ (run : ℕ) (few : run < 2 ^ 128) (path : List ℕ) (job : AnnoJob) whe
         are : AreMessages numbers
         are = chosen_messages job o.listing told numbers is (listed_runs run p mail o.listing b.text b.context own b.seen)
 
-        noted_goes : (h : Hand) → Goes w own h (messages_noted run p job.lines numbers (last_in o.listing)) (okay (Of Going))
+        abbrev AllNoted : List ℕ → List Deed → Type 0
+        AllNoted ns later = noting.AllNoted w few p refl job.lines notes Known Now (WasChosen run path job) lets_note LeavesSettled Going moves ns later
+
+        each_noted : (ns : List ℕ) (later : List Deed) → AllNoted ns later → (k : ℕ) → lists ns k ≡ true → HasNoted run p k job.lines later
+        each_noted [] later f k e = cc (e)
+        each_noted (n ∷ ns) later f k e = elim (first_or n k ns e) [ inl same ↦ subst (λ z. HasNoted run p z job.lines later) same f.0 | inr there ↦ each_noted ns later f.1 k there ]
+
+        noted_goes : (h : Hand) → Goes w own h (messages_noted run p job.lines numbers (last_in o.listing)) (okay (Of Noted))
         noted_goes h =
             goes_more w own h (messages_noted run p job.lines numbers (last_in o.listing))
-            (okay (noting.AllDone w few p refl job.lines notes Known Now (WasChosen run path job) lets_note LeavesSettled Going moves numbers)) (okay (Of Going))
-            (okay_more (noting.AllDone w few p refl job.lines notes Known Now (WasChosen run path job) lets_note LeavesSettled Going moves numbers) (Of Going) (λ later j u f. f.1))
+            (okay (noting.AllDone w few p refl job.lines notes Known Now (WasChosen run path job) lets_note LeavesSettled Going moves numbers)) (okay (Of Noted))
+            (okay_more (noting.AllDone w few p refl job.lines notes Known Now (WasChosen run path job) lets_note LeavesSettled Going moves numbers) (Of Noted)
+            (λ later j u f. (f.1, record { listing = o.listing; text = b.text; context = b.context; seen = f.1.1; numbers = numbers; chosen = is; noted = each_noted numbers later f.2 })))
             (noting.messages_go w few p refl job.lines notes Known Now (WasChosen run path job) lets_note LeavesSettled Going moves numbers are (last_in o.listing) (last_small o.listing (listed_runs run p mail o.listing b.text b.context own b.seen)) own h tt (all_may numbers (λ k e. e)) (spared_of run p own none numbers are) ((λ x. x), b.seen) b.held.lock)
 
-      by_value : (value : Result (List ℕ) CommandFault) → chosen_from job o.listing told ≡ value → (h : Hand) → Goes w own h (after (λ numbers. lifted (of_plan job.folder) (messages_noted run p job.lines numbers (last_in o.listing))) value) (okay (Of Going))
-      by_value (Ok numbers) is h = goes_lifted w own h (of_plan job.folder) (messages_noted run p job.lines numbers (last_in o.listing)) (Of Going) (noted_goes numbers is h)
-      by_value (Err e) is h = goes_end w own h e (Of Going)
+      by_value : (value : Result (List ℕ) CommandFault) → chosen_from job o.listing told ≡ value → (h : Hand) → Goes w own h (after (λ numbers. lifted (of_plan job.folder) (messages_noted run p job.lines numbers (last_in o.listing))) value) (okay (Of Noted))
+      by_value (Ok numbers) is h = goes_lifted w own h (of_plan job.folder) (messages_noted run p job.lines numbers (last_in o.listing)) (Of Noted) (noted_goes numbers is h)
+      by_value (Err e) is h = goes_end w own h e (Of Noted)
 
-      at_place : (q : Place) (seen : Marked) → q ≡ p → seen ≡ told → (h : Hand) → Goes w own h (Return (chosen_from job o.listing seen) >>= (λ numbers. lifted (of_plan job.folder) (messages_noted run q job.lines numbers (last_in o.listing)))) (okay (Of Going))
+      at_place : (q : Place) (seen : Marked) → q ≡ p → seen ≡ told → (h : Hand) → Goes w own h (Return (chosen_from job o.listing seen) >>= (λ numbers. lifted (of_plan job.folder) (messages_noted run q job.lines numbers (last_in o.listing)))) (okay (Of Noted))
       unfolding Goes bind ◌>>=◌
       at_place q seen place is h = rw (place, is) (by_value (chosen_from job o.listing told) refl h)
 
-      said_goes : (h : Hand) → Goes w own h (said_noted run job o) (okay (Of Going))
+      said_goes : (h : Hand) → Goes w own h (said_noted run job o) (okay (Of Noted))
       unfolding said_noted
       said_goes h = at_place o.place o.sequences b.place b.sequences h
 
-      opened_goes : (h : Hand) → Goes w own h (opened_noted run path job o) (okay (Of (λ later. AreSettled own → AreSettled later)))
+      pub opened_goes : (h : Hand) → Goes w own h (opened_noted run path job o) (okay (Of (Worked own)))
       unfolding opened_noted
       opened_goes h =
-          goes_then w own h (said_noted run job o) (λ noted. made_current run path job.folder) (Of Going) (Of (λ later. AreSettled own → AreSettled later)) (said_goes h)
+          goes_then w own h (said_noted run job o) (λ noted. made_current run path job.folder) (Of Noted) (Of (Worked own)) (said_goes h)
           (λ later j u f.
-          goes_more w later j (made_current run path job.folder) (okay (Of (λ end. AreSettled later → AreSettled end))) (okay (Of (λ end. AreSettled own → AreSettled end)))
-          (okay_more (Of (λ end. AreSettled later → AreSettled end)) (Of (λ end. AreSettled own → AreSettled end)) (λ end i v g s. g (f.0 s)))
-          (current_goes run few path job.folder MakesNothing (Annotating path job.folder every_message job.lines) no_piece (NotesSo run path job) lets nothing_kept later j o.listing b.text b.context f.1))
+          goes_more w later j (made_current run path job.folder) (okay (λ end i v. HasNotedChosen run path job end × (AreSettled later → AreSettled end))) (okay (Of (Worked own)))
+          (okay_more (λ end i v. HasNotedChosen run path job end × (AreSettled later → AreSettled end)) (Of (Worked own)) (λ end i v g. ((λ s. g.1 (f.0.0 s)), g.0)))
+          (lasting w (HasNotedChosen run path job) noted_chosen_kept later j (made_current run path job.folder) (Of (λ end. AreSettled later → AreSettled end)) f.1
+          (current_goes run few path job.folder MakesNothing (Annotating path job.folder every_message job.lines) no_piece (NotesSo run path job) lets nothing_kept later j o.listing b.text b.context f.0.1)))
 
     -- the folder is begun, and the run holds nothing aside itself
-    abbrev Began : List Deed → Outcome Opened
+    abbrev pub Began : List Deed → Outcome Opened
     Began own later j o = HasBegun w own path job.folder later o × HasHeldNone run p later
 
-    begun_sparing : (own : List Deed) (h : Hand) → HasHeldNone run p own → Goes w own h (begun run p mail job.folder) (okay (Began own))
+    pub begun_sparing : (own : List Deed) (h : Hand) → HasHeldNone run p own → Goes w own h (begun run p mail job.folder) (okay (Began own))
     begun_sparing own h none =
         goes_more w own h (begun run p mail job.folder) (okay (λ later j o. HasHeldNone run p later × HasBegun w own path job.folder later o)) (okay (Began own))
         (okay_more (λ later j o. HasHeldNone run p later × HasBegun w own path job.folder later o) (Began own) (λ later j o f. (f.1, f.0)))
@@ -272,7 +294,9 @@ module _ (run : ℕ) (few : run < 2 ^ 128) (path : List ℕ) (job : AnnoJob) whe
     unfolding anno
     anno_keeps past h none sound =
         opened_keeps run few path job.folder MakesNothing (Annotating path job.folder every_message job.lines) no_piece (NotesSo run path job) lets nothing_kept (HasHeldNone run p) (begun run p mail job.folder) (opened_noted run path job) past
-        (λ later o b i s. opened_goes (acts past) later o b.0 b.1 i) h sound (begun_sparing (acts past) h none)
+        (λ later o b i s.
+        goes_more w later i (opened_noted run path job o) (okay (Of (Worked later))) (okay (Of (λ end. AreSettled later → AreSettled end))) (okay_more (Of (Worked later)) (Of (λ end. AreSettled later → AreSettled end)) (λ end k v g. g.0))
+        (opened_goes (acts past) later o b.0 b.1 i)) h sound (begun_sparing (acts past) h none)
 
     pub anno_promises : (x y : State) (result : Result Unit CommandFault) → Follows run command_cause (anno run path job) x y result → Promises w x y
     anno_promises x y result f = keeps_pledge w command_cause (anno run path job) x y result (IfOkay (Still [])) (anno_keeps [] x.hand (λ n ok. tt) (record { numbered = tt; unfailed = λ z. elim z [ ] })) f

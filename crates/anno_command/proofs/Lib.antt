@@ -1,4 +1,5 @@
 pub mod AnnoAlone
+pub mod AnnoDone
 pub mod AnnoEnds
 pub mod AnnoEntries
 pub mod AnnoGiven

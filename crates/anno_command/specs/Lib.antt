@@ -1,5 +1,6 @@
 pub mod Anno
 pub mod AnnoAlone
 pub mod AnnoAnswers
+pub mod AnnoDone
 pub mod AnnoOutcome
 pub mod AnnoPledge

@@ -4,6 +4,7 @@ use Rattle.std.specs.Prelude.{map}
 use Rattle.std.specs.Str.{chars}
 use Rattle.mh_profile.specs.declared.named_value.NamedValue.{NamedValue}
 use Rattle.mh_profile.specs.Reading.{entries_in}
+use Rattle.folder_files.specs.Annotations.{are_annotations}
 use Rattle.folder_files.specs.Careful.{WasMade}
 use Rattle.folder_files.specs.Deeds.{Deed, Once}
 use Rattle.folder_files.specs.declared.place.Place.TheVariants.{Folder, Home, Mail}
@@ -31,7 +32,7 @@ use Rattle.opened_folders.specs.Endings.{IsEndedBy, IsToldBy, PutsNone, at_once}
 use Rattle.opened_folders.proofs.CleanRuns.{Clean, comes_both}
 use Rattle.opened_folders.proofs.EndedKept.{Still, keeps_more}
 use Rattle.opened_folders.proofs.Speaking.{Quiet, keeps_both, keeps_holding, quietly, run_speaks, silent_told, speaking, speaks_more}
-use Rattle.opened_folders.proofs.WorkEnds.{EndsSo, ShowsSo}
+use Rattle.opened_folders.proofs.WorkEnds.{EndsBeside, EndsSo, ShowsSo}
 use Rattle.mark_command.specs.Mark.{mark, mark_by_act}
 use Rattle.mark_command.specs.MarkAnswers.{HasMarked, ShowsListing, TellsMarks, mark_answers}
 use Rattle.mark_command.specs.declared.job.MarkAct.{MarkAct}
@@ -56,11 +57,20 @@ use Rattle.told_folders.proofs.LooksSay.{listing_says as tell_listing_says}
 use Rattle.folder_command.specs.Folder.{folder as tell, folder_by, task_with}
 use Rattle.folder_command.specs.declared.job.FolderJob.{FolderJob}
 use Rattle.folder_command.proofs.Orderly.{orderly}
+use Rattle.anno_command.specs.Anno.{anno}
+use Rattle.anno_command.specs.AnnoAnswers.{ShowsAnno}
+use Rattle.anno_command.specs.AnnoPledge.{anno_pledge}
+use Rattle.anno_command.specs.declared.job.AnnoJob.{AnnoJob}
+use Rattle.anno_command.proofs.AnnoDone.{Has as HasNoted, anno_done}
+use Rattle.anno_command.proofs.AnnoEnds.{anno_ends}
+use Rattle.anno_words.specs.declared.words.AnnoWords.{AnnoWords}
+use Rattle.anno_words.proofs.Said.{anno_annotates, anno_refuses}
 use Rattle.inc_command.specs.Inc.{inc}
 use Rattle.inc_command.specs.IncAnswers.{ShowsInc, ShowsIncorporating}
 use Rattle.inc_command.specs.IncJob.{IncJob}
 use Rattle.refile_command.specs.Rmm.{rmm}
 use Rattle.refile_command.specs.RmmAnswers.{HasRemovedChosen, rmm_answers}
+use Rattle.refile_command.proofs.RefileMoved.{HasHeldNone}
 use Rattle.refile_command.proofs.RmmEnds.{rmm_ends}
 use Rattle.refile_command.proofs.RmmPledged.{rmm_keeps as rmm_pledged}
 use Rattle.refile_command.specs.RmmPledge.{rmm_pledge}
@@ -75,20 +85,20 @@ use Rattle.command_words.specs.declared.folder.FolderWords.{FolderWords}
 use Rattle.command_words.specs.declared.mark.MarkWords.{MarkWords}
 use Rattle.command_words.specs.declared.pick.PickWords.{PickWords}
 use Rattle.command_words.specs.declared.rmm.RmmWords.{RmmWords}
-use Rattle.command_line.specs.BegunCauses.{IsPickOn, PicksBy, ShowsEarly, ShowsFault, ShowsIncJob, ShowsMark, ShowsMarking, ShowsNamed, ShowsOnFolder, ShowsPick, ShowsPickJob, ShowsRemoving, ShowsRmm, TakesInBy, TellsNoneBy, TellsOnFolder, long_context, long_profile, wrong_stored, ShowsTell, ShowsTelling}
+use Rattle.command_line.specs.BegunCauses.{IsPickOn, PicksBy, ShowsAnnoWords, ShowsNoting, ShowsEarly, ShowsFault, ShowsIncJob, ShowsMark, ShowsMarking, ShowsNamed, ShowsOnFolder, ShowsPick, ShowsPickJob, ShowsRemoving, ShowsRmm, TakesInBy, TellsNoneBy, TellsOnFolder, long_context, long_profile, wrong_stored, ShowsTell, ShowsTelling}
 use Rattle.command_line.specs.Causes.{ShowsCommandFault}
-use Rattle.command_line.specs.Command.{command, command_by, context_entered, folder_found, inc_begun, inc_by, mark_begun, mark_by, mark_job, pick_begun, pick_by, pick_job, picked_by, rmm_begun, rmm_by, rmm_job, word_by, tell_begun, tell_by, tell_job}
+use Rattle.command_line.specs.Command.{anno_begun, anno_by, anno_job, annotated_by, command, command_by, context_entered, folder_found, inc_begun, inc_by, mark_begun, mark_by, mark_job, pick_begun, pick_by, pick_job, picked_by, rmm_begun, rmm_by, rmm_job, word_by, tell_begun, tell_by, tell_job}
 use Rattle.command_line.specs.CommandNames.{shows_ends, command_of, named}
 use Rattle.command_line.specs.CommandPledge.{entries_by}
 use Rattle.command_line.specs.Incorporating.{job_by}
 use Rattle.command_line.specs.Profile.{folder_of, path_of, profile_name}
 use Rattle.command_line.specs.WordCauses.{IsRefusedByWords}
 use Rattle.command_line.specs.declared.name.CommandName.{CommandName}
-use Rattle.command_line.specs.declared.name.CommandName.TheVariants.{Folder as FolderCommand, Inc, Mark, Pick, Refile, Rmm, Scan}
+use Rattle.command_line.specs.declared.name.CommandName.TheVariants.{Anno, Folder as FolderCommand, Inc, Mark, Pick, Refile, Rmm, Scan}
 use Rattle.command_line.specs.declared.caller.Caller.{Caller}
 use Rattle.command_line.proofs.Ending.{scan_shows}
 use Rattle.command_line.proofs.IncEnding.{TakesIn, ToldSo, inc_comes}
-use Rattle.command_line.proofs.BegunParts.{Behind, Enters, Found, Profile, after_context, after_profile, behind_kept, clean_there, ended_more, entered_comes, entered_silent, found_comes, found_silent, in_silence, none_lasts, none_made, none_put, none_taken, none_told, numbered_there, profile_comes, profile_silent}
+use Rattle.command_line.proofs.BegunParts.{Behind, Enters, Found, Profile, after_context, after_profile, behind_kept, clean_there, ended_more, entered_comes, entered_silent, found_comes, found_silent, in_silence, none_held, none_lasts, none_made, none_put, none_taken, none_told, numbered_there, profile_comes, profile_silent}
 use Rattle.command_line.proofs.PickEnding.{FindsEnd, FindsTold, MarksEnd, MarksTold, finds_come, marks_come}
 use Rattle.command_line.proofs.Refusals.{IsRefusal, job_refuses, mark_refuses, rmm_refuses, tell_refuses}
 use Rattle.command_line.proofs.SaidPick.{pick_refuses}
@@ -517,6 +527,57 @@ module _ (run : ℕ) (few : run < 2 ^ 128) (caller : Caller) (words_ : List (Lis
             go later j (Ok folder) q = rmm_keeps later j folder q.1.1.0 q.1.1.1 q.1.1.2 q.1.1.3 q.1.0 q.0
             go later j (Err e) q = stops_plainly later j e q.0 (early e (acts later) q.1.1 q.1.0)
 
+      -- `anno`
+      module _ (name : named word ≡ Some Anno) (words : AnnoWords) (said : annotated_by caller profile (map chars rest) ≡ Ok words) where
+        anno_on : (b : Answer) (folder : List ℕ) → folder_of words.folder (entries_by b) profile ≡ Ok folder → (r : Result (List ℕ) CommandFault) (own : List Deed)
+            → Behind a b own × ShowsNoting run path (anno_job folder words profile) r own → ShowsOnFolder run caller words_ r own
+        anno_on b folder there r own s =
+            on_folder word rest is_words b folder r own s.0
+            (subst (λ n. ShowsNamed run caller profile (entries_by b) folder r own rest n) (sym name)
+            (subst (λ m. ShowsAnnoWords run profile (entries_by b) folder r own m) (sym said) (there, s.1)))
+
+        module _ (past : List runs.Deed) (j : Hand) (folder : List ℕ) (b : Answer) (is : acts past ≡ after_context path a b) (first : j ≡ knowing (entries_by b) fresh) (there : folder_of words.folder (entries_by b) profile ≡ Ok folder) (clean : NoneFailed (acts past)) (silent : said_of past ≡ []) where
+          abbrev noting : AnnoJob
+          noting = anno_job folder words profile
+
+          begins_notes : Clean run (acts past) j
+          begins_notes = clean_there a run b (acts past) j is first clean
+
+          notes : are_annotations words.lines ≡ true
+          notes = anno_annotates caller.clock.moment caller.clock.offset profile (map chars rest) words said
+
+          wordless : (now_ : List runs.Deed) (piece : List ℕ) → (rules_of (anno_pledge run path noting)).may_say now_ piece → ⊥
+          wordless now_ piece f = f
+
+          anno_keeps : Keeps Speech past j (anno run path noting) Plainly
+          anno_keeps =
+              keeps_more Speech past j (anno run path noting) (λ later i r. Silent later i r × So later i r) Plainly more
+              (keeps_both Speech anything past j (anno run path noting) Silent So
+              (speaks_more none_told Spoken (λ text own t. absurd t) past j (anno run path noting) Silent
+              (quietly none_told none_lasts (rules_of (anno_pledge run path noting)) wordless (Behind a b) (behind_kept a b) past j (anno run path noting) (IfOkay (HasNoted run few path noting)) (silent_told none_told none_lasts past silent)
+              (anno_done run few path noting notes past j (subst (HasHeldNone run (Folder path folder)) (sym is) (none_held run path folder a b)) (record { numbered = begins_notes.numbered; unfailed = begins_notes.unfailed }))))
+              (anno_ends run few path noting (Behind a b) (behind_kept a b) past j clean begins_notes (subst (PutsNone (Mail path)) (sym is) (none_put (Mail path) path a b))
+              (λ x n t. none_taken (Folder path folder) path a b x n (subst (λ o. Once (λ d older. IsTakenAway (Folder path folder) x d) o) is t)) ([], is)))
+            where
+              Silent : List runs.Deed → Hand → Result Unit CommandFault → Type 0
+              Silent later i r = Quiet none_told none_lasts (rules_of (anno_pledge run path noting)) wordless (Behind a b) (behind_kept a b) (IfOkay (HasNoted run few path noting)) past later i r
+
+              So : List runs.Deed → Hand → Result Unit CommandFault → Type 0
+              So later i r = EndsBeside (λ e own. ShowsAnno run path noting e own) (Behind a b) (λ own. Unit {0}) later i r
+
+              more : (later : List runs.Deed) (i : Hand) (r : Result Unit CommandFault) → Silent later i r × So later i r → Plainly later i r
+              more later i (Ok u) s = anno_on b folder there (Ok (said_of later)) (acts later) (s.1.0, (s.0.3, s.0.0 ∙ silent))
+              more later i (Err e) s = ended_more (λ k own. Behind a b own × ShowsAnno run path noting k own) Shows (λ x own q. inr (inr (anno_on b folder there (Err x) own q))) e (acts later) s.1
+
+        anno_begun_keeps : (past : List runs.Deed) → acts past ≡ after_profile a → NoneFailed (acts past) → said_of past ≡ [] → Keeps Speech past fresh (anno_begun run profile words) Plainly
+        unfolding anno_begun ◌>>=◌
+        anno_begun_keeps past is clean silent =
+            keeps_bind Speech past fresh (folder_found profile words.folder) (after (λ folder. anno run path (anno_job folder words profile))) _ Plainly (folder_keeps words.folder past is clean silent) go
+          where
+            go : (later : List runs.Deed) (j : Hand) (r : Result (List ℕ) CommandFault) → (said_of later ≡ []) × OfActs (Finds words.folder) later j r → Keeps Speech later j (after (λ folder. anno run path (anno_job folder words profile)) r) Plainly
+            go later j (Ok folder) q = anno_keeps later j folder q.1.1.0 q.1.1.1 q.1.1.2 q.1.1.3 q.1.0 q.0
+            go later j (Err e) q = stops_plainly later j e q.0 (early e (acts later) q.1.1 q.1.0)
+
       -- `inc`
       module _ (name : named word ≡ Some Inc) (job : IncJob) (said : job_by caller profile (inc_said profile (map chars rest)) ≡ Ok job) where
         inc_on : (b : Answer) (r : Result (List ℕ) CommandFault) (own : List Deed) → Behind a b own × ShowsIncorporating run path job r own → ShowsOnFolder run caller words_ r own
@@ -590,6 +651,12 @@ module _ (run : ℕ) (few : run < 2 ^ 128) (caller : Caller) (words_ : List (Lis
           go (Ok words) said = plain_keeps past fresh (tell_begun run profile words) (tell_begun_keeps word rest is_words name words said past is clean silent)
           go (Err x) said = stops past fresh x silent
               (refused_shown a x past is (tell_refuses profile (map chars rest) x said) (refused_by caller words_ a word rest is_words (Some FolderCommand) name x.fault (refusal_of (tell_said profile (map chars rest)) x said)) clean)
+      by_word word rest is_words (Some Anno) name begins = go (annotated_by caller profile (map chars rest)) refl
+        where
+          go : (r : Result AnnoWords Ended) → annotated_by caller profile (map chars rest) ≡ r → Keeps Speech past fresh (anno_by run profile r) EndsBy
+          go (Ok words) said = plain_keeps past fresh (anno_begun run profile words) (anno_begun_keeps word rest is_words name words said past is clean silent)
+          go (Err x) said = stops past fresh x silent
+              (refused_shown a x past is (anno_refuses caller.clock.moment caller.clock.offset profile (map chars rest) x said) (refused_by caller words_ a word rest is_words (Some Anno) name x.fault (refusal_of (annotated_by caller profile (map chars rest)) x said)) clean)
 
       by_words : (words : List (List ℕ)) → words_ ≡ words → shows_ends (command_of words) ≡ true → Keeps Speech past fresh (command_by run caller profile words) EndsBy
       by_words [] is_words begins = cc (begins)

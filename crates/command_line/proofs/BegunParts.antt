@@ -9,7 +9,7 @@ use Rattle.folder_files.specs.Careful.{WasMade}
 use Rattle.folder_files.specs.Deeds.{Deed, Once, did, now, on}
 use Rattle.folder_files.specs.Named.{is_number}
 use Rattle.folder_files.specs.declared.place.Place.{Place}
-use Rattle.folder_files.specs.declared.place.Place.TheVariants.{Home, Mail}
+use Rattle.folder_files.specs.declared.place.Place.TheVariants.{Folder, Home, Mail}
 use Rattle.folder_files.specs.declared.refusal.Refusal.TheVariants as refusal
 use Rattle.folder_files.specs.declared.step.Answer.{Answer}
 use Rattle.folder_files.specs.declared.step.Answer.TheVariants as answer
@@ -39,6 +39,7 @@ use Rattle.opened_folders.proofs.CleanRuns.{Clean, unfailed_by}
 use Rattle.opened_folders.proofs.EndedKept.{keeps_more}
 use Rattle.opened_folders.proofs.NamesKept.{putting, taking}
 use Rattle.opened_folders.proofs.Speaking.{keeps_both, silence, silent_told, silently, speaking, speaks_more, text_silent}
+use Rattle.refile_command.proofs.RefileMoved.{HasHeldNone}
 use Rattle.command_words.specs.Ended.{plain}
 use Rattle.command_words.specs.declared.ended.Ended.{Ended}
 use Rattle.command_words.specs.FolderWords.{named_folder}
@@ -226,3 +227,7 @@ module _ (a : Answer) where
 
   pub numbered_there : (b : Answer) (j : Hand) → j ≡ knowing (entries_by b) fresh → nat_lt j.next (2 ^ 64) ≡ true
   numbered_there b j first = rw first refl
+
+-- two readings use no held name of a folder
+pub none_held : (run : ℕ) (path folder : List ℕ) (a b : Answer) → HasHeldNone run (Folder path folder) (after_context path a b)
+none_held run path folder a b = λ n ok. ((λ e f. cc (e)), ((λ e f. cc (e)), tt))

@@ -49,6 +49,11 @@ use Rattle.command_words.specs.declared.inc.IncWords.{IncWords}
 use Rattle.command_words.specs.declared.mark.MarkWords.{MarkWords}
 use Rattle.command_words.specs.declared.refile.RefileWords.{RefileWords}
 use Rattle.command_words.specs.declared.rmm.RmmWords.{RmmWords}
+use Rattle.anno_words.specs.AnnoWords as anno_words
+use Rattle.anno_words.specs.AnnoWords.{anno_line, anno_said}
+use Rattle.anno_words.specs.Table.{anno_table}
+use Rattle.anno_words.specs.WrongValues.{wrong_values}
+use Rattle.anno_words.specs.declared.words.AnnoWords.{AnnoWords}
 use Rattle.command_line.specs.Profile.{folder_of, inbox_of, stored_of, value_or}
 
 -- bytes as they are shown are characters
@@ -438,3 +443,36 @@ module _ (moment offset : ℤ) where
   pick_chars profile words said f e =
       subst PickChars e (pick_items_chars (pick_line profile words) (read_in pick_table 0 (pick_line profile words))
       (read_textual pick_table 0 (pick_line profile words) (texts_both (profile_words (codes "pick") profile) words (shown_texts (words_in (unwrap_or (value_of (codes "pick") profile) []))) f)))
+
+-- `anno`
+abbrev AnnoChars : Result AnnoWords Ended → Type 0
+AnnoChars (Ok w) = HasChars w.folder
+AnnoChars (Err e) = Unit {0}
+
+module _ (moment offset : ℤ) where
+  anno_folder_chars : (items : List Item) (name : List ℕ) (word : Option (List ℕ)) → HasChars word → AnnoChars (anno_words.named_said moment offset items name word)
+  anno_folder_chars items name None f = tt
+  anno_folder_chars items name (Some word) f = go (is_folder_name (without_plus word))
+    where
+      go : (b : Bool) → AnnoChars (anno_words.with_folder moment offset items name (some_named (if b then Ok (without_plus word) else Err (fault.Refused (refusal.BadFolder word)))))
+      go true = plus_chars word f
+      go false = tt
+
+  anno_word_chars : (words : List (List ℕ)) (items : List Item) (word name : Option (List ℕ)) → HasChars word → AnnoChars (anno_words.word_said moment offset words items word name)
+  anno_word_chars words items word (Some name) f = anno_folder_chars items name word f
+  anno_word_chars words items word None f = tt
+
+  anno_one_chars : (words : List (List ℕ)) (items : List Item) (r : Result (Option (List ℕ)) Wrong) → OneChars r → AnnoChars (anno_words.folder_said moment offset words items r)
+  anno_one_chars words items (Ok word) f = anno_word_chars words items word (anno_words.component_of items) f
+  anno_one_chars words items (Err wrong) f = tt
+
+  anno_items_chars : (words : List (List ℕ)) (r : Result (List Item) Wrong) → Textual r → AnnoChars (anno_words.items_said moment offset words r)
+  anno_items_chars words (Ok items) f =
+      anno_one_chars words items (unless_bad (first_of (wrong_values items)) (one_folder (folders items)))
+      (bad_chars (first_of (wrong_values items)) (one_folder (folders items)) (one_chars (folders items) (folder_texts items f)))
+  anno_items_chars words (Err wrong) f = tt
+
+  pub anno_chars : (profile : List NamedValue) (words : List (List ℕ)) (said : AnnoWords) → AreTexts words → anno_said moment offset profile words ≡ Ok said → HasChars said.folder
+  anno_chars profile words said f e =
+      subst AnnoChars e (anno_items_chars (anno_line profile words) (read_in anno_table 0 (anno_line profile words))
+      (read_textual anno_table 0 (anno_line profile words) (texts_both (profile_words (codes "anno") profile) words (shown_texts (words_in (unwrap_or (value_of (codes "anno") profile) []))) f)))

@@ -1,3 +1,4 @@
+pub mod AnnoMarks
 pub mod Begun
 pub mod BegunEnding
 pub mod BegunParts

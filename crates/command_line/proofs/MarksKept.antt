@@ -64,19 +64,21 @@ use Rattle.command_words.specs.declared.folder.FolderWords.{FolderWords}
 use Rattle.command_words.specs.declared.mark.MarkWords.{MarkWords}
 use Rattle.command_words.specs.declared.rmm.RmmWords.{RmmWords}
 use Rattle.command_words.proofs.SaidFolder.{IsValid}
-use Rattle.command_line.specs.Command.{command, mark_by, mark_job, picked_by, rmm_by, rmm_job, word_by, tell_by, tell_job}
+use Rattle.anno_words.proofs.Said.{anno_annotates, anno_valid}
+use Rattle.command_line.specs.Command.{annotated_by, command, mark_by, mark_job, picked_by, rmm_by, rmm_job, word_by, tell_by, tell_job}
 use Rattle.command_line.specs.CommandMarks.{IsTextName, KeepsCommandMarks, KeepsWhere}
 use Rattle.command_line.specs.CommandNames.{begins_folders, command_of, named}
 use Rattle.command_line.specs.CommandPledge.{entries_by, marks_pledge, on_named, rmm_on_named, rmms_pledge, tell_on_named, tells_pledge}
 use Rattle.command_line.specs.Profile.{folder_of, path_of, profile_name}
 use Rattle.command_line.specs.declared.name.CommandName.{CommandName}
-use Rattle.command_line.specs.declared.name.CommandName.TheVariants.{Folder as FolderCommand, Inc, Mark, Pick, Refile, Rmm, Scan}
+use Rattle.command_line.specs.declared.name.CommandName.TheVariants.{Anno, Folder as FolderCommand, Inc, Mark, Pick, Refile, Rmm, Scan}
 use Rattle.command_line.specs.declared.caller.Caller.{Caller}
 use Rattle.command_line.proofs.IncKept.{inc_kept}
 use Rattle.command_line.proofs.MindingPlans.{Minding, NothingMore, minding_kept, minding_where, minds_own, minds_with, ok_one, sound_so}
 use Rattle.command_line.proofs.MindsMarks.{command_keeps_sequences, minds_sequences}
 use Rattle.command_line.proofs.Pledging.{Answered, answers, context_keeps, context_step, known_sound, mark_acts, mark_onward, mark_words_keep, named_onward, on_context, onward_by, plan_by, profile_step, rmm_acts, rmm_onward, rmm_words_keep, two_readings, word_onward, tell_acts, tell_onward, tell_words_keep}
-use Rattle.command_line.proofs.FolderChars.{AreUtf8, HasChars, acted_chars, chars_texts, mark_chars, pick_chars, refile_chars, rmm_chars, tell_chars}
+use Rattle.command_line.proofs.AnnoMarks.{anno_minding}
+use Rattle.command_line.proofs.FolderChars.{AreUtf8, HasChars, acted_chars, anno_chars, chars_texts, mark_chars, pick_chars, refile_chars, rmm_chars, tell_chars}
 use Rattle.command_line.proofs.PickMarks.{pick_minding}
 use Rattle.command_line.proofs.RefileMarks.{refile_minding}
 use Rattle.command_line.proofs.SaidFolder.{acted_valid, mark_valid, refile_words_valid, rmm_words_valid, tell_words_valid}
@@ -397,6 +399,16 @@ module _ (run : ℕ) (few : run < 2 ^ 128) (caller : Caller) (word : List ℕ) (
       subst (λ z. Minding run TakesSo h (Ask profile_step (λ c. rest_by (context_step profile) (word_by run caller profile word words z) (word_onward run profile caller word words z) b))) (sym is)
       (refile_minding run few profile h b (refile_said profile (map chars words)) (λ said e. ((refile_words_valid profile (map chars words) said e).0, refile_chars profile (map chars words) said (chars_texts words texts) e)))
 
+  anno_named : (profile : List NamedValue) (name : Option CommandName) → name ≡ Some Anno → Minding run TakesSo h (Ask profile_step (λ c. rest_by (context_step profile) (word_by run caller profile word words name) (word_onward run profile caller word words name) b))
+  unfolding word_onward
+  anno_named profile name is =
+      subst (λ z. Minding run TakesSo h (Ask profile_step (λ c. rest_by (context_step profile) (word_by run caller profile word words z) (word_onward run profile caller word words z) b))) (sym is)
+      (anno_minding run few profile h b (annotated_by caller profile (map chars words))
+      (λ said e. (
+        anno_annotates caller.clock.moment caller.clock.offset profile (map chars words) said e,
+        (anno_valid caller.clock.moment caller.clock.offset profile (map chars words) said e, anno_chars caller.clock.moment caller.clock.offset profile (map chars words) said (chars_texts words texts) e),
+      )))
+
   mark_read : (r : Reading) → named word ≡ Some Mark → Minding run NothingMore h (plan_by run few caller all r b)
   unfolding onward_by named_onward lifted bind ◌>>=◌
   mark_read (reading.Content bytes) is = mark_named (entries_in bytes) (named word) is
@@ -426,6 +438,12 @@ module _ (run : ℕ) (few : run < 2 ^ 128) (caller : Caller) (word : List ℕ) (
   refile_read (reading.Content bytes) is = refile_named (entries_in bytes) (named word) is
   refile_read (reading.Long l) is = long_minding TakesSo l
   refile_read reading.Gone is = refile_named (entries_in []) (named word) is
+
+  anno_read : (r : Reading) → named word ≡ Some Anno → Minding run TakesSo h (plan_by run few caller all r b)
+  unfolding onward_by named_onward lifted bind ◌>>=◌
+  anno_read (reading.Content bytes) is = anno_named (entries_in bytes) (named word) is
+  anno_read (reading.Long l) is = long_minding TakesSo l
+  anno_read reading.Gone is = anno_named (entries_in []) (named word) is
 
 -- a call that follows a command keeps the marks of messages
 module _ (run : ℕ) (few : run < 2 ^ 128) (caller : Caller) (x y : State) (result : Result Unit Ended) where
@@ -472,6 +490,14 @@ module _ (run : ℕ) (few : run < 2 ^ 128) (caller : Caller) (x y : State) (resu
           minding_where run ended_cause (plan_by run few caller (word ∷ words) (reading_of t.first) t.second) x y result TakesSo (refile_read run few caller word words texts x.hand t.second (reading_of t.first) is)
           (follows_so run ended_cause (command run caller (word ∷ words)) (plan_by run few caller (word ∷ words) (reading_of t.first) t.second) x y result f t.runs) (start_same run ended_cause (command run caller (word ∷ words)) x y result f)
 
+  anno_kept : (word : List ℕ) (words : List (List ℕ)) → AreUtf8 words → named word ≡ Some Anno → Follows run ended_cause (command run caller (word ∷ words)) x y result → KeepsWhere TakesUnheld run x.files.story y.files.story
+  anno_kept word words texts is f = go (answers run few caller (word ∷ words) x y result f)
+    where
+      go : Answered run few caller (word ∷ words) x.hand y.hand (deeds_in f.went.log) (exit_of ended_cause result) → KeepsWhere TakesUnheld run x.files.story y.files.story
+      go t =
+          minding_where run ended_cause (plan_by run few caller (word ∷ words) (reading_of t.first) t.second) x y result TakesSo (anno_read run few caller word words texts x.hand t.second (reading_of t.first) is)
+          (follows_so run ended_cause (command run caller (word ∷ words)) (plan_by run few caller (word ∷ words) (reading_of t.first) t.second) x y result f t.runs) (start_same run ended_cause (command run caller (word ∷ words)) x y result f)
+
   by_name : (word : List ℕ) (words : List (List ℕ)) → AreUtf8 words → Follows run ended_cause (command run caller (word ∷ words)) x y result → (name : Option CommandName) → named word ≡ name → KeepsCommandMarks name run x.files.story y.files.story
   by_name word words texts f None is = command_keeps_sequences run few caller (word ∷ words) (ap begins_folders is) x y result f
   by_name word words texts f (Some Inc) is = inc_kept run few caller x y result word words texts is f
@@ -481,6 +507,7 @@ module _ (run : ℕ) (few : run < 2 ^ 128) (caller : Caller) (x y : State) (resu
   by_name word words texts f (Some Refile) is = refile_kept word words texts is f
   by_name word words texts f (Some Rmm) is = rmm_kept word words texts is f
   by_name word words texts f (Some FolderCommand) is = tell_kept word words texts is f
+  by_name word words texts f (Some Anno) is = anno_kept word words texts is f
 
   pub command_keeps_marks : (words : List (List ℕ)) → AreUtf8 words → Follows run ended_cause (command run caller words) x y result → KeepsCommandMarks (command_of words) run x.files.story y.files.story
   command_keeps_marks [] texts f = command_keeps_sequences run few caller [] refl x y result f

@@ -1,8 +1,9 @@
 -- A command goes as pledged: by the mail directory that its profile names, its words and the context.
-use Rattle.std.proofs.Common.{◌≡◌, ◌⊎◌, inl, inr, ◌<◌, ◌^◌, ℕ, List, [], ◌∷◌, Option, None, Some, Result, Ok, Err, refl, sym, subst, map}
+use Rattle.std.proofs.Common.{◌≡◌, ◌⊎◌, inl, inr, ◌<◌, ◌^◌, ℕ, true, List, [], ◌∷◌, Option, None, Some, Result, Ok, Err, refl, sym, subst, map}
 use Rattle.std.specs.Str.{chars}
 use Rattle.mh_profile.specs.declared.named_value.NamedValue.{NamedValue}
 use Rattle.mh_profile.specs.Reading.{entries_in}
+use Rattle.folder_files.specs.Annotations.{are_annotations}
 use Rattle.folder_files.specs.Deeds.{Deed, HasFailed}
 use Rattle.folder_files.specs.declared.place.Place.TheVariants.{Folder, Home, Mail}
 use Rattle.folder_files.specs.declared.step.Answer.{Answer}
@@ -42,6 +43,10 @@ use Rattle.mark_command.specs.Mark.{mark}
 use Rattle.mark_command.specs.MarkPledge.{pledge_by}
 use Rattle.mark_command.specs.declared.job.MarkAct.{MarkAct}
 use Rattle.mark_command.proofs.MarkPledged.{mark_keeps}
+use Rattle.anno_command.specs.Anno.{anno}
+use Rattle.anno_command.proofs.AnnoPledged.{anno_keeps}
+use Rattle.anno_words.specs.declared.words.AnnoWords.{AnnoWords}
+use Rattle.anno_words.proofs.Said.{anno_annotates}
 use Rattle.folder_command.specs.Folder.{folder as tell, pledge_by as tell_pledge_by}
 use Rattle.folder_command.proofs.FolderPledged.{folder_keeps}
 use Rattle.pick_command.specs.Pick.{pick}
@@ -69,13 +74,13 @@ use Rattle.refile_command.specs.declared.job.RefileJob.{RefileJob}
 use Rattle.refile_command.proofs.RefileMoved.{HasHeldNone}
 use Rattle.refile_command.proofs.RefilePledged.{EndsRefiled, refile_keeps}
 use Rattle.refile_command.proofs.RmmPledged.{rmm_keeps}
-use Rattle.command_line.specs.Command.{command, command_by, context_entered, context_seen, folder_found, inc_begun, inc_by, job_of, mark_begun, mark_by, mark_job, no_command, pick_begun, pick_by, pick_job, picked_by, refile_begun, refile_by, refile_job, rmm_begun, rmm_by, rmm_job, scan_begun, scan_by, word_by, tell_begun, tell_by, tell_job}
+use Rattle.command_line.specs.Command.{anno_begun, anno_by, anno_job, annotated_by, command, command_by, context_entered, context_seen, folder_found, inc_begun, inc_by, job_of, mark_begun, mark_by, mark_job, no_command, pick_begun, pick_by, pick_job, picked_by, refile_begun, refile_by, refile_job, rmm_begun, rmm_by, rmm_job, scan_begun, scan_by, word_by, tell_begun, tell_by, tell_job}
 use Rattle.command_line.specs.CommandNames.{command_of, named}
-use Rattle.command_line.specs.CommandPledge.{IsDone, KeepsPledge, command_pledge, entries_by, incs_pledge, marks_pledge, on_named, path_by, pick_on_named, picks_pledge, refile_on_named, refiles_pledge, rmm_on_named, rmms_pledge, text_of, word_pledge, tell_on_named, tells_pledge}
+use Rattle.command_line.specs.CommandPledge.{IsDone, KeepsPledge, anno_on_named, annos_pledge, command_pledge, entries_by, incs_pledge, marks_pledge, on_named, path_by, pick_on_named, picks_pledge, refile_on_named, refiles_pledge, rmm_on_named, rmms_pledge, text_of, word_pledge, tell_on_named, tells_pledge}
 use Rattle.command_line.specs.Incorporating.{job_by}
 use Rattle.command_line.specs.Profile.{folder_of, path_of, profile_name}
 use Rattle.command_line.specs.declared.name.CommandName.{CommandName}
-use Rattle.command_line.specs.declared.name.CommandName.TheVariants.{Folder as FolderCommand, Inc, Mark, Pick, Refile, Rmm, Scan}
+use Rattle.command_line.specs.declared.name.CommandName.TheVariants.{Anno, Folder as FolderCommand, Inc, Mark, Pick, Refile, Rmm, Scan}
 use Rattle.command_line.specs.declared.caller.Caller.{Caller}
 use Rattle.command_line.proofs.SaidFolder.{acted_valid, asked_valid}
 use Rattle.command_line.proofs.TwoAnswers.{Onward, TwoAnswers, acts_begin_with, follows_so, keeps_after, keeps_ended, may_read, rest_by, two_answers}
@@ -128,6 +133,9 @@ module _ (run : ℕ) (profile : List NamedValue) where
   abbrev pub rmm_acts : RmmWords → List ℕ → Commanded Unit
   rmm_acts words folder = rmm run (path_of profile) (rmm_job folder words profile)
 
+  abbrev pub anno_acts : AnnoWords → List ℕ → Commanded Unit
+  anno_acts words folder = anno run (path_of profile) (anno_job folder words profile)
+
   unfoldable pub scan_onward : (value : Result ScanAsked Ended) → Onward (context_step profile) (scan_by run profile value)
   unfolding scan_begun
   scan_onward (Ok words) = inr (λ b. on_context profile words.folder (scan_acts words) (reading_of b), context_asked profile words.folder (scan_acts words))
@@ -158,6 +166,11 @@ module _ (run : ℕ) (profile : List NamedValue) where
   rmm_onward (Ok words) = inr (λ b. on_context profile words.folder (rmm_acts words) (reading_of b), context_asked profile words.folder (rmm_acts words))
   rmm_onward (Err e) = inl (Err e, refl)
 
+  unfoldable pub anno_onward : (value : Result AnnoWords Ended) → Onward (context_step profile) (anno_by run profile value)
+  unfolding anno_begun
+  anno_onward (Ok words) = inr (λ b. on_context profile words.folder (anno_acts words) (reading_of b), context_asked profile words.folder (anno_acts words))
+  anno_onward (Err e) = inl (Err e, refl)
+
   unfoldable pub inc_onward : (value : Result IncJob Ended) → Onward (context_step profile) (inc_by run profile value)
   unfolding inc_begun
   inc_onward (Ok job) = inr (λ b. on_entries (inc run (path_of profile) job) (reading_of b), entries_asked profile (inc run (path_of profile) job))
@@ -172,6 +185,7 @@ module _ (run : ℕ) (profile : List NamedValue) where
   word_onward caller word words (Some Refile) = refile_onward (refile_said profile (map chars words))
   word_onward caller word words (Some Rmm) = rmm_onward (rmm_said profile (map chars words))
   word_onward caller word words (Some FolderCommand) = tell_onward (tell_said profile (map chars words))
+  word_onward caller word words (Some Anno) = anno_onward (annotated_by caller profile (map chars words))
 
   unfoldable pub named_onward : (caller : Caller) (words : List (List ℕ)) → Onward (context_step profile) (command_by run caller profile words)
   named_onward caller [] = inl (Err (no_command None), refl)
@@ -396,6 +410,36 @@ module _ (run : ℕ) (few : run < 2 ^ 128) (profile : List NamedValue) (h : Hand
       w = rmm_on_named run profile words (folder_of words.folder (entries_by b) profile)
   rmm_words_keep b (Err e) = keeps_ended look Home profile_name LIMIT_BYTES h (Err e) (IfOkay (Finished (Some Rmm) path)) (λ c. tt)
 
+  -- `anno`
+  anno_done : (a b : Answer) (later : List Done) (j : Hand) (r : Result Unit CommandFault) → IfOkay (Still (acts (two_readings profile a b))) later j r → IfOkay (Finished (Some Anno) path) later j r
+  anno_done a b later j (Ok u) f = record { is_done = f.settled (two_settled profile a b); unfailed = f.unfailed }
+  anno_done a b later j (Err e) f = tt
+
+  module _ (words : AnnoWords) (notes : are_annotations words.lines ≡ true) (a b : Answer) (es : List NamedValue) (folder : List ℕ) where
+    abbrev AnnoKeeps : Pledge → Type 0
+    AnnoKeeps w = Sound w (acts (two_readings profile a b)) h → Keeps (rules_of w) (two_readings profile a b) (knowing es h) (anno_acts run profile words folder) (IfOkay (Finished (Some Anno) path))
+
+    noted_so : AnnoKeeps (anno_on_named run profile words (Ok folder))
+    noted_so sound =
+        let w = anno_on_named run profile words (Ok folder) in
+        keeps_more (rules_of w) (two_readings profile a b) (knowing es h) (anno_acts run profile words folder) (IfOkay (Still (acts (two_readings profile a b)))) (IfOkay (Finished (Some Anno) path)) (anno_done a b)
+        (anno_keeps run few path (anno_job folder words profile) notes (two_readings profile a b) (knowing es h) (two_unheld run profile folder a b) (known_sound w (acts (two_readings profile a b)) h es sound))
+
+    noted_at : folder_of words.folder es profile ≡ Ok folder → AnnoKeeps (anno_on_named run profile words (folder_of words.folder es profile))
+    noted_at is = subst (λ v. AnnoKeeps (anno_on_named run profile words v)) (sym is) noted_so
+
+  pub anno_words_keep : (b : Answer) (value : Result AnnoWords Ended) → ((words : AnnoWords) → value ≡ Ok words → are_annotations words.lines ≡ true)
+      → Keeps (rules_of (annos_pledge run profile (entries_by b) value)) [] h (Ask profile_step (λ c. rest_by (context_step profile) (anno_by run profile value) (anno_onward run profile value) b)) (IfOkay (Finished (Some Anno) path))
+  unfolding anno_onward
+  anno_words_keep b (Ok words) notes =
+      keeps_after w Home (Mail path) profile_name context_name LIMIT_BYTES h (on_context profile words.folder (anno_acts run profile words) (reading_of b)) (IfOkay (Finished (Some Anno) path))
+      (λ c d sound. context_keeps w (two_readings profile c d) h sound profile words.folder (anno_acts run profile words) (Finished (Some Anno) path) (reading_of b)
+      (λ folder is. noted_at words (notes words refl) c d (entries_by b) folder is sound))
+    where
+      w : Pledge
+      w = anno_on_named run profile words (folder_of words.folder (entries_by b) profile)
+  anno_words_keep b (Err e) notes = keeps_ended look Home profile_name LIMIT_BYTES h (Err e) (IfOkay (Finished (Some Anno) path)) (λ c. tt)
+
   -- `refile`
   refile_done : (job : RefileJob) (a b : Answer) (later : List Done) (j : Hand) (r : Result Unit CommandFault) → IfOkay (EndsRefiled run few path job (acts (two_readings profile a b))) later j r → IfOkay (Finished (Some Refile) path) later j r
   refile_done job a b later j (Ok u) f = record { is_done = f.0.settled (two_settled profile a b); unfailed = f.0.unfailed }
@@ -459,6 +503,7 @@ module _ (run : ℕ) (few : run < 2 ^ 128) (profile : List NamedValue) (h : Hand
   word_keeps caller b word words (Some Refile) = refile_words_keep b (refile_said profile (map chars words))
   word_keeps caller b word words (Some Rmm) = rmm_words_keep b (rmm_said profile (map chars words))
   word_keeps caller b word words (Some FolderCommand) = tell_words_keep b (tell_said profile (map chars words))
+  word_keeps caller b word words (Some Anno) = anno_words_keep b (annotated_by caller profile (map chars words)) (λ said e. anno_annotates caller.clock.moment caller.clock.offset profile (map chars words) said e)
 
   named_keeps : (caller : Caller) (b : Answer) (words : List (List ℕ))
       → Keeps (rules_of (command_pledge run caller words profile (entries_by b))) [] h (Ask profile_step (λ c. rest_by (context_step profile) (command_by run caller profile words) (named_onward run profile caller words) b)) (IfOkay (Finished (command_of words) path))
@@ -515,6 +560,14 @@ pledge_run run caller (word ∷ words) profile context = go (named word)
         by (Err e) = refl
     removes_by (Err e) = refl
 
+    notes_by : (value : Result AnnoWords Ended) → (annos_pledge run profile context value).run ≡ run
+    notes_by (Ok said) = by (folder_of said.folder context profile)
+      where
+        by : (value : Result (List ℕ) CommandFault) → (anno_on_named run profile said value).run ≡ run
+        by (Ok folder) = refl
+        by (Err e) = refl
+    notes_by (Err e) = refl
+
     refiles_by : (value : Result RefileWords Ended) → (refiles_pledge run profile context value).run ≡ run
     refiles_by (Ok said) = by (folder_of said.source context profile)
       where
@@ -536,6 +589,7 @@ pledge_run run caller (word ∷ words) profile context = go (named word)
     go (Some Refile) = refiles_by (refile_said profile (map chars words))
     go (Some Rmm) = removes_by (rmm_said profile (map chars words))
     go (Some FolderCommand) = tells_by (tell_said profile (map chars words))
+    go (Some Anno) = notes_by (annotated_by caller profile (map chars words))
 
 module _ (run : ℕ) (few : run < 2 ^ 128) (caller : Caller) (words : List (List ℕ)) where
   -- the command, by what reading the profile gave

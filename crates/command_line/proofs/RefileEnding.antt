@@ -45,13 +45,9 @@ use Rattle.command_line.specs.Profile.{folder_of, path_of, profile_name}
 use Rattle.command_line.specs.declared.name.CommandName.TheVariants.{Refile}
 use Rattle.command_line.specs.declared.caller.Caller.{Caller}
 use Rattle.command_line.proofs.BegunEnding.{early, on_folder, refused_shown}
-use Rattle.command_line.proofs.BegunParts.{Behind, Found, after_context, after_profile, behind_kept, clean_there, found_comes, found_silent, in_silence, none_lasts, none_put, none_taken, none_told, profile_comes, profile_silent, Profile}
+use Rattle.command_line.proofs.BegunParts.{Behind, Found, after_context, after_profile, behind_kept, clean_there, found_comes, found_silent, in_silence, none_held, none_lasts, none_put, none_taken, none_told, profile_comes, profile_silent, Profile}
 use Rattle.command_line.proofs.Refusals.{refile_refuses}
 use Rattle.command_line.proofs.WordEnding.{refusal_of, refused_by}
-
--- two readings use no held name of a folder
-none_held : (run : ℕ) (path folder : List ℕ) (a b : Answer) → HasHeldNone run (Folder path folder) (after_context path a b)
-none_held run path folder a b = λ n ok. ((λ e f. cc (e)), ((λ e f. cc (e)), tt))
 
 module _ (run : ℕ) (few : run < 2 ^ 128) (caller : Caller) (words_ : List (List ℕ)) where
   abbrev Shows : CommandFault → List Deed → Type 0

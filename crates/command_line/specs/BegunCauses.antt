@@ -20,6 +20,9 @@ use Rattle.mark_command.specs.declared.job.MarkJob.{MarkJob}
 use Rattle.pick_command.specs.PickAnswers.{HasFound, HasFoundListed, ShowsListing as ShowsPickListing, ShowsPicking, TellsNone, TellsSome}
 use Rattle.pick_command.specs.declared.job.PickJob.{PickJob}
 use Rattle.pick_command.specs.declared.job.PickMarks.{PickMarks}
+use Rattle.anno_command.specs.AnnoAnswers.{ShowsAnno}
+use Rattle.anno_command.specs.AnnoDone.{HasNotedChosen}
+use Rattle.anno_command.specs.declared.job.AnnoJob.{AnnoJob}
 use Rattle.told_folders.specs.Answers.{HasChanged, ShowsListing as ShowsTellListing, TellsFolder, change_answers}
 use Rattle.folder_command.specs.Folder.{task_with}
 use Rattle.folder_command.specs.declared.job.FolderJob.{FolderJob}
@@ -42,14 +45,15 @@ use Rattle.command_words.specs.declared.pick.PickWords.{PickWords}
 use Rattle.command_words.specs.declared.refile.RefileWords.{RefileWords}
 use Rattle.command_words.specs.declared.rmm.RmmWords.{RmmWords}
 use Rattle.command_line.specs.Causes.{IsWrongStored, ShowsCommandFault}
-use Rattle.command_line.specs.Command.{mark_job, pick_job, picked_by, refile_job, rmm_job, tell_job}
+use Rattle.anno_words.specs.declared.words.AnnoWords.{AnnoWords}
+use Rattle.command_line.specs.Command.{anno_job, annotated_by, mark_job, pick_job, picked_by, refile_job, rmm_job, tell_job}
 use Rattle.command_line.specs.CommandNames.{named}
 use Rattle.command_line.specs.CommandPledge.{entries_by, path_by}
 use Rattle.command_line.specs.Incorporating.{job_by}
 use Rattle.command_line.specs.Profile.{folder_of, path_of, profile_name}
 use Rattle.command_line.specs.WordCauses.{IsRefusedByWords}
 use Rattle.command_line.specs.declared.name.CommandName.{CommandName}
-use Rattle.command_line.specs.declared.name.CommandName.TheVariants.{Folder as FolderCommand, Inc, Mark, Pick, Refile, Rmm, Scan}
+use Rattle.command_line.specs.declared.name.CommandName.TheVariants.{Anno, Folder as FolderCommand, Inc, Mark, Pick, Refile, Rmm, Scan}
 use Rattle.command_line.specs.declared.caller.Caller.{Caller}
 
 -- what shows how it ended before it came to a folder, once the words are read
@@ -119,6 +123,12 @@ abbrev pub ShowsRemoving : ℕ → List ℕ → RmmJob → Result (List ℕ) Com
 ShowsRemoving run path job (Ok said) own = HasRemovedChosen run path job own × (said ≡ [])
 ShowsRemoving run path job (Err e) own = ShowsEnd run path job.folder (rmm_answers job) e own
 
+-- `anno` on this folder: at its end it had put each message that the job's words choose anew, with the job's lines in front, and said nothing; or this
+-- shows its fault
+abbrev pub ShowsNoting : ℕ → List ℕ → AnnoJob → Result (List ℕ) CommandFault → List Deed → Type 0
+ShowsNoting run path job (Ok said) own = HasNotedChosen run path job own × (said ≡ [])
+ShowsNoting run path job (Err e) own = ShowsAnno run path job e own
+
 -- `refile` from this folder: at its end it had brought each message that the job's words choose to all folders that they
 -- name, and said nothing; or this shows its fault
 abbrev pub ShowsRefiling : ℕ → List ℕ → RefileJob → Result (List ℕ) CommandFault → List Deed → Type 0
@@ -157,6 +167,14 @@ ShowsRmm run profile context folder r own (Ok words) =
     × ShowsRemoving run (path_of profile) (rmm_job folder words profile) r own
 ShowsRmm run profile context folder r own (Err x) = ⊥
 
+-- of `anno`
+abbrev pub ShowsAnnoWords : ℕ → List NamedValue → List NamedValue → List ℕ → Result (List ℕ) CommandFault → List Deed
+    → Result AnnoWords Ended → Type 0
+ShowsAnnoWords run profile context folder r own (Ok words) =
+    (folder_of words.folder context profile ≡ Ok folder)
+    × ShowsNoting run (path_of profile) (anno_job folder words profile) r own
+ShowsAnnoWords run profile context folder r own (Err x) = ⊥
+
 -- and of `refile`, with the folder that messages leave or are copied from
 abbrev pub ShowsRefileWords : ℕ → List NamedValue → List NamedValue → List ℕ → Result (List ℕ) CommandFault → List Deed
     → Result RefileWords Ended → Type 0
@@ -187,6 +205,8 @@ ShowsNamed run caller profile context folder r own words (Some Rmm) =
     ShowsRmm run profile context folder r own (rmm_said profile (map chars words))
 ShowsNamed run caller profile context folder r own words (Some FolderCommand) =
     ShowsTell run profile context folder r own (tell_said profile (map chars words))
+ShowsNamed run caller profile context folder r own words (Some Anno) =
+    ShowsAnnoWords run profile context folder r own (annotated_by caller profile (map chars words))
 
 -- by the command that the first word names
 abbrev pub ShowsWords : ℕ → Caller → List NamedValue → List NamedValue → List ℕ → Result (List ℕ) CommandFault → List Deed

@@ -16,6 +16,8 @@ use Rattle.mark_command.specs.Mark.{mark}
 use Rattle.pick_command.specs.Pick.{pick}
 use Rattle.pick_command.specs.declared.job.PickJob.{PickJob}
 use Rattle.mark_command.specs.declared.job.MarkJob.{MarkJob}
+use Rattle.anno_command.specs.Anno.{anno}
+use Rattle.anno_command.specs.declared.job.AnnoJob.{AnnoJob}
 use Rattle.folder_command.specs.Folder.{folder as tell}
 use Rattle.folder_command.specs.declared.job.FolderJob.{FolderJob}
 use Rattle.inc_command.specs.Inc.{inc}
@@ -38,13 +40,15 @@ use Rattle.command_words.specs.RefileWords.{refile_said}
 use Rattle.command_words.specs.RmmWords.{rmm_said}
 use Rattle.command_words.specs.ScanWords.{scan_said}
 use Rattle.command_words.specs.TellWords.{tell_said}
+use Rattle.anno_words.specs.AnnoWords.{anno_said}
+use Rattle.anno_words.specs.declared.words.AnnoWords.{AnnoWords}
 use Rattle.command_line.specs.CommandNames.{named}
 use Rattle.command_line.specs.Incorporating.{job_by}
 use Rattle.command_line.specs.Looking.{ScanAsked, scan_asked, unseen_known}
 use Rattle.command_line.specs.Profile.{folder_of, negation_of, path_of, profile_name}
 use Rattle.command_line.specs.declared.caller.Caller.{Caller}
 use Rattle.command_line.specs.declared.name.CommandName.{CommandName}
-use Rattle.command_line.specs.declared.name.CommandName.TheVariants.{Folder as FolderCommand, Inc, Mark, Pick, Refile, Rmm, Scan}
+use Rattle.command_line.specs.declared.name.CommandName.TheVariants.{Anno, Folder as FolderCommand, Inc, Mark, Pick, Refile, Rmm, Scan}
 
 -- the context is read, and the run knows its entries
 unfoldable pub context_seen : List NamedValue → Commanded Unit
@@ -134,6 +138,22 @@ abbrev pub tell_by : ℕ → List NamedValue → Result FolderWords Ended → En
 tell_by run profile (Ok words) = lifted plain (tell_begun run profile words)
 tell_by run profile (Err e) = Return (Err e)
 
+-- what the words of `anno` say, whose lines have their date by the caller's clock
+abbrev pub annotated_by : Caller → List NamedValue → List (List ℕ) → Result AnnoWords Ended
+annotated_by caller profile words = anno_said caller.clock.moment caller.clock.offset profile words
+
+abbrev pub anno_job : List ℕ → AnnoWords → List NamedValue → AnnoJob
+anno_job folder words profile = record { folder = folder; specs = words.specs; lines = words.lines; negation = negation_of profile }
+
+unfoldable pub anno_begun : ℕ → List NamedValue → AnnoWords → Commanded Unit
+anno_begun run profile words = do
+  folder ← folder_found profile words.folder
+  anno run (path_of profile) (anno_job folder words profile)
+
+abbrev pub anno_by : ℕ → List NamedValue → Result AnnoWords Ended → Ending Unit
+anno_by run profile (Ok words) = lifted plain (anno_begun run profile words)
+anno_by run profile (Err e) = Return (Err e)
+
 -- the source is the folder that is acted on, and becomes the current one where the words name it
 abbrev pub refile_job : List ℕ → RefileWords → List NamedValue → RefileJob
 refile_job folder words profile = record {
@@ -179,6 +199,7 @@ word_by run caller profile word words (Some Pick) = pick_by run profile (picked_
 word_by run caller profile word words (Some Refile) = refile_by run profile (refile_said profile (map chars words))
 word_by run caller profile word words (Some Rmm) = rmm_by run profile (rmm_said profile (map chars words))
 word_by run caller profile word words (Some FolderCommand) = tell_by run profile (tell_said profile (map chars words))
+word_by run caller profile word words (Some Anno) = anno_by run profile (annotated_by caller profile (map chars words))
 
 abbrev pub command_by : ℕ → Caller → List NamedValue → List (List ℕ) → Ending Unit
 command_by run caller profile [] = Return (Err (no_command None))

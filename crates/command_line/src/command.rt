@@ -11,6 +11,7 @@ ghost use Rattle.command_line.specs.CommandNames.{named};
 ghost use Rattle.command_line.specs.Profile.{profile_name as profile_name_of};
 
 use crate::Caller;
+use crate::annotating::run_anno;
 use crate::incorporating::run_inc;
 use crate::marking::run_mark;
 use crate::name::CommandName;
@@ -67,6 +68,7 @@ fn run_word<F: Files, O: Sink>(
         Some(CommandName::Refile) => run_refile(alloc, run, files, profile, rest),
         Some(CommandName::Rmm) => run_rmm(alloc, run, files, profile, rest),
         Some(CommandName::Folder) => run_folder(alloc, run, files, out, profile, rest),
+        Some(CommandName::Anno) => run_anno(alloc, run, files, profile, caller, rest),
         None => {
             let word = Bytes::from_slice(alloc, word.as_bytes())?;
             Err(no_command(Some(word)))

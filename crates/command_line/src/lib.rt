@@ -1,6 +1,7 @@
 //! A command by its words: what the profile, the words and the context say of it, and its run.
 #![tactic(auto)]
 
+mod annotating;
 mod caller;
 mod command;
 mod current;

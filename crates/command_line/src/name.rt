@@ -12,6 +12,7 @@ pub enum CommandName {
     Refile,
     Rmm,
     Folder,
+    Anno,
 }
 
 impl CommandName {
@@ -33,6 +34,8 @@ impl CommandName {
             Some(CommandName::Pick)
         } else if word == "folder" {
             Some(CommandName::Folder)
+        } else if word == "anno" {
+            Some(CommandName::Anno)
         } else {
             None
         }

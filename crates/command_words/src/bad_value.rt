@@ -10,7 +10,7 @@ use mh_base::{TextList, WordWhy};
 use std::alloc::{AllocError, Global};
 
 /// The refusal of a word that is too many, or of a value before it that is wrong, at this place.
-pub(crate) fn wrong_earliest(
+pub fn wrong_earliest(
     alloc: Global,
     words: &TextList,
     bad: Option<u64>,

@@ -7,7 +7,8 @@ use crate::tables::PICK_DATEFIELD;
 use mh_base::Text;
 use mh_words::{Item, ItemList};
 
-fn is_field_name(name: &Text) -> bool
+/// Whether the text is a field's name.
+pub fn is_field_name(name: &Text) -> bool
     ensures { result ≡ is_field_name_of name.now }
 {
     mh_profile::is_field_name(name.as_str().as_bytes())

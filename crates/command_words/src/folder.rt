@@ -15,7 +15,7 @@ ghost use Rattle.command_words.specs.TellWords.{
 };
 
 use crate::ended::Ended;
-use crate::folder_word::{folder_beside, folder_said};
+use crate::folders::{folder_beside, folder_said};
 use crate::inc::message_place;
 use crate::message_words::messages;
 use crate::tables::folder_table;

@@ -15,7 +15,7 @@ ghost use Rattle.command_words.specs.IncWords.{
 
 use crate::bad_value::wrong_earliest;
 use crate::ended::Ended;
-use crate::folder_word::{folder_beside, folder_said};
+use crate::folders::{folder_beside, folder_said};
 use crate::look::{LookWords, look, wrong_width};
 use crate::switches::{last_choice, last_word, values};
 use crate::tables::{

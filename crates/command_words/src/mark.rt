@@ -18,7 +18,7 @@ ghost use Rattle.command_words.specs.MarkWords.{
 ghost use Rattle.command_words.specs.Results.{IsSaid};
 
 use crate::ended::Ended;
-use crate::folder_word::{folder_said, folder_word};
+use crate::folders::{folder_said, folder_word};
 use crate::message_words::{messages, messages_or};
 use crate::sequence_names::sequence_names;
 use crate::switches::{is_given, last_choice, values};

@@ -47,11 +47,7 @@ fn names_or(alloc: Global, default: &str, names: TextList) -> Result<TextList, A
 }
 
 /// The messages' names, or this one where there are none.
-pub(crate) fn messages_or(
-    alloc: Global,
-    default: &str,
-    items: &ItemList,
-) -> Result<TextList, AllocError>
+pub fn messages_or(alloc: Global, default: &str, items: &ItemList) -> Result<TextList, AllocError>
     ensures { IfOk result (λ words. words ≡ names_or_of (chars default.now) (messages_of items.now)) }
 {
     names_or(alloc, default, messages(alloc, items)?)

@@ -22,7 +22,7 @@ ghost use Rattle.command_words.specs.Results.{IsNamed, IsSaid};
 use crate::bad_value::wrong_earliest;
 use crate::ended::Ended;
 use crate::field_name::bad_name;
-use crate::folder_word::{folder_said, folder_word};
+use crate::folders::{folder_said, folder_word};
 use crate::message_words::messages_or;
 use crate::sequence_names::sequence_names;
 use crate::switches::{last_choice, last_word, values};

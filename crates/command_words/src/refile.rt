@@ -8,7 +8,7 @@ ghost use Rattle.command_words.specs.declared.tables.TheConstants.{SRC as SRC_AT
 ghost use Rattle.command_words.specs.RefileWords.{items_said as items_said_of, refile_said, targets, words_of};
 
 use crate::ended::Ended;
-use crate::folder_word::{folder_word, read_folder};
+use crate::folders::{folder_word, read_folder};
 use crate::message_words::messages_or;
 use crate::switches::last_choice;
 use crate::tables::{LINK, NOLINK, SRC, refile_table};

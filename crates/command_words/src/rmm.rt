@@ -10,7 +10,7 @@ ghost use Rattle.command_words.specs.RmmWords.{
 };
 
 use crate::ended::Ended;
-use crate::folder_word::{folder_said, folder_word};
+use crate::folders::{folder_said, folder_word};
 use crate::message_words::messages_or;
 use crate::switches::last_choice;
 use crate::tables::{NOUNLINK, UNLINK, rmm_table};

@@ -11,7 +11,7 @@ ghost use Rattle.command_words.specs.ScanWords.{
 
 use crate::bad_value::wrong_earliest;
 use crate::ended::Ended;
-use crate::folder_word::{folder_said, folder_word};
+use crate::folders::{folder_said, folder_word};
 use crate::look::{LookWords, look, wrong_width};
 use crate::message_words::messages_or;
 use crate::switches::last_choice;

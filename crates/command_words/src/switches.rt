@@ -34,7 +34,7 @@ fn choice_by(on: u64, off: u64, item: &Item, before: Option<bool>) -> Option<boo
 }
 
 /// Of two opposed switches, at these indexes, whether the last that is given is the one.
-pub(crate) fn last_choice(on: u64, off: u64, items: &ItemList) -> Option<bool>
+pub fn last_choice(on: u64, off: u64, items: &ItemList) -> Option<bool>
     ensures { result ≡ last_choice_of on off items.now }
 {
     let mut last = None;
@@ -80,7 +80,7 @@ fn push_value(alloc: Global, at: u64, words: &mut TextList, item: &Item) -> Resu
 }
 
 /// The values of the switch at this index, in their order.
-pub(crate) fn values(alloc: Global, at: u64, items: &ItemList) -> Result<TextList, AllocError>
+pub fn values(alloc: Global, at: u64, items: &ItemList) -> Result<TextList, AllocError>
     ensures { IfOk result (λ words. words ≡ values_of at items.now) }
 {
     let mut words = List::new(alloc);
@@ -91,7 +91,7 @@ pub(crate) fn values(alloc: Global, at: u64, items: &ItemList) -> Result<TextLis
 }
 
 /// The last of these words.
-pub(crate) fn last_word(alloc: Global, words: &TextList) -> Result<Option<Text>, AllocError>
+pub fn last_word(alloc: Global, words: &TextList) -> Result<Option<Text>, AllocError>
     ensures { IfOk result (λ word. word ≡ last_of words.now) }
 {
     match words.as_slice().last() {

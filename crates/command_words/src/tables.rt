@@ -87,7 +87,8 @@ pub(crate) const UNLINK: u64 = 0;
 
 pub(crate) const NOUNLINK: u64 = 1;
 
-fn push_switch(
+/// Adds a switch of this name and kind.
+pub fn push_switch(
     alloc: Global,
     switches: &mut SwitchList,
     name: &str,

@@ -54,7 +54,7 @@ pub(crate) fn profile_words(
 }
 
 /// The words of the profile's entry of this name, and then the command's.
-pub(crate) fn all_words(
+pub fn all_words(
     alloc: Global,
     profile: &Entries,
     name: &[u8],

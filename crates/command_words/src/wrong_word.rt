@@ -24,7 +24,7 @@ fn word_bytes(alloc: Global, words: &TextList, place: u64) -> Result<Bytes, Allo
 }
 
 /// The refusal of the word at this place.
-pub(crate) fn wrong_at(
+pub fn wrong_at(
     alloc: Global,
     words: &TextList,
     place: u64,
@@ -40,11 +40,7 @@ pub(crate) fn wrong_at(
 }
 
 /// The items of all these words, or the refusal of the earliest wrong one.
-pub(crate) fn read_items(
-    alloc: Global,
-    table: &SwitchTable,
-    words: &TextList,
-) -> Result<ItemList, Ended>
+pub fn read_items(alloc: Global, table: &SwitchTable, words: &TextList) -> Result<ItemList, Ended>
     ensures { IsSaid (items_or_wrong words.now (read_in table.now 0 words.now)) result }
 {
     match read_words(alloc, table, words, &List::new(alloc)) {

@@ -1,5 +1,6 @@
 // What the program tells of itself, before any command runs.
 
+mod anno;
 mod errors;
 mod folder;
 mod inc;
@@ -28,6 +29,7 @@ pub enum Help {
 /// The page of a command.
 fn command_page(word: &str) -> Option<&'static str> {
     match word {
+        "anno" => Some(anno::PAGE),
         "folder" => Some(folder::PAGE),
         "inc" => Some(inc::PAGE),
         "mark" => Some(mark::PAGE),

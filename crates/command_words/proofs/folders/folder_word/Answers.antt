@@ -2,7 +2,7 @@ use Rattle.std.proofs.Common.{subst, Ok}
 use Rattle.command_words.specs.Results.{IsOneFolder}
 use Rattle.command_words.specs.FolderWords.{folders, one_folder}
 use Rattle.command_words.proofs.Items.{seen_more, seen_all}
-use Rattle.command_words.proofs.folder_word.folder_word.Goals as goal
+use Rattle.command_words.proofs.folders.folder_word.Goals as goal
 
 pub loop-item-preserved : goal.loop-item-preserved
 loop-item-preserved c =

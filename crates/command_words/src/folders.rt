@@ -43,7 +43,7 @@ fn folder_seen<'a>(found: Option<&'a Text>, item: &'a Item) -> Result<Option<&'a
 }
 
 /// The word of the one folder, or the place of a second.
-pub(crate) fn folder_word(items: &ItemList) -> Result<Option<&Text>, u64>
+pub fn folder_word(items: &ItemList) -> Result<Option<&Text>, u64>
     ensures { IsOneFolder (one_folder (folders_of items.now)) result }
 {
     let mut found = None;
@@ -70,10 +70,7 @@ pub(crate) fn folder_beside(items: &ItemList, extra: Option<u64>) -> Result<Opti
 }
 
 /// The folder of this word, where there is one.
-pub(crate) fn folder_said(
-    alloc: Global,
-    word: Option<&Text>,
-) -> Result<Option<FolderName>, CommandFault>
+pub fn folder_said(alloc: Global, word: Option<&Text>) -> Result<Option<FolderName>, CommandFault>
     ensures { IsSaidFolder (option_map (λ w. w.now) word.entry) result }
 {
     match word {

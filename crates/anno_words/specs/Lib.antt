@@ -1,0 +1,3 @@
+pub mod AnnoWords
+pub mod Table
+pub mod WrongValues

@@ -1,0 +1,31 @@
+// The switches of `anno`, and their places in its table.
+ghost use Rattle.std.specs.Prelude.{◌≡◌, IfOk};
+ghost use Rattle.anno_words.specs.Table.{anno_table as anno_table_of};
+
+use command_words::push_switch;
+use mh_base::List;
+use mh_words::{Kind, SwitchTable};
+use std::alloc::{AllocError, Global};
+
+pub(crate) const COMPONENT: u64 = 0;
+
+pub(crate) const TEXT: u64 = 1;
+
+pub(crate) const DATE: u64 = 2;
+
+pub(crate) const NODATE: u64 = 3;
+
+/// The switches of `anno`.
+pub(crate) fn anno_table(alloc: Global) -> Result<SwitchTable, AllocError>
+    ensures { IfOk result (λ table. table ≡ anno_table_of) }
+{
+    let mut switches = List::new(alloc);
+    push_switch(alloc, &mut switches, "component", Kind::Value)?;
+    push_switch(alloc, &mut switches, "text", Kind::Value)?;
+    push_switch(alloc, &mut switches, "date", Kind::Flag)?;
+    push_switch(alloc, &mut switches, "nodate", Kind::Flag)?;
+    Ok(SwitchTable {
+        switches,
+        components: false,
+    })
+}

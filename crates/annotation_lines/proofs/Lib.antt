@@ -1,0 +1,3 @@
+pub mod Annotating
+mod Dating
+mod Showing
