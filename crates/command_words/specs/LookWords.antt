@@ -5,9 +5,10 @@ use Rattle.std.specs.Str.{encode_utf8_all}
 use Rattle.mh_words.specs.declared.item.Item.{Item}
 use Rattle.mh_words.specs.declared.item.Item.TheVariants.{Folder, Message, Switch, Component}
 use Rattle.command_words.specs.Columns.{columns_in}
-use Rattle.command_words.specs.Switches.{last_of, values}
+use Rattle.command_words.specs.declared.look.FormatWords.{FormatWords}
+use Rattle.command_words.specs.declared.look.FormatWords.TheVariants.{Default, File, Word}
 use Rattle.command_words.specs.declared.look.LookWords.{LookWords}
-use Rattle.command_words.specs.declared.tables.TheConstants.{FORMAT, WIDTH}
+use Rattle.command_words.specs.declared.tables.TheConstants.{FORM, FORMAT, WIDTH}
 
 -- the last of these, or what was before where there are none
 abbrev pub last_behind : {A : Type 0} → A → List A → A
@@ -26,9 +27,17 @@ width_in (Switch index None place) = []
 width_in (Switch index (Some value) place) = if index == WIDTH then listed (columns_in (encode_utf8_all value)) else []
 width_in (Component name value place) = []
 
--- of all formats and widths that words name the last counts; 80 columns without one
+-- the format that a switch names, or its file
+abbrev pub format_in : Item → List FormatWords
+format_in (Folder text place) = []
+format_in (Message text place) = []
+format_in (Switch index None place) = []
+format_in (Switch index (Some value) place) = if index == FORMAT then Word value ∷ [] else (if index == FORM then File value ∷ [] else [])
+format_in (Component name value place) = []
+
+-- of all formats, files of formats and widths that words name the last counts; 80 columns without one
 abbrev pub look_of : List Item → LookWords
-look_of items = record { format = last_of (values FORMAT items); width = last_behind 80 (flat_map width_in items) }
+look_of items = record { format = last_behind Default (flat_map format_in items); width = last_behind 80 (flat_map width_in items) }
 
 abbrev pub if_none : ℕ → Option ℕ → List ℕ
 if_none place None = place ∷ []

@@ -15,7 +15,7 @@ table_of switches = record { switches = switches; components = false }
 abbrev pub scan_table : SwitchTable
 scan_table =
     table_of
-    (switch (codes "format") Value ∷ switch (codes "width") Value
+    (switch (codes "format") Value ∷ switch (codes "width") Value ∷ switch (codes "form") Value
     ∷ switch (codes "reverse") Flag ∷ switch (codes "noreverse") Flag ∷ [])
 
 -- the switches of `mark`
@@ -30,7 +30,7 @@ mark_table =
 abbrev pub inc_table : SwitchTable
 inc_table =
     table_of
-    (switch (codes "format") Value ∷ switch (codes "width") Value
+    (switch (codes "format") Value ∷ switch (codes "width") Value ∷ switch (codes "form") Value
     ∷ switch (codes "file") Value ∷ switch (codes "truncate") Flag ∷ switch (codes "notruncate") Flag
     ∷ switch (codes "changecur") Flag ∷ switch (codes "nochangecur") Flag
     ∷ switch (codes "silent") Flag ∷ switch (codes "nosilent") Flag ∷ [])

@@ -26,7 +26,7 @@ pub use field_name::is_field_name;
 pub use folder::{FolderWords, folder_words};
 pub use folders::{folder_said, folder_word, read_folder};
 pub use inc::{IncWords, inc_words};
-pub use look::LookWords;
+pub use look::{FormatWords, LookWords};
 pub use mark::{MarkWords, mark_words};
 pub use message_words::messages_or;
 pub use pick::{PickWords, pick_words};

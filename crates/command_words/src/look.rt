@@ -4,21 +4,28 @@ ghost use Rattle.std.specs.List.{list_all};
 ghost use Rattle.std.specs.Str.{encode_utf8_all};
 ghost use Rattle.command_words.specs.BadValues.{first_of};
 ghost use Rattle.command_words.specs.Columns.{columns_in, is_digit as is_digit_of, within_columns};
-ghost use Rattle.command_words.specs.LookWords.{last_behind, look_of, width_in, wrong_width_in, wrong_widths};
+ghost use Rattle.command_words.specs.LookWords.{format_in, last_behind, look_of, width_in, wrong_width_in, wrong_widths};
 
-use crate::switches::{last_word, values};
-use crate::tables::{FORMAT, WIDTH};
-use mh_base::Text;
+use crate::tables::{FORM, FORMAT, WIDTH};
+use mh_base::{Duplicate, Text};
 use mh_words::{Item, ItemList};
 use std::alloc::{AllocError, Global};
 
 /// The widest line, in columns.
 const WIDEST: u32 = 10_000;
 
-/// The format of lines, where words name one, and the columns that they have at most.
+/// The format of lines, as words name it: the one that is there without words, the one of a word, or the one of the file of this path.
+#[derive(Drop)]
+pub enum FormatWords {
+    Default,
+    Word(Text),
+    File(Text),
+}
+
+/// The format of lines, and the columns that they have at most.
 #[derive(Drop)]
 pub struct LookWords {
-    pub format: Option<Text>,
+    pub format: FormatWords,
     pub width: u32,
 }
 
@@ -91,11 +98,48 @@ fn last_width(items: &ItemList) -> u32
     width
 }
 
+/// The format so far, with one item more.
+fn format_by(
+    alloc: Global,
+    item: &Item,
+    before: FormatWords,
+) -> Result<FormatWords, AllocError>
+    ensures { IfOk result (λ format. format ≡ last_behind before (format_in item.now)) }
+{
+    match item {
+        Item::Switch {
+            index,
+            value: Some(value),
+            ..
+        } => {
+            if *index == FORMAT {
+                Ok(FormatWords::Word(value.duplicate(alloc)?))
+            } else if *index == FORM {
+                Ok(FormatWords::File(value.duplicate(alloc)?))
+            } else {
+                Ok(before)
+            }
+        }
+        _ => Ok(before),
+    }
+}
+
+/// The last format that is named, or its file.
+fn last_format(alloc: Global, items: &ItemList) -> Result<FormatWords, AllocError>
+    ensures { IfOk result (λ format. format ≡ (look_of items.now).format) }
+{
+    let mut format = FormatWords::Default;
+    for item in items.as_slice() {
+        format = format_by(alloc, item, format)?;
+    }
+    Ok(format)
+}
+
 pub(crate) fn look(alloc: Global, items: &ItemList) -> Result<LookWords, AllocError>
     ensures { IfOk result (λ l. l ≡ look_of items.now) }
 {
     Ok(LookWords {
-        format: last_word(alloc, &values(alloc, FORMAT, items)?)?,
+        format: last_format(alloc, items)?,
         width: last_width(items),
     })
 }

@@ -21,10 +21,12 @@ pub(crate) const FORMAT: u64 = 0;
 
 pub(crate) const WIDTH: u64 = 1;
 
-// The places of the other switches of `scan` in its table.
-pub(crate) const REVERSE: u64 = 2;
+pub(crate) const FORM: u64 = 2;
 
-pub(crate) const NOREVERSE: u64 = 3;
+// The places of the other switches of `scan` in its table.
+pub(crate) const REVERSE: u64 = 3;
+
+pub(crate) const NOREVERSE: u64 = 4;
 
 // The places of the switches of `mark` in its table.
 pub(crate) const ADD: u64 = 0;
@@ -44,19 +46,19 @@ pub(crate) const ZERO: u64 = 6;
 pub(crate) const NOZERO: u64 = 7;
 
 // The places of the other switches of `inc` in its table.
-pub(crate) const FILE: u64 = 2;
+pub(crate) const FILE: u64 = 3;
 
-pub(crate) const TRUNCATE: u64 = 3;
+pub(crate) const TRUNCATE: u64 = 4;
 
-pub(crate) const NOTRUNCATE: u64 = 4;
+pub(crate) const NOTRUNCATE: u64 = 5;
 
-pub(crate) const CHANGECUR: u64 = 5;
+pub(crate) const CHANGECUR: u64 = 6;
 
-pub(crate) const NOCHANGECUR: u64 = 6;
+pub(crate) const NOCHANGECUR: u64 = 7;
 
-pub(crate) const SILENT: u64 = 7;
+pub(crate) const SILENT: u64 = 8;
 
-pub(crate) const NOSILENT: u64 = 8;
+pub(crate) const NOSILENT: u64 = 9;
 
 // The places of those switches of `pick` in its table that are no part of its expression.
 pub(crate) const PICK_DATEFIELD: u64 = 13;
@@ -107,6 +109,7 @@ pub(crate) fn scan_table(alloc: Global) -> Result<SwitchTable, AllocError>
     let mut switches = List::new(alloc);
     push_switch(alloc, &mut switches, "format", Kind::Value)?;
     push_switch(alloc, &mut switches, "width", Kind::Value)?;
+    push_switch(alloc, &mut switches, "form", Kind::Value)?;
     push_switch(alloc, &mut switches, "reverse", Kind::Flag)?;
     push_switch(alloc, &mut switches, "noreverse", Kind::Flag)?;
     Ok(SwitchTable {
@@ -141,6 +144,7 @@ pub(crate) fn inc_table(alloc: Global) -> Result<SwitchTable, AllocError>
     let mut switches = List::new(alloc);
     push_switch(alloc, &mut switches, "format", Kind::Value)?;
     push_switch(alloc, &mut switches, "width", Kind::Value)?;
+    push_switch(alloc, &mut switches, "form", Kind::Value)?;
     push_switch(alloc, &mut switches, "file", Kind::Value)?;
     push_switch(alloc, &mut switches, "truncate", Kind::Flag)?;
     push_switch(alloc, &mut switches, "notruncate", Kind::Flag)?;

@@ -11,7 +11,8 @@ unfolding chars
 returns c =
     let put = λ (s : Switch) (l : List Switch). l ++ s ∷ [] in
     ap table_of
-    (c.in_ok-push_switch-4.ensures ∙ ap (put (switch (codes "noreverse") Flag))
-    (c.in_ok-push_switch-3.ensures ∙ ap (put (switch (codes "reverse") Flag))
+    (c.in_ok-push_switch-5.ensures ∙ ap (put (switch (codes "noreverse") Flag))
+    (c.in_ok-push_switch-4.ensures ∙ ap (put (switch (codes "reverse") Flag))
+    (c.in_ok-push_switch-3.ensures ∙ ap (put (switch (codes "form") Value))
     (c.in_ok-push_switch-2.ensures ∙ ap (put (switch (codes "width") Value))
-    (c.in_ok-push_switch.ensures ∙ ap (put (switch (codes "format") Value)) c.new-switches.ensures))))
+    (c.in_ok-push_switch.ensures ∙ ap (put (switch (codes "format") Value)) c.new-switches.ensures)))))
