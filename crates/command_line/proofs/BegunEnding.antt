@@ -1,5 +1,5 @@
 -- How a command ends whose words name one that begins a folder, and what shows it.
-use Rattle.std.proofs.Common.{◌≡◌, ◌≢◌, ◌⊎◌, ◌<◌, inl, inr, ◌^◌, ◌∷◌, [], ℕ, Bool, true, false, List, Option, Some, None, Result, Ok, Err, refl, sym, ◌∙◌, subst}
+use Rattle.std.proofs.Common.{◌≡◌, ◌≢◌, ◌⊎◌, ◌<◌, inl, inr, ◌^◌, ◌∷◌, [], ℕ, Bool, true, false, List, Option, Some, None, Result, Ok, Err, refl, sym, ◌∙◌, ap, subst}
 use Rattle.std.specs.Prelude.{map}
 use Rattle.std.specs.Str.{chars}
 use Rattle.mh_profile.specs.declared.named_value.NamedValue.{NamedValue}
@@ -7,6 +7,7 @@ use Rattle.mh_profile.specs.Reading.{entries_in}
 use Rattle.folder_files.specs.Annotations.{are_annotations}
 use Rattle.folder_files.specs.Careful.{WasMade}
 use Rattle.folder_files.specs.Deeds.{Deed, Once}
+use Rattle.folder_files.specs.declared.place.FilePath.{FilePath}
 use Rattle.folder_files.specs.declared.place.Place.TheVariants.{Folder, Home, Mail}
 use Rattle.folder_files.specs.declared.refusal.Refusal.TheVariants as refusal
 use Rattle.folder_files.specs.declared.step.Answer.{Answer}
@@ -65,9 +66,10 @@ use Rattle.anno_command.proofs.AnnoDone.{Has as HasNoted, anno_done}
 use Rattle.anno_command.proofs.AnnoEnds.{anno_ends}
 use Rattle.anno_words.specs.declared.words.AnnoWords.{AnnoWords}
 use Rattle.anno_words.proofs.Said.{anno_annotates, anno_refuses}
+use Rattle.message_lines.specs.MessageText.{Writing}
+use Rattle.message_lines.specs.declared.standing.Standing.{Standing}
 use Rattle.inc_command.specs.Inc.{inc}
 use Rattle.inc_command.specs.IncAnswers.{ShowsInc, ShowsIncorporating}
-use Rattle.inc_command.specs.IncJob.{IncJob}
 use Rattle.refile_command.specs.Rmm.{rmm}
 use Rattle.refile_command.specs.RmmAnswers.{HasRemovedChosen, rmm_answers}
 use Rattle.refile_command.proofs.RefileMoved.{HasHeldNone}
@@ -90,19 +92,21 @@ use Rattle.command_line.specs.Causes.{ShowsCommandFault}
 use Rattle.command_line.specs.Command.{anno_begun, anno_by, anno_job, annotated_by, command, command_by, context_entered, folder_found, inc_begun, inc_by, mark_begun, mark_by, mark_job, pick_begun, pick_by, pick_job, picked_by, rmm_begun, rmm_by, rmm_job, word_by, tell_begun, tell_by, tell_job}
 use Rattle.command_line.specs.CommandNames.{shows_ends, command_of, named}
 use Rattle.command_line.specs.CommandPledge.{entries_by}
-use Rattle.command_line.specs.Incorporating.{job_by}
+use Rattle.command_line.specs.Incorporating.{IncAsked, job_by, job_writing}
+use Rattle.command_line.specs.Looking.{WritesAs, look_found, written_by}
 use Rattle.command_line.specs.Profile.{folder_of, path_of, profile_name}
-use Rattle.command_line.specs.WordCauses.{IsRefusedByWords}
+use Rattle.command_line.specs.WordCauses.{IsRefusedByWords, file_in, inc_file, words_file}
 use Rattle.command_line.specs.declared.name.CommandName.{CommandName}
 use Rattle.command_line.specs.declared.name.CommandName.TheVariants.{Anno, Folder as FolderCommand, Inc, Mark, Pick, Refile, Rmm, Scan}
 use Rattle.command_line.specs.declared.caller.Caller.{Caller}
 use Rattle.command_line.proofs.Ending.{scan_shows}
-use Rattle.command_line.proofs.IncEnding.{TakesIn, ToldSo, inc_comes}
+use Rattle.command_line.proofs.IncEnding.{BehindLook, TakesIn, ToldSo, inc_comes}
 use Rattle.command_line.proofs.BegunParts.{Behind, Enters, Found, Profile, after_context, after_profile, behind_kept, clean_there, ended_more, entered_comes, entered_silent, found_comes, found_silent, in_silence, none_held, none_lasts, none_made, none_put, none_taken, none_told, numbered_there, profile_comes, profile_silent}
+use Rattle.command_line.proofs.LookFound.{Looked, look_comes, look_deeds, look_silent}
 use Rattle.command_line.proofs.PickEnding.{FindsEnd, FindsTold, MarksEnd, MarksTold, finds_come, marks_come}
 use Rattle.command_line.proofs.Refusals.{IsRefusal, job_refuses, mark_refuses, rmm_refuses, tell_refuses}
 use Rattle.command_line.proofs.SaidPick.{pick_refuses}
-use Rattle.command_line.proofs.WordEnding.{refusal_of, refused_by}
+use Rattle.command_line.proofs.WordEnding.{file_by, format_shown, refusal_of, refused_by}
 
 module _ (run : ℕ) (few : run < 2 ^ 128) (caller : Caller) (words_ : List (List ℕ)) where
   abbrev Shows : CommandFault → List Deed → Type 0
@@ -579,30 +583,67 @@ module _ (run : ℕ) (few : run < 2 ^ 128) (caller : Caller) (words_ : List (Lis
             go later j (Err e) q = stops_plainly later j e q.0 (early e (acts later) q.1.1 q.1.0)
 
       -- `inc`
-      module _ (name : named word ≡ Some Inc) (job : IncJob) (said : job_by caller profile (inc_said profile (map chars rest)) ≡ Ok job) where
-        inc_on : (b : Answer) (r : Result (List ℕ) CommandFault) (own : List Deed) → Behind a b own × ShowsIncorporating run path job r own → ShowsOnFolder run caller words_ r own
-        inc_on b r own s =
-            on_folder word rest is_words b job.folder r own s.0
-            (subst (λ n. ShowsNamed run caller profile (entries_by b) job.folder r own rest n) (sym name) (subst (λ j. ShowsIncJob run profile job.folder r own j) (sym said) (refl, s.1)))
+      module _ (name : named word ≡ Some Inc) (asked : IncAsked) (said : job_by caller profile (inc_said profile (map chars rest)) ≡ Ok asked) where
+        inc_on : (b : Answer) (spoken : Standing → Writing) (r : Result (List ℕ) CommandFault) (own : List Deed)
+            → BehindLook run few a asked b spoken own × ShowsIncorporating run path (job_writing asked spoken) r own → ShowsOnFolder run caller words_ r own
+        inc_on b spoken r own s =
+            on_folder word rest is_words b asked.folder r own s.0.0
+            (subst (λ n. ShowsNamed run caller profile (entries_by b) asked.folder r own rest n) (sym name)
+            (subst (λ j. ShowsIncJob run profile asked.folder r own j) (sym said) (refl, (spoken, s.0.1, s.1))))
 
-        module _ (past : List runs.Deed) (j : Hand) (b : Answer) (is : acts past ≡ after_context path a b) (first : j ≡ knowing (entries_by b) fresh) (clean : NoneFailed (acts past)) (silent : said_of past ≡ []) where
-          taken_in : Keeps Speech past j (inc run path job) Plainly
+        module _ (past : List runs.Deed) (j : Hand) (b c : Answer) (spoken : Standing → Writing) (is : acts past ≡ look_deeds asked.telling c (after_context path a b)) (written : written_by asked.telling c ≡ Ok spoken)
+            (first : j ≡ knowing (entries_by b) fresh) (clean : NoneFailed (acts past)) (silent : said_of past ≡ []) where
+          taken_in : Keeps Speech past j (inc run path (job_writing asked spoken)) Plainly
           taken_in =
-              keeps_more Speech past j (inc run path job) (TakesIn run few a job b) Plainly more
-              (speaks_more (ToldSo run few a job b) Spoken tells past j (inc run path job) (TakesIn run few a job b) (inc_comes run few a job b past j is first clean silent))
+              keeps_more Speech past j (inc run path (job_writing asked spoken)) (TakesIn run few a asked b spoken) Plainly more
+              (speaks_more (ToldSo run few a asked b spoken) Spoken tells past j (inc run path (job_writing asked spoken)) (TakesIn run few a asked b spoken) (inc_comes run few a asked b spoken past j c is written first clean silent))
             where
-              tells : (text : List ℕ) (own : List Deed) → ToldSo run few a job b text own → Spoken text own
+              tells : (text : List ℕ) (own : List Deed) → ToldSo run few a asked b spoken text own → Spoken text own
               tells text own t =
-                  inr (inl (record { profile = a; context = b; newer = t.0.0; begun = t.0.1; job = job; by_words = subst (λ ws. TakesInBy caller profile ws job) (sym is_words) (name, said); told = t.1 }))
+                  inr (inl (record {
+                    profile = a;
+                    context = b;
+                    newer = t.0.0.0;
+                    begun = t.0.0.1;
+                    asked = asked;
+                    by_words = subst (λ ws. TakesInBy caller profile ws asked) (sym is_words) (name, said);
+                    spoken = spoken;
+                    writes = t.0.1;
+                    told = t.1;
+                  }))
 
-              more : (later : List runs.Deed) (i : Hand) (r : Result Unit CommandFault) → TakesIn run few a job b later i r → Plainly later i r
-              more later i (Ok u) q = inc_on b (Ok (said_of later)) (acts later) (q.0.0, (q.1.1, q.0.1))
-              more later i (Err e) q = ended_more (λ k own. Behind a b own × ShowsInc run path job k own) Shows (λ k own s. inr (inr (inc_on b (Err k) own s))) e (acts later) q.1
+              more : (later : List runs.Deed) (i : Hand) (r : Result Unit CommandFault) → TakesIn run few a asked b spoken later i r → Plainly later i r
+              more later i (Ok u) q = inc_on b spoken (Ok (said_of later)) (acts later) (q.0.0, (q.1.1, q.0.1))
+              more later i (Err e) q =
+                  ended_more (λ k own. BehindLook run few a asked b spoken own × ShowsInc run path (job_writing asked spoken) k own) Shows (λ k own s. inr (inr (inc_on b spoken (Err k) own s))) e (acts later) q.1
 
-        inc_begun_keeps : (past : List runs.Deed) → acts past ≡ after_profile a → NoneFailed (acts past) → said_of past ≡ [] → Keeps Speech past fresh (inc_begun run path job) Plainly
+        -- the file of a format is refused
+        file_refused : (b c : Answer) (e : CommandFault) (own : List Deed) → own ≡ look_deeds asked.telling c (after_context path a b) → written_by asked.telling c ≡ Err e → NoneFailed own → IsEndedBy Shows e own
+        file_refused b c e own is wrong clean =
+            let s = format_shown caller words_ a b c asked.telling e wrong (λ file f. file_by caller words_ a word rest is_words (Some Inc) name file (ap inc_file said ∙ f)) in
+            subst (λ z. IsEndedBy Shows z own) (sym s.0.1)
+            (at_once (inl (subst (λ z. IsRefusedByWords caller words_ z own) s.0.1 (subst (λ o. IsRefusedByWords caller words_ e o) (sym is) s.1))) clean)
+
+        look_keeps : (past : List runs.Deed) (j : Hand) (b : Answer) → acts past ≡ after_context path a b → j ≡ knowing (entries_by b) fresh → NoneFailed (acts past) → said_of past ≡ []
+            → Keeps Speech past j (look_found asked.telling >>= (λ spoken. inc run path (job_writing asked spoken))) Plainly
+        unfolding ◌>>=◌
+        look_keeps past j b is first clean silent =
+            keeps_bind Speech past j (look_found asked.telling) (after (λ spoken. inc run path (job_writing asked spoken))) _ Plainly
+            (in_silence Spoken past j (look_found asked.telling) (OfActs Looks) silent (look_silent past j asked.telling)
+            (comes_keeps past (acts past) j (look_found asked.telling) Looks refl (comes_clean (acts past) j (look_found asked.telling) (Looked asked.telling (acts past) j) clean (look_comes asked.telling (acts past) j))))
+            go
+          where
+            Looks : Outcome (Result (Standing → Writing) CommandFault)
+            Looks later i r = NoneFailed later × Looked asked.telling (acts past) j later i r
+
+            go : (later : List runs.Deed) (i : Hand) (r : Result (Standing → Writing) CommandFault) → (said_of later ≡ []) × OfActs Looks later i r → Keeps Speech later i (after (λ spoken. inc run path (job_writing asked spoken)) r) Plainly
+            go later i (Ok spoken) q = taken_in later i b q.1.1.0 spoken (q.1.1.1 ∙ ap (look_deeds asked.telling q.1.1.0) is) q.1.1.3 (q.1.1.2 ∙ first) q.1.0 q.0
+            go later i (Err e) q = stops_plainly later i e q.0 (file_refused b q.1.1.0 e (acts later) (q.1.1.1 ∙ ap (look_deeds asked.telling q.1.1.0) is) q.1.1.2 q.1.0)
+
+        inc_begun_keeps : (past : List runs.Deed) → acts past ≡ after_profile a → NoneFailed (acts past) → said_of past ≡ [] → Keeps Speech past fresh (inc_begun run path asked) Plainly
         unfolding inc_begun ◌>>=◌
         inc_begun_keeps past is clean silent =
-            keeps_bind Speech past fresh (context_entered (Mail path)) (after (λ entered. inc run path job)) _ Plainly
+            keeps_bind Speech past fresh (context_entered (Mail path)) (after (λ entered. look_found asked.telling >>= (λ spoken. inc run path (job_writing asked spoken)))) _ Plainly
             (in_silence Spoken past fresh (context_entered (Mail path)) (OfActs Entered) silent (entered_silent past fresh (Mail path))
             (comes_keeps past (acts past) fresh (context_entered (Mail path)) Entered refl
             (comes_clean (acts past) fresh (context_entered (Mail path)) (Enters a) clean (subst (λ o. Comes o fresh (context_entered (Mail path)) (Enters a)) (sym is) (entered_comes a)))))
@@ -611,8 +652,8 @@ module _ (run : ℕ) (few : run < 2 ^ 128) (caller : Caller) (words_ : List (Lis
             Entered : Outcome (Result Unit CommandFault)
             Entered later j r = NoneFailed later × Enters a later j r
 
-            go : (later : List runs.Deed) (j : Hand) (r : Result Unit CommandFault) → (said_of later ≡ []) × OfActs Entered later j r → Keeps Speech later j (after (λ entered. inc run path job) r) Plainly
-            go later j (Ok u) q = taken_in later j q.1.1.0 q.1.1.1 q.1.1.2 q.1.0 q.0
+            go : (later : List runs.Deed) (j : Hand) (r : Result Unit CommandFault) → (said_of later ≡ []) × OfActs Entered later j r → Keeps Speech later j (after (λ entered. look_found asked.telling >>= (λ spoken. inc run path (job_writing asked spoken))) r) Plainly
+            go later j (Ok u) q = look_keeps later j q.1.1.0 q.1.1.1 q.1.1.2 q.1.0 q.0
             go later j (Err e) q = stops_plainly later j e q.0 (early e (acts later) q.1.1 q.1.0)
 
     -- the words
@@ -621,8 +662,8 @@ module _ (run : ℕ) (few : run < 2 ^ 128) (caller : Caller) (words_ : List (Lis
       by_word word rest is_words None name begins = cc (begins)
       by_word word rest is_words (Some Inc) name begins = go (job_by caller profile (inc_said profile (map chars rest))) refl
         where
-          go : (r : Result IncJob Ended) → job_by caller profile (inc_said profile (map chars rest)) ≡ r → Keeps Speech past fresh (inc_by run profile r) EndsBy
-          go (Ok job) said = plain_keeps past fresh (inc_begun run path job) (inc_begun_keeps word rest is_words name job said past is clean silent)
+          go : (r : Result IncAsked Ended) → job_by caller profile (inc_said profile (map chars rest)) ≡ r → Keeps Speech past fresh (inc_by run profile r) EndsBy
+          go (Ok asked) said = plain_keeps past fresh (inc_begun run path asked) (inc_begun_keeps word rest is_words name asked said past is clean silent)
           go (Err x) said = stops past fresh x silent
               (refused_shown a x past is (job_refuses caller profile (map chars rest) x said) (refused_by caller words_ a word rest is_words (Some Inc) name x.fault (refusal_of (job_by caller profile (inc_said profile (map chars rest))) x said)) clean)
       by_word word rest is_words (Some Scan) name begins = cc (begins)

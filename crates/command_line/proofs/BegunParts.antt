@@ -8,6 +8,7 @@ use Rattle.mh_profile.specs.Reading.{entries_in}
 use Rattle.folder_files.specs.Careful.{WasMade}
 use Rattle.folder_files.specs.Deeds.{Deed, Once, did, now, on}
 use Rattle.folder_files.specs.Named.{is_number}
+use Rattle.folder_files.specs.declared.place.FilePath.{FilePath}
 use Rattle.folder_files.specs.declared.place.Place.{Place}
 use Rattle.folder_files.specs.declared.place.Place.TheVariants.{Folder, Home, Mail}
 use Rattle.folder_files.specs.declared.refusal.Refusal.TheVariants as refusal
@@ -46,7 +47,9 @@ use Rattle.command_words.specs.FolderWords.{named_folder}
 use Rattle.command_line.specs.BegunCauses.{ShowsEarly, long_context, long_profile, wrong_stored}
 use Rattle.command_line.specs.Command.{context_entered, context_seen, folder_found}
 use Rattle.command_line.specs.CommandPledge.{entries_by, path_by, text_of}
+use Rattle.command_line.specs.Looking.{InFile, Known, Telling}
 use Rattle.command_line.specs.Profile.{folder_of, path_of, profile_name, stored_of}
+use Rattle.command_line.proofs.LookFound.{file_step, look_deeds}
 
 -- where less is asked of what shows an end
 pub shown_more : (S T : List Deed → Type 0) → ((own : List Deed) → S own → T own) → (own : List Deed) → IsShownBy S own → IsShownBy T own
@@ -84,10 +87,24 @@ none_put p path a b (now w) = putting p w.0 (step.Read (Mail path) context_name 
 none_put p path a b (on (now w)) = putting p w.0 (step.Read Home profile_name LIMIT_BYTES) a w.1
 none_put p path a b (on (on z)) = elim z [ ]
 
+-- so is it where the file of a format was read besides
+pub none_put_looked : (p : Place) (path : List ℕ) (a b : Answer) (t : Telling) (c : Answer) → PutsNone p (look_deeds t c (after_context path a b))
+none_put_looked p path a b (Known spoken) c = none_put p path a b
+none_put_looked p path a b (InFile file sight) c = on_file
+  where
+    on_file : PutsNone p (did (file_step file) c ∷ after_context path a b)
+    on_file (now w) = putting p w.0 (file_step file) c w.1
+    on_file (on z) = none_put p path a b z
+
 pub none_taken : (p : Place) (path : List ℕ) (a b : Answer) (x : List ℕ) → is_number (kind_of x) ≡ true → Once (λ d older. IsTakenAway p x d) (after_context path a b) → ⊥
 none_taken p path a b x n (now t) = taking p x (step.Read (Mail path) context_name LIMIT_BYTES) b t
 none_taken p path a b x n (on (now t)) = taking p x (step.Read Home profile_name LIMIT_BYTES) a t
 none_taken p path a b x n (on (on z)) = elim z [ ]
+
+pub none_taken_looked : (p : Place) (path : List ℕ) (a b : Answer) (t : Telling) (c : Answer) (x : List ℕ) → is_number (kind_of x) ≡ true → Once (λ d older. IsTakenAway p x d) (look_deeds t c (after_context path a b)) → ⊥
+none_taken_looked p path a b (Known spoken) c x n f = none_taken p path a b x n f
+none_taken_looked p path a b (InFile file sight) c x n (now t) = taking p x (file_step file) c t
+none_taken_looked p path a b (InFile file sight) c x n (on z) = none_taken p path a b x n z
 
 not_created : (p q : Place) (x y bytes : List ℕ) (limit : ℕ) (a : Answer) → did (step.Read q y limit) a ≡ did (step.Create p x bytes) answer.Done → ⊥
 not_created p q x y bytes limit a e = let same : step.Read q y limit ≡ step.Create p x bytes = did_step e in cc
@@ -96,6 +113,14 @@ pub none_made : (p : Place) (x path : List ℕ) (a b : Answer) → WasMade p x (
 none_made p x path a b (now w) = not_created p (Mail path) x context_name w.0 LIMIT_BYTES b w.1
 none_made p x path a b (on (now w)) = not_created p Home x profile_name w.0 LIMIT_BYTES a w.1
 none_made p x path a b (on (on z)) = elim z [ ]
+
+file_created : (p : Place) (file : FilePath) (x bytes : List ℕ) (a : Answer) → did (file_step file) a ≡ did (step.Create p x bytes) answer.Done → ⊥
+file_created p file x bytes a e = let same : file_step file ≡ step.Create p x bytes = did_step e in cc
+
+pub none_made_looked : (p : Place) (x path : List ℕ) (a b : Answer) (t : Telling) (c : Answer) → WasMade p x (look_deeds t c (after_context path a b)) → ⊥
+none_made_looked p x path a b (Known spoken) c f = none_made p x path a b f
+none_made_looked p x path a b (InFile file sight) c (now w) = file_created p file x w.0 c w.1
+none_made_looked p x path a b (InFile file sight) c (on z) = none_made p x path a b z
 
 -- readings say nothing
 lifted_silent : (past : List runs.Deed) (h : Hand) (q : Commanded (List ℕ)) → Keeps silence past h q (λ later j r. Unit {0}) → Keeps silence past h (lifted plain q) (λ later j r. Unit {0})
@@ -221,6 +246,14 @@ module _ (a : Answer) where
   pub clean_there : (run : ℕ) (b : Answer) (own : List Deed) (j : Hand) → own ≡ after_context path a b → j ≡ knowing (entries_by b) fresh → NoneFailed own → Clean run own j
   clean_there run b own j is first clean = record {
     numbered = rw is (tt, (tt, tt));
+    unfailed = unfailed_by own clean;
+    few = rw first (omega arith);
+  }
+
+  pub clean_looked : (run : ℕ) (b : Answer) (t : Telling) (c : Answer) (own : List Deed) (j : Hand) → own ≡ look_deeds t c (after_context path a b) → j ≡ knowing (entries_by b) fresh → NoneFailed own → Clean run own j
+  clean_looked run b (Known spoken) c own j is first clean = clean_there run b own j is first clean
+  clean_looked run b (InFile file sight) c own j is first clean = record {
+    numbered = rw is (tt, (tt, (tt, tt)));
     unfailed = unfailed_by own clean;
     few = rw first (omega arith);
   }

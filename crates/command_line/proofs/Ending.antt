@@ -6,12 +6,14 @@ use Rattle.mh_profile.specs.declared.named_value.NamedValue.{NamedValue}
 use Rattle.mh_profile.specs.Reading.{entries_in}
 use Rattle.folder_files.specs.Deeds.{Deed, did}
 use Rattle.folder_files.specs.Directory.{now_in}
+use Rattle.folder_files.specs.declared.place.FilePath.{FilePath}
 use Rattle.folder_files.specs.declared.place.Place.{Place}
 use Rattle.folder_files.specs.declared.place.Place.TheVariants.{Home, Mail}
 use Rattle.folder_files.specs.declared.step.Step.TheVariants as step
 use Rattle.folder_files.specs.declared.step.Answer.{Answer}
 use Rattle.folder_files.specs.declared.step.Answer.TheVariants as answer
-use Rattle.file_plans.specs.Plan.{Hand, fresh, lifted}
+use Rattle.file_plans.specs.Asking.{reading_of}
+use Rattle.file_plans.specs.Plan.{Hand, fresh, lifted, ◌>>=◌}
 use Rattle.file_plans.specs.Rules.{Keeps}
 use Rattle.file_plans.specs.Runs as runs
 use Rattle.file_plans.specs.Runs.{Returned, Runs}
@@ -25,7 +27,10 @@ use Rattle.step_plans.specs.declared.command_fault.CommandFault.TheVariants as f
 use Rattle.step_plans.proofs.Coming.{Comes, comes_to, comes_more, comes_then, comes_lifted, comes_clean, comes_keeps, NoneFailed, anything}
 use Rattle.step_plans.proofs.Going.{Outcome}
 use Rattle.command_stages.specs.Texts.{text_read}
+use Rattle.message_lines.specs.MessageText.{Writing}
+use Rattle.message_lines.specs.declared.standing.Standing.{Standing}
 use Rattle.mh_looks.specs.Scan.{scan}
+use Rattle.mh_looks.specs.ScanJob.{ScanJob}
 use Rattle.mh_looks.proofs.Ending.{ScanShows, no_folder, bad_spec, absent, empty_range, empty_sequence, long_file, long_text, held, meddled, comes_at, ScanEnds, scan_comes}
 use Rattle.command_words.specs.Ended.{plain}
 use Rattle.command_words.specs.ScanWords.{scan_said}
@@ -35,15 +40,16 @@ use Rattle.command_line.specs.Causes.{IsAboveLimit, ShowsCommandFault, ShowsRefu
 use Rattle.command_line.specs.Command.{command, command_by, folder_found, job_of, no_command, scan_begun, scan_by, word_by}
 use Rattle.command_line.specs.CommandNames.{begins_folders, command_of, named}
 use Rattle.command_line.specs.CommandPledge.{entries_by, path_by}
-use Rattle.command_line.specs.Looking.{ScanAsked, scan_asked}
+use Rattle.command_line.specs.Looking.{ScanAsked, Telling, look_found, scan_asked, written_by}
 use Rattle.command_line.specs.Profile.{path_of, profile_name}
-use Rattle.command_line.specs.WordCauses.{IsRefusedByWords}
+use Rattle.command_line.specs.WordCauses.{IsRefusedByWords, file_in, scan_file, words_file}
 use Rattle.command_line.specs.declared.caller.Caller.{Caller}
 use Rattle.command_line.specs.declared.name.CommandName.{CommandName}
 use Rattle.command_line.specs.declared.name.CommandName.TheVariants.{Anno, Folder as FolderCommand, Inc, Mark, Pick, Refile, Rmm, Scan}
-use Rattle.command_line.proofs.BegunParts.{Found, Profile, after_context, after_profile, found_comes, none_made, numbered_there, profile_comes}
+use Rattle.command_line.proofs.BegunParts.{Found, Profile, after_context, after_profile, found_comes, none_made_looked, numbered_there, profile_comes}
+use Rattle.command_line.proofs.LookFound.{Looked, look_comes, look_deeds}
 use Rattle.command_line.proofs.Refusals.{IsRefusal, asked_refuses}
-use Rattle.command_line.proofs.WordEnding.{refusal_of, refused_by, refused_none}
+use Rattle.command_line.proofs.WordEnding.{file_by, format_shown, refusal_of, refused_by, refused_none}
 
 -- what shows the end of `scan` shows that of a command
 pub scan_shows : (run : ℕ) (mail folder : List ℕ) (e : CommandFault) (own : List Deed) → ScanShows run mail folder e own → ShowsCommandFault run e own
@@ -94,7 +100,7 @@ module _ (run : ℕ) (caller : Caller) (words_ : List (List ℕ)) where
   -- how a plan of a command ends: what shows its fault
   abbrev Faults : Outcome (Result Unit CommandFault)
   Faults later j (Ok u) = Unit {0}
-  Faults later j (Err e) = ShowsCommandFault run e later
+  Faults later j (Err e) = ShowsLooked e later
 
   abbrev CommandEnds : Outcome (Result Unit Ended)
   CommandEnds later j (Ok u) = Unit {0}
@@ -108,30 +114,52 @@ module _ (run : ℕ) (caller : Caller) (words_ : List (List ℕ)) where
     abbrev path : List ℕ
     path = path_of profile
 
-    -- `scan` on its folder
-    scanned_comes : (words : ScanAsked) (b : Answer) (j : Hand) → j ≡ knowing (entries_by b) fresh → (folder : List ℕ) → Comes (after_context path a b) j (scan run path (job_of folder words profile)) Faults
-    scanned_comes words b j first folder =
-        comes_more (after_context path a b) j (scan run path (job_of folder words profile)) (ScanEnds run path (job_of folder words profile) j numbered) Faults shows
-        (scan_comes run path (job_of folder words profile) j numbered (after_context path a b) (λ z. none_made (Mail path) (temp_name run j.next) path a b z))
-      where
-        numbered : nat_lt j.next (2 ^ 64) ≡ true
-        numbered = numbered_there a b j first
+    -- `scan` on its folder, with what it writes
+    module _ (words : ScanAsked) (named_file : (file : FilePath) → file_in words.telling ≡ Some file → words_file caller profile words_ ≡ Some file) where
+      scanned_comes : (b : Answer) (j : Hand) → j ≡ knowing (entries_by b) fresh → (folder : List ℕ) (c : Answer) (spoken : Standing → Writing)
+          → Comes (look_deeds words.telling c (after_context path a b)) j (scan run path (job_of folder words profile spoken)) Faults
+      scanned_comes b j first folder c spoken =
+          comes_more own j (scan run path job) (ScanEnds run path job j numbered) Faults shows (scan_comes run path job j numbered own (λ z. none_made_looked (Mail path) (temp_name run j.next) path a b words.telling c z))
+        where
+          own : List Deed
+          own = look_deeds words.telling c (after_context path a b)
 
-        shows : (later : List Deed) (i : Hand) (r : Result Unit CommandFault) → ScanEnds run path (job_of folder words profile) j numbered later i r → Faults later i r
-        shows later i (Ok u) q = tt
-        shows later i (Err e) q = scan_shows run path folder e later q
+          job : ScanJob
+          job = job_of folder words profile spoken
 
-    scan_begun_comes : (words : ScanAsked) → Comes (after_profile a) fresh (scan_begun run profile words) Faults
-    unfolding scan_begun
-    scan_begun_comes words =
-        comes_then (after_profile a) fresh (folder_found profile words.folder) (λ folder. scan run path (job_of folder words profile)) (Found a words.folder) Faults (found_comes a words.folder)
-        (λ later j folder q. comes_at later (after_context path a q.0) j j _ Faults q.1 refl (scanned_comes words q.0 j q.2 folder)) (λ later j e q. early_shows run e later q)
+          numbered : nat_lt j.next (2 ^ 64) ≡ true
+          numbered = numbered_there a b j first
+
+          shows : (later : List Deed) (i : Hand) (r : Result Unit CommandFault) → ScanEnds run path job j numbered later i r → Faults later i r
+          shows later i (Ok u) q = tt
+          shows later i (Err e) q = later_shows e later (scan_shows run path folder e later q)
+
+      -- with the format that is found
+      looked_comes : (b : Answer) (j : Hand) → j ≡ knowing (entries_by b) fresh → (folder : List ℕ)
+          → Comes (after_context path a b) j (look_found words.telling >>= (λ spoken. scan run path (job_of folder words profile spoken))) Faults
+      looked_comes b j first folder =
+          comes_then (after_context path a b) j (look_found words.telling) (λ spoken. scan run path (job_of folder words profile spoken)) (Looked words.telling (after_context path a b) j) Faults
+          (look_comes words.telling (after_context path a b) j)
+          (λ later i spoken q. comes_at later (look_deeds words.telling q.0 (after_context path a b)) i j _ Faults q.1 q.2 (scanned_comes b j first folder q.0 spoken))
+          (λ later i e q. refused later e q.0 q.1 (format_shown caller words_ a b q.0 words.telling e q.2 named_file))
+        where
+          refused : (later : List Deed) (e : CommandFault) (c : Answer) → later ≡ look_deeds words.telling c (after_context path a b)
+              → IsRefusal e × IsRefusedByWords caller words_ e (look_deeds words.telling c (after_context path a b)) → ShowsLooked e later
+          refused later e c is s = subst (ShowsLooked e) (sym is) (words_show e (look_deeds words.telling c (after_context path a b)) s.0 s.1)
+
+      scan_begun_comes : Comes (after_profile a) fresh (scan_begun run profile words) Faults
+      unfolding scan_begun
+      scan_begun_comes =
+          comes_then (after_profile a) fresh (folder_found profile words.folder) (λ folder. look_found words.telling >>= (λ spoken. scan run path (job_of folder words profile spoken))) (Found a words.folder) Faults
+          (found_comes a words.folder)
+          (λ later j folder q. comes_at later (after_context path a q.0) j j _ Faults q.1 refl (looked_comes q.0 j q.2 folder)) (λ later j e q. later_shows e later (early_shows run e later q))
 
     -- by what its words ask
-    asked_comes : (value : Result ScanAsked Ended) → ((x : Ended) → value ≡ Err x → IsRefusal x.fault × IsRefusedByWords caller words_ x.fault (after_profile a)) → Comes (after_profile a) fresh (scan_by run profile value) CommandEnds
-    asked_comes (Ok words) refused =
-        comes_lifted (after_profile a) fresh plain (scan_begun run profile words) Faults CommandEnds (scan_begun_comes words) (λ later j u q. tt) (λ later j e q. later_shows e later q)
-    asked_comes (Err x) refused = let s = refused x refl in comes_to (after_profile a) fresh (Err x) CommandEnds (words_show x.fault (after_profile a) s.0 s.1)
+    asked_comes : (value : Result ScanAsked Ended) → ((x : Ended) → value ≡ Err x → IsRefusal x.fault × IsRefusedByWords caller words_ x.fault (after_profile a))
+        → ((file : FilePath) → scan_file value ≡ Some file → words_file caller profile words_ ≡ Some file) → Comes (after_profile a) fresh (scan_by run profile value) CommandEnds
+    asked_comes (Ok words) refused file =
+        comes_lifted (after_profile a) fresh plain (scan_begun run profile words) Faults CommandEnds (scan_begun_comes words file) (λ later j u q. tt) (λ later j e q. q)
+    asked_comes (Err x) refused file = let s = refused x refl in comes_to (after_profile a) fresh (Err x) CommandEnds (words_show x.fault (after_profile a) s.0 s.1)
 
     by_word : (word : List ℕ) (rest : List (List ℕ)) → words_ ≡ word ∷ rest → (name : Option CommandName) → named word ≡ name → begins_folders name ≡ false → Comes (after_profile a) fresh (word_by run caller profile word rest name) CommandEnds
     by_word word rest is None name other = comes_to (after_profile a) fresh (Err (no_command (Some word))) CommandEnds (inl (refused_by caller words_ a word rest is None name (no_command None).fault refl))
@@ -139,6 +167,7 @@ module _ (run : ℕ) (caller : Caller) (words_ : List (List ℕ)) where
     by_word word rest is (Some Scan) name other =
         asked_comes (scan_asked caller (scan_said profile (map chars rest)))
         (λ x said. (asked_refuses caller profile (map chars rest) x said, refused_by caller words_ a word rest is (Some Scan) name x.fault (refusal_of (scan_asked caller (scan_said profile (map chars rest))) x said)))
+        (λ file said. file_by caller words_ a word rest is (Some Scan) name file said)
     by_word word rest is (Some Mark) name other = cc (other)
     by_word word rest is (Some Pick) name other = cc (other)
     by_word word rest is (Some Refile) name other = cc (other)

@@ -8,6 +8,10 @@ use Rattle.folder_files.specs.declared.refusal.Refusal.TheVariants as refusal
 use Rattle.step_plans.specs.declared.command_fault.CommandFault.{CommandFault}
 use Rattle.step_plans.specs.declared.command_fault.CommandFault.TheVariants as fault
 use Rattle.message_lines.specs.Finding.{default_text, format_in, format_named, format_within, LIMIT_FORMAT, long_format, wrong_at}
+use Rattle.message_lines.specs.MessageText.{Sight}
+use Rattle.command_words.specs.declared.look.FormatWords.{FormatWords}
+use Rattle.command_words.specs.declared.look.FormatWords.TheVariants.{Default, File, Word}
+use Rattle.command_line.specs.Looking.{Telling, known_by, telling_by}
 
 -- it is wrong from some byte on, or too long
 abbrev pub IsFormatRefusal : CommandFault → Type 0
@@ -32,5 +36,19 @@ named_refuses : (word : Option (List ℕ)) → Refuses (format_named word)
 named_refuses None = wrong_refuses (format_of default_text)
 named_refuses (Some word) = within_refuses (encode_utf8_all word)
 
-pub format_refuses : (word : Option (List ℕ)) (r : Result Format CommandFault) (e : CommandFault) → format_named word ≡ r → r ≡ Err e → IsFormatRefusal e
-format_refuses word r e is refused = subst Refuses refused (subst Refuses is (named_refuses word))
+abbrev TellingRefuses : Result Telling CommandFault → Type 0
+TellingRefuses (Ok t) = Unit {0}
+TellingRefuses (Err e) = IsFormatRefusal e
+
+known_refuses : (sight : Sight) (r : Result Format CommandFault) → Refuses r → TellingRefuses (known_by sight r)
+known_refuses sight (Ok f) is = tt
+known_refuses sight (Err e) is = is
+
+words_refuse : (sight : Sight) (words : FormatWords) → TellingRefuses (telling_by sight words)
+words_refuse sight Default = known_refuses sight (format_named None) (named_refuses None)
+words_refuse sight (Word word) = known_refuses sight (format_named (Some word)) (named_refuses (Some word))
+words_refuse sight (File path) = tt
+
+-- so is the format that words name
+pub format_refuses : (sight : Sight) (words : FormatWords) (e : CommandFault) → telling_by sight words ≡ Err e → IsFormatRefusal e
+format_refuses sight words e is = subst TellingRefuses is (words_refuse sight words)

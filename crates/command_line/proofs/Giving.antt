@@ -8,6 +8,7 @@ use Rattle.mh_base.specs.declared.entry.Entry.TheVariants.{Sequences}
 use Rattle.mh_profile.specs.Reading.{entries_in}
 use Rattle.mh_profile.specs.declared.named_value.NamedValue.{NamedValue}
 use Rattle.mh_sequences.proofs.Suffixes.{suffix_clean}
+use Rattle.folder_files.specs.declared.place.FilePath.{FilePath}
 use Rattle.folder_files.specs.declared.place.Place.{Place}
 use Rattle.folder_files.specs.declared.place.Place.TheVariants.{Home, Mail, Folder}
 use Rattle.folder_files.specs.declared.refusal.Refusal.{Refusal}
@@ -16,7 +17,7 @@ use Rattle.file_plans.specs.Contents.{Contents, filled, mailbox_in, with_folder}
 use Rattle.file_plans.specs.Giving.{Gives}
 use Rattle.file_plans.specs.Mailboxes.{Mailbox}
 use Rattle.file_plans.specs.Plan.{Hand, Plan, Return, Recall, after, ◌>>=◌, converted, lifted, fresh}
-use Rattle.file_plans.specs.Views.{Unseen, View, nothing_seen, by_view}
+use Rattle.file_plans.specs.Views.{Hidden, Unseen, View, nothing_seen, by_view}
 use Rattle.file_plans.proofs.Giving.{gives_bind, gives_then, gives_on}
 use Rattle.file_plans.proofs.Onward.{IsShort}
 use Rattle.step_plans.specs.ContextCommit.{LIMIT_BYTES, context_name}
@@ -25,6 +26,9 @@ use Rattle.step_plans.specs.declared.command_fault.CommandFault.{CommandFault}
 use Rattle.step_plans.specs.declared.command_fault.CommandFault.TheVariants as fault
 use Rattle.command_stages.specs.Texts.{too_large, text_read}
 use Rattle.command_stages.specs.Works.{Work, refused_at, readable}
+use Rattle.message_lines.specs.MessageText.{Writing}
+use Rattle.message_lines.specs.declared.standing.Standing.{Standing}
+use Rattle.mh_looks.specs.Outcomes.{scan_work}
 use Rattle.mh_looks.specs.Scan.{entries_seen, scan}
 use Rattle.mh_looks.proofs.Folders.{IsFresh}
 use Rattle.mh_looks.proofs.Reading.{after_read, TextRead, text_gives}
@@ -35,7 +39,6 @@ use Rattle.opened_folders.specs.Making.{IsBare}
 use Rattle.opened_folders.proofs.HomesFound.{homes_there}
 use Rattle.inc_command.specs.Inc.{inc}
 use Rattle.inc_command.specs.IncOutcome.{inc_work, with_folder_made}
-use Rattle.inc_command.specs.IncJob.{IncJob}
 use Rattle.inc_command.proofs.IncGiven.{inc_gives, shows_folder_made}
 use Rattle.mark_command.specs.Mark.{mark}
 use Rattle.opened_folders.proofs.WorkGiven.{WorkEnds}
@@ -63,7 +66,7 @@ use Rattle.command_words.specs.declared.mark.MarkWords.{MarkWords}
 use Rattle.command_words.specs.declared.pick.PickWords.{PickWords}
 use Rattle.command_words.specs.declared.refile.RefileWords.{RefileWords}
 use Rattle.command_words.specs.declared.rmm.RmmWords.{RmmWords}
-use Rattle.command_line.specs.Looking.{ScanAsked, scan_asked}
+use Rattle.command_line.specs.Looking.{ScanAsked, look_found, scan_asked}
 use Rattle.command_words.proofs.SaidFolder.{IsValid}
 use Rattle.anno_command.specs.Anno.{anno}
 use Rattle.anno_command.proofs.AnnoGiven.{anno_gives}
@@ -71,13 +74,14 @@ use Rattle.anno_words.specs.declared.words.AnnoWords.{AnnoWords}
 use Rattle.anno_words.proofs.Said.{anno_refuses, anno_valid}
 use Rattle.command_line.specs.Command.{anno_begun, anno_by, anno_job, annotated_by, context_seen, context_entered, folder_found, inc_begun, inc_by, job_of, mark_job, scan_begun, scan_by, mark_begun, mark_by, pick_begun, pick_by, pick_job, picked_by, refile_begun, refile_by, refile_job, rmm_begun, rmm_by, rmm_job, word_by, command_by, command, tell_begun, tell_by, tell_job}
 use Rattle.command_line.specs.CommandNames.{begins_folders, command_of, makes_folders, named}
-use Rattle.command_line.specs.Incorporating.{job_by}
-use Rattle.command_line.specs.Outcomes.{anno_words_work, annos, FolderWork, inc_job_work, incs, plainly, of_stage, in_folder, with_context, scans, scan_words_work, marks, mark_words_work, picks, pick_words_work, refiles, refile_words_work, rmms, rmm_words_work, word_work, named_work, with_profile, work_by, work_of, alone_meeting, tell_words_work, tells}
+use Rattle.command_line.specs.Incorporating.{IncAsked, job_by, job_writing}
+use Rattle.command_line.specs.Outcomes.{anno_words_work, annos, FolderWork, inc_job_work, incs, plainly, of_stage, in_folder, with_context, scans, scan_words_work, writing, written_there, marks, mark_words_work, picks, pick_words_work, refiles, refile_words_work, rmms, rmm_words_work, word_work, named_work, with_profile, work_by, work_of, alone_meeting, tell_words_work, tells}
 use Rattle.command_line.specs.Profile.{folder_of, path_of, profile_name}
 use Rattle.command_line.specs.declared.name.CommandName.{CommandName}
 use Rattle.command_line.specs.declared.name.CommandName.TheVariants.{Anno, Folder as FolderCommand, Inc, Mark, Pick, Refile, Rmm, Scan}
 use Rattle.command_line.specs.declared.caller.Caller.{Caller}
 use Rattle.command_line.proofs.Refusals.{IsRefusal, folder_refuses, job_refuses, mark_refuses, refile_refuses, rmm_refuses, asked_refuses, tell_refuses}
+use Rattle.command_line.proofs.LookGives.{LooksAlike, fresh_alike, look_gives}
 use Rattle.command_line.proofs.SaidInc.{job_valid}
 use Rattle.command_line.proofs.SaidFolder.{acted_valid, mark_valid, refile_words_valid, rmm_words_valid, tell_words_valid}
 use Rattle.command_line.proofs.SaidPick.{pick_refuses, pick_valid}
@@ -155,11 +159,12 @@ read_short (Some other) text is = go (nat_lt LIMIT_BYTES (length other)) refl is
     go true short is = cc
     go false short is = (short, let same : other ≡ text = cc in sym same)
 
--- of the mail directories' contexts and of folders nothing was seen yet
+-- of the mail directories' contexts, of folders and of outside files nothing was seen yet
 pub record IsBegun (v : View) : Type 0 where
   pub context : (path : List ℕ) → v.seen.names (Mail path) context_name ≡ Unseen
   pub fresh : (path name : List ℕ) → IsFresh v (Folder path name)
   pub names : (path name x : List ℕ) → v.seen.names (Folder path name) x ≡ Unseen
+  pub files : (f : FilePath) → v.seen.files f ≡ Hidden
 
 -- nothing was seen yet, and no Link meets a name
 pub record IsFirst (v : View) : Type 0 where
@@ -172,6 +177,7 @@ begun_first v f =
       context = λ path. ap (λ s. s.names (Mail path) context_name) f.seen;
       fresh = λ path name. record { place = ap (λ s. s.places (Folder path name)) f.seen; names = λ x standing. ap (λ s. s.names (Folder path name) x) f.seen; unmet = λ x. f.unmet (Folder path name) x };
       names = λ path name x. ap (λ s. s.names (Folder path name) x) f.seen;
+      files = λ path. ap (λ s. s.files path) f.seen;
     }
 
 fresh_after : (v : View) (path name : List ℕ) → IsBegun v → IsFresh (after_read v (Mail path) context_name) (Folder path name)
@@ -283,11 +289,16 @@ scan_stage : (alone : Bool) (run : ℕ) (c : Contents) → run < 2 ^ 128 → (pr
     → Gives (by_view alone) v h (stage alone c profile words.folder v h same begun (scans (mailbox_in c) profile words)).text (scan_begun run profile words) (ScanEnds alone (stage alone c profile words.folder v h same begun (scans (mailbox_in c) profile words)))
 unfolding scan_begun
 scan_stage alone run c few profile words v h same next begun =
-    stage_gives alone c profile words.folder v h same begun (scans (mailbox_in c) profile words) (ScanEnds alone) (stage_refused alone c) (λ folder. scan run (path_of profile) (job_of folder words profile))
+    stage_gives alone c profile words.folder v h same begun (scans (mailbox_in c) profile words) (ScanEnds alone) (stage_refused alone c) (λ folder. look_found words.telling >>= (λ spoken. scan run (path_of profile) (job_of folder words profile spoken)))
     (λ text folder reads is.
     let short = read_short (c.texts (Mail (path_of profile)) context_name) text reads in
-    scan_gives alone run (path_of profile) (job_of folder words profile) c (entries_in text) few (λ a. ap entries_in short.1) (λ a. short.0) (after_read v (Mail (path_of profile)) context_name) (knowing (entries_in text) h) same refl next
-    (λ beside. fresh_after v (path_of profile) folder (begun beside)) (λ beside. (begun beside).names (path_of profile) folder (entry_text Sequences)))
+    let seen = after_read v (Mail (path_of profile)) context_name in
+    look_gives alone c seen (knowing (entries_in text) h) same (λ beside path. (begun beside).files path) (λ spoken. scan_work (path_of profile) (entries_in text) (job_of folder words profile spoken) (mailbox_in c))
+    (λ spoken. scan run (path_of profile) (job_of folder words profile spoken)) (ScanEnds alone) (stage_refused alone c)
+    (λ spoken z alike.
+    scan_gives alone run (path_of profile) (job_of folder words profile spoken) c (entries_in text) few (λ a. ap entries_in short.1) (λ a. short.0) z (knowing (entries_in text) h) (alike.contents ∙ same) refl next
+    (λ beside. fresh_alike seen z (Folder (path_of profile) folder) alike (fresh_after v (path_of profile) folder (begun beside)))
+    (λ beside. ap (λ g. g (Folder (path_of profile) folder) (entry_text Sequences)) alike.names ∙ (begun beside).names (path_of profile) folder (entry_text Sequences))) words.telling)
 
 -- where what other runs hold aside in the folders goes
 abbrev pub AreAllHomes : ℕ → Contents → Type 0
@@ -394,7 +405,7 @@ anno_stage run c few homes profile words valid v h same unmet begun =
 
 -- `inc` alone, from the context on
 
-module _ (run : ℕ) (c : Contents) (few : run < 2 ^ 128) (bare : IsBare c) (profile : List NamedValue) (job : IncJob) (valid : is_folder_name job.folder ≡ true)
+module _ (run : ℕ) (c : Contents) (few : run < 2 ^ 128) (bare : IsBare c) (profile : List NamedValue) (asked : IncAsked) (valid : is_folder_name asked.folder ≡ true)
     (v : View) (h : Hand) (same : v.contents ≡ c) (unmet : (p : Place) (x : List ℕ) → v.met p x ≡ false) (begun : IsBegun v) where
   abbrev inc_path : List ℕ
   inc_path = path_of profile
@@ -403,42 +414,55 @@ module _ (run : ℕ) (c : Contents) (few : run < 2 ^ 128) (bare : IsBare c) (pro
   inc_mail = Mail inc_path
 
   abbrev into : Place
-  into = Folder inc_path job.folder
+  into = Folder inc_path asked.folder
 
   abbrev inc_homes : Homes
   inc_homes = homes_at run ((with_folder_made (mailbox_in c) into).folders into)
 
+  abbrev taken_writing : List ℕ → (Standing → Writing) → Work CommandFault
+  taken_writing text spoken = inc_work inc_path (entries_in text) inc_homes (job_writing asked spoken) (mailbox_in c)
+
   abbrev taken_in : List ℕ → Work CommandFault
-  taken_in text = inc_work inc_path (entries_in text) inc_homes job (mailbox_in c)
+  taken_in text = writing (mailbox_in c) (taken_writing text) (written_there (mailbox_in c) asked.telling)
+
+  abbrev inc_act : (Standing → Writing) → Plan (Result Unit CommandFault)
+  inc_act spoken = inc run inc_path (job_writing asked spoken)
 
   abbrev pub inc_stage : Work CommandFault
-  inc_stage = incs (alone_meeting run) (mailbox_in c) profile job (readable (c.texts inc_mail context_name))
+  inc_stage = incs (alone_meeting run) (mailbox_in c) profile asked (readable (c.texts inc_mail context_name))
 
   taken_gives : (text : List ℕ) → readable (c.texts inc_mail context_name) ≡ Ok text
-      → Gives (by_view true) (after_read v inc_mail context_name) (knowing (entries_in text) h) (taken_in text).text (inc run inc_path job) (WorkEnds (taken_in text))
+      → Gives (by_view true) (after_read v inc_mail context_name) (knowing (entries_in text) h) (taken_in text).text (look_found asked.telling >>= inc_act) (WorkEnds (taken_in text))
   taken_gives text reads =
       let short = read_short (c.texts inc_mail context_name) text reads in
-      inc_gives run few inc_path job valid (suffix_clean job.folder) c bare (entries_in text) (ap entries_in short.1) short.0 inc_homes
-      (subst (λ m. AreHomesAt run ((mailbox_in (with_folder c into)).folders into) (homes_at run (m.folders into))) (shows_folder_made c into bare) (homes_there run (with_folder c into) into)) v.numbers
-      (after_read v inc_mail context_name) (knowing (entries_in text) h)
-      (record { has = (same, refl); fresh = λ x. begun.names inc_path job.folder x; unmet = λ x is_held. unmet into x; hand = refl })
+      look_gives true c (after_read v inc_mail context_name) (knowing (entries_in text) h) same (λ beside path. begun.files path) (taken_writing text) inc_act WorkEnds (mark_refused c)
+      (λ spoken z alike.
+      inc_gives run few inc_path (job_writing asked spoken) valid (suffix_clean asked.folder) c bare (entries_in text) (ap entries_in short.1) short.0 inc_homes
+      (subst (λ m. AreHomesAt run ((mailbox_in (with_folder c into)).folders into) (homes_at run (m.folders into))) (shows_folder_made c into bare) (homes_there run (with_folder c into) into)) z.numbers
+      z (knowing (entries_in text) h)
+      (record {
+        has = (alike.contents ∙ same, refl);
+        fresh = λ x. ap (λ g. g into x) alike.names ∙ begun.names inc_path asked.folder x;
+        unmet = λ x is_held. ap (λ g. g into x) alike.met ∙ unmet into x;
+        hand = refl;
+      })) asked.telling
 
-  pub inc_stage_gives : Gives (by_view true) v h inc_stage.text (inc_begun run inc_path job) (WorkEnds inc_stage)
+  pub inc_stage_gives : Gives (by_view true) v h inc_stage.text (inc_begun run inc_path asked) (WorkEnds inc_stage)
   unfolding inc_begun
   inc_stage_gives =
-      gives_on (by_view true) v h inc_stage.text (context_entered inc_mail) (λ entered. inc run inc_path job) (EntersBy c inc_mail v h same begun inc_stage.text inc_path refl) (WorkEnds inc_stage)
+      gives_on (by_view true) v h inc_stage.text (context_entered inc_mail) (λ entered. look_found asked.telling >>= inc_act) (EntersBy c inc_mail v h same begun inc_stage.text inc_path refl) (WorkEnds inc_stage)
       (enters_give c inc_mail v h same begun inc_stage.text inc_path refl)
       (λ z j left u r. on z j left r.0 r.1)
       (λ z j left e r. off z j left e r)
     where
-      on : (z : View) (j : Hand) (left text : List ℕ) → Enters c inc_mail v h same begun inc_stage.text inc_path refl z j left text → Gives (by_view true) z j left (inc run inc_path job) (WorkEnds inc_stage)
+      on : (z : View) (j : Hand) (left text : List ℕ) → Enters c inc_mail v h same begun inc_stage.text inc_path refl z j left text → Gives (by_view true) z j left (look_found asked.telling >>= inc_act) (WorkEnds inc_stage)
       on z j left text r =
-          let w : inc_stage ≡ taken_in text = ap (incs (alone_meeting run) (mailbox_in c) profile job) r.value in
-          rw (r.view, r.hand, r.rest) (subst (λ x. Gives (by_view true) (after_read v inc_mail context_name) (knowing (entries_in text) h) x.text (inc run inc_path job) (WorkEnds x)) (sym w) (taken_gives text r.value))
+          let w : inc_stage ≡ taken_in text = ap (incs (alone_meeting run) (mailbox_in c) profile asked) r.value in
+          rw (r.view, r.hand, r.rest) (subst (λ x. Gives (by_view true) (after_read v inc_mail context_name) (knowing (entries_in text) h) x.text (look_found asked.telling >>= inc_act) (WorkEnds x)) (sym w) (taken_gives text r.value))
 
       off : (z : View) (j : Hand) (left : List ℕ) (e : CommandFault) → EntersNot c inc_mail v h same begun inc_stage.text inc_path refl z left e → WorkEnds inc_stage z j left (Err e)
       off z j left e r =
-          let w : inc_stage ≡ refused_at (mailbox_in c) e = ap (incs (alone_meeting run) (mailbox_in c) profile job) r.value in
+          let w : inc_stage ≡ refused_at (mailbox_in c) e = ap (incs (alone_meeting run) (mailbox_in c) profile asked) r.value in
           let l = unreadable (c.texts inc_mail context_name) e r.value in
           subst (λ x. WorkEnds x z j left (Err e)) (sym w) (mark_refused c e (refusal.TooLarge l.0 LIMIT_BYTES) z j left l.1 (r.rest ∙ ap (λ x. x.text) w) r.contents)
 
@@ -547,14 +571,14 @@ module _ (alone : Bool) (run : ℕ) (c : Contents) (few : run < 2 ^ 128) (homes 
         subst (λ b. Gives (by_view b) z fresh (refile_words_work (alone_meeting run) box profile (refile_said profile words)).text (refile_by run profile (refile_said profile words)) (CommandEnds b (refile_words_work (alone_meeting run) box profile (refile_said profile words)))) (sym only)
         (refile_words_true bare (refile_said profile words) (λ said e. (refile_words_valid profile words said e).0) (λ e is. refile_refuses profile words e is))
 
-    inc_words_true : IsBare c → (value : Result IncJob Ended) → ((job : IncJob) → value ≡ Ok job → is_folder_name job.folder ≡ true) → ((e : Ended) → value ≡ Err e → IsRefusal e.fault)
+    inc_words_true : IsBare c → (value : Result IncAsked Ended) → ((asked : IncAsked) → value ≡ Ok asked → is_folder_name asked.folder ≡ true) → ((e : Ended) → value ≡ Err e → IsRefusal e.fault)
         → Gives (by_view true) z fresh (inc_job_work (alone_meeting run) box profile value).text (inc_by run profile value) (CommandEnds true (inc_job_work (alone_meeting run) box profile value))
     unfolding Gives lifted mailbox_in
-    inc_words_true bare (Ok job) valid r =
-        gives_bind (by_view true) z fresh (inc_job_work (alone_meeting run) box profile (Ok job)).text (inc_begun run (path_of profile) job) (λ q. Return (converted plain q)) (WorkEnds (inc_stage run c few bare profile job (valid job refl) z fresh same unmet begun))
-        (CommandEnds true (inc_job_work (alone_meeting run) box profile (Ok job)))
-        (inc_stage_gives run c few bare profile job (valid job refl) z fresh same unmet begun)
-        (λ y j left q e. mark_ends (inc_stage run c few bare profile job (valid job refl) z fresh same unmet begun) y j left q e)
+    inc_words_true bare (Ok asked) valid r =
+        gives_bind (by_view true) z fresh (inc_job_work (alone_meeting run) box profile (Ok asked)).text (inc_begun run (path_of profile) asked) (λ q. Return (converted plain q)) (WorkEnds (inc_stage run c few bare profile asked (valid asked refl) z fresh same unmet begun))
+        (CommandEnds true (inc_job_work (alone_meeting run) box profile (Ok asked)))
+        (inc_stage_gives run c few bare profile asked (valid asked refl) z fresh same unmet begun)
+        (λ y j left q e. mark_ends (inc_stage run c few bare profile asked (valid asked refl) z fresh same unmet begun) y j left q e)
     inc_words_true bare (Err e) valid r = let is = r e refl in plain_refused true c e is.0 z fresh [] is.1 refl same
 
     inc_words_give : alone ≡ true → IsBare c → (caller : Caller) (words : List (List ℕ))

@@ -5,7 +5,7 @@ use Rattle.mh_base.specs.Folders.{is_folder_name}
 use Rattle.mh_profile.specs.declared.named_value.NamedValue.{NamedValue}
 use Rattle.mh_profile.specs.Reading.{entries_in}
 use Rattle.folder_files.specs.Deeds.{Deed}
-use Rattle.folder_files.specs.declared.place.Place.TheVariants.{Home, Mail}
+use Rattle.folder_files.specs.declared.place.Place.TheVariants.{Folder, Home, Mail}
 use Rattle.folder_files.specs.declared.step.Answer.{Answer}
 use Rattle.folder_files.specs.declared.step.Step.{Step}
 use Rattle.file_plans.specs.Asking.{reading_of}
@@ -31,9 +31,10 @@ use Rattle.opened_folders.proofs.CommitMinds.{IsTold}
 use Rattle.opened_folders.proofs.EndedKept.{Still, keeps_more}
 use Rattle.opened_folders.proofs.Meeting.{keeps_met, with_step}
 use Rattle.opened_folders.proofs.WorkMinds.{Anyhow}
+use Rattle.message_lines.specs.MessageText.{Writing}
+use Rattle.message_lines.specs.declared.standing.Standing.{Standing}
 use Rattle.inc_command.specs.Inc.{inc}
 use Rattle.inc_command.specs.IncPledge.{inc_pledge}
-use Rattle.inc_command.specs.IncJob.{IncJob}
 use Rattle.inc_command.proofs.IncMinds.{inc_meets}
 use Rattle.inc_command.proofs.IncPledged.{inc_keeps}
 use Rattle.command_words.specs.Ended.{ended_cause, plain}
@@ -42,17 +43,19 @@ use Rattle.command_words.specs.declared.ended.Ended.{Ended}
 use Rattle.command_line.specs.Command.{command, inc_by, word_by}
 use Rattle.command_line.specs.CommandMarks.{IsTextName}
 use Rattle.command_line.specs.CommandNames.{named}
-use Rattle.command_line.specs.CommandPledge.{incs_pledge}
-use Rattle.command_line.specs.Incorporating.{job_by}
+use Rattle.command_line.specs.CommandPledge.{TellsAsked, asked_pledge, incs_pledge}
+use Rattle.command_line.specs.Incorporating.{IncAsked, job_by, job_writing}
+use Rattle.command_line.specs.Looking.{WritesAs, written_by}
 use Rattle.command_line.specs.Profile.{path_of, profile_name}
 use Rattle.command_line.specs.declared.name.CommandName.{CommandName}
 use Rattle.command_line.specs.declared.name.CommandName.TheVariants.{Inc}
 use Rattle.command_line.specs.declared.caller.Caller.{Caller}
 use Rattle.command_line.proofs.Begun.{Any, any_so, none_read, start_same}
 use Rattle.command_line.proofs.FolderChars.{AreUtf8, chars_texts}
+use Rattle.command_line.proofs.LookFound.{acts_looked, keeps_telling, look_done, look_keeps, look_writes, looked_once, looked_unlinked, writes_kept}
 use Rattle.command_line.proofs.MindingPlans.{Minding, NothingMore, minding_kept, minds_own, minds_with}
 use Rattle.command_line.proofs.MindsMarks.{minds_sequences}
-use Rattle.command_line.proofs.Pledging.{Answered, answers, context_step, entries_keep, inc_job_keeps, inc_onward, known_sound, named_onward, on_entries, onward_by, plan_by, profile_step, two_once, two_readings, word_onward}
+use Rattle.command_line.proofs.Pledging.{Answered, answers, context_step, entries_keep, inc_acts, inc_job_keeps, inc_onward, known_sound, named_onward, on_entries, onward_by, plan_by, profile_step, two_once, two_readings, word_onward}
 use Rattle.command_line.proofs.SaidInc.{job_chars, job_valid}
 use Rattle.command_line.proofs.TwoAnswers.{follows_so, keeps_after, keeps_ended, rest_by}
 
@@ -60,27 +63,36 @@ module _ (run : ℕ) (few : run < 2 ^ 128) (profile : List NamedValue) (h : Hand
   abbrev path : List ℕ
   path = path_of profile
 
-  module _ (job : IncJob) (valid : is_folder_name job.folder ≡ true) where
+  module _ (asked : IncAsked) (valid : is_folder_name asked.folder ≡ true) where
     abbrev Besides : List Deed → Step → Type 0
-    Besides own s = MindsAll (λ other. IsTold job.folder other) run own s
+    Besides own s = MindsAll (λ other. IsTold asked.folder other) run own s
 
     abbrev takes_pledge : Pledge
-    takes_pledge = with_step (inc_pledge run path job) Besides
+    takes_pledge = with_step (asked_pledge run path asked) Besides
 
-    taken_minds : IsTextName job.folder → MindsSequencesOf IsTextName (with_step takes_pledge NothingMore)
-    taken_minds text = minds_own job.folder (with_step takes_pledge NothingMore) text (pledge_minds (λ other. IsTold job.folder other) (with_step takes_pledge NothingMore) (λ own s may. may.0.1))
+    taken_minds : IsTextName asked.folder → MindsSequencesOf IsTextName (with_step takes_pledge NothingMore)
+    taken_minds text = minds_own asked.folder (with_step takes_pledge NothingMore) text (pledge_minds (λ other. IsTold asked.folder other) (with_step takes_pledge NothingMore) (λ own s may. may.0.1))
 
-    taken_keeps : (c d : Answer) (es : List NamedValue) → Sound takes_pledge (acts (two_readings profile c d)) h → Keeps (rules_of takes_pledge) (two_readings profile c d) (knowing es h) (inc run path job) (IfOkay Any)
-    taken_keeps c d es sound =
-        let past = two_readings profile c d in
-        let here : Sound (inc_pledge run path job) (acts past) h = record { numbered = sound.numbered; unfailed = sound.unfailed } in
-        let still = known_sound (inc_pledge run path job) (acts past) h es here in
-        keeps_more (rules_of takes_pledge) past (knowing es h) (inc run path job) (IfOkay (Still (acts past))) (IfOkay Any) (λ later i r q. any_so (Still (acts past)) later i r q)
+    taken_keeps : (c d : Answer) (es : List NamedValue) (e : Answer) (spoken : Standing → Writing) → written_by asked.telling e ≡ Ok spoken → Sound takes_pledge (acts (look_done asked.telling e (two_readings profile c d))) (knowing es h)
+        → Keeps (rules_of takes_pledge) (look_done asked.telling e (two_readings profile c d)) (knowing es h) (inc run path (job_writing asked spoken)) (IfOkay Any)
+    taken_keeps c d es e spoken written sound =
+        let first = two_readings profile c d in
+        let past = look_done asked.telling e first in
+        let job = job_writing asked spoken in
+        let here : Sound (inc_pledge run path job) (acts past) (knowing es h) = record { numbered = sound.numbered; unfailed = sound.unfailed } in
+        keeps_telling (with_step (inc_pledge run path job) Besides) (TellsAsked run path asked) (WritesAs asked.telling spoken) (writes_kept asked.telling spoken) (λ own piece writes told. (spoken, writes, told)) past (knowing es h)
+        (inc run path job) (IfOkay Any) (subst (WritesAs asked.telling spoken) (sym (acts_looked asked.telling e first)) (look_writes asked.telling e (acts first) spoken written))
+        (keeps_more (rules_of (with_step (inc_pledge run path job) Besides)) past (knowing es h) (inc run path job) (IfOkay (Still (acts past))) (IfOkay Any) (λ later i r q. any_so (Still (acts past)) later i r q)
         (keeps_met (inc_pledge run path job) Besides past (acts past) (knowing es h) (inc run path job) (IfOkay (Still (acts past))) Anyhow refl
-        (inc_keeps run few path job past (knowing es h) (two_once (inc_pledge run path job) profile c d) still)
-        (inc_meets run few path job (current_valid job.folder valid) (acts past) (knowing es h) still (none_read profile job.folder c d)))
+        (inc_keeps run few path job past (knowing es h) (looked_once (inc_pledge run path job) asked.telling e first (two_once (inc_pledge run path job) profile c d)) here)
+        (inc_meets run few path job (current_valid asked.folder valid) (acts past) (knowing es h) here (looked_unlinked asked.telling e (Folder path asked.folder) first (none_read profile asked.folder c d)))))
 
-  minding : (b : Answer) (value : Result IncJob Ended) → ((job : IncJob) → value ≡ Ok job → (is_folder_name job.folder ≡ true) × IsTextName job.folder)
+    asked_keeps : (c d : Answer) (es : List NamedValue) → Sound takes_pledge (acts (two_readings profile c d)) h → Keeps (rules_of takes_pledge) (two_readings profile c d) (knowing es h) (inc_acts run profile asked) (IfOkay Any)
+    asked_keeps c d es sound =
+        look_keeps takes_pledge (two_readings profile c d) (knowing es h) Any (known_sound takes_pledge (acts (two_readings profile c d)) h es sound) asked.telling (λ spoken. inc run path (job_writing asked spoken))
+        (λ e spoken written here. taken_keeps c d es e spoken written here)
+
+  minding : (b : Answer) (value : Result IncAsked Ended) → ((asked : IncAsked) → value ≡ Ok asked → (is_folder_name asked.folder ≡ true) × IsTextName asked.folder)
       → Minding run NothingMore h (Ask profile_step (λ c. rest_by (context_step profile) (inc_by run profile value) (inc_onward run profile value) b))
   unfolding inc_onward
   minding b (Err e) valid = record {
@@ -90,13 +102,13 @@ module _ (run : ℕ) (few : run < 2 ^ 128) (profile : List NamedValue) (h : Hand
     Q = _;
     keeps = inc_job_keeps run few profile h b (Err e);
   }
-  minding b (Ok job) valid = record {
-    pledge = takes_pledge job (valid job refl).0;
+  minding b (Ok asked) valid = record {
+    pledge = takes_pledge asked (valid asked refl).0;
     run_is = refl;
-    minds = taken_minds job (valid job refl).0 (valid job refl).1;
+    minds = taken_minds asked (valid asked refl).0 (valid asked refl).1;
     Q = IfOkay Any;
-    keeps = keeps_after (takes_pledge job (valid job refl).0) Home (Mail path) profile_name context_name LIMIT_BYTES h (on_entries (inc run path job) (reading_of b)) (IfOkay Any)
-        (λ c d sound. entries_keep (takes_pledge job (valid job refl).0) (two_readings profile c d) h sound (inc run path job) Any (λ es. taken_keeps job (valid job refl).0 c d es sound) (reading_of b));
+    keeps = keeps_after (takes_pledge asked (valid asked refl).0) Home (Mail path) profile_name context_name LIMIT_BYTES h (on_entries (inc_acts run profile asked) (reading_of b)) (IfOkay Any)
+        (λ c d sound. entries_keep (takes_pledge asked (valid asked refl).0) (two_readings profile c d) h sound (inc_acts run profile asked) Any (λ es. asked_keeps asked (valid asked refl).0 c d es sound) (reading_of b));
   }
 
 -- after a profile that is too long the command does nothing

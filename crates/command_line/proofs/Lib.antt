@@ -8,6 +8,8 @@ pub mod FormatRefuses
 pub mod Giving
 pub mod IncEnding
 pub mod IncKept
+pub mod LookFound
+pub mod LookGives
 pub mod Looked
 pub mod MarksKept
 pub mod MindingPlans

@@ -35,9 +35,10 @@ use Rattle.mh_looks.specs.ScanPledge.{scan_pledge}
 use Rattle.mh_looks.proofs.Pledging.{Noted, scan_goes}
 use Rattle.message_puts.proofs.FirstPuts.{AreOnce, none_once, once_asked}
 use Rattle.opened_folders.proofs.EndedKept.{Still, keeps_more}
+use Rattle.message_lines.specs.MessageText.{Writing}
+use Rattle.message_lines.specs.declared.standing.Standing.{Standing}
 use Rattle.inc_command.specs.Inc.{inc}
 use Rattle.inc_command.specs.IncPledge.{inc_pledge}
-use Rattle.inc_command.specs.IncJob.{IncJob}
 use Rattle.inc_command.proofs.IncPledged.{inc_keeps}
 use Rattle.mark_command.specs.Mark.{mark}
 use Rattle.mark_command.specs.MarkPledge.{pledge_by}
@@ -66,7 +67,7 @@ use Rattle.command_words.specs.declared.mark.MarkWords.{MarkWords}
 use Rattle.command_words.specs.declared.pick.PickWords.{PickWords}
 use Rattle.command_words.specs.declared.refile.RefileWords.{RefileWords}
 use Rattle.command_words.specs.declared.rmm.RmmWords.{RmmWords}
-use Rattle.command_line.specs.Looking.{ScanAsked, scan_asked}
+use Rattle.command_line.specs.Looking.{ScanAsked, WritesAs, look_found, scan_asked, written_by}
 use Rattle.command_words.proofs.SaidFolder.{IsValid}
 use Rattle.refile_command.specs.Refile.{refile}
 use Rattle.refile_command.specs.Rmm.{rmm}
@@ -76,12 +77,13 @@ use Rattle.refile_command.proofs.RefilePledged.{EndsRefiled, refile_keeps}
 use Rattle.refile_command.proofs.RmmPledged.{rmm_keeps}
 use Rattle.command_line.specs.Command.{anno_begun, anno_by, anno_job, annotated_by, command, command_by, context_entered, context_seen, folder_found, inc_begun, inc_by, job_of, mark_begun, mark_by, mark_job, no_command, pick_begun, pick_by, pick_job, picked_by, refile_begun, refile_by, refile_job, rmm_begun, rmm_by, rmm_job, scan_begun, scan_by, word_by, tell_begun, tell_by, tell_job}
 use Rattle.command_line.specs.CommandNames.{command_of, named}
-use Rattle.command_line.specs.CommandPledge.{IsDone, KeepsPledge, anno_on_named, annos_pledge, command_pledge, entries_by, incs_pledge, marks_pledge, on_named, path_by, pick_on_named, picks_pledge, refile_on_named, refiles_pledge, rmm_on_named, rmms_pledge, text_of, word_pledge, tell_on_named, tells_pledge}
-use Rattle.command_line.specs.Incorporating.{job_by}
+use Rattle.command_line.specs.CommandPledge.{IsDone, KeepsPledge, TellsAsked, anno_on_named, annos_pledge, asked_pledge, command_pledge, entries_by, incs_pledge, marks_pledge, on_named, path_by, pick_on_named, picks_pledge, refile_on_named, refiles_pledge, rmm_on_named, rmms_pledge, text_of, word_pledge, tell_on_named, tells_pledge}
+use Rattle.command_line.specs.Incorporating.{IncAsked, job_by, job_writing}
 use Rattle.command_line.specs.Profile.{folder_of, path_of, profile_name}
 use Rattle.command_line.specs.declared.name.CommandName.{CommandName}
 use Rattle.command_line.specs.declared.name.CommandName.TheVariants.{Anno, Folder as FolderCommand, Inc, Mark, Pick, Refile, Rmm, Scan}
 use Rattle.command_line.specs.declared.caller.Caller.{Caller}
+use Rattle.command_line.proofs.LookFound.{acts_looked, keeps_telling, look_done, look_keeps, look_writes, looked_once, looked_only, looked_settled, writes_kept}
 use Rattle.command_line.proofs.SaidFolder.{acted_valid, asked_valid}
 use Rattle.command_line.proofs.TwoAnswers.{Onward, TwoAnswers, acts_begin_with, follows_so, keeps_after, keeps_ended, may_read, rest_by, two_answers}
 
@@ -116,7 +118,10 @@ entries_asked profile act = refl
 -- what is done next, by the words: the context is read, or the command ends
 module _ (run : ℕ) (profile : List NamedValue) where
   abbrev pub scan_acts : ScanAsked → List ℕ → Commanded Unit
-  scan_acts words folder = scan run (path_of profile) (job_of folder words profile)
+  scan_acts words folder = look_found words.telling >>= (λ spoken. scan run (path_of profile) (job_of folder words profile spoken))
+
+  abbrev pub inc_acts : IncAsked → Commanded Unit
+  inc_acts asked = look_found asked.telling >>= (λ spoken. inc run (path_of profile) (job_writing asked spoken))
 
   abbrev pub mark_acts : MarkWords → List ℕ → Commanded Unit
   mark_acts words folder = mark run (path_of profile) (mark_job folder words profile)
@@ -171,9 +176,9 @@ module _ (run : ℕ) (profile : List NamedValue) where
   anno_onward (Ok words) = inr (λ b. on_context profile words.folder (anno_acts words) (reading_of b), context_asked profile words.folder (anno_acts words))
   anno_onward (Err e) = inl (Err e, refl)
 
-  unfoldable pub inc_onward : (value : Result IncJob Ended) → Onward (context_step profile) (inc_by run profile value)
+  unfoldable pub inc_onward : (value : Result IncAsked Ended) → Onward (context_step profile) (inc_by run profile value)
   unfolding inc_begun
-  inc_onward (Ok job) = inr (λ b. on_entries (inc run (path_of profile) job) (reading_of b), entries_asked profile (inc run (path_of profile) job))
+  inc_onward (Ok asked) = inr (λ b. on_entries (inc_acts asked) (reading_of b), entries_asked profile (inc_acts asked))
   inc_onward (Err e) = inl (Err e, refl)
 
   unfoldable pub word_onward : (caller : Caller) (word : List ℕ) (words : List (List ℕ)) (name : Option CommandName) → Onward (context_step profile) (word_by run caller profile word words name)
@@ -254,20 +259,18 @@ module _ (run : ℕ) (few : run < 2 ^ 128) (profile : List NamedValue) (h : Hand
   look = scan_pledge run path
 
   -- `scan`
-  scan_done : (a b : Answer) (later : List Done) (j : Hand) (r : Result Unit CommandFault) → Sound look (acts later) j → okay (Of (Noted path (acts (two_readings profile a b)))) (acts later) j r → IfOkay (Finished (Some Scan) path) later j r
-  scan_done a b later j (Ok u) s f = record { is_done = record { settled = f.settled (two_settled profile a b); done = parts f.done }; unfailed = s.unfailed }
+  scan_done : (past : List Done) → AreSettled (acts past) → OnlyLooked (acts past) → (later : List Done) (j : Hand) (r : Result Unit CommandFault) → Sound look (acts later) j → okay (Of (Noted path (acts past))) (acts later) j r → IfOkay (Finished (Some Scan) path) later j r
+  scan_done past settled only later j (Ok u) s f = record { is_done = record { settled = f.settled settled; done = parts f.done }; unfailed = s.unfailed }
     where
-      parts : HasCommitted (Mail path) context_name (acts later) ⊎ (OnlyLooked (acts (two_readings profile a b)) → OnlyLooked (acts later)) → HasCommitted (Mail path) context_name (acts later) ⊎ OnlyLooked (acts later)
+      parts : HasCommitted (Mail path) context_name (acts later) ⊎ (OnlyLooked (acts past) → OnlyLooked (acts later)) → HasCommitted (Mail path) context_name (acts later) ⊎ OnlyLooked (acts later)
       parts (inl c) = inl c
-      parts (inr o) = inr (o (tt, (tt, tt)))
-  scan_done a b later j (Err e) s f = tt
+      parts (inr o) = inr (o only)
+  scan_done past settled only later j (Err e) s f = tt
 
   scan_keeps : (words : ScanAsked) → IsValid words.folder → (a b : Answer) (es : List NamedValue) (folder : List ℕ) → folder_of words.folder es profile ≡ Ok folder → Sound look (acts (two_readings profile a b)) h
       → Keeps (rules_of look) (two_readings profile a b) (knowing es h) (scan_acts run profile words folder) (IfOkay (Finished (Some Scan) path))
   scan_keeps words valid a b es folder is sound =
-      keeps_more (rules_of look) past j plan (ByActs (Soundly look (okay (Of (Noted path (acts past)))))) (IfOkay (Finished (Some Scan) path)) (λ later i r q. scan_done a b later i r q.0 q.1)
-      (goes_keeps look past (acts past) j plan (okay (Of (Noted path (acts past)))) refl (known_sound look (acts past) h es sound)
-      (scan_goes run few path (acts past) j (job_of folder words profile) (acted_valid words.folder es profile folder valid is)))
+      look_keeps look past j (Finished (Some Scan) path) (known_sound look (acts past) h es sound) words.telling plan go
     where
       past : List Done
       past = two_readings profile a b
@@ -275,8 +278,17 @@ module _ (run : ℕ) (few : run < 2 ^ 128) (profile : List NamedValue) (h : Hand
       j : Hand
       j = knowing es h
 
-      plan : Plan (Result Unit CommandFault)
-      plan = scan_acts run profile words folder
+      plan : (Standing → Writing) → Commanded Unit
+      plan spoken = scan run path (job_of folder words profile spoken)
+
+      go : (c : Answer) (spoken : Standing → Writing) → written_by words.telling c ≡ Ok spoken → Sound look (acts (look_done words.telling c past)) j
+          → Keeps (rules_of look) (look_done words.telling c past) j (plan spoken) (IfOkay (Finished (Some Scan) path))
+      go c spoken written here =
+          let then_ = look_done words.telling c past in
+          keeps_more (rules_of look) then_ j (plan spoken) (ByActs (Soundly look (okay (Of (Noted path (acts then_)))))) (IfOkay (Finished (Some Scan) path))
+          (λ later i r q. scan_done then_ (looked_settled words.telling c past (two_settled profile a b)) (looked_only words.telling c past (tt, (tt, tt))) later i r q.0 q.1)
+          (goes_keeps look then_ (acts then_) j (plan spoken) (okay (Of (Noted path (acts then_)))) refl here
+          (scan_goes run few path (acts then_) j (job_of folder words profile spoken) (acted_valid words.folder es profile folder valid is)))
 
   scan_words_keep : (b : Answer) (value : Result ScanAsked Ended) → ((words : ScanAsked) → value ≡ Ok words → IsValid words.folder)
       → Keeps (rules_of look) [] h (Ask profile_step (λ c. rest_by (context_step profile) (scan_by run profile value) (scan_onward run profile value) b)) (IfOkay (Finished (Some Scan) path))
@@ -471,24 +483,36 @@ module _ (run : ℕ) (few : run < 2 ^ 128) (profile : List NamedValue) (h : Hand
   refile_words_keep b (Err e) = keeps_ended look Home profile_name LIMIT_BYTES h (Err e) (IfOkay (Finished (Some Refile) path)) (λ c. tt)
 
   -- `inc`
-  inc_done : (a b : Answer) (later : List Done) (j : Hand) (r : Result Unit CommandFault) → IfOkay (Still (acts (two_readings profile a b))) later j r → IfOkay (Finished (Some Inc) path) later j r
-  inc_done a b later j (Ok u) f = record { is_done = f.settled (two_settled profile a b); unfailed = f.unfailed }
-  inc_done a b later j (Err e) f = tt
+  inc_done : (past : List Done) → AreSettled (acts past) → (later : List Done) (j : Hand) (r : Result Unit CommandFault) → IfOkay (Still (acts past)) later j r → IfOkay (Finished (Some Inc) path) later j r
+  inc_done past settled later j (Ok u) f = record { is_done = f.settled settled; unfailed = f.unfailed }
+  inc_done past settled later j (Err e) f = tt
 
-  pub inc_job_keeps : (b : Answer) (value : Result IncJob Ended)
+  pub inc_job_keeps : (b : Answer) (value : Result IncAsked Ended)
       → Keeps (rules_of (incs_pledge run profile value)) [] h (Ask profile_step (λ c. rest_by (context_step profile) (inc_by run profile value) (inc_onward run profile value) b)) (IfOkay (Finished (Some Inc) path))
   unfolding inc_onward
-  inc_job_keeps b (Ok job) =
-      keeps_after w Home (Mail path) profile_name context_name LIMIT_BYTES h (on_entries (inc run path job) (reading_of b)) (IfOkay (Finished (Some Inc) path))
-      (λ c d sound. entries_keep w (two_readings profile c d) h sound (inc run path job) (Finished (Some Inc) path) (λ es. taken_so c d es sound) (reading_of b))
+  inc_job_keeps b (Ok asked) =
+      keeps_after w Home (Mail path) profile_name context_name LIMIT_BYTES h (on_entries (inc_acts run profile asked) (reading_of b)) (IfOkay (Finished (Some Inc) path))
+      (λ c d sound. entries_keep w (two_readings profile c d) h sound (inc_acts run profile asked) (Finished (Some Inc) path) (λ es. asked_so c d es sound) (reading_of b))
     where
       w : Pledge
-      w = inc_pledge run path job
+      w = asked_pledge run path asked
 
-      taken_so : (c d : Answer) (es : List NamedValue) → Sound w (acts (two_readings profile c d)) h → Keeps (rules_of w) (two_readings profile c d) (knowing es h) (inc run path job) (IfOkay (Finished (Some Inc) path))
-      taken_so c d es sound =
-          keeps_more (rules_of w) (two_readings profile c d) (knowing es h) (inc run path job) (IfOkay (Still (acts (two_readings profile c d)))) (IfOkay (Finished (Some Inc) path)) (inc_done c d)
-          (inc_keeps run few path job (two_readings profile c d) (knowing es h) (two_once w profile c d) (known_sound w (acts (two_readings profile c d)) h es sound))
+      taken_so : (c d : Answer) (es : List NamedValue) (e : Answer) (spoken : Standing → Writing) → written_by asked.telling e ≡ Ok spoken → Sound w (acts (look_done asked.telling e (two_readings profile c d))) (knowing es h)
+          → Keeps (rules_of w) (look_done asked.telling e (two_readings profile c d)) (knowing es h) (inc run path (job_writing asked spoken)) (IfOkay (Finished (Some Inc) path))
+      taken_so c d es e spoken written sound =
+          let first = two_readings profile c d in
+          let past = look_done asked.telling e first in
+          let job = job_writing asked spoken in
+          keeps_telling (inc_pledge run path job) (TellsAsked run path asked) (WritesAs asked.telling spoken) (writes_kept asked.telling spoken) (λ own piece writes told. (spoken, writes, told)) past (knowing es h)
+          (inc run path job) (IfOkay (Finished (Some Inc) path)) (subst (WritesAs asked.telling spoken) (sym (acts_looked asked.telling e first)) (look_writes asked.telling e (acts first) spoken written))
+          (keeps_more (rules_of (inc_pledge run path job)) past (knowing es h) (inc run path job) (IfOkay (Still (acts past))) (IfOkay (Finished (Some Inc) path))
+          (inc_done past (looked_settled asked.telling e first (two_settled profile c d)))
+          (inc_keeps run few path job past (knowing es h) (looked_once w asked.telling e first (two_once w profile c d)) (record { numbered = sound.numbered; unfailed = sound.unfailed })))
+
+      asked_so : (c d : Answer) (es : List NamedValue) → Sound w (acts (two_readings profile c d)) h → Keeps (rules_of w) (two_readings profile c d) (knowing es h) (inc_acts run profile asked) (IfOkay (Finished (Some Inc) path))
+      asked_so c d es sound =
+          look_keeps w (two_readings profile c d) (knowing es h) (Finished (Some Inc) path) (known_sound w (acts (two_readings profile c d)) h es sound) asked.telling (λ spoken. inc run path (job_writing asked spoken))
+          (λ e spoken written here. taken_so c d es e spoken written here)
   inc_job_keeps b (Err e) = keeps_ended look Home profile_name LIMIT_BYTES h (Err e) (IfOkay (Finished (Some Inc) path)) (λ c. tt)
 
   -- the command that the words name
@@ -576,7 +600,7 @@ pledge_run run caller (word ∷ words) profile context = go (named word)
         by (Err e) = refl
     refiles_by (Err e) = refl
 
-    takes_by : (value : Result IncJob Ended) → (incs_pledge run profile value).run ≡ run
+    takes_by : (value : Result IncAsked Ended) → (incs_pledge run profile value).run ≡ run
     takes_by (Ok job) = refl
     takes_by (Err e) = refl
 

@@ -12,7 +12,6 @@ use Rattle.step_plans.specs.declared.command_fault.CommandFault.{CommandFault}
 use Rattle.step_plans.specs.declared.command_fault.CommandFault.TheVariants as fault
 use Rattle.command_words.specs.Ended.{wrong_at}
 use Rattle.command_words.specs.FolderWords.{folder_named, folders, named_folder, one_folder, some_named}
-use Rattle.inc_command.specs.IncJob.{IncJob}
 use Rattle.command_words.specs.IncWords.{folder_alone, folder_said as inc_words_said, inc_said, items_said as inc_items, with_folder as inc_folder}
 use Rattle.command_words.specs.MarkWords.{folder_said as mark_words_said, items_said as mark_items, lacks_sequence, mark_said, with_folder as mark_folder, with_names, word_said}
 use Rattle.command_words.specs.RefileWords as refile_words
@@ -30,12 +29,11 @@ use Rattle.command_words.specs.declared.mark.MarkWords.{MarkWords}
 use Rattle.command_words.specs.declared.refile.RefileWords.{RefileWords}
 use Rattle.command_words.specs.declared.rmm.RmmWords.{RmmWords}
 use Rattle.command_words.specs.declared.scan.ScanWords.{ScanWords}
-use Rattle.format_compiler.specs.Grammar.{Format}
-use Rattle.message_lines.specs.Finding.{format_named, LIMIT_FORMAT}
+use Rattle.message_lines.specs.Finding.{LIMIT_FORMAT}
 use Rattle.command_words.specs.BadValues.{first_of, unless_bad}
 use Rattle.command_words.specs.LookWords.{wrong_widths}
-use Rattle.command_line.specs.Incorporating.{job_by, job_looked, job_on, job_with, plain_job}
-use Rattle.command_line.specs.Looking.{asked_by, ScanAsked, scan_asked}
+use Rattle.command_line.specs.Incorporating.{IncAsked, job_by, job_looked, job_on, job_with, plain_job}
+use Rattle.command_line.specs.Looking.{asked_by, ScanAsked, scan_asked, sight_by, Telling, telling_of}
 use Rattle.command_line.proofs.FormatRefuses.{format_refuses, IsFormatRefusal}
 use Rattle.command_line.specs.Profile.{folder_of, stored_of}
 use Rattle.command_line.specs.declared.caller.Caller.{Caller}
@@ -76,12 +74,12 @@ abbrev AskedRefuses : Result ScanAsked Ended → Type 0
 AskedRefuses (Ok asked) = Unit {0}
 AskedRefuses (Err e) = IsRefusal e.fault
 
-format_asked : (caller : Caller) (said : ScanWords) (r : Result Format CommandFault) → format_named said.look.format ≡ r → AskedRefuses (asked_by caller said r)
-format_asked caller said (Ok f) is = tt
-format_asked caller said (Err e) is = format_refusal e (format_refuses said.look.format (Err e) e is refl)
+format_asked : (caller : Caller) (said : ScanWords) (r : Result Telling CommandFault) → telling_of caller said.look ≡ r → AskedRefuses (asked_by said r)
+format_asked caller said (Ok t) is = tt
+format_asked caller said (Err e) is = format_refusal e (format_refuses (sight_by caller said.look) said.look.format e is)
 
 words_asked : (caller : Caller) (r : Result ScanWords Ended) → ((e : Ended) → r ≡ Err e → IsRefusal e.fault) → AskedRefuses (scan_asked caller r)
-words_asked caller (Ok said) f = format_asked caller said (format_named said.look.format) refl
+words_asked caller (Ok said) f = format_asked caller said (telling_of caller said.look) refl
 words_asked caller (Err e) f = f e refl
 
 pub asked_refuses : (caller : Caller) (profile : List NamedValue) (words : List (List ℕ)) (e : Ended) → scan_asked caller (scan_said profile words) ≡ Err e → IsRefusal e.fault
@@ -224,17 +222,17 @@ inc_refuse : (profile : List NamedValue) (words : List (List ℕ)) → IncRefuse
 inc_refuse profile words = inc_items_refuse (profile_words (codes "inc") profile ++ words) (read_in inc_table 0 (profile_words (codes "inc") profile ++ words))
 
 -- and its job
-abbrev JobRefuses : Result IncJob Ended → Type 0
+abbrev JobRefuses : Result IncAsked Ended → Type 0
 JobRefuses (Ok job) = Unit {0}
 JobRefuses (Err e) = IsRefusal e.fault
 
 module _ (caller : Caller) (profile : List NamedValue) where
-  format_on : (words : IncWords) (names : List (List ℕ)) (folder : List ℕ) (r : Result Format CommandFault) → format_named words.look.format ≡ r → JobRefuses (plain_job (job_looked caller profile words names folder r))
-  format_on words names folder (Ok f) is = tt
-  format_on words names folder (Err e) is = format_refusal e (format_refuses words.look.format (Err e) e is refl)
+  format_on : (words : IncWords) (names : List (List ℕ)) (folder : List ℕ) (r : Result Telling CommandFault) → telling_of caller words.look ≡ r → JobRefuses (plain_job (job_looked caller profile words names folder r))
+  format_on words names folder (Ok t) is = tt
+  format_on words names folder (Err e) is = format_refusal e (format_refuses (sight_by caller words.look) words.look.format e is)
 
   folder_on : (words : IncWords) (names : List (List ℕ)) (r : Result (List ℕ) CommandFault) → folder_of words.folder [] profile ≡ r → JobRefuses (plain_job (job_on caller profile words names r))
-  folder_on words names (Ok folder) is = format_on words names folder (format_named words.look.format) refl
+  folder_on words names (Ok folder) is = format_on words names folder (telling_of caller words.look) refl
   folder_on words names (Err e) is = folder_refuses words.folder [] profile e is
 
   names_on : (words : IncWords) (names wrong : List (List ℕ)) → JobRefuses (plain_job (job_with caller profile words (unless_wrong names wrong)))

@@ -24,9 +24,7 @@ use Rattle.command_words.specs.declared.mark.MarkWords.{MarkWords}
 use Rattle.command_words.specs.declared.refile.RefileWords.{RefileWords}
 use Rattle.command_words.specs.declared.rmm.RmmWords.{RmmWords}
 use Rattle.command_words.specs.declared.scan.ScanWords.{ScanWords}
-use Rattle.format_compiler.specs.Grammar.{Format}
-use Rattle.message_lines.specs.Finding.{format_named}
-use Rattle.command_line.specs.Looking.{asked_by, ScanAsked, scan_asked}
+use Rattle.command_line.specs.Looking.{asked_by, ScanAsked, scan_asked, Telling, telling_of}
 use Rattle.command_line.specs.Profile.{folder_of, stored_of}
 use Rattle.command_line.specs.declared.caller.Caller.{Caller}
 use Rattle.command_words.proofs.SaidFolder.{IsValid, items_valid, named_valid, no_ok, ok_same}
@@ -44,12 +42,12 @@ scan_valid : (profile : List NamedValue) (words : List (List ℕ)) (said : ScanW
 scan_valid profile words said e = items_valid (profile_words (codes "scan") profile ++ words) (read_in scan_table 0 (profile_words (codes "scan") profile ++ words)) said e
 
 -- with the format that they name
-asked_on : (caller : Caller) (said : ScanWords) (r : Result Format CommandFault) (asked : ScanAsked) → IsValid said.folder → asked_by caller said r ≡ Ok asked → IsValid asked.folder
-asked_on caller said (Ok f) asked valid e = subst (λ z. IsValid z.folder) (ok_same _ asked e) valid
-asked_on caller said (Err x) asked valid e = no_ok _ asked e
+asked_on : (said : ScanWords) (r : Result Telling CommandFault) (asked : ScanAsked) → IsValid said.folder → asked_by said r ≡ Ok asked → IsValid asked.folder
+asked_on said (Ok t) asked valid e = subst (λ z. IsValid z.folder) (ok_same _ asked e) valid
+asked_on said (Err x) asked valid e = no_ok _ asked e
 
 asked_so : (caller : Caller) (r : Result ScanWords Ended) (asked : ScanAsked) → ((said : ScanWords) → r ≡ Ok said → IsValid said.folder) → scan_asked caller r ≡ Ok asked → IsValid asked.folder
-asked_so caller (Ok said) asked valid e = asked_on caller said (format_named said.look.format) asked (valid said refl) e
+asked_so caller (Ok said) asked valid e = asked_on said (telling_of caller said.look) asked (valid said refl) e
 asked_so caller (Err x) asked valid e = no_ok _ asked e
 
 pub asked_valid : (caller : Caller) (profile : List NamedValue) (words : List (List ℕ)) (asked : ScanAsked) → scan_asked caller (scan_said profile words) ≡ Ok asked → IsValid asked.folder

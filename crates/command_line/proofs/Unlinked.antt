@@ -14,10 +14,10 @@ use Rattle.folder_files.specs.declared.step.Step.{Step}
 use Rattle.folder_files.specs.declared.step.Step.TheVariants as step
 use Rattle.folder_files.specs.declared.step.Answer.{Answer}
 use Rattle.file_plans.specs.Agreeing.{met_by, is_made, is_first_met}
-use Rattle.file_plans.specs.Asking.{list, read}
+use Rattle.file_plans.specs.Asking.{list, read, read_file, reading_of}
 use Rattle.file_plans.specs.Contents.{Contents}
 use Rattle.file_plans.specs.Framing.{AsksOnly}
-use Rattle.file_plans.specs.Plan.{Hand, Plan, Return, Ask, Try, Say, Hear, Recall, Note, bind, ask, ◌>>=◌, lifted, say}
+use Rattle.file_plans.specs.Plan.{Hand, Plan, after, Return, Ask, Try, Say, Hear, Recall, Note, bind, ask, ◌>>=◌, lifted, say}
 use Rattle.file_plans.specs.Runs.{Exit, Deed, Did, Said, Heard, Runs}
 use Rattle.file_plans.specs.Views.{first_view}
 use Rattle.file_plans.specs.declared.answers.Listing.{Listing}
@@ -33,7 +33,10 @@ use Rattle.command_stages.specs.Endings.{of_plan}
 use Rattle.command_stages.specs.Listed.{names_by, folder_listed}
 use Rattle.command_stages.specs.Texts.{text_by, text_read}
 use Rattle.command_stages.specs.Current.{current_change, made_current}
-use Rattle.message_lines.specs.MessageText.{Writing}
+use Rattle.format_compiler.specs.Grammar.{Format}
+use Rattle.step_plans.specs.declared.command_fault.CommandFault.{CommandFault}
+use Rattle.message_lines.specs.Finding.{file_read, format_by}
+use Rattle.message_lines.specs.MessageText.{Writing, formed}
 use Rattle.mh_looks.specs.Scan.{shown_by, one_shown, all_shown, ordered, entries_seen, chosen_by, lined_by, scan}
 use Rattle.mh_looks.specs.ScanJob.{ScanJob}
 use Rattle.command_line.specs.Command.{command, command_by, context_entered, context_seen, folder_found, job_of, no_command, scan_begun, scan_by, word_by}
@@ -45,7 +48,7 @@ use Rattle.command_line.specs.declared.caller.Caller.{Caller}
 use Rattle.command_words.specs.Ended.{plain}
 use Rattle.command_words.specs.ScanWords.{scan_said}
 use Rattle.command_words.specs.declared.ended.Ended.{Ended}
-use Rattle.command_line.specs.Looking.{ScanAsked, scan_asked}
+use Rattle.command_line.specs.Looking.{InFile, Known, ScanAsked, Telling, look_found, scan_asked}
 use Rattle.command_line.proofs.Giving.{IsFirst}
 
 -- any step but a Link
@@ -149,9 +152,19 @@ unfolding folder_found
 found_nothing profile said =
     asks_then IsUnlinked (context_entered (Mail (path_of profile))) _ (entered_nothing (Mail (path_of profile))) (λ u. value_nothing (λ h. folder_of said (entries_seen h.context) profile))
 
+look_nothing : (t : Telling) → LinksNothing (look_found t)
+unfolding AsksOnly look_found file_read read_file ask lifted bind ◌>>=◌
+look_nothing (Known spoken) = tt
+look_nothing (InFile path sight) = (tt, λ a. by (format_by path (reading_of a)))
+  where
+    by : (value : Result Format CommandFault) → LinksNothing (after (λ f. Return (Ok (formed f sight))) value)
+    by (Ok f) = tt
+    by (Err e) = tt
+
 begun_nothing : (run : ℕ) (profile : List NamedValue) (words : ScanAsked) → LinksNothing (scan_begun run profile words)
 unfolding scan_begun
-begun_nothing run profile words = asks_then IsUnlinked (folder_found profile words.folder) _ (found_nothing profile words.folder) (λ folder. scan_nothing run (path_of profile) (job_of folder words profile))
+begun_nothing run profile words = asks_then IsUnlinked (folder_found profile words.folder) _ (found_nothing profile words.folder) (λ folder.
+    asks_then IsUnlinked (look_found words.telling) _ (look_nothing words.telling) (λ spoken. scan_nothing run (path_of profile) (job_of folder words profile spoken)))
 
 by_nothing : (run : ℕ) (profile : List NamedValue) (value : Result ScanAsked Ended) → LinksNothing (scan_by run profile value)
 by_nothing run profile (Ok words) = asks_lifted IsUnlinked plain (scan_begun run profile words) (begun_nothing run profile words)

@@ -27,7 +27,8 @@ use Rattle.told_folders.specs.Answers.{HasChanged, ShowsListing as ShowsTellList
 use Rattle.folder_command.specs.Folder.{task_with}
 use Rattle.folder_command.specs.declared.job.FolderJob.{FolderJob}
 use Rattle.inc_command.specs.IncAnswers.{IsTextOfNew, ShowsIncorporating}
-use Rattle.inc_command.specs.IncJob.{IncJob}
+use Rattle.message_lines.specs.MessageText.{Writing}
+use Rattle.message_lines.specs.declared.standing.Standing.{Standing}
 use Rattle.refile_command.specs.RefileAnswers.{ShowsRefile}
 use Rattle.refile_command.specs.RefileDone.{HasRefiledChosen}
 use Rattle.refile_command.specs.RmmAnswers.{HasRemovedChosen, rmm_answers}
@@ -49,7 +50,8 @@ use Rattle.anno_words.specs.declared.words.AnnoWords.{AnnoWords}
 use Rattle.command_line.specs.Command.{anno_job, annotated_by, mark_job, pick_job, picked_by, refile_job, rmm_job, tell_job}
 use Rattle.command_line.specs.CommandNames.{named}
 use Rattle.command_line.specs.CommandPledge.{entries_by, path_by}
-use Rattle.command_line.specs.Incorporating.{job_by}
+use Rattle.command_line.specs.Incorporating.{IncAsked, job_by, job_writing}
+use Rattle.command_line.specs.Looking.{WritesAs}
 use Rattle.command_line.specs.Profile.{folder_of, path_of, profile_name}
 use Rattle.command_line.specs.WordCauses.{IsRefusedByWords}
 use Rattle.command_line.specs.declared.name.CommandName.{CommandName}
@@ -183,9 +185,12 @@ ShowsRefileWords run profile context folder r own (Ok words) =
     × ShowsRefiling run (path_of profile) (refile_job folder words profile) r own
 ShowsRefileWords run profile context folder r own (Err x) = ⊥
 
--- the job of `inc` is to take new mail into this folder, and this shows how it ended there
-abbrev pub ShowsIncJob : ℕ → List NamedValue → List ℕ → Result (List ℕ) CommandFault → List Deed → Result IncJob Ended → Type 0
-ShowsIncJob run profile folder r own (Ok job) = (folder ≡ job.folder) × ShowsIncorporating run (path_of profile) job r own
+-- what `inc` is to do is to take new mail into this folder; and this shows how it ended there, which writes of messages what the words name, or what the
+-- format makes of them that the run has read from its file
+abbrev pub ShowsIncJob : ℕ → List NamedValue → List ℕ → Result (List ℕ) CommandFault → List Deed → Result IncAsked Ended → Type 0
+ShowsIncJob run profile folder r own (Ok asked) =
+    (folder ≡ asked.folder)
+    × ((spoken : Standing → Writing) × WritesAs asked.telling spoken own × ShowsIncorporating run (path_of profile) (job_writing asked spoken) r own)
 ShowsIncJob run profile folder r own (Err x) = ⊥
 
 -- by the command's name
@@ -236,14 +241,14 @@ abbrev pub ShowsFault : ℕ → Caller → List (List ℕ) → CommandFault → 
 ShowsFault run caller words e own =
     IsRefusedByWords caller words e own ⊎ (ShowsEarly e own ⊎ ShowsOnFolder run caller words (Err e) own)
 
--- the words name `inc`, and this is its job by them
-abbrev pub TakesInBy : Caller → List NamedValue → List (List ℕ) → IncJob → Type 0
-TakesInBy caller profile [] job = ⊥
-TakesInBy caller profile (word ∷ words) job =
-    (named word ≡ Some Inc) × (job_by caller profile (inc_said profile (map chars words)) ≡ Ok job)
+-- the words name `inc`, and this is what it is to do by them
+abbrev pub TakesInBy : Caller → List NamedValue → List (List ℕ) → IncAsked → Type 0
+TakesInBy caller profile [] asked = ⊥
+TakesInBy caller profile (word ∷ words) asked =
+    (named word ≡ Some Inc) × (job_by caller profile (inc_said profile (map chars words)) ≡ Ok asked)
 
 -- `inc` tells while it goes on: the call read the profile and the context, and this is a text of the heading and of lines
--- of messages that it has stored
+-- of messages that it has stored, as the words say or the file that they name
 pub record TellsNewMail (run : ℕ) (caller : Caller) (words : List (List ℕ)) (text : List ℕ) (own : List Deed) : Type 0 where
   pub profile : Answer
   pub context : Answer
@@ -253,9 +258,11 @@ pub record TellsNewMail (run : ℕ) (caller : Caller) (words : List (List ℕ)) 
       ≡ newer
       ++ did (Read (Mail (path_by profile)) context_name LIMIT_BYTES) context
       ∷ did (Read Home profile_name LIMIT_BYTES) profile ∷ []
-  pub job : IncJob
-  pub by_words : TakesInBy caller (entries_by profile) words job
-  pub told : IsTextOfNew run (path_by profile) job own text
+  pub asked : IncAsked
+  pub by_words : TakesInBy caller (entries_by profile) words asked
+  pub spoken : Standing → Writing
+  pub writes : WritesAs asked.telling spoken own
+  pub told : IsTextOfNew run (path_by profile) (job_writing asked spoken) own text
 
 -- of a `pick`, by what it marks: no message was found, and this text says so
 abbrev pub TellsNoneBy : ℕ → List ℕ → PickJob → List NamedValue → List ℕ → List Deed → Option PickMarks → Type 0

@@ -10,6 +10,8 @@ use Rattle.file_plans.specs.Plan.{Return, Recall, Note, lifted, ◌>>=◌}
 use Rattle.step_plans.specs.ContextCommit.{context_name}
 use Rattle.step_plans.specs.Hands.{knowing}
 use Rattle.command_stages.specs.Texts.{Commanded, text_read}
+use Rattle.message_lines.specs.MessageText.{Writing}
+use Rattle.message_lines.specs.declared.standing.Standing.{Standing}
 use Rattle.mh_looks.specs.Scan.{entries_seen, scan}
 use Rattle.mh_looks.specs.ScanJob.{ScanJob}
 use Rattle.mark_command.specs.Mark.{mark}
@@ -21,7 +23,6 @@ use Rattle.anno_command.specs.declared.job.AnnoJob.{AnnoJob}
 use Rattle.folder_command.specs.Folder.{folder as tell}
 use Rattle.folder_command.specs.declared.job.FolderJob.{FolderJob}
 use Rattle.inc_command.specs.Inc.{inc}
-use Rattle.inc_command.specs.IncJob.{IncJob}
 use Rattle.refile_command.specs.Refile.{refile}
 use Rattle.refile_command.specs.Rmm.{rmm}
 use Rattle.refile_command.specs.declared.job.RefileJob.{RefileJob}
@@ -43,8 +44,8 @@ use Rattle.command_words.specs.TellWords.{tell_said}
 use Rattle.anno_words.specs.AnnoWords.{anno_said}
 use Rattle.anno_words.specs.declared.words.AnnoWords.{AnnoWords}
 use Rattle.command_line.specs.CommandNames.{named}
-use Rattle.command_line.specs.Incorporating.{job_by}
-use Rattle.command_line.specs.Looking.{ScanAsked, scan_asked, unseen_known}
+use Rattle.command_line.specs.Incorporating.{IncAsked, job_by, job_writing}
+use Rattle.command_line.specs.Looking.{ScanAsked, look_found, scan_asked, unseen_known}
 use Rattle.command_line.specs.Profile.{folder_of, negation_of, path_of, profile_name}
 use Rattle.command_line.specs.declared.caller.Caller.{Caller}
 use Rattle.command_line.specs.declared.name.CommandName.{CommandName}
@@ -65,20 +66,22 @@ folder_found profile said = do
   entered ← context_entered (Mail (path_of profile))
   Recall (λ h. Return (folder_of said (entries_seen h.context) profile))
 
-abbrev pub job_of : List ℕ → ScanAsked → List NamedValue → ScanJob
-job_of folder words profile = record {
+abbrev pub job_of : List ℕ → ScanAsked → List NamedValue → (Standing → Writing) → ScanJob
+job_of folder words profile spoken = record {
   folder = folder;
   specs = words.specs;
   reverse = words.reverse;
   unseen = unseen_known profile;
   negation = negation_of profile;
-  spoken = words.spoken;
+  spoken = spoken;
 }
 
+-- and then the file of the format, where it is in one
 unfoldable pub scan_begun : ℕ → List NamedValue → ScanAsked → Commanded Unit
 scan_begun run profile words = do
   folder ← folder_found profile words.folder
-  scan run (path_of profile) (job_of folder words profile)
+  spoken ← look_found words.telling
+  scan run (path_of profile) (job_of folder words profile spoken)
 
 abbrev pub scan_by : ℕ → List NamedValue → Result ScanAsked Ended → Ending Unit
 scan_by run profile (Ok words) = lifted plain (scan_begun run profile words)
@@ -175,14 +178,15 @@ abbrev pub refile_by : ℕ → List NamedValue → Result RefileWords Ended → 
 refile_by run profile (Ok words) = lifted plain (refile_begun run profile words)
 refile_by run profile (Err e) = Return (Err e)
 
--- the context is read, and new mail is taken in
-unfoldable pub inc_begun : ℕ → List ℕ → IncJob → Commanded Unit
-inc_begun run path job = do
+-- the context is read, and then the file of the format, where it is in one; and new mail is taken in
+unfoldable pub inc_begun : ℕ → List ℕ → IncAsked → Commanded Unit
+inc_begun run path asked = do
   entered ← context_entered (Mail path)
-  inc run path job
+  spoken ← look_found asked.telling
+  inc run path (job_writing asked spoken)
 
-abbrev pub inc_by : ℕ → List NamedValue → Result IncJob Ended → Ending Unit
-inc_by run profile (Ok job) = lifted plain (inc_begun run (path_of profile) job)
+abbrev pub inc_by : ℕ → List NamedValue → Result IncAsked Ended → Ending Unit
+inc_by run profile (Ok asked) = lifted plain (inc_begun run (path_of profile) asked)
 inc_by run profile (Err e) = Return (Err e)
 
 -- a word that names no command that there is

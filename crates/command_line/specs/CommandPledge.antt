@@ -23,8 +23,9 @@ use Rattle.mark_command.specs.MarkPledge.{pledge_by}
 use Rattle.pick_command.specs.PickPledge.{pledge_by as pick_pledge_by}
 use Rattle.anno_command.specs.AnnoPledge.{anno_pledge}
 use Rattle.folder_command.specs.Folder.{pledge_by as tell_pledge_by}
-use Rattle.inc_command.specs.IncPledge.{inc_pledge}
-use Rattle.inc_command.specs.IncJob.{IncJob}
+use Rattle.message_lines.specs.MessageText.{Writing}
+use Rattle.message_lines.specs.declared.standing.Standing.{Standing}
+use Rattle.inc_command.specs.IncPledge.{TellsNew, inc_pledge}
 use Rattle.refile_command.specs.RefilePledge.{refile_pledge}
 use Rattle.refile_command.specs.RmmPledge.{rmm_pledge}
 use Rattle.command_words.specs.IncWords.{inc_said}
@@ -41,7 +42,8 @@ use Rattle.command_words.specs.declared.rmm.RmmWords.{RmmWords}
 use Rattle.anno_words.specs.declared.words.AnnoWords.{AnnoWords}
 use Rattle.command_line.specs.Command.{anno_job, annotated_by, mark_job, pick_job, picked_by, refile_job, rmm_job, tell_job}
 use Rattle.command_line.specs.CommandNames.{command_of, named}
-use Rattle.command_line.specs.Incorporating.{job_by}
+use Rattle.command_line.specs.Incorporating.{IncAsked, job_by, job_writing}
+use Rattle.command_line.specs.Looking.{WritesAs}
 use Rattle.command_line.specs.Profile.{folder_of, path_of, profile_name}
 use Rattle.command_line.specs.declared.name.CommandName.{CommandName}
 use Rattle.command_line.specs.declared.name.CommandName.TheVariants.{Anno, Folder as FolderCommand, Inc, Mark, Pick, Refile, Rmm, Scan}
@@ -123,9 +125,25 @@ abbrev pub refiles_pledge : ℕ → List NamedValue → List NamedValue → Resu
 refiles_pledge run profile context (Ok words) = refile_on_named run profile words (folder_of words.source context profile)
 refiles_pledge run profile context (Err e) = scan_pledge run (path_of profile)
 
--- what `inc` pledges by its job; where none can be, the same
-abbrev pub incs_pledge : ℕ → List NamedValue → Result IncJob Ended → Pledge
-incs_pledge run profile (Ok job) = inc_pledge run (path_of profile) job
+-- the same pledge, but for what may be said
+abbrev pub telling : Pledge → (List Deed → List ℕ → Type 0) → Pledge
+telling w tells = record { run = w.run; manner = w.manner; may_mark = w.may_mark; may_tell = tells; may_step = w.may_step }
+
+-- of new messages it tells what the words name, or what the format makes of them that the run has read from its file
+abbrev pub TellsAsked : ℕ → List ℕ → IncAsked → List Deed → List ℕ → Type 0
+TellsAsked run path asked own piece = (spoken : Standing → Writing) × WritesAs asked.telling spoken own × TellsNew run path (job_writing asked spoken) own piece
+
+-- nothing is written of a message
+abbrev pub unwritten : Standing → Writing
+unwritten standing n message = []
+
+-- what `inc` pledges: all but what it tells is the same whatever is written of messages
+abbrev pub asked_pledge : ℕ → List ℕ → IncAsked → Pledge
+asked_pledge run path asked = telling (inc_pledge run path (job_writing asked unwritten)) (TellsAsked run path asked)
+
+-- by its job; where none can be, what a command pledges that looks
+abbrev pub incs_pledge : ℕ → List NamedValue → Result IncAsked Ended → Pledge
+incs_pledge run profile (Ok asked) = asked_pledge run (path_of profile) asked
 incs_pledge run profile (Err e) = scan_pledge run (path_of profile)
 
 abbrev pub word_pledge : ℕ → Caller → List NamedValue → List NamedValue → List (List ℕ) → Option CommandName → Pledge

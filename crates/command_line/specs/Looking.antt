@@ -1,36 +1,101 @@
 -- How messages are looked at, by the words, the profile and who calls.
-use Rattle.std.specs.Prelude.{◌≡◌, ◌⊎◌, ℕ, Bool, List, Option, codes, Result, Ok, Err}
+use Rattle.std.specs.Prelude.{◌≡◌, ◌⊎◌, ℕ, Bool, false, List, Option, None, Some, codes, Result, Ok, Err}
+use Rattle.std.specs.Str.{encode_utf8_all}
 use Rattle.mh_profile.specs.declared.named_value.NamedValue.{NamedValue}
-use Rattle.format_compiler.specs.Code.{IsCodeOf}
 use Rattle.format_compiler.specs.Grammar.{Format}
+use Rattle.folder_files.specs.Deeds.{Deed, Once, did}
+use Rattle.folder_files.specs.declared.place.FilePath.{FilePath}
+use Rattle.folder_files.specs.declared.step.Answer.{Answer}
+use Rattle.folder_files.specs.declared.step.Step.TheVariants.{ReadFile}
+use Rattle.file_plans.specs.Asking.{reading_of}
+use Rattle.file_plans.specs.Follows.{Follows, State}
+use Rattle.file_plans.specs.Plan.{Return, ◌>>=◌}
+use Rattle.file_plans.specs.Runs.{Cause}
 use Rattle.step_plans.specs.declared.command_fault.CommandFault.{CommandFault}
 use Rattle.step_plans.specs.declared.command_fault.CommandFault.TheVariants as fault
+use Rattle.command_stages.specs.Texts.{Commanded}
 use Rattle.command_stages.specs.Values.{IsErrorOf}
-use Rattle.message_lines.specs.Finding.{format_named}
-use Rattle.message_lines.specs.MessageText.{coded, formed, Sight, sight_of, Writing}
-use Rattle.message_lines.specs.declared.look.Look.{Look}
+use Rattle.message_lines.specs.Finding.{LIMIT_FORMAT, file_read, format_by, format_named}
+use Rattle.message_lines.specs.MessageText.{coded, formed, Sight, Writing}
 use Rattle.message_lines.specs.declared.standing.Standing.{Standing}
 use Rattle.command_words.specs.Ended.{plain}
 use Rattle.command_words.specs.SequenceNames.{known_names}
 use Rattle.command_words.specs.Words.{profile_words}
 use Rattle.command_words.specs.declared.ended.Ended.{Ended}
+use Rattle.command_words.specs.declared.look.FormatWords.{FormatWords}
+use Rattle.command_words.specs.declared.look.FormatWords.TheVariants.{Default, File, Word}
 use Rattle.command_words.specs.declared.look.LookWords.{LookWords}
 use Rattle.command_words.specs.declared.scan.ScanWords.{ScanWords}
 use Rattle.command_line.specs.declared.caller.Caller.{Caller}
+use Rattle.command_line.specs.declared.look.FormatSource.{FormatSource}
+use Rattle.command_line.specs.declared.look.FormatSource.TheVariants as source
+use Rattle.command_line.specs.declared.look.LookSaid.{LookSaid}
 use Rattle.command_line.specs.declared.scanning.ScanLook.{ScanLook}
 
 abbrev pub sight_by : Caller → LookWords → Sight
 sight_by caller words = record { width = words.width; moment = caller.clock.moment; user = caller.user }
 
--- what is written of a message: what the format makes of it
-abbrev pub spoken_by : Caller → LookWords → Format → Standing → Writing
-spoken_by caller words f = formed f (sight_by caller words)
+-- a file below the current directory
+abbrev pub below_work : List ℕ → FilePath
+below_work path = record { home = false; text = path }
 
--- the look is by the format that the words name; or this is the refusal, or there was not enough memory
-abbrev pub IsLooked : Caller → LookWords → Result Look CommandFault → Type 0
-IsLooked caller words (Ok look) =
-    (f : Format) × (format_named words.format ≡ Ok f) × IsCodeOf look.program f × (sight_of look ≡ sight_by caller words)
-IsLooked caller words (Err e) = IsErrorOf (format_named words.format) e
+-- what is written of messages: this, or what the format makes of them that this file has
+pub data Telling : Type 0 where
+  Known : (spoken : Standing → Writing) → Telling
+  InFile : (path : FilePath) → (sight : Sight) → Telling
+
+-- what the format makes of a message
+abbrev pub known_by : Sight → Result Format CommandFault → Result Telling CommandFault
+known_by sight (Ok f) = Ok (Known (formed f sight))
+known_by sight (Err e) = Err e
+
+-- by the format that words name, or the refusal; one that is in a file is read later
+abbrev pub telling_by : Sight → FormatWords → Result Telling CommandFault
+telling_by sight Default = known_by sight (format_named None)
+telling_by sight (Word word) = known_by sight (format_named (Some word))
+telling_by sight (File path) = Ok (InFile (below_work (encode_utf8_all path)) sight)
+
+abbrev pub telling_of : Caller → LookWords → Result Telling CommandFault
+telling_of caller words = telling_by (sight_by caller words) words.format
+
+-- the same of the code, whose program writes
+abbrev pub telling_in : Sight → FormatSource → Telling
+telling_in sight (source.Known program) = Known (coded program sight)
+telling_in sight (source.InFile path) = InFile path sight
+
+abbrev pub telling_said : Caller → LookSaid → Telling
+telling_said caller l = telling_in (record { width = l.width; moment = caller.clock.moment; user = caller.user }) l.source
+
+-- the code found where the format is that words name; or this is the refusal, or there was not enough memory
+abbrev pub IsSource : FormatWords → Result FormatSource CommandFault → Type 0
+IsSource words (Ok found) = (sight : Sight) → telling_by sight words ≡ Ok (telling_in sight found)
+IsSource words (Err e) = (sight : Sight) → IsErrorOf (telling_by sight words) e
+
+-- what is written, once the file of the format was read
+abbrev pub written_with : Sight → Result Format CommandFault → Result (Standing → Writing) CommandFault
+written_with sight (Ok f) = Ok (formed f sight)
+written_with sight (Err e) = Err e
+
+abbrev pub written_by : Telling → Answer → Result (Standing → Writing) CommandFault
+written_by (Known spoken) a = Ok spoken
+written_by (InFile path sight) a = written_with sight (format_by path (reading_of a))
+
+-- the run has read the file of the format, where it is in one, and so this is written of messages
+abbrev pub WritesAs : Telling → (Standing → Writing) → List Deed → Type 0
+WritesAs (Known known) spoken own = spoken ≡ known
+WritesAs (InFile path sight) spoken own = (a : Answer) × Once (λ d older. d ≡ did (ReadFile path LIMIT_FORMAT) a) own × (written_with sight (format_by path (reading_of a)) ≡ Ok spoken)
+
+-- what is written is found: it is known, or the file of the format is read
+unfoldable pub look_found : Telling → Commanded (Standing → Writing)
+look_found (Known spoken) = Return (Ok spoken)
+look_found (InFile path sight) = do
+  f ← file_read path
+  Return (Ok (formed f sight))
+
+-- a call followed the plan, to this by what is seen of it, or to this fault
+abbrev pub FollowsAs : {A B : Type 0} → (B → A) → ℕ → (CommandFault → Cause) → Commanded A → State → State → Result B CommandFault → Type 0
+FollowsAs view run cause plan x y (Ok b) = Follows run cause plan x y (Ok (view b))
+FollowsAs view run cause plan x y (Err e) = Follows run cause plan x y (Err e)
 
 -- the sequences whose messages are unseen: the names among those of the profile's entry
 abbrev pub unseen_known : List NamedValue → List (List ℕ)
@@ -41,25 +106,24 @@ pub record ScanAsked : Type 0 where
   pub folder : Option (List ℕ)
   pub specs : List (List ℕ)
   pub reverse : Bool
-  pub spoken : Standing → Writing
+  pub telling : Telling
 
-abbrev pub asked_by : Caller → ScanWords → Result Format CommandFault → Result ScanAsked Ended
-asked_by caller words (Ok f) =
-    Ok (record { folder = words.folder; specs = words.specs; reverse = words.reverse; spoken = spoken_by caller words.look f })
-asked_by caller words (Err e) = Err (plain e)
+abbrev pub asked_by : ScanWords → Result Telling CommandFault → Result ScanAsked Ended
+asked_by words (Ok t) = Ok (record { folder = words.folder; specs = words.specs; reverse = words.reverse; telling = t })
+asked_by words (Err e) = Err (plain e)
 
 -- the words of `scan`, or the refusal: of a word before that of the format
 abbrev pub scan_asked : Caller → Result ScanWords Ended → Result ScanAsked Ended
-scan_asked caller (Ok words) = asked_by caller words (format_named words.look.format)
+scan_asked caller (Ok words) = asked_by words (telling_of caller words.look)
 scan_asked caller (Err e) = Err e
 
--- the same of the code, whose program writes
-abbrev pub asked_of : ScanLook → ScanAsked
-asked_of l = record {
+-- the same of the code
+abbrev pub asked_of : Caller → ScanLook → ScanAsked
+asked_of caller l = record {
   folder = l.words.folder;
   specs = l.words.specs;
   reverse = l.words.reverse;
-  spoken = coded l.look.program (sight_of l.look);
+  telling = telling_said caller l.look;
 }
 
 -- the result is this, by what is seen of it, or there was not enough memory

@@ -3,10 +3,17 @@ use Rattle.std.specs.Prelude.{ℕ, List, [], ◌∷◌, map, Option, None, Some,
 use Rattle.std.specs.Str.{chars}
 use Rattle.mh_profile.specs.declared.named_value.NamedValue.{NamedValue}
 use Rattle.mh_profile.specs.Reading.{entries_in}
+use Rattle.folder_files.specs.declared.place.FilePath.{FilePath}
 use Rattle.folder_files.specs.declared.place.Place.TheVariants.{Folder, Mail}
+use Rattle.folder_files.specs.declared.refusal.Refusal.TheVariants.{NoFile}
 use Rattle.file_plans.specs.Mailboxes.{Folder as FolderValue, Mailbox}
+use Rattle.format_compiler.specs.Grammar.{Format}
 use Rattle.step_plans.specs.declared.command_fault.CommandFault.{CommandFault}
+use Rattle.step_plans.specs.declared.command_fault.CommandFault.TheVariants as fault
 use Rattle.command_stages.specs.Works.{Work, refused_at, readable}
+use Rattle.message_lines.specs.Finding.{format_within}
+use Rattle.message_lines.specs.MessageText.{Writing}
+use Rattle.message_lines.specs.declared.standing.Standing.{Standing}
 use Rattle.mh_looks.specs.Outcomes.{scan_work}
 use Rattle.opened_folders.specs.BegunWork.{Homes}
 use Rattle.opened_folders.specs.HomesOf.{homes_at}
@@ -15,7 +22,6 @@ use Rattle.pick_command.specs.Outcomes.{pick_work}
 use Rattle.anno_command.specs.AnnoOutcome.{anno_work}
 use Rattle.folder_command.specs.Folder.{folder_work}
 use Rattle.inc_command.specs.IncOutcome.{inc_work, with_folder_made}
-use Rattle.inc_command.specs.IncJob.{IncJob}
 use Rattle.refile_command.specs.MadeFolder.{or_empty}
 use Rattle.refile_command.specs.RefileOutcome.{refile_work}
 use Rattle.refile_command.specs.RmmOutcome.{rmm_work}
@@ -35,8 +41,8 @@ use Rattle.command_words.specs.declared.rmm.RmmWords.{RmmWords}
 use Rattle.anno_words.specs.declared.words.AnnoWords.{AnnoWords}
 use Rattle.command_line.specs.Command.{anno_job, annotated_by, job_of, mark_job, no_command, pick_job, picked_by, refile_job, rmm_job, tell_job}
 use Rattle.command_line.specs.CommandNames.{named}
-use Rattle.command_line.specs.Incorporating.{job_by}
-use Rattle.command_line.specs.Looking.{ScanAsked, scan_asked}
+use Rattle.command_line.specs.Incorporating.{IncAsked, job_by, job_writing}
+use Rattle.command_line.specs.Looking.{InFile, Known, ScanAsked, Telling, scan_asked, written_with}
 use Rattle.command_line.specs.Profile.{folder_of, path_of, profile_name}
 use Rattle.command_line.specs.declared.caller.Caller.{Caller}
 use Rattle.command_line.specs.declared.name.CommandName.{CommandName}
@@ -68,9 +74,25 @@ with_context m profile said work (Err e) = refused_at m e
 abbrev pub on_folder : Mailbox → List NamedValue → Option (List ℕ) → FolderWork → Work CommandFault
 on_folder m profile said work = with_context m profile said work (readable (m.context (Mail (path_of profile))))
 
+-- the format of a file outside the mailbox, where there is one
+abbrev pub format_outside : FilePath → Option (List ℕ) → Result Format CommandFault
+format_outside path None = Err (fault.Refused (NoFile path))
+format_outside path (Some text) = format_within text
+
+-- what is written of messages, by the file that is there
+abbrev pub written_there : Mailbox → Telling → Result (Standing → Writing) CommandFault
+written_there m (Known spoken) = Ok spoken
+written_there m (InFile path sight) = written_with sight (format_outside path (m.outside path))
+
+-- the work that writes so, or the refusal
+abbrev pub writing : Mailbox → ((Standing → Writing) → Work CommandFault) → Result (Standing → Writing) CommandFault → Work CommandFault
+writing m work (Ok spoken) = work spoken
+writing m work (Err e) = refused_at m e
+
 -- `scan`
 abbrev pub scans : Mailbox → List NamedValue → ScanAsked → FolderWork
-scans m profile words context folder = scan_work (path_of profile) context (job_of folder words profile) m
+scans m profile words context folder =
+    writing m (λ spoken. scan_work (path_of profile) context (job_of folder words profile spoken) m) (written_there m words.telling)
 
 abbrev pub scan_words_work : Mailbox → List NamedValue → Result ScanAsked Ended → Work Ended
 scan_words_work m profile (Ok words) = of_stage (on_folder m profile words.folder (scans m profile words))
@@ -142,13 +164,15 @@ refile_words_work g m profile (Ok words) = of_stage (on_folder m profile words.s
 refile_words_work g m profile (Err e) = refused_at m e
 
 -- `inc`, once the context is read: so too, in the folder of its job once that is there
-abbrev pub incs : Meeting → Mailbox → List NamedValue → IncJob → Result (List ℕ) CommandFault → Work CommandFault
-incs g m profile job (Ok text) =
-    inc_work (path_of profile) (g.entries (entries_in text)) (g.homes ((with_folder_made m (Folder (path_of profile) job.folder)).folders (Folder (path_of profile) job.folder))) job m
-incs g m profile job (Err e) = refused_at m e
+abbrev pub incs : Meeting → Mailbox → List NamedValue → IncAsked → Result (List ℕ) CommandFault → Work CommandFault
+incs g m profile asked (Ok text) =
+    writing m
+    (λ spoken. inc_work (path_of profile) (g.entries (entries_in text)) (g.homes ((with_folder_made m (Folder (path_of profile) asked.folder)).folders (Folder (path_of profile) asked.folder))) (job_writing asked spoken) m)
+    (written_there m asked.telling)
+incs g m profile asked (Err e) = refused_at m e
 
-abbrev pub inc_job_work : Meeting → Mailbox → List NamedValue → Result IncJob Ended → Work Ended
-inc_job_work g m profile (Ok job) = of_stage (incs g m profile job (readable (m.context (Mail (path_of profile)))))
+abbrev pub inc_job_work : Meeting → Mailbox → List NamedValue → Result IncAsked Ended → Work Ended
+inc_job_work g m profile (Ok asked) = of_stage (incs g m profile asked (readable (m.context (Mail (path_of profile)))))
 inc_job_work g m profile (Err e) = refused_at m e
 
 -- the command of this name
@@ -172,7 +196,7 @@ abbrev pub with_profile : Meeting → Mailbox → Caller → List (List ℕ) →
 with_profile g m caller words (Ok text) = named_work g m caller (entries_in text) words
 with_profile g m caller words (Err e) = refused_at m (plain e)
 
--- what a command comes to, in its stages: the profile, the words, the context, the folder, the work
+-- what a command comes to, in its stages: the profile, the words, the context, the folder, the file of the format, the work
 unfoldable pub work_by : Meeting → Caller → List (List ℕ) → Mailbox → Work Ended
 work_by g caller words m = with_profile g m caller words (readable (m.home profile_name))
 

@@ -3,11 +3,14 @@ use Rattle.std.specs.Prelude.{◌≡◌, ℕ, List, [], ◌∷◌, map, Option, 
 use Rattle.std.specs.Str.{chars}
 use Rattle.mh_profile.specs.declared.named_value.NamedValue.{NamedValue}
 use Rattle.folder_files.specs.Deeds.{Deed, did}
-use Rattle.folder_files.specs.declared.place.Place.TheVariants.{Home}
+use Rattle.folder_files.specs.declared.place.FilePath.{FilePath}
+use Rattle.folder_files.specs.declared.place.Place.TheVariants.{Home, Mail}
 use Rattle.folder_files.specs.declared.step.Answer.{Answer}
-use Rattle.folder_files.specs.declared.step.Step.TheVariants.{Read}
-use Rattle.step_plans.specs.ContextCommit.{LIMIT_BYTES}
+use Rattle.folder_files.specs.declared.step.Step.TheVariants.{Read, ReadFile}
+use Rattle.file_plans.specs.Asking.{reading_of}
+use Rattle.step_plans.specs.ContextCommit.{LIMIT_BYTES, context_name}
 use Rattle.step_plans.specs.declared.command_fault.CommandFault.{CommandFault}
+use Rattle.message_lines.specs.Finding.{LIMIT_FORMAT, format_by}
 use Rattle.command_words.specs.IncWords.{inc_said}
 use Rattle.command_words.specs.MarkWords.{mark_said}
 use Rattle.command_words.specs.RefileWords.{refile_said}
@@ -17,9 +20,9 @@ use Rattle.command_words.specs.TellWords.{tell_said}
 use Rattle.command_words.specs.declared.ended.Ended.{Ended}
 use Rattle.command_line.specs.Command.{annotated_by, no_command, picked_by}
 use Rattle.command_line.specs.CommandNames.{named}
-use Rattle.command_line.specs.CommandPledge.{entries_by}
-use Rattle.command_line.specs.Incorporating.{job_by}
-use Rattle.command_line.specs.Looking.{scan_asked}
+use Rattle.command_line.specs.CommandPledge.{entries_by, path_by}
+use Rattle.command_line.specs.Incorporating.{IncAsked, job_by}
+use Rattle.command_line.specs.Looking.{InFile, Known, ScanAsked, Telling, scan_asked}
 use Rattle.command_line.specs.Profile.{profile_name}
 use Rattle.command_line.specs.declared.caller.Caller.{Caller}
 use Rattle.command_line.specs.declared.name.CommandName.{CommandName}
@@ -48,7 +51,40 @@ abbrev pub words_refusal : Caller → List NamedValue → List (List ℕ) → Op
 words_refusal caller profile [] = Some (no_command None).fault
 words_refusal caller profile (word ∷ words) = named_refusal caller profile words (named word)
 
--- the profile was read, and that is all; by its entries the words are refused so
+-- the file of a format, where it is in one
+abbrev pub file_in : Telling → Option FilePath
+file_in (Known spoken) = None
+file_in (InFile path sight) = Some path
+
+abbrev pub scan_file : Result ScanAsked Ended → Option FilePath
+scan_file (Ok asked) = file_in asked.telling
+scan_file (Err e) = None
+
+abbrev pub inc_file : Result IncAsked Ended → Option FilePath
+inc_file (Ok asked) = file_in asked.telling
+inc_file (Err e) = None
+
+-- the one that the words behind a command's name name
+abbrev pub named_file : Caller → List NamedValue → List (List ℕ) → Option CommandName → Option FilePath
+named_file caller profile words None = None
+named_file caller profile words (Some Inc) = inc_file (job_by caller profile (inc_said profile (map chars words)))
+named_file caller profile words (Some Scan) = scan_file (scan_asked caller (scan_said profile (map chars words)))
+named_file caller profile words (Some Mark) = None
+named_file caller profile words (Some Pick) = None
+named_file caller profile words (Some Refile) = None
+named_file caller profile words (Some Rmm) = None
+named_file caller profile words (Some FolderCommand) = None
+named_file caller profile words (Some Anno) = None
+
+abbrev pub words_file : Caller → List NamedValue → List (List ℕ) → Option FilePath
+words_file caller profile [] = None
+words_file caller profile (word ∷ words) = named_file caller profile words (named word)
+
+-- the profile was read, and that is all; by its entries the words are refused so. Or then the context was read, and last the file of the format that
+-- the words name; it isn't there, is too long, or has no format, and is refused so.
 pub data IsRefusedByWords (caller : Caller) (words : List (List ℕ)) : CommandFault → List Deed → Type 0 where
   by_words : {a : Answer} {e : CommandFault} → words_refusal caller (entries_by a) words ≡ Some e
       → IsRefusedByWords caller words e (did (Read Home profile_name LIMIT_BYTES) a ∷ [])
+  by_format : {a b c : Answer} {path : FilePath} {e : CommandFault} → words_file caller (entries_by a) words ≡ Some path → format_by path (reading_of c) ≡ Err e
+      → IsRefusedByWords caller words e
+      (did (ReadFile path LIMIT_FORMAT) c ∷ (did (Read (Mail (path_by a)) context_name LIMIT_BYTES) b ∷ (did (Read Home profile_name LIMIT_BYTES) a ∷ [])))

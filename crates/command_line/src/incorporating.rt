@@ -7,33 +7,35 @@ ghost use Rattle.file_plans.specs.Follows.{Follows, by_out};
 ghost use Rattle.step_plans.specs.CommandFaults.{command_cause};
 ghost use Rattle.command_words.specs.Ended.{ended_cause};
 ghost use Rattle.command_words.specs.IncWords.{inc_said};
-ghost use Rattle.inc_command.specs.Asked.{asked};
 ghost use Rattle.command_words.specs.Results.{IsNamed};
 ghost use Rattle.command_line.specs.Looking.{IsNamedAs, IsSaidAs};
 ghost use Rattle.command_line.specs.Command.{inc_begun, inc_by};
-ghost use Rattle.command_line.specs.Incorporating.{below_work as below_work_of, delivered as delivered_of, drop_of, inc_job as inc_job_of, job_by};
+ghost use Rattle.command_line.specs.Incorporating.{delivered as delivered_of, drop_of, inc_asked_of, inc_job as inc_job_of, job_by};
 ghost use Rattle.command_line.specs.Profile.{folder_of};
 
 use crate::Caller;
 use crate::current::enter_context;
-use crate::look::look;
+use crate::look::{LookSaid, below_work, find_look, look};
 use crate::profile::{inbox, path};
 use command_words::{Ended, IncWords, inc_words, profile_sequences, read_folder};
 use folder_files::{FilePath, Files};
 use inc_command::{IncJob, inc};
 use mh_base::{Bytes, Duplicate, FolderName, Sink, Text};
 use mh_profile::Entries;
+use mh_sequences::SeqNameList;
 use std::alloc::{AllocError, Global};
 use step_plans::{CommandFault, Hand};
 
-/// A file below the current directory.
-fn below_work(alloc: Global, file: &Text) -> Result<FilePath, AllocError>
-    ensures { IfOk result (λ path. path ≡ below_work_of (encode_utf8_all file.now)) }
-{
-    Ok(FilePath {
-        home: false,
-        text: Bytes::from_slice(alloc, file.as_str().as_bytes())?,
-    })
+/// What is to be done, before the file is read of a format that is in one.
+#[derive(Drop)]
+struct IncLook {
+    folder: FolderName,
+    drop: FilePath,
+    truncate: bool,
+    silent: bool,
+    change_cur: bool,
+    unseen: SeqNameList,
+    look: LookSaid,
 }
 
 /// The file in which the system delivers this user's mail.
@@ -86,18 +88,18 @@ fn folder(
 }
 
 /// What is to be done.
-fn inc_job(
+fn inc_look(
     alloc: Global,
     profile: &Entries,
     caller: &Caller,
     words: IncWords,
-) -> Result<IncJob, CommandFault>
-    ensures { IsNamedAs asked (inc_job_of caller.now profile.now words) result }
+) -> Result<IncLook, CommandFault>
+    ensures { IsNamedAs (inc_asked_of caller.now) (inc_job_of caller.now profile.now words) result }
 {
     let unseen = profile_sequences(alloc, profile, b"Unseen-Sequence")?;
     let folder = folder(alloc, profile, words.folder)?;
-    let look = look(alloc, caller, &words.look)?;
-    Ok(IncJob {
+    let look = look(alloc, &words.look)?;
+    Ok(IncLook {
         folder,
         drop: drop_path(alloc, profile, &caller.user, words.file)?,
         truncate: words.truncate,
@@ -108,17 +110,17 @@ fn inc_job(
     })
 }
 
-/// The job that the words make, which are not read yet.
+/// What the words say is to be done, which are not read yet.
 fn job_said(
     alloc: Global,
     profile: &Entries,
     caller: &Caller,
     words: &[String],
-) -> Result<IncJob, Ended>
-    ensures { IsSaidAs asked (job_by caller.now profile.now (inc_said profile.now (map chars (map string_bytes words.now)))) result }
+) -> Result<IncLook, Ended>
+    ensures { IsSaidAs (inc_asked_of caller.now) (job_by caller.now profile.now (inc_said profile.now (map chars (map string_bytes words.now)))) result }
 {
     let words = inc_words(alloc, profile, words)?;
-    Ok(inc_job(alloc, profile, caller, words)?)
+    Ok(inc_look(alloc, profile, caller, words)?)
 }
 
 /// Runs `inc`, from the context on.
@@ -127,12 +129,22 @@ fn begin_inc<F: Files, O: Sink>(
     hand: &mut Hand,
     files: &mut F,
     out: &mut O,
-    job: &IncJob,
+    caller: &Caller,
+    asked: IncLook,
 ) -> Result<(), CommandFault>
-    ensures { Follows hand.old.run command_cause (inc_begun hand.old.run hand.old.mail (asked job.now)) (by_out hand.old.kept (F.state files.old) (O.state out.old)) (by_out hand.new.kept (F.state files.new) (O.state out.new)) result }
+    ensures { Follows hand.old.run command_cause (inc_begun hand.old.run hand.old.mail (inc_asked_of caller.now asked)) (by_out hand.old.kept (F.state files.old) (O.state out.old)) (by_out hand.new.kept (F.state files.new) (O.state out.new)) result }
 {
     enter_context(alloc, hand, files)?;
-    inc(alloc, hand, files, out, job)
+    let job = IncJob {
+        folder: asked.folder,
+        drop: asked.drop,
+        truncate: asked.truncate,
+        silent: asked.silent,
+        change_cur: asked.change_cur,
+        unseen: asked.unseen,
+        look: find_look(alloc, hand.run(), files, caller, asked.look)?,
+    };
+    inc(alloc, hand, files, out, &job)
 }
 
 /// Runs `inc` by its words, which are not read yet.
@@ -147,8 +159,8 @@ pub(crate) fn run_inc<F: Files, O: Sink>(
 ) -> Result<(), Ended>
     ensures { (left : Kept) × Follows run ended_cause (inc_by run profile.now (job_by caller.now profile.now (inc_said profile.now (map chars (map string_bytes words.now))))) (by_out fresh (F.state files.old) (O.state out.old)) (by_out left (F.state files.new) (O.state out.new)) result }
 {
-    let job = job_said(alloc, profile, caller, words)?;
+    let asked = job_said(alloc, profile, caller, words)?;
     let mut hand = Hand::new(run, path(alloc, profile)?);
-    begin_inc(alloc, &mut hand, files, out, &job)?;
+    begin_inc(alloc, &mut hand, files, out, caller, asked)?;
     Ok(())
 }

@@ -1,32 +1,99 @@
 // How messages are looked at.
-ghost use Rattle.std.specs.Prelude.{option_map};
-ghost use Rattle.message_lines.specs.Finding.{format_named, IsIn};
-ghost use Rattle.command_line.specs.Looking.{IsLooked};
+ghost use Rattle.std.specs.Prelude.{◌≡◌, IfOk};
+ghost use Rattle.std.specs.Str.{encode_utf8_all};
+ghost use Rattle.file_plans.specs.Plan.{Hand as Kept};
+ghost use Rattle.file_plans.specs.Follows.{by_hand};
+ghost use Rattle.step_plans.specs.CommandFaults.{command_cause};
+ghost use Rattle.message_lines.specs.MessageText.{coded, Sight, sight_of};
+ghost use Rattle.command_line.specs.declared.caller.Caller.{Caller as CallerParts};
+ghost use Rattle.command_line.specs.Looking.{below_work as below_work_of, FollowsAs, IsNamedAs, IsSource, look_found, telling_in, telling_of, telling_said};
 
 use crate::Caller;
-use command_words::LookWords;
+use command_words::{FormatWords, LookWords};
+use folder_files::{FilePath, Files};
 use format_compiler::Program;
-use message_lines::{Look, named_format};
-use mh_base::Duplicate;
-use std::alloc::Global;
+use message_lines::{LineFormat, Look, named_format, read_format};
+use mh_base::{Bytes, Duplicate, Text};
+use std::alloc::{AllocError, Global};
 use step_plans::CommandFault;
 
-/// The program of the format that the words name.
-fn program(alloc: Global, words: &LookWords) -> Result<Program, CommandFault>
-    ensures { IsIn (format_named words.now.format) result }
-{
-    named_format(alloc, words.format.as_ref())
+/// The format of lines: compiled, or in a file that is not read yet.
+#[derive(Drop)]
+pub(crate) enum FormatSource {
+    Known(Program),
+    InFile(FilePath),
 }
 
-/// How the caller looks at messages, by these words.
-pub(crate) fn look(alloc: Global, caller: &Caller, words: &LookWords) -> Result<Look, CommandFault>
-    ensures { IsLooked caller.now words.now result }
+/// What the words say of how messages will be looked at.
+#[derive(Drop)]
+pub(crate) struct LookSaid {
+    pub(crate) source: FormatSource,
+    pub(crate) width: u32,
+}
+
+/// A file below the current directory.
+pub(crate) fn below_work(alloc: Global, file: &Text) -> Result<FilePath, AllocError>
+    ensures { IfOk result (λ path. path ≡ below_work_of (encode_utf8_all file.now)) }
 {
-    let program = program(alloc, words)?;
+    Ok(FilePath {
+        home: false,
+        text: Bytes::from_slice(alloc, file.as_str().as_bytes())?,
+    })
+}
+
+/// The format that the words name, compiled, or its file.
+fn format_source(alloc: Global, words: &FormatWords) -> Result<FormatSource, CommandFault>
+    ensures { IsSource words.now result }
+{
+    match words {
+        FormatWords::Default => Ok(FormatSource::Known(named_format(alloc, None)?)),
+        FormatWords::Word(word) => Ok(FormatSource::Known(named_format(alloc, Some(word))?)),
+        FormatWords::File(path) => Ok(FormatSource::InFile(below_work(alloc, path)?)),
+    }
+}
+
+/// What these words say of how messages will be looked at.
+pub(crate) fn look(alloc: Global, words: &LookWords) -> Result<LookSaid, CommandFault>
+    ensures { (caller : CallerParts) → IsNamedAs (telling_said caller) (telling_of caller words.now) result }
+{
+    let source = format_source(alloc, &words.format)?;
+    Ok(LookSaid {
+        source,
+        width: words.width,
+    })
+}
+
+/// The format, which is known, or its file is read.
+fn find_program<F: Files>(
+    alloc: Global,
+    run: u128,
+    files: &mut F,
+    source: FormatSource,
+) -> Result<Program, CommandFault>
+    ensures { (h : Kept) (sight : Sight) → FollowsAs (λ program. coded program sight) run command_cause (look_found (telling_in sight source)) (by_hand h (F.state files.old)) (by_hand h (F.state files.new)) result }
+{
+    match source {
+        FormatSource::Known(program) => Ok(program),
+        FormatSource::InFile(path) => read_format(alloc, run, files, &LineFormat::File(path)),
+    }
+}
+
+/// How the caller looks at messages, by what the words say, once the format is found.
+pub(crate) fn find_look<F: Files>(
+    alloc: Global,
+    run: u128,
+    files: &mut F,
+    caller: &Caller,
+    said: LookSaid,
+) -> Result<Look, CommandFault>
+    ensures { (h : Kept) → FollowsAs (λ look. coded look.program (sight_of look)) run command_cause (look_found (telling_said caller.now said)) (by_hand h (F.state files.old)) (by_hand h (F.state files.new)) result }
+{
+    let user = caller.user.duplicate(alloc)?;
+    let program = find_program(alloc, run, files, said.source)?;
     Ok(Look {
         program,
-        width: words.width,
+        width: said.width,
         moment: caller.clock.moment(),
-        user: caller.user.duplicate(alloc)?,
+        user,
     })
 }

@@ -13,22 +13,21 @@ ghost use Rattle.command_line.specs.Profile.{path_of};
 
 use crate::Caller;
 use crate::current::enter_folder;
-use crate::look::look;
+use crate::look::{LookSaid, find_look, look};
 use crate::profile::{negation, path};
 use command_words::{Ended, ScanWords, known_sequences, scan_words};
 use folder_files::Files;
-use message_lines::Look;
 use mh_base::Sink;
 use mh_looks::{ScanJob, scan};
 use mh_profile::Entries;
 use std::alloc::Global;
 use step_plans::{CommandFault, Hand};
 
-/// The words of `scan`, and how they look at messages.
+/// The words of `scan`, and how messages will be looked at.
 #[derive(Drop)]
 struct ScanLook {
     words: ScanWords,
-    look: Look,
+    look: LookSaid,
 }
 
 /// What the words say, which are not read yet.
@@ -38,10 +37,10 @@ fn scan_look(
     caller: &Caller,
     words: &[String],
 ) -> Result<ScanLook, Ended>
-    ensures { IsSaidAs asked_of (scan_asked caller.now (scan_said profile.now (map chars (map string_bytes words.now)))) result }
+    ensures { IsSaidAs (asked_of caller.now) (scan_asked caller.now (scan_said profile.now (map chars (map string_bytes words.now)))) result }
 {
     let words = scan_words(alloc, profile, words)?;
-    let look = look(alloc, caller, &words.look)?;
+    let look = look(alloc, &words.look)?;
     Ok(ScanLook { words, look })
 }
 
@@ -52,13 +51,15 @@ fn begin_scan<F: Files, O: Sink>(
     files: &mut F,
     out: &mut O,
     profile: &Entries,
+    caller: &Caller,
     asked: ScanLook,
 ) -> Result<(), CommandFault>
     requires { hand.old.mail ≡ path_of profile.now }
-    ensures { Follows hand.old.run command_cause (scan_begun hand.old.run profile.now (asked_of asked)) (by_out hand.old.kept (F.state files.old) (O.state out.old)) (by_out hand.new.kept (F.state files.new) (O.state out.new)) result }
+    ensures { Follows hand.old.run command_cause (scan_begun hand.old.run profile.now (asked_of caller.now asked)) (by_out hand.old.kept (F.state files.old) (O.state out.old)) (by_out hand.new.kept (F.state files.new) (O.state out.new)) result }
 {
     let ScanLook { words, look } = asked;
     let folder = enter_folder(alloc, hand, files, profile, words.folder)?;
+    let look = find_look(alloc, hand.run(), files, caller, look)?;
     let job = ScanJob {
         folder,
         specs: words.specs,
@@ -84,6 +85,6 @@ pub(crate) fn run_scan<F: Files, O: Sink>(
 {
     let asked = scan_look(alloc, profile, caller, words)?;
     let mut hand = Hand::new(run, path(alloc, profile)?);
-    begin_scan(alloc, &mut hand, files, out, profile, asked)?;
+    begin_scan(alloc, &mut hand, files, out, profile, caller, asked)?;
     Ok(())
 }

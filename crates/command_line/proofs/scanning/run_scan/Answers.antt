@@ -25,13 +25,13 @@ returns-in_err-path g c = (fresh, no_room _ c.from_residual-in_err-path.ensures 
 pub returns-in_err-begin_scan : goal.returns-in_err-begin_scan
 returns-in_err-begin_scan g c = (
   c.begin_scan.new.hand.kept,
-  words_on (scan_by c.args.run c.args.profile.now) (scan_asked c.args.caller.now (scan_said c.args.profile.now (map chars (map string_bytes c.args.words.now)))) (asked_of c.in_ok-asked.asked) c.in_ok-asked.ensures
+  words_on (scan_by c.args.run c.args.profile.now) (scan_asked c.args.caller.now (scan_said c.args.profile.now (map chars (map string_bytes c.args.words.now)))) (asked_of c.args.caller.now c.in_ok-asked.asked) c.in_ok-asked.ensures
       (ends_off plain _ plain_same (rw (c.new-hand.ensures.run, c.new-hand.ensures.kept) at c.in_err-begin_scan.ensures) c.from_residual-in_err-begin_scan.ensures),
 )
 
 pub returns : goal.returns
 returns g c = (
   c.begin_scan.new.hand.kept,
-  words_on (scan_by c.args.run c.args.profile.now) (scan_asked c.args.caller.now (scan_said c.args.profile.now (map chars (map string_bytes c.args.words.now)))) (asked_of c.in_ok-asked.asked) c.in_ok-asked.ensures
-      (lift_ok c.args.run command_cause ended_cause plain (scan_begun c.args.run c.args.profile.now (asked_of c.in_ok-asked.asked)) _ _ tt (rw (c.new-hand.ensures.run, c.new-hand.ensures.kept) at c.in_ok-begin_scan.ensures)),
+  words_on (scan_by c.args.run c.args.profile.now) (scan_asked c.args.caller.now (scan_said c.args.profile.now (map chars (map string_bytes c.args.words.now)))) (asked_of c.args.caller.now c.in_ok-asked.asked) c.in_ok-asked.ensures
+      (lift_ok c.args.run command_cause ended_cause plain (scan_begun c.args.run c.args.profile.now (asked_of c.args.caller.now c.in_ok-asked.asked)) _ _ tt (rw (c.new-hand.ensures.run, c.new-hand.ensures.kept) at c.in_ok-begin_scan.ensures)),
 )
