@@ -2,8 +2,8 @@
 
 _mh_switches() {
     case $1 in
-        inc) echo "-format -width -file -truncate -notruncate -changecur -nochangecur -silent -nosilent" ;;
-        scan) echo "-format -width -reverse -noreverse" ;;
+        inc) echo "-format -form -width -file -truncate -notruncate -changecur -nochangecur -silent -nosilent" ;;
+        scan) echo "-format -form -width -reverse -noreverse" ;;
         folder) echo "" ;;
         pick) echo "-and -or -not -lbrace -rbrace -from -to -cc -subject -date -search -before -after -datefield -sequence -public -nopublic -zero -nozero -list -nolist" ;;
         mark) echo "-add -delete -list -sequence -public -nopublic -zero -nozero" ;;
@@ -51,7 +51,7 @@ _mh() {
         case $each in +?*) [ "$each" = "$word" ] || folder=${each#+} ;; esac
     done
     case $before in
-        -file) COMPREPLY=($(compgen -f -- "$word")) && return ;;
+        -file | -form) COMPREPLY=($(compgen -f -- "$word")) && return ;;
         -sequence) COMPREPLY=($(compgen -W "$(_mh_sequences "$folder")" -- "$word")) && return ;;
     esac
     case $word in

@@ -3,9 +3,9 @@
 function __mh_switches
     switch $argv[1]
         case inc
-            echo "-format -width -file -truncate -notruncate -changecur -nochangecur -silent -nosilent"
+            echo "-format -form -width -file -truncate -notruncate -changecur -nochangecur -silent -nosilent"
         case scan
-            echo "-format -width -reverse -noreverse"
+            echo "-format -form -width -reverse -noreverse"
         case folder
             echo ""
         case pick
@@ -60,4 +60,4 @@ function __mh_words
 end
 
 complete -c mh -f -a '(__mh_words)'
-complete -c mh -n 'test (commandline -opc)[-1] = -file' -F
+complete -c mh -n 'contains -- (commandline -opc)[-1] -file -form' -F

@@ -1,5 +1,5 @@
 -- How a command ends whose words name one that begins a folder, and what shows it.
-use Rattle.std.proofs.Common.{◌≡◌, ◌≢◌, ◌⊎◌, ◌<◌, inl, inr, ◌^◌, ◌∷◌, [], ℕ, Bool, true, false, List, Option, Some, None, Result, Ok, Err, refl, sym, ◌∙◌, ap, subst}
+use Rattle.std.proofs.Common.{◌≡◌, ◌≢◌, ◌⊎◌, ◌<◌, inl, inr, ◌^◌, ◌∷◌, [], ℕ, true, List, Option, Some, None, Result, Ok, Err, refl, sym, ◌∙◌, ap, subst}
 use Rattle.std.specs.Prelude.{map}
 use Rattle.std.specs.Str.{chars}
 use Rattle.mh_profile.specs.declared.named_value.NamedValue.{NamedValue}
@@ -7,7 +7,6 @@ use Rattle.mh_profile.specs.Reading.{entries_in}
 use Rattle.folder_files.specs.Annotations.{are_annotations}
 use Rattle.folder_files.specs.Careful.{WasMade}
 use Rattle.folder_files.specs.Deeds.{Deed, Once}
-use Rattle.folder_files.specs.declared.place.FilePath.{FilePath}
 use Rattle.folder_files.specs.declared.place.Place.TheVariants.{Folder, Home, Mail}
 use Rattle.folder_files.specs.declared.refusal.Refusal.TheVariants as refusal
 use Rattle.folder_files.specs.declared.step.Answer.{Answer}
@@ -23,7 +22,7 @@ use Rattle.step_plans.specs.Endings.{IsTakenAway}
 use Rattle.step_plans.specs.Hands.{knowing, temp_name}
 use Rattle.step_plans.specs.declared.command_fault.CommandFault.{CommandFault}
 use Rattle.step_plans.specs.declared.command_fault.CommandFault.TheVariants as fault
-use Rattle.step_plans.proofs.Coming.{Comes, NoneFailed, OfActs, anything, comes_clean, comes_framed, comes_keeps, comes_lifted}
+use Rattle.step_plans.proofs.Coming.{Comes, NoneFailed, OfActs, anything, comes_clean, comes_framed, comes_keeps}
 use Rattle.step_plans.proofs.Going.{Outcome}
 use Rattle.step_plans.proofs.Ruling.{rules_of}
 use Rattle.command_stages.specs.Texts.{Commanded, text_read}
@@ -49,7 +48,6 @@ use Rattle.pick_command.specs.declared.job.PickJob.{PickJob}
 use Rattle.pick_command.specs.declared.job.PickMarks.{PickMarks}
 use Rattle.told_folders.specs.Answers.{HasChanged, ShowsListing as ShowsTellListing, TellsFolder, change_answers}
 use Rattle.told_folders.specs.Plans.{folder_changed, folder_looked}
-use Rattle.told_folders.specs.Tasks.{Task}
 use Rattle.told_folders.proofs.ChangesEnd.{changes_end as tells_end}
 use Rattle.told_folders.proofs.ChangesSay.{changes_say as tells_say}
 use Rattle.told_folders.proofs.LooksEnd.{looks_comes as tell_looks_comes, looks_job as tell_looks_job}
@@ -93,9 +91,9 @@ use Rattle.command_line.specs.Command.{anno_begun, anno_by, anno_job, annotated_
 use Rattle.command_line.specs.CommandNames.{shows_ends, command_of, named}
 use Rattle.command_line.specs.CommandPledge.{entries_by}
 use Rattle.command_line.specs.Incorporating.{IncAsked, job_by, job_writing}
-use Rattle.command_line.specs.Looking.{WritesAs, look_found, written_by}
+use Rattle.command_line.specs.Looking.{look_found, written_by}
 use Rattle.command_line.specs.Profile.{folder_of, path_of, profile_name}
-use Rattle.command_line.specs.WordCauses.{IsRefusedByWords, file_in, inc_file, words_file}
+use Rattle.command_line.specs.WordCauses.{IsRefusedByWords, inc_file}
 use Rattle.command_line.specs.declared.name.CommandName.{CommandName}
 use Rattle.command_line.specs.declared.name.CommandName.TheVariants.{Anno, Folder as FolderCommand, Inc, Mark, Pick, Refile, Rmm, Scan}
 use Rattle.command_line.specs.declared.caller.Caller.{Caller}

@@ -12,7 +12,6 @@ use Rattle.folder_files.specs.declared.place.Place.TheVariants.{Home, Mail}
 use Rattle.folder_files.specs.declared.step.Step.TheVariants as step
 use Rattle.folder_files.specs.declared.step.Answer.{Answer}
 use Rattle.folder_files.specs.declared.step.Answer.TheVariants as answer
-use Rattle.file_plans.specs.Asking.{reading_of}
 use Rattle.file_plans.specs.Plan.{Hand, fresh, lifted, ◌>>=◌}
 use Rattle.file_plans.specs.Rules.{Keeps}
 use Rattle.file_plans.specs.Runs as runs
@@ -40,7 +39,7 @@ use Rattle.command_line.specs.Causes.{IsAboveLimit, ShowsCommandFault, ShowsRefu
 use Rattle.command_line.specs.Command.{command, command_by, folder_found, job_of, no_command, scan_begun, scan_by, word_by}
 use Rattle.command_line.specs.CommandNames.{begins_folders, command_of, named}
 use Rattle.command_line.specs.CommandPledge.{entries_by, path_by}
-use Rattle.command_line.specs.Looking.{ScanAsked, Telling, look_found, scan_asked, written_by}
+use Rattle.command_line.specs.Looking.{ScanAsked, look_found, scan_asked}
 use Rattle.command_line.specs.Profile.{path_of, profile_name}
 use Rattle.command_line.specs.WordCauses.{IsRefusedByWords, file_in, scan_file, words_file}
 use Rattle.command_line.specs.declared.caller.Caller.{Caller}

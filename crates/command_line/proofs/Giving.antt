@@ -81,7 +81,7 @@ use Rattle.command_line.specs.declared.name.CommandName.{CommandName}
 use Rattle.command_line.specs.declared.name.CommandName.TheVariants.{Anno, Folder as FolderCommand, Inc, Mark, Pick, Refile, Rmm, Scan}
 use Rattle.command_line.specs.declared.caller.Caller.{Caller}
 use Rattle.command_line.proofs.Refusals.{IsRefusal, folder_refuses, job_refuses, mark_refuses, refile_refuses, rmm_refuses, asked_refuses, tell_refuses}
-use Rattle.command_line.proofs.LookGives.{LooksAlike, fresh_alike, look_gives}
+use Rattle.command_line.proofs.LookGives.{fresh_alike, look_gives}
 use Rattle.command_line.proofs.SaidInc.{job_valid}
 use Rattle.command_line.proofs.SaidFolder.{acted_valid, mark_valid, refile_words_valid, rmm_words_valid, tell_words_valid}
 use Rattle.command_line.proofs.SaidPick.{pick_refuses, pick_valid}

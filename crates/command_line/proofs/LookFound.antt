@@ -1,12 +1,9 @@
 -- The part of a command that finds what is written of messages: at most it reads the file of a format.
-use Rattle.std.proofs.Common.{◌≡◌, ◌≢◌, inl, inr, ◌++◌, ◌∷◌, [], ℕ, Bool, true, false, List, Option, Some, None, Result, Ok, Err, length, nat_lt, refl, sym, ◌∙◌, ap, subst}
-use Rattle.std.specs.Prelude.{if◌then◌else◌}
+use Rattle.std.proofs.Common.{◌≡◌, ◌≢◌, ◌++◌, ◌∷◌, [], ℕ, List, Result, Ok, Err, refl, sym, ap, subst}
 use Rattle.format_compiler.specs.FormatOf.{format_of}
 use Rattle.format_compiler.specs.Grammar.{Format}
-use Rattle.folder_files.specs.Careful.{WasMade}
 use Rattle.folder_files.specs.Deeds as deeds
 use Rattle.folder_files.specs.Deeds.{HasFailed, Once, did, now, on}
-use Rattle.folder_files.specs.Steps.{read_file_answer}
 use Rattle.folder_files.specs.declared.place.FilePath.{FilePath}
 use Rattle.folder_files.specs.declared.place.Place.{Place}
 use Rattle.folder_files.specs.declared.refusal.Refusal.{Refusal}
@@ -33,11 +30,10 @@ use Rattle.step_plans.proofs.Coming.{Comes}
 use Rattle.step_plans.proofs.Facts.{settled_kept}
 use Rattle.step_plans.proofs.Going.{Outcome, Sound}
 use Rattle.step_plans.proofs.Lasting.{KeptBy}
-use Rattle.step_plans.proofs.Past.{did_step}
 use Rattle.step_plans.proofs.Ruling.{AreNumbered, rules_of}
 use Rattle.command_stages.specs.Texts.{Commanded}
 use Rattle.message_lines.specs.Finding.{LIMIT_FORMAT, file_read, format_by, wrong_at}
-use Rattle.message_lines.specs.MessageText.{Sight, Writing, formed}
+use Rattle.message_lines.specs.MessageText.{Writing, formed}
 use Rattle.message_lines.specs.declared.standing.Standing.{Standing}
 use Rattle.message_puts.proofs.FirstPuts.{AreOnce, once_asked}
 use Rattle.opened_folders.proofs.BegunSeen.{NoneUnlinked, still_none}

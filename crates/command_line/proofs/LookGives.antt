@@ -1,7 +1,6 @@
 -- What a command finds to write of messages, by the outside file that is there.
 use Rattle.std.proofs.Common.{◌≡◌, ℕ, Bool, true, false, List, [], Option, Some, None, Result, Ok, Err, length, refl, sym, ◌∙◌, ap, subst}
 use Rattle.std.specs.Prelude.{nat_lt, if◌then◌else◌}
-use Rattle.format_compiler.specs.FormatOf.{format_of}
 use Rattle.format_compiler.specs.Grammar.{Format}
 use Rattle.folder_files.specs.Steps.{read_file_answer}
 use Rattle.folder_files.specs.declared.place.FilePath.{FilePath}
@@ -9,7 +8,6 @@ use Rattle.folder_files.specs.declared.place.Place.{Place}
 use Rattle.folder_files.specs.declared.refusal.Refusal.{Refusal}
 use Rattle.folder_files.specs.declared.step.Answer.{Answer}
 use Rattle.folder_files.specs.declared.step.Answer.TheVariants as answer
-use Rattle.folder_files.specs.declared.step.Step.TheVariants as step
 use Rattle.file_plans.specs.Asking.{read_file, reading_of}
 use Rattle.file_plans.specs.Contents.{Contents, mailbox_in}
 use Rattle.file_plans.specs.Giving.{Gives}

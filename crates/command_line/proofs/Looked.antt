@@ -2,7 +2,6 @@
 use Rattle.std.proofs.Common.{◌≡◌, ◌⊎◌, inl, inr, ℕ, List, [], Result, Ok, refl, ap, sym, subst}
 use Rattle.std.specs.Prelude.{Err, IsErr, IsErrAnd}
 use Rattle.format_compiler.specs.declared.instruction.Instruction.{Instruction}
-use Rattle.format_compiler.specs.Code.{IsCodeOf}
 use Rattle.format_compiler.specs.Grammar.{Format}
 use Rattle.mh_profile.specs.declared.named_value.NamedValue.{NamedValue}
 use Rattle.step_plans.specs.CommandFaults.{command_cause}
@@ -12,7 +11,7 @@ use Rattle.command_stages.specs.Texts.{Commanded}
 use Rattle.command_stages.specs.Values.{IsErrorOf}
 use Rattle.folder_files.specs.declared.place.FilePath.{FilePath}
 use Rattle.file_plans.specs.Follows.{Follows, State}
-use Rattle.file_plans.specs.Plan.{Return, ◌>>=◌}
+use Rattle.file_plans.specs.Plan.{Return}
 use Rattle.file_plans.proofs.Following.{done, no_room_at}
 use Rattle.message_lines.specs.Finding.{Finds, file_read, IsIn}
 use Rattle.message_lines.specs.MessageText.{Sight, coded, formed, Writing}
@@ -22,14 +21,12 @@ use Rattle.message_lines.proofs.Texts.{all_formed}
 use Rattle.command_words.specs.Ended.{plain}
 use Rattle.command_words.specs.declared.ended.Ended.{Ended}
 use Rattle.command_words.specs.declared.inc.IncWords.{IncWords}
-use Rattle.command_words.specs.declared.look.FormatWords.{FormatWords}
 use Rattle.command_words.specs.declared.look.LookWords.{LookWords}
 use Rattle.command_words.specs.declared.scan.ScanWords.{ScanWords}
 use Rattle.command_line.specs.Incorporating.{IncAsked, drop_of, inc_job, job_looked, unseen_of}
-use Rattle.command_line.specs.Looking.{FollowsAs, InFile, IsNamedAs, IsSaidAs, IsSource, Known, ScanAsked, Telling, asked_by, asked_of, known_by, look_found, scan_asked, sight_by, telling_by, telling_in, telling_of, telling_said}
+use Rattle.command_line.specs.Looking.{FollowsAs, InFile, IsNamedAs, IsSaidAs, IsSource, Known, ScanAsked, Telling, asked_by, asked_of, known_by, look_found, scan_asked, sight_by, telling_of, telling_said}
 use Rattle.command_line.specs.Profile.{folder_of}
 use Rattle.command_line.specs.declared.caller.Caller.{Caller}
-use Rattle.command_line.specs.declared.look.FormatSource.{FormatSource}
 use Rattle.command_line.specs.declared.look.LookSaid.{LookSaid}
 
 -- what the format that is named makes of messages is what its program makes

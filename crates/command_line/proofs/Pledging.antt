@@ -11,7 +11,7 @@ use Rattle.folder_files.specs.declared.step.Step.{Step}
 use Rattle.folder_files.specs.declared.step.Step.TheVariants.{Read}
 use Rattle.file_plans.specs.Asking.{read, reading_of}
 use Rattle.file_plans.specs.Follows.{State, Follows, deeds_in}
-use Rattle.file_plans.specs.Plan.{Hand, Plan, Return, Ask, Recall, after, ask, bind, ◌>>=◌, lifted}
+use Rattle.file_plans.specs.Plan.{Hand, Return, Ask, Recall, after, ask, bind, ◌>>=◌, lifted}
 use Rattle.file_plans.specs.Rules.{Gave, IfOkay, Keeps}
 use Rattle.file_plans.specs.Runs.{Deed as Done, Did, Exit, Runs, exit_of}
 use Rattle.file_plans.specs.declared.answers.Reading.{Reading}

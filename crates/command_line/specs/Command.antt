@@ -76,7 +76,7 @@ job_of folder words profile spoken = record {
   spoken = spoken;
 }
 
--- and then the file of the format, where it is in one
+-- the work of the command begins in it; of `scan` once what is written of messages is found
 unfoldable pub scan_begun : ℕ → List NamedValue → ScanAsked → Commanded Unit
 scan_begun run profile words = do
   folder ← folder_found profile words.folder
@@ -178,7 +178,7 @@ abbrev pub refile_by : ℕ → List NamedValue → Result RefileWords Ended → 
 refile_by run profile (Ok words) = lifted plain (refile_begun run profile words)
 refile_by run profile (Err e) = Return (Err e)
 
--- the context is read, and then the file of the format, where it is in one; and new mail is taken in
+-- the context is read, what is written of messages is found, and new mail is taken in
 unfoldable pub inc_begun : ℕ → List ℕ → IncAsked → Commanded Unit
 inc_begun run path asked = do
   entered ← context_entered (Mail path)

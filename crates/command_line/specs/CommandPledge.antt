@@ -137,11 +137,11 @@ TellsAsked run path asked own piece = (spoken : Standing → Writing) × WritesA
 abbrev pub unwritten : Standing → Writing
 unwritten standing n message = []
 
--- what `inc` pledges: all but what it tells is the same whatever is written of messages
+-- what `inc` pledges; but for what it tells it is the same whatever is written of messages
 abbrev pub asked_pledge : ℕ → List ℕ → IncAsked → Pledge
 asked_pledge run path asked = telling (inc_pledge run path (job_writing asked unwritten)) (TellsAsked run path asked)
 
--- by its job; where none can be, what a command pledges that looks
+-- by its words; where these are refused, what a command pledges that looks
 abbrev pub incs_pledge : ℕ → List NamedValue → Result IncAsked Ended → Pledge
 incs_pledge run profile (Ok asked) = asked_pledge run (path_of profile) asked
 incs_pledge run profile (Err e) = scan_pledge run (path_of profile)

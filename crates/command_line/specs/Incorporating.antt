@@ -69,6 +69,7 @@ inc_asked_of caller l = record {
   telling = telling_said caller l.look;
 }
 
+-- what is to be done, or the refusal of the format of a word
 abbrev pub job_looked : Caller → List NamedValue → IncWords → List (List ℕ) → List ℕ → Result Telling CommandFault → Result IncAsked CommandFault
 job_looked caller profile words unseen folder (Ok t) = Ok (record {
   folder = folder;

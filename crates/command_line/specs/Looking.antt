@@ -44,7 +44,7 @@ pub data Telling : Type 0 where
   Known : (spoken : Standing → Writing) → Telling
   InFile : (path : FilePath) → (sight : Sight) → Telling
 
--- what the format makes of a message
+-- what the format makes of a message, or its refusal
 abbrev pub known_by : Sight → Result Format CommandFault → Result Telling CommandFault
 known_by sight (Ok f) = Ok (Known (formed f sight))
 known_by sight (Err e) = Err e

@@ -1,5 +1,5 @@
 // Words and profiles, and how a refusal is shown.
-use command_words::Ended;
+use command_words::{Ended, FormatWords};
 use folder_files::Refusal;
 use mh_base::{Bytes, FolderName, Text, TextList};
 use mh_profile::Entries;
@@ -36,6 +36,21 @@ pub fn word_text(word: &Option<Text>) -> &str {
     match word {
         Some(text) => text.as_str(),
         None => "-",
+    }
+}
+
+/// The format that words name: the word, its file behind an `@`, or a dash where there is none.
+pub fn format_text(alloc: Global, format: &FormatWords) -> Result<String, AllocError> {
+    match format {
+        FormatWords::Default => format!(in alloc; "-"),
+        FormatWords::Word(word) => {
+            let word = word.as_str();
+            format!(in alloc; "{word}")
+        }
+        FormatWords::File(path) => {
+            let path = path.as_str();
+            format!(in alloc; "@{path}")
+        }
     }
 }
 

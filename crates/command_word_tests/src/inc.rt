@@ -1,12 +1,12 @@
 // Words of `inc` and what they say, worked out by hand.
-use crate::given::{Row, ended_shown, folder_text, profile, word_text, words};
+use crate::given::{Row, ended_shown, folder_text, format_text, profile, word_text, words};
 use command_words::{Ended, IncWords, inc_words};
 use std::alloc::{AllocError, Global};
 use std::test::Fail;
 
 fn said_shown(alloc: Global, said: &IncWords) -> Result<String, AllocError> {
     let folder = folder_text(&said.folder);
-    let (file, format) = (word_text(&said.file), word_text(&said.look.format));
+    let (file, format) = (word_text(&said.file), format_text(alloc, &said.look.format)?);
     let (truncate, silent, cur) = (said.truncate, said.silent, said.change_cur);
     let width = said.look.width;
     format!(in alloc; "{folder} {file} {truncate} {silent} {cur} {format} {width}")
@@ -40,7 +40,9 @@ const ROWS: &[Row] = &[
     ("", "+a +b 1", "Extra @1 [+b]"),
     ("", "cur -file", "NoValue @1 [-file]"),
     ("", "+..", "bad folder +.."),
-    ("", "-form x -w 9", "- - true false true x 9"),
+    ("", "-form x -w 9", "- - true false true @x 9"),
+    ("", "-form x -format y", "- - true false true y 80"),
+    ("", "-fo x", "Ambiguous @0 [-fo]"),
     ("", "-width 0 1", "BadValue @0 [-width]"),
     ("", "1 -width 0", "Extra @0 [1]"),
     ("", "-width 0", "BadValue @0 [-width]"),

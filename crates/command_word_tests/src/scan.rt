@@ -1,12 +1,12 @@
 // Words of `scan` and what they say, worked out by hand.
-use crate::given::{Row, ended_shown, folder_text, profile, push_texts, word_text, words};
+use crate::given::{Row, ended_shown, folder_text, format_text, profile, push_texts, words};
 use command_words::{Ended, ScanWords, read_folder, scan_words};
 use mh_base::Text;
 use std::alloc::{AllocError, Global};
 use std::test::Fail;
 
 fn said_shown(alloc: Global, said: &ScanWords) -> Result<String, AllocError> {
-    let (folder, format) = (folder_text(&said.folder), word_text(&said.look.format));
+    let (folder, format) = (folder_text(&said.folder), format_text(alloc, &said.look.format)?);
     let (reverse, width) = (said.reverse, said.look.width);
     let mut shown = format!(in alloc; "{folder} {reverse} {format} {width}")?;
     push_texts(&mut shown, &said.specs)?;
@@ -32,6 +32,9 @@ const ROWS: &[Row] = &[
     ("", "1 -x +a +b", "Unknown @1 [-x]"),
     ("", "-format %(msg) -width 1", "- false %(msg) 1 all"),
     ("scan: -form x", "-format y -w 10000", "- false y 10000 all"),
+    ("scan: -format x", "-form y", "- false @y 80 all"),
+    ("", "-form a -form b", "- false @b 80 all"),
+    ("", "-for x", "Ambiguous @0 [-for]"),
     ("", "-width 00070 -width 0071", "- false - 71 all"),
     ("", "-width 0", "BadValue @0 [-width]"),
     ("", "-width 10001 -width 80", "BadValue @0 [-width]"),

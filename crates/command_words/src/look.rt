@@ -99,11 +99,7 @@ fn last_width(items: &ItemList) -> u32
 }
 
 /// The format so far, with one item more.
-fn format_by(
-    alloc: Global,
-    item: &Item,
-    before: FormatWords,
-) -> Result<FormatWords, AllocError>
+fn format_by(alloc: Global, item: &Item, before: FormatWords) -> Result<FormatWords, AllocError>
     ensures { IfOk result (λ format. format ≡ last_behind before (format_in item.now)) }
 {
     match item {

@@ -22,7 +22,8 @@ its status tells how it ended:
    bad sequence name                  letters first, then letters and digits;
                                       not cur, all, first, last, new, prev or
                                       next
-   bad format at byte N               of -format, counted from 0
+   bad format at byte N               of -format or of the file of -form,
+                                      counted from 0
    bad date, bad expression           mh help pick
    no messages match                  no message passed the tests of mh pick
    no mail to incorporate             the drop is empty, or is not there
@@ -34,7 +35,7 @@ its status tells how it ended:
                                       the drop was not emptied, so mh inc will
                                       take its messages in once more
    mail drop has changed              another program took mail out of it
-   no such file                       of a name that was given
+   no such file                       of a name that was given, as to -form
 
 2  fault: a file, the input or the output could not be read or written. Nothing
    that stood is lost; run the command again when it is mended

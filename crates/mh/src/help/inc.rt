@@ -2,8 +2,8 @@
 
 pub const PAGE: &str = "\
 usage: mh inc [+folder] [-file DROP] [-truncate | -notruncate]
-              [-changecur | -nochangecur] [-format TEXT] [-width COLUMNS]
-              [-silent | -nosilent]
+              [-changecur | -nochangecur] [-format TEXT | -form FILE]
+              [-width COLUMNS] [-silent | -nosilent]
 
 Takes new mail in: each message of the mail drop becomes a file of the folder,
 above its highest number. A message's line is printed once it is safe on disk.
@@ -19,6 +19,7 @@ or +inbox. The drop is the profile's MailDrop, below the home directory, or
                    either
   -nochangecur     the current message stays
   -format TEXT     what a line shows, as of mh scan
+  -form FILE       a file with the format; of both the last counts
   -width COLUMNS   how wide a line may be, 1 to 10000; 80 without it
   -silent          nothing is printed
   -nosilent        lines are printed, as without either
