@@ -6,7 +6,10 @@ use std::test::Fail;
 
 fn said_shown(alloc: Global, said: &IncWords) -> Result<String, AllocError> {
     let folder = folder_text(&said.folder);
-    let (file, format) = (word_text(&said.file), format_text(alloc, &said.look.format)?);
+    let (file, format) = (
+        word_text(&said.file),
+        format_text(alloc, &said.look.format)?,
+    );
     let (truncate, silent, cur) = (said.truncate, said.silent, said.change_cur);
     let width = said.look.width;
     format!(in alloc; "{folder} {file} {truncate} {silent} {cur} {format} {width}")

@@ -6,7 +6,10 @@ use std::alloc::{AllocError, Global};
 use std::test::Fail;
 
 fn said_shown(alloc: Global, said: &ScanWords) -> Result<String, AllocError> {
-    let (folder, format) = (folder_text(&said.folder), format_text(alloc, &said.look.format)?);
+    let (folder, format) = (
+        folder_text(&said.folder),
+        format_text(alloc, &said.look.format)?,
+    );
     let (reverse, width) = (said.reverse, said.look.width);
     let mut shown = format!(in alloc; "{folder} {reverse} {format} {width}")?;
     push_texts(&mut shown, &said.specs)?;
