@@ -108,7 +108,7 @@ def some_command(rng):
     """A command that reads all that is there."""
     return rng.choice([["scan"], ["scan", "+inbox"], ["scan", "todo"], ["scan", "nottodo", "mine"], ["mark", "-list"],
                        ["folder"], ["folder", "todo"], ["folder", "+inbox", "2-3"],
-                       ["anno", "-component", "Noted"], ["anno", "todo", "-component", "Noted", "-text", "under fire", "-nodate"],
+                       ["sortm"], ["sortm", "todo", "-textfield", "subject"], ["anno", "-component", "Noted"], ["anno", "todo", "-component", "Noted", "-text", "under fire", "-nodate"],
                        ["mark", "1", "-sequence", "todo"],
                        ["mark", "+inbox", "all", "-delete", "-sequence", "todo"], ["mark", "2", "-sequence", "mine", "-nopublic"],
                        ["pick", "-subject", "message"],
@@ -182,7 +182,7 @@ def hostile_pattern(rng):
 def hostile_words(rng):
     """Words that name messages, folders and switches."""
     case = Case(rng)
-    case.words = [rng.choice(["scan", "mark", "pick", "rmm", "refile", "inc", "folder", "anno"])]
+    case.words = [rng.choice(["scan", "mark", "pick", "rmm", "refile", "inc", "folder", "anno", "sortm"])]
     for _ in range(rng.choice([1, 1, 1, 2, 3, 5])):
         case.words.append(word(rng, "word", rng.choice([b"1-3", b"last:2", b"todo:next", b"+inbox", b"cur"])))
     case.words = ["drop" if before == "-file" else it for before, it in zip([""] + case.words, case.words)]
