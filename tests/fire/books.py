@@ -279,12 +279,13 @@ def moved(before, look, source, chosen):
     return bad
 
 
-def newcomers(before, look, into, texts):
-    """A number that wasn't there is above all that were, of a folder to which messages go, and leads to one of these messages."""
+def newcomers(before, look, into, texts, aside=()):
+    """A number that wasn't there is above all that were, but for those of messages that may be held aside, of a folder to which messages go, and leads
+    to one of these messages."""
     bad = []
     for folder, found in look.numbers.items():
         old = before.numbers.get(folder, {})
-        top = max(old, default=0)
+        top = max(set(old) - set(aside), default=0)
         for n in set(found) - set(old):
             if folder not in into:
                 bad.append(f"{n} of {folder} is new")

@@ -251,7 +251,8 @@ def stands(scene, look, case):
         comes = set(scene.after.texts()) - set(before.texts())
         return moved(before, look, SOURCE, ()) + newcomers(before, look, case.into, comes) + taken_in(look, SOURCE, before.drop)
     if case.kind == "sortm":
-        return moved(before, look, SOURCE, case.chosen) + newcomers(before, look, case.into, comes) + sorted_whole(before, look, SOURCE, case.chosen)
+        return (moved(before, look, SOURCE, case.chosen) + newcomers(before, look, case.into, comes, case.chosen)
+                + sorted_whole(before, look, SOURCE, case.chosen))
     leaves = case.kind in ("refile", "rmm", "unlink", "anno")
     bad = moved(before, look, SOURCE, case.chosen if leaves else ()) + newcomers(before, look, case.into, comes)
     if case.kind == "anno":
