@@ -224,6 +224,11 @@ def standing(home):
     return found
 
 
+def stands(text, texts):
+    """Whether a message stands among these, with lines of anno in front or none."""
+    return text in texts or any(it.endswith(text) and re.fullmatch(rb"([!-9;-~]+:.*\n)*", it[: len(it) - len(text)]) for it in texts)
+
+
 def removes(kind, words):
     """Whether the words may ask for messages to be removed without a backup, or for a backup that replaces another."""
     return words[0] == "rmm" and (kind == "names" or any(os.fsencode(it).startswith(b"-") for it in words))
@@ -268,7 +273,7 @@ def tried(program, room, kind, seed, count, statuses):
         bad += drop_taken(case, box, ran) if case.exact_drop else []
         if not removes(kind, case.words):
             after = standing(box.home)
-            bad += [f"a message of {len(text)} bytes is lost" for text in before if after[text] == 0]
+            bad += [f"a message of {len(text)} bytes is lost" for text in before if not stands(text, after)]
     except subprocess.TimeoutExpired:
         bad.append(f"it hangs: more than {LONGEST} s")
     if bad:
