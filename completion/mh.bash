@@ -10,6 +10,7 @@ _mh_switches() {
         refile) echo "-link -nolink -src" ;;
         rmm) echo "-unlink -nounlink" ;;
         anno) echo "-component -text -date -nodate" ;;
+        sortm) echo "-datefield -textfield" ;;
     esac
 }
 
@@ -40,11 +41,11 @@ _mh() {
     fi
     COMPREPLY=()
     if [ "$COMP_CWORD" -lt "$first" ]; then
-        COMPREPLY=($(compgen -W "inc scan folder pick mark refile rmm anno help --help --version" -- "$word"))
+        COMPREPLY=($(compgen -W "inc scan folder pick mark refile rmm anno sortm help --help --version" -- "$word"))
         return
     fi
     if [ "$command" = help ]; then
-        COMPREPLY=($(compgen -W "inc scan folder pick mark refile rmm anno errors" -- "$word"))
+        COMPREPLY=($(compgen -W "inc scan folder pick mark refile rmm anno sortm errors" -- "$word"))
         return
     fi
     for each in "${COMP_WORDS[@]:first}"; do
@@ -63,7 +64,7 @@ _mh() {
 
 complete -F _mh mh
 # Links to the program by the names of its commands.
-for _mh_name in inc scan folder pick mark refile rmm anno; do
+for _mh_name in inc scan folder pick mark refile rmm anno sortm; do
     if [ -n "$(type -P "$_mh_name")" ] && [ "$(readlink -f "$(type -P "$_mh_name")")" = "$(readlink -f "$(type -P mh)")" ]; then complete -F _mh "$_mh_name"; fi
 done
 unset _mh_name

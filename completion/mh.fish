@@ -18,6 +18,8 @@ function __mh_switches
             echo "-unlink -nounlink"
         case anno
             echo "-component -text -date -nodate"
+        case sortm
+            echo "-datefield -textfield"
     end
 end
 
@@ -43,9 +45,9 @@ end
 function __mh_words
     set -l before (commandline -opc)
     if not set -q before[2]
-        string split ' ' -- "inc scan folder pick mark refile rmm anno help --help --version"
+        string split ' ' -- "inc scan folder pick mark refile rmm anno sortm help --help --version"
     else if test $before[2] = help
-        string split ' ' -- "inc scan folder pick mark refile rmm anno errors"
+        string split ' ' -- "inc scan folder pick mark refile rmm anno sortm errors"
     else
         switch (commandline -ct)
             case '-*'

@@ -1,4 +1,5 @@
 """What the parts share: mailboxes in temporary directories, looks at them, and the rules that a look is checked by."""
+import collections
 import os
 import re
 import shutil
@@ -247,14 +248,15 @@ def bare(text):
 
 # The rules. Each gives complaints, and none where the rule holds. A message with lines of anno in front is the same message.
 
-def renumbered(looks):
-    """A number that led to one message never leads to another."""
+def renumbered(looks, sorted_ones=()):
+    """A number that led to one message never leads to another, but for those that are put in order."""
     bad = []
     for k, early in enumerate(looks):
         for late in looks[k + 1:]:
             for folder, texts in early.numbers.items():
                 later = late.numbers.get(folder, {})
-                bad += [f"number {n} of {folder} has another message" for n, text in texts.items() if n in later and bare(later[n]) != bare(text)]
+                bad += [f"number {n} of {folder} has another message" for n, text in texts.items()
+                        if (folder, n) not in sorted_ones and n in later and bare(later[n]) != bare(text)]
     return bad
 
 
@@ -277,12 +279,13 @@ def moved(before, look, source, chosen):
     return bad
 
 
-def newcomers(before, look, into, texts):
-    """A number that wasn't there is above all that were, of a folder to which messages go, and leads to one of these messages."""
+def newcomers(before, look, into, texts, aside=()):
+    """A number that wasn't there is above all that were, but for those of messages that may be held aside, of a folder to which messages go, and leads
+    to one of these messages."""
     bad = []
     for folder, found in look.numbers.items():
         old = before.numbers.get(folder, {})
-        top = max(old, default=0)
+        top = max(set(old) - set(aside), default=0)
         for n in set(found) - set(old):
             if folder not in into:
                 bad.append(f"{n} of {folder} is new")
@@ -336,6 +339,24 @@ def noted_whole(before, look, source, chosen):
             bad.append(f"message {n} of {source} is lost")
     if len(held) > 1:
         bad.append(f"{len(held)} messages are held aside at once")
+    return bad
+
+
+def sorted_whole(before, look, source, chosen):
+    """Each message that is put in order stands at a number or is held aside; it may stand twice where what was held aside went back above all."""
+    there = collections.Counter(look.numbers[source].values()) + collections.Counter(look.held.get(source, {}).values())
+    return [f"message {n} of {source} is lost" for n in chosen if not there[before.numbers[source][n]]]
+
+
+def marks_went(before, look, source, chosen, made=()):
+    """A message has no mark that it had not before; and one that was not to move has all that it had. The current message is a position, and no mark."""
+    bad, was, there = [], before.numbers[source], look.numbers[source]
+    for kind, of in (("public", lambda it: it.public.get(source, {})), ("private", lambda it: it.private(source))):
+        olds = {name: {was[n] for n in found & was.keys()} for name, found in of(before).items() if name != "cur"}
+        news = {name: {there[n] for n in found & there.keys()} for name, found in of(look).items() if name != "cur"}
+        bad += [f"the {kind} mark {name} came to another message" for name, texts in news.items() if name not in made and texts - olds.get(name, set())]
+        bad += [f"the {kind} mark {name} of message {n} is gone" for name, texts in olds.items() for n, text in was.items()
+                if n not in chosen and text in texts - news.get(name, set())]
     return bad
 
 

@@ -8,9 +8,8 @@ import faults
 import hostile
 import rivals
 import steps
-from books import (Box, acknowledged, copied_whole, drop_of, left_aside, message, moved, newcomers, refiled_whole, removed_whole,
-                   renumbered,
-                   sequences_kept, taken_in, torn, write)
+from books import (Box, acknowledged, copied_whole, drop_of, left_aside, marks_went, message, moved, newcomers, refiled_whole,
+                   removed_whole, renumbered, sequences_kept, sorted_whole, taken_in, torn, write)
 
 DROP = drop_of([message(7001), message(7002)])
 
@@ -36,6 +35,16 @@ def cut(mail):
 def swapped(mail):
     """Message 2 stands at the number of message 3."""
     os.replace(f"{mail}/inbox/2", f"{mail}/inbox/3")
+
+
+def turned(todo):
+    """Messages 2 and 3 changed their places, and these numbers are marked."""
+    def change(mail):
+        """Turns them."""
+        write(f"{mail}/inbox/2", message(3))
+        write(f"{mail}/inbox/3", message(2))
+        write(f"{mail}/inbox/.mh_sequences", b"todo: " + todo + b"\n")
+    return change
 
 
 def doubled(mail):
@@ -96,6 +105,10 @@ def of_books(room):
     yield "a drop that was cut too early", taken_in(empty, "inbox", DROP), taken_in(whole, "inbox", DROP)
     yield "a drop that was cut to a part", taken_in(part, "inbox", DROP), []
     yield "a line of a message that isn't there", acknowledged(whole, "inbox", line), acknowledged(whole, "inbox", right)
+    along, stayed = mailbox(room, turned(b"1 3")), mailbox(room, turned(b"1-2"))
+    yield "a message that is lost while others change places", sorted_whole(whole, looks[gone], "inbox", [2, 3]), sorted_whole(whole, along, "inbox", [2, 3])
+    yield "a mark that stays at its number", marks_went(whole, stayed, "inbox", [2, 3]), marks_went(whole, along, "inbox", [2, 3])
+    yield "a mark that is lost of a message that stays", marks_went(whole, mailbox(room, turned(b"3")), "inbox", [2, 3]), []
     kept = lambda before, look, settled: sequences_kept(before, after, look, "inbox", settled)
     absent, passed = mailbox(room, marked(b"todo: 1-2 4\n", b"atr-mine-inbox: 1\n")), mailbox(room, put_at_four)
     yield "sequences of no commit", kept(whole, wrong, True), kept(whole, after, True)
@@ -148,6 +161,8 @@ STEPS = [
      earlier(f"unlink   {INBOX}/own-held_2", "create   Mail/b/own-temp_1")),
     ("a held name that goes before its number", steps.synced_discards, "mend",
      earlier(f"unlink   {INBOX}/dead-held_3", f"link     {INBOX}/dead-held_3")),
+    ("a held name that goes before its slot", steps.synced_discards, "sortm",
+     earlier(f"unlink   {INBOX}/own-held_3", f"link     {INBOX}/own-held_2")),
     ("a cut that is not the last", steps.cut_last, "inc", earlier("cut", "rename")),
     ("a cut without its lock", steps.cut_last, "inc", without("lock     drop")),
     ("a drop that is read without its lock", steps.read_shared, "inc", without("share    drop")),

@@ -7,8 +7,8 @@ import subprocess
 import threading
 import time
 
-from books import (NOTE, Box, acknowledged, copied_whole, drop_of, left_aside, message, moved, newcomers, noted_whole, refiled_whole,
-                   removed_whole, renumbered,
+from books import (NOTE, Box, acknowledged, copied_whole, drop_of, left_aside, marks_went, message, moved, newcomers, noted_whole,
+                   refiled_whole, removed_whole, renumbered, sorted_whole,
                    sequences_kept, taken_in, torn)
 
 SOURCE = "inbox"
@@ -98,6 +98,12 @@ def anno(rng, numbers, large):
     return Case(["anno", f"+{SOURCE}", *as_words(chosen), "-component", name, "-text", text, "-nodate"], chosen, [SOURCE], "anno")
 
 
+def sortm(rng, numbers, large):
+    """Messages come to stand in order, by their subjects as texts: message 12 before message 5."""
+    chosen = some(rng, numbers, large)
+    return Case(["sortm", f"+{SOURCE}", *as_words(chosen), "-textfield", "subject"], chosen, [SOURCE], "sortm")
+
+
 # The commands that change something. A later command is one entry more, with a kind of its own in `stands` where none of these fits it.
 COMMANDS = {
     "inc": inc,
@@ -115,6 +121,7 @@ COMMANDS = {
     "pick -sequence -nopublic": pick_words("-sequence", "mine", "-nopublic"),
     "folder": folder,
     "anno": anno,
+    "sortm": sortm,
 }
 
 
@@ -243,6 +250,9 @@ def stands(scene, look, case):
     if case.kind == "inc":
         comes = set(scene.after.texts()) - set(before.texts())
         return moved(before, look, SOURCE, ()) + newcomers(before, look, case.into, comes) + taken_in(look, SOURCE, before.drop)
+    if case.kind == "sortm":
+        return (moved(before, look, SOURCE, case.chosen) + newcomers(before, look, case.into, comes, case.chosen)
+                + sorted_whole(before, look, SOURCE, case.chosen))
     leaves = case.kind in ("refile", "rmm", "unlink", "anno")
     bad = moved(before, look, SOURCE, case.chosen if leaves else ()) + newcomers(before, look, case.into, comes)
     if case.kind == "anno":
@@ -256,16 +266,24 @@ def stands(scene, look, case):
     return bad
 
 
+def slots(case):
+    """The numbers that may lead to another message."""
+    return {(SOURCE, n) for n in case.chosen} if case.kind == "sortm" else ()
+
+
 def books(scene, looks, out, settled):
     """All rules for the last of the looks, of which the first is the one before the command."""
     look = looks[-1]
-    bad = renumbered(looks) + torn(look, scene.texts()) + stands(scene, look, scene.case)
+    bad = renumbered(looks, slots(scene.case)) + torn(look, scene.texts()) + stands(scene, look, scene.case)
     if scene.case.kind == "inc":
         bad += acknowledged(look, SOURCE, out)
     if settled:
         bad += left_aside(look, look.numbers)
     for folder in look.numbers:
-        bad += sequences_kept(scene.before, scene.after, look, folder, settled, [MENDED])
+        if scene.case.kind == "sortm" and folder == SOURCE:
+            bad += marks_went(scene.before, look, folder, scene.case.chosen, [MENDED])
+        else:
+            bad += sequences_kept(scene.before, scene.after, look, folder, settled, [MENDED])
     if not settled and look.current() not in (scene.before.current(), scene.after.current()):
         bad.append(f"the current folder is {look.current()}")
     if look.context.get("Kept") != "yes":
@@ -296,13 +314,21 @@ def again(scene, box, looks):
     if (ran.returncode, ran.stderr) != ((1, b"mh: no mail to incorporate\n") if emptied else (scene.status, scene.err)):
         return [f"the command run again ended in {ran.returncode}: {ran.stderr}"]
     end = box.look()
-    return renumbered(looks + [end]) + torn(end, scene.texts()) + left_aside(end, end.numbers) + ended(scene, look, end)
+    return renumbered(looks + [end], slots(case)) + torn(end, scene.texts()) + left_aside(end, end.numbers) + ended(scene, look, end)
+
+
+def ordered(look, numbers):
+    """The messages of these numbers stand in the order of their subjects."""
+    keys = [re.search(rb"^Subject: (.*)$", look.numbers[SOURCE][n], re.M).group(1).replace(b" ", b"") for n in numbers]
+    return [] if keys == sorted(keys) else [f"the messages {numbers} do not stand in order"]
 
 
 def ended(scene, look, end):
     """What the command run again must have come to. A message may stand twice then where it went."""
     case = scene.case
     leaves = case.kind in ("refile", "rmm", "unlink")
+    if case.kind == "sortm":
+        leaves = False
     bad = moved(scene.before, end, SOURCE, case.chosen if leaves else ())
     if case.kind == "inc":
         there, were = list(end.numbers[SOURCE].values()), list(look.numbers[SOURCE].values())
@@ -313,6 +339,9 @@ def ended(scene, look, end):
     elif case.kind in ("refile", "link"):
         texts = [scene.before.numbers[SOURCE][n] for n in case.chosen]
         bad += [f"a message is not in {folder}" for folder in case.into for text in texts if text not in end.numbers[folder].values()]
+    if case.kind == "sortm":
+        return (moved(scene.before, end, SOURCE, case.chosen) + sorted_whole(scene.before, end, SOURCE, case.chosen)
+                + marks_went(scene.before, end, SOURCE, case.chosen, [MENDED]) + ordered(end, sorted(case.chosen & set(end.numbers[SOURCE]))))
     if case.kind == "anno":
         bad = moved(scene.before, end, SOURCE, case.chosen) + noted_whole(scene.before, end, SOURCE, case.chosen)
         bad += [f"message {n} has no line" for n in case.chosen if not end.numbers[SOURCE].get(n, b"").startswith(NOTE)]
@@ -377,5 +406,5 @@ def run(program, seconds, room, count, rng, only=""):
 def undisturbed(scene):
     """The command ends well where nobody kills it, and the rules hold of what it leaves."""
     bad = [] if scene.status == 0 else [f"status {scene.status}: {scene.err}"]
-    bad += renumbered([scene.before, scene.after]) + stands(scene, scene.after, scene.case)
+    bad += renumbered([scene.before, scene.after], slots(scene.case)) + stands(scene, scene.after, scene.case)
     return bad + left_aside(scene.after, scene.after.numbers)

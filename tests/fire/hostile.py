@@ -108,7 +108,7 @@ def some_command(rng):
     """A command that reads all that is there."""
     return rng.choice([["scan"], ["scan", "+inbox"], ["scan", "todo"], ["scan", "nottodo", "mine"], ["mark", "-list"],
                        ["folder"], ["folder", "todo"], ["folder", "+inbox", "2-3"],
-                       ["anno", "-component", "Noted"], ["anno", "todo", "-component", "Noted", "-text", "under fire", "-nodate"],
+                       ["sortm"], ["sortm", "todo", "-textfield", "subject"], ["anno", "-component", "Noted"], ["anno", "todo", "-component", "Noted", "-text", "under fire", "-nodate"],
                        ["mark", "1", "-sequence", "todo"],
                        ["mark", "+inbox", "all", "-delete", "-sequence", "todo"], ["mark", "2", "-sequence", "mine", "-nopublic"],
                        ["pick", "-subject", "message"],
@@ -182,7 +182,7 @@ def hostile_pattern(rng):
 def hostile_words(rng):
     """Words that name messages, folders and switches."""
     case = Case(rng)
-    case.words = [rng.choice(["scan", "mark", "pick", "rmm", "refile", "inc", "folder", "anno"])]
+    case.words = [rng.choice(["scan", "mark", "pick", "rmm", "refile", "inc", "folder", "anno", "sortm"])]
     for _ in range(rng.choice([1, 1, 1, 2, 3, 5])):
         case.words.append(word(rng, "word", rng.choice([b"1-3", b"last:2", b"todo:next", b"+inbox", b"cur"])))
     case.words = ["drop" if before == "-file" else it for before, it in zip([""] + case.words, case.words)]
@@ -222,6 +222,11 @@ def standing(home):
                 with open(at + b"/" + name, "rb") as f:
                     found.update(read_drop(f.read()) or [])
     return found
+
+
+def stands(text, texts):
+    """Whether a message stands among these, with lines of anno in front or none."""
+    return text in texts or any(it.endswith(text) and re.fullmatch(rb"([!-9;-~]+:.*\n)*", it[: len(it) - len(text)]) for it in texts)
 
 
 def removes(kind, words):
@@ -268,7 +273,7 @@ def tried(program, room, kind, seed, count, statuses):
         bad += drop_taken(case, box, ran) if case.exact_drop else []
         if not removes(kind, case.words):
             after = standing(box.home)
-            bad += [f"a message of {len(text)} bytes is lost" for text in before if after[text] == 0]
+            bad += [f"a message of {len(text)} bytes is lost" for text in before if not stands(text, after)]
     except subprocess.TimeoutExpired:
         bad.append(f"it hangs: more than {LONGEST} s")
     if bad:

@@ -11,6 +11,8 @@ import time
 from books import NOTE, Box, bare, drop_of, left_aside, read_drop, sequences_in, subject, torn
 
 STAY = (1, 2, 3)
+# Messages that stay too, and get lines: while they are held aside a look doesn't see them, so no sequence here has them.
+NOTED = (4, 5)
 FORMAT = ["-format", "%4(msg) %(size) %{subject}", "-width", "200"]
 LINE = re.compile(r"^ *(\d+) (\d+) (message \d+ \w+)$")
 
@@ -51,9 +53,9 @@ class Scene:
     def __init__(self, program, home, rng, seconds):
         self.rng, self.known, self.count_of = rng, {}, 0
         self.bad, self.runs, self.told, self.deliveries, self.killed = [], collections.Counter(), [], [], 0
-        folders = {it: {n: self.new("red" if n == 2 else "plain") for n in STAY} for it in "ab"}
+        folders = {it: {n: self.new("red" if n == 2 else "plain") for n in STAY + NOTED} for it in "ab"}
         for it in "ab":
-            folders[it].update({n: self.new() for n in range(4, 14)})
+            folders[it].update({n: self.new() for n in range(6, 16)})
         context = b"Kept: yes\nCurrent-Folder: a\n"
         self.box = Box(program, home).make(folders, context=context, profile=b"Path: Mail\nMailDrop: drop\n")
         self.end = time.monotonic() + seconds
@@ -121,7 +123,7 @@ def refiler(source, target):
     """Moves a few of the messages that may move, again and again; some of its runs are killed."""
     def step(scene, rng):
         """One move."""
-        numbers = [it for it in os.listdir(f"{scene.box.mail}/{source}") if it.isdigit() and int(it) not in STAY]
+        numbers = [it for it in os.listdir(f"{scene.box.mail}/{source}") if it.isdigit() and int(it) not in STAY + NOTED]
         if numbers:
             chosen = rng.sample(numbers, rng.randint(1, min(3, len(numbers))))
             scene.run("refile", *chosen, f"+{target}", "-src", source, kill=rng.random() < 0.05, rng=rng)
@@ -202,9 +204,9 @@ def picker(scene, rng):
 
 
 def annotator(scene, rng):
-    """Puts a line in front of messages that stay."""
+    """Puts lines in front of messages that stay."""
     name, text = NOTE.decode().strip().split(": ")
-    scene.run("anno", f"+{rng.choice('ab')}", *map(str, rng.sample(STAY, rng.randint(1, 2))), "-component", name, "-text", text, "-nodate", kill=rng.random() < 0.05, rng=rng)
+    scene.run("anno", f"+{rng.choice('ab')}", *map(str, rng.sample(NOTED, rng.randint(1, 2))), "-component", name, "-text", text, "-nodate", kill=rng.random() < 0.05, rng=rng)
 
 
 def janitor(scene, rng):

@@ -24,6 +24,15 @@ def tiny(box, **more):
     return box.make(folders, **{**given, **more})
 
 
+def turned(box):
+    """The same, where messages 2 and 3 have changed their places."""
+    tiny(box)
+    inbox = f"{box.mail}/inbox"
+    for n, other in ((2, 3), (3, 2)):
+        with open(f"{inbox}/{n}", "wb") as f:
+            f.write(message(other, 2))
+
+
 def left_by_the_dead(box):
     """The same, where a dead run holds messages 2 and 3 aside, of which 3 is taken, and left temporary names."""
     tiny(box)
@@ -49,6 +58,7 @@ TRACES = [
     ("scan", tiny, ["scan", "+inbox", "1"]),
     ("folder", tiny, ["folder", "+inbox"]),
     ("folder-message", tiny, ["folder", "+inbox", "2-3"]),
+    ("sortm", turned, ["sortm", "+inbox", "-textfield", "subject"]),
     ("anno", tiny, ["anno", "+inbox", "1", "3", "-component", "Noted", "-text", "so", "-nodate"]),
     ("mend", left_by_the_dead, ["mark", "+inbox", "1", "-sequence", "x"]),
 ]
@@ -200,8 +210,9 @@ def synced_lines(events):
 
 
 def synced_discards(events):
-    """A held name goes only once its message has a number again, in a folder that was synced after that: where a dead run held it in its own
-    folder, and where the run took it itself by a copy, made after that, in each folder to which messages go."""
+    """A held name goes only once its message has a number again, in a folder that was synced after that: by a link of the held name itself in
+    its own folder, as one that a dead run held and one that changes its place; else by a copy, made since the run took it, in each folder to
+    which messages go."""
     bad, taken_at, last = [], {}, list(enumerate(events))
     into = {place(it.names[1]) for it in events if it.kind == "link" and "own-temp_" in it.names[0]}
     for k, it in last:
@@ -210,15 +221,17 @@ def synced_discards(events):
         if it.kind == "unlink" and "-held_" in it.names[0]:
             name = it.names[0]
             links = [(j, e) for j, e in last[:k] if e.kind == "link" and not e.answer]
-            if "own-held_" in name:
-                for folder in into:
-                    puts = [j for j, e in links if j > taken_at.get(name, k) and place(e.names[1]) == folder and is_number(e.names[1])]
-                    if not puts or not synced(last[puts[-1]:k], folder):
-                        bad.append(f"{name} went before its copy was safe in {folder}")
-                if not into:
-                    bad.append(f"{name} went without a copy")
-            elif not any(e.names[0] == name and synced(last[j:k], place(name)) for j, e in links):
-                bad.append(f"{name} went before its number was safe")
+            given = [j for j, e in links if e.names[0] == name]
+            if given or "own-held_" not in name:
+                if not any(synced(last[j:k], place(name)) for j in given):
+                    bad.append(f"{name} went before its number was safe")
+                continue
+            for folder in into:
+                puts = [j for j, e in links if j > taken_at.get(name, k) and place(e.names[1]) == folder and is_number(e.names[1])]
+                if not puts or not synced(last[puts[-1]:k], folder):
+                    bad.append(f"{name} went before its copy was safe in {folder}")
+            if not into:
+                bad.append(f"{name} went without a copy")
     return bad
 
 

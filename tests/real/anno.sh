@@ -44,7 +44,7 @@ same 'and of the call' "$room/first.txt" 'Kept: so\n'
 home=$room/noted_long
 three "$home"
 truncate -s 67108863 "$home/Mail/inbox/2"
-row 'a message that is too long with its line' "$home" 1 '' 'mh: too large: 67108869 bytes, limit 67108864\n' anno +inbox 1-3 -component N -text n -nodate
+row 'a message that is too long with its line' "$home" 1 '' 'mh: too large: 67108868 bytes, limit 67108864\n' anno +inbox 1-3 -component N -text n -nodate
 same 'the one before it has the line' "$home/Mail/inbox/1" 'N: n\nSubject: m1\n\n'
 same 'the one behind it has none' "$home/Mail/inbox/3" 'Subject: m3\n\n'
 row 'what was held aside goes back' "$home" 0 '' '' mark +inbox 1 -sequence x
@@ -75,4 +75,4 @@ done
 all=0
 for n in 1 2 3; do wait "${rivals[n]}" || all=1; done
 lines=$(sort "$home/Mail/inbox/2" | uniq | grep -c '^N[123]: ')
-if [ $all = 0 ] && [ "$lines" = 30 ] && [ "$(wc -l < "$home/Mail/inbox/2")" = 32 ] && [ "$(ls -A "$home/Mail/inbox" | wc -l)" = 5 ]; then passed=$((passed + 1)); else failed=$((failed + 1)); echo 'failed: three who put lines in front of one message'; fi
+if [ $all = 0 ] && [ "$lines" = 30 ] && [ "$(wc -l < "$home/Mail/inbox/2")" = 32 ] && [ "$(ls -A "$home/Mail/inbox" | wc -l)" = 4 ]; then passed=$((passed + 1)); else failed=$((failed + 1)); echo 'failed: three who put lines in front of one message'; fi

@@ -11,7 +11,7 @@ from pathlib import Path
 
 PROGRAM, ROOM = sys.argv[1], Path(sys.argv[2])
 TOP = Path(__file__).resolve().parent.parent.parent
-COMMANDS = ["anno", "folder", "inc", "mark", "pick", "refile", "rmm", "scan"]
+COMMANDS = ["anno", "folder", "inc", "mark", "pick", "refile", "rmm", "scan", "sortm"]
 passed = failed = 0
 
 
@@ -30,10 +30,10 @@ def run(*words, home=ROOM, program=PROGRAM):
 
 def tables():
     """The switches of each command, by the code."""
-    text = (TOP / "crates/command_words/src/tables.rt").read_text()
+    files = [TOP / "crates/command_words/src/tables.rt", *TOP.glob("crates/*_words/src/table.rt")]
     found = {}
-    for name, body in re.findall(r"fn (\w+)_table\(.*?\n\{(.*?)\n\}", text, re.S):
-        found[name] = set(re.findall(r'push_switch\(alloc, &mut switches, "(\w+)"', body))
+    for name, body in re.findall(r"fn (\w+)_table\(.*?\n\{(.*?)\n\}", "\n".join(it.read_text() for it in files), re.S):
+        found["sortm" if name == "sort" else name] = set(re.findall(r'push_switch\(alloc, &mut switches, "(\w+)"', body))
     return found
 
 
@@ -52,7 +52,7 @@ def words_switches(text):
 
 
 def switches():
-    """One table, and seven that say the same."""
+    """The tables, and what says the same."""
     known = tables()
     check("a table for each command", sorted(known) == COMMANDS, known.keys())
     for command in COMMANDS:

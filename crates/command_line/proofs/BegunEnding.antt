@@ -66,6 +66,14 @@ use Rattle.anno_words.specs.declared.words.AnnoWords.{AnnoWords}
 use Rattle.anno_words.proofs.Said.{anno_annotates, anno_refuses}
 use Rattle.message_lines.specs.MessageText.{Writing}
 use Rattle.message_lines.specs.declared.standing.Standing.{Standing}
+use Rattle.sortm_command.specs.Sort.{sortm}
+use Rattle.sortm_command.specs.SortAnswers.{ShowsSort}
+use Rattle.sortm_command.specs.SortPledge.{sortm_pledge}
+use Rattle.sortm_command.specs.declared.job.SortJob.{SortJob}
+use Rattle.sortm_command.proofs.SortDone.{Has as HasSorted, sortm_done}
+use Rattle.sortm_command.proofs.SortEnds.{sortm_ends}
+use Rattle.sort_words.specs.declared.words.SortWords.{SortWords}
+use Rattle.sort_words.proofs.Said.{sort_refuses}
 use Rattle.inc_command.specs.Inc.{inc}
 use Rattle.inc_command.specs.IncAnswers.{ShowsInc, ShowsIncorporating}
 use Rattle.refile_command.specs.Rmm.{rmm}
@@ -85,9 +93,10 @@ use Rattle.command_words.specs.declared.folder.FolderWords.{FolderWords}
 use Rattle.command_words.specs.declared.mark.MarkWords.{MarkWords}
 use Rattle.command_words.specs.declared.pick.PickWords.{PickWords}
 use Rattle.command_words.specs.declared.rmm.RmmWords.{RmmWords}
-use Rattle.command_line.specs.BegunCauses.{IsPickOn, PicksBy, ShowsAnnoWords, ShowsNoting, ShowsEarly, ShowsFault, ShowsIncJob, ShowsMark, ShowsMarking, ShowsNamed, ShowsOnFolder, ShowsPick, ShowsPickJob, ShowsRemoving, ShowsRmm, TakesInBy, TellsNoneBy, TellsOnFolder, long_context, long_profile, wrong_stored, ShowsTell, ShowsTelling}
+use Rattle.sort_words.specs.SortWords.{sort_said}
+use Rattle.command_line.specs.BegunCauses.{IsPickOn, PicksBy, ShowsAnnoWords, ShowsNoting, ShowsEarly, ShowsFault, ShowsIncJob, ShowsMark, ShowsMarking, ShowsNamed, ShowsOnFolder, ShowsPick, ShowsPickJob, ShowsRemoving, ShowsRmm, TakesInBy, TellsNoneBy, TellsOnFolder, long_context, long_profile, wrong_stored, ShowsTell, ShowsTelling, ShowsSortWords, ShowsSorting}
 use Rattle.command_line.specs.Causes.{ShowsCommandFault}
-use Rattle.command_line.specs.Command.{anno_begun, anno_by, anno_job, annotated_by, command, command_by, context_entered, folder_found, inc_begun, inc_by, mark_begun, mark_by, mark_job, pick_begun, pick_by, pick_job, picked_by, rmm_begun, rmm_by, rmm_job, word_by, tell_begun, tell_by, tell_job}
+use Rattle.command_line.specs.Command.{anno_begun, anno_by, anno_job, annotated_by, command, command_by, context_entered, folder_found, inc_begun, inc_by, mark_begun, mark_by, mark_job, pick_begun, pick_by, pick_job, picked_by, rmm_begun, rmm_by, rmm_job, word_by, tell_begun, tell_by, tell_job, sort_begun, sort_by, sort_job}
 use Rattle.command_line.specs.CommandNames.{shows_ends, command_of, named}
 use Rattle.command_line.specs.CommandPledge.{entries_by}
 use Rattle.command_line.specs.Incorporating.{IncAsked, job_by, job_writing}
@@ -95,7 +104,7 @@ use Rattle.command_line.specs.Looking.{look_found, written_by}
 use Rattle.command_line.specs.Profile.{folder_of, path_of, profile_name}
 use Rattle.command_line.specs.WordCauses.{IsRefusedByWords, inc_file}
 use Rattle.command_line.specs.declared.name.CommandName.{CommandName}
-use Rattle.command_line.specs.declared.name.CommandName.TheVariants.{Anno, Folder as FolderCommand, Inc, Mark, Pick, Refile, Rmm, Scan}
+use Rattle.command_line.specs.declared.name.CommandName.TheVariants.{Anno, Folder as FolderCommand, Inc, Mark, Pick, Refile, Rmm, Scan, Sortm}
 use Rattle.command_line.specs.declared.caller.Caller.{Caller}
 use Rattle.command_line.proofs.Ending.{scan_shows}
 use Rattle.command_line.proofs.IncEnding.{BehindLook, TakesIn, ToldSo, inc_comes}
@@ -580,6 +589,54 @@ module _ (run : ℕ) (few : run < 2 ^ 128) (caller : Caller) (words_ : List (Lis
             go later j (Ok folder) q = anno_keeps later j folder q.1.1.0 q.1.1.1 q.1.1.2 q.1.1.3 q.1.0 q.0
             go later j (Err e) q = stops_plainly later j e q.0 (early e (acts later) q.1.1 q.1.0)
 
+      -- `sortm`
+      module _ (name : named word ≡ Some Sortm) (words : SortWords) (said : sort_said profile (map chars rest) ≡ Ok words) where
+        sort_on : (b : Answer) (folder : List ℕ) → folder_of words.folder (entries_by b) profile ≡ Ok folder → (r : Result (List ℕ) CommandFault) (own : List Deed)
+            → Behind a b own × ShowsSorting run path (sort_job folder words profile) r own → ShowsOnFolder run caller words_ r own
+        sort_on b folder there r own s =
+            on_folder word rest is_words b folder r own s.0
+            (subst (λ n. ShowsNamed run caller profile (entries_by b) folder r own rest n) (sym name)
+            (subst (λ m. ShowsSortWords run profile (entries_by b) folder r own m) (sym said) (there, s.1)))
+
+        module _ (past : List runs.Deed) (j : Hand) (folder : List ℕ) (b : Answer) (is : acts past ≡ after_context path a b) (first : j ≡ knowing (entries_by b) fresh) (there : folder_of words.folder (entries_by b) profile ≡ Ok folder) (clean : NoneFailed (acts past)) (silent : said_of past ≡ []) where
+          abbrev sorting : SortJob
+          sorting = sort_job folder words profile
+
+          begins_sorts : Clean run (acts past) j
+          begins_sorts = clean_there a run b (acts past) j is first clean
+
+          told_nothing : (now_ : List runs.Deed) (piece : List ℕ) → (rules_of (sortm_pledge run path sorting)).may_say now_ piece → ⊥
+          told_nothing now_ piece f = f
+
+          sortm_keeps : Keeps Speech past j (sortm run path sorting) Plainly
+          sortm_keeps =
+              keeps_more Speech past j (sortm run path sorting) (λ later i r. Silent later i r × So later i r) Plainly more
+              (keeps_both Speech anything past j (sortm run path sorting) Silent So
+              (speaks_more none_told Spoken (λ text own t. absurd t) past j (sortm run path sorting) Silent
+              (quietly none_told none_lasts (rules_of (sortm_pledge run path sorting)) told_nothing (Behind a b) (behind_kept a b) past j (sortm run path sorting) (IfOkay (HasSorted run few path sorting)) (silent_told none_told none_lasts past silent)
+              (sortm_done run few path sorting past j (subst (HasHeldNone run (Folder path folder)) (sym is) (none_held run path folder a b)) (record { numbered = begins_sorts.numbered; unfailed = begins_sorts.unfailed }))))
+              (sortm_ends run few path sorting (Behind a b) (behind_kept a b) past j clean begins_sorts (subst (PutsNone (Mail path)) (sym is) (none_put (Mail path) path a b))
+              (λ x n t. none_taken (Folder path folder) path a b x n (subst (λ o. Once (λ d older. IsTakenAway (Folder path folder) x d) o) is t)) ([], is)))
+            where
+              Silent : List runs.Deed → Hand → Result Unit CommandFault → Type 0
+              Silent later i r = Quiet none_told none_lasts (rules_of (sortm_pledge run path sorting)) told_nothing (Behind a b) (behind_kept a b) (IfOkay (HasSorted run few path sorting)) past later i r
+
+              So : List runs.Deed → Hand → Result Unit CommandFault → Type 0
+              So later i r = EndsBeside (λ e own. ShowsSort run path sorting e own) (Behind a b) (λ own. Unit {0}) later i r
+
+              more : (later : List runs.Deed) (i : Hand) (r : Result Unit CommandFault) → Silent later i r × So later i r → Plainly later i r
+              more later i (Ok u) s = sort_on b folder there (Ok (said_of later)) (acts later) (s.1.0, (s.0.3, s.0.0 ∙ silent))
+              more later i (Err e) s = ended_more (λ k own. Behind a b own × ShowsSort run path sorting k own) Shows (λ x own q. inr (inr (sort_on b folder there (Err x) own q))) e (acts later) s.1
+
+        sort_begun_keeps : (past : List runs.Deed) → acts past ≡ after_profile a → NoneFailed (acts past) → said_of past ≡ [] → Keeps Speech past fresh (sort_begun run profile words) Plainly
+        unfolding sort_begun ◌>>=◌
+        sort_begun_keeps past is clean silent =
+            keeps_bind Speech past fresh (folder_found profile words.folder) (after (λ folder. sortm run path (sort_job folder words profile))) _ Plainly (folder_keeps words.folder past is clean silent) go
+          where
+            go : (later : List runs.Deed) (j : Hand) (r : Result (List ℕ) CommandFault) → (said_of later ≡ []) × OfActs (Finds words.folder) later j r → Keeps Speech later j (after (λ folder. sortm run path (sort_job folder words profile)) r) Plainly
+            go later j (Ok folder) q = sortm_keeps later j folder q.1.1.0 q.1.1.1 q.1.1.2 q.1.1.3 q.1.0 q.0
+            go later j (Err e) q = stops_plainly later j e q.0 (early e (acts later) q.1.1 q.1.0)
+
       -- `inc`
       module _ (name : named word ≡ Some Inc) (asked : IncAsked) (said : job_by caller profile (inc_said profile (map chars rest)) ≡ Ok asked) where
         inc_on : (b : Answer) (spoken : Standing → Writing) (r : Result (List ℕ) CommandFault) (own : List Deed)
@@ -696,6 +753,12 @@ module _ (run : ℕ) (few : run < 2 ^ 128) (caller : Caller) (words_ : List (Lis
           go (Ok words) said = plain_keeps past fresh (anno_begun run profile words) (anno_begun_keeps word rest is_words name words said past is clean silent)
           go (Err x) said = stops past fresh x silent
               (refused_shown a x past is (anno_refuses caller.clock.moment caller.clock.offset profile (map chars rest) x said) (refused_by caller words_ a word rest is_words (Some Anno) name x.fault (refusal_of (annotated_by caller profile (map chars rest)) x said)) clean)
+      by_word word rest is_words (Some Sortm) name begins = go (sort_said profile (map chars rest)) refl
+        where
+          go : (r : Result SortWords Ended) → sort_said profile (map chars rest) ≡ r → Keeps Speech past fresh (sort_by run profile r) EndsBy
+          go (Ok words) said = plain_keeps past fresh (sort_begun run profile words) (sort_begun_keeps word rest is_words name words said past is clean silent)
+          go (Err x) said = stops past fresh x silent
+              (refused_shown a x past is (sort_refuses profile (map chars rest) x said) (refused_by caller words_ a word rest is_words (Some Sortm) name x.fault (refusal_of (sort_said profile (map chars rest)) x said)) clean)
 
       by_words : (words : List (List ℕ)) → words_ ≡ words → shows_ends (command_of words) ≡ true → Keeps Speech past fresh (command_by run caller profile words) EndsBy
       by_words [] is_words begins = cc (begins)

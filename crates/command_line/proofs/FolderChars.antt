@@ -54,6 +54,11 @@ use Rattle.anno_words.specs.AnnoWords.{anno_line, anno_said}
 use Rattle.anno_words.specs.Table.{anno_table}
 use Rattle.anno_words.specs.WrongValues.{wrong_values}
 use Rattle.anno_words.specs.declared.words.AnnoWords.{AnnoWords}
+use Rattle.sort_words.specs.SortWords as sort_words
+use Rattle.sort_words.specs.SortWords.{sort_line, sort_said}
+use Rattle.sort_words.specs.Table.{sort_table}
+use Rattle.sort_words.specs.Keys.{wrong_names as wrong_fields}
+use Rattle.sort_words.specs.declared.words.SortWords.{SortWords}
 use Rattle.command_line.specs.Profile.{folder_of, inbox_of, stored_of, value_or}
 
 -- bytes as they are shown are characters
@@ -476,3 +481,31 @@ module _ (moment offset : ℤ) where
   anno_chars profile words said f e =
       subst AnnoChars e (anno_items_chars (anno_line profile words) (read_in anno_table 0 (anno_line profile words))
       (read_textual anno_table 0 (anno_line profile words) (texts_both (profile_words (codes "anno") profile) words (shown_texts (words_in (unwrap_or (value_of (codes "anno") profile) []))) f)))
+
+-- `sortm`
+abbrev SortChars : Result SortWords Ended → Type 0
+SortChars (Ok w) = HasChars w.folder
+SortChars (Err e) = Unit {0}
+
+sort_folder_chars : (items : List Item) (word : Option (List ℕ)) → HasChars word → SortChars (sort_words.with_folder items (folder_named word))
+sort_folder_chars items None f = tt
+sort_folder_chars items (Some word) f = go (is_folder_name (without_plus word))
+  where
+    go : (b : Bool) → SortChars (sort_words.with_folder items (some_named (if b then Ok (without_plus word) else Err (fault.Refused (refusal.BadFolder word)))))
+    go true = plus_chars word f
+    go false = tt
+
+sort_one_chars : (words : List (List ℕ)) (items : List Item) (r : Result (Option (List ℕ)) Wrong) → OneChars r → SortChars (sort_words.folder_said words items r)
+sort_one_chars words items (Ok word) f = sort_folder_chars items word f
+sort_one_chars words items (Err wrong) f = tt
+
+sort_items_chars : (words : List (List ℕ)) (r : Result (List Item) Wrong) → Textual r → SortChars (sort_words.items_said words r)
+sort_items_chars words (Ok items) f =
+    sort_one_chars words items (unless_bad (first_of (wrong_fields items)) (one_folder (folders items)))
+    (bad_chars (first_of (wrong_fields items)) (one_folder (folders items)) (one_chars (folders items) (folder_texts items f)))
+sort_items_chars words (Err wrong) f = tt
+
+pub sort_chars : (profile : List NamedValue) (words : List (List ℕ)) (said : SortWords) → AreTexts words → sort_said profile words ≡ Ok said → HasChars said.folder
+sort_chars profile words said f e =
+    subst SortChars e (sort_items_chars (sort_line profile words) (read_in sort_table 0 (sort_line profile words))
+    (read_textual sort_table 0 (sort_line profile words) (texts_both (profile_words (codes "sortm") profile) words (shown_texts (words_in (unwrap_or (value_of (codes "sortm") profile) []))) f)))

@@ -24,6 +24,7 @@ pub mod Refusals
 pub mod SaidFolder
 pub mod SaidInc
 pub mod SaidPick
+pub mod SortMarks
 pub mod StepsWith
 pub mod SuffixesApart
 pub mod Texts

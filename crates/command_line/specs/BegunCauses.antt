@@ -23,6 +23,9 @@ use Rattle.pick_command.specs.declared.job.PickMarks.{PickMarks}
 use Rattle.anno_command.specs.AnnoAnswers.{ShowsAnno}
 use Rattle.anno_command.specs.AnnoDone.{HasNotedChosen}
 use Rattle.anno_command.specs.declared.job.AnnoJob.{AnnoJob}
+use Rattle.sortm_command.specs.SortAnswers.{ShowsSort}
+use Rattle.sortm_command.specs.SortDone.{HasSortedChosen}
+use Rattle.sortm_command.specs.declared.job.SortJob.{SortJob}
 use Rattle.told_folders.specs.Answers.{HasChanged, ShowsListing as ShowsTellListing, TellsFolder, change_answers}
 use Rattle.folder_command.specs.Folder.{task_with}
 use Rattle.folder_command.specs.declared.job.FolderJob.{FolderJob}
@@ -45,9 +48,11 @@ use Rattle.command_words.specs.declared.mark.MarkWords.{MarkWords}
 use Rattle.command_words.specs.declared.pick.PickWords.{PickWords}
 use Rattle.command_words.specs.declared.refile.RefileWords.{RefileWords}
 use Rattle.command_words.specs.declared.rmm.RmmWords.{RmmWords}
+use Rattle.sort_words.specs.SortWords.{sort_said}
 use Rattle.command_line.specs.Causes.{IsWrongStored, ShowsCommandFault}
 use Rattle.anno_words.specs.declared.words.AnnoWords.{AnnoWords}
-use Rattle.command_line.specs.Command.{anno_job, annotated_by, mark_job, pick_job, picked_by, refile_job, rmm_job, tell_job}
+use Rattle.sort_words.specs.declared.words.SortWords.{SortWords}
+use Rattle.command_line.specs.Command.{anno_job, annotated_by, mark_job, pick_job, picked_by, refile_job, rmm_job, tell_job, sort_job}
 use Rattle.command_line.specs.CommandNames.{named}
 use Rattle.command_line.specs.CommandPledge.{entries_by, path_by}
 use Rattle.command_line.specs.Incorporating.{IncAsked, job_by, job_writing}
@@ -55,7 +60,7 @@ use Rattle.command_line.specs.Looking.{WritesAs}
 use Rattle.command_line.specs.Profile.{folder_of, path_of, profile_name}
 use Rattle.command_line.specs.WordCauses.{IsRefusedByWords}
 use Rattle.command_line.specs.declared.name.CommandName.{CommandName}
-use Rattle.command_line.specs.declared.name.CommandName.TheVariants.{Anno, Folder as FolderCommand, Inc, Mark, Pick, Refile, Rmm, Scan}
+use Rattle.command_line.specs.declared.name.CommandName.TheVariants.{Anno, Folder as FolderCommand, Inc, Mark, Pick, Refile, Rmm, Scan, Sortm}
 use Rattle.command_line.specs.declared.caller.Caller.{Caller}
 
 -- what shows how it ended before it came to a folder, once the words are read
@@ -131,6 +136,12 @@ abbrev pub ShowsNoting : ℕ → List ℕ → AnnoJob → Result (List ℕ) Comm
 ShowsNoting run path job (Ok said) own = HasNotedChosen run path job own × (said ≡ [])
 ShowsNoting run path job (Err e) own = ShowsAnno run path job e own
 
+-- `sortm` on this folder: at its end the messages that the job's words choose had changed places so that they stand in order, and it said nothing; or this
+-- shows its fault
+abbrev pub ShowsSorting : ℕ → List ℕ → SortJob → Result (List ℕ) CommandFault → List Deed → Type 0
+ShowsSorting run path job (Ok said) own = HasSortedChosen run path job own × (said ≡ [])
+ShowsSorting run path job (Err e) own = ShowsSort run path job e own
+
 -- `refile` from this folder: at its end it had brought each message that the job's words choose to all folders that they
 -- name, and said nothing; or this shows its fault
 abbrev pub ShowsRefiling : ℕ → List ℕ → RefileJob → Result (List ℕ) CommandFault → List Deed → Type 0
@@ -177,6 +188,14 @@ ShowsAnnoWords run profile context folder r own (Ok words) =
     × ShowsNoting run (path_of profile) (anno_job folder words profile) r own
 ShowsAnnoWords run profile context folder r own (Err x) = ⊥
 
+-- of `sortm`
+abbrev pub ShowsSortWords : ℕ → List NamedValue → List NamedValue → List ℕ → Result (List ℕ) CommandFault → List Deed
+    → Result SortWords Ended → Type 0
+ShowsSortWords run profile context folder r own (Ok words) =
+    (folder_of words.folder context profile ≡ Ok folder)
+    × ShowsSorting run (path_of profile) (sort_job folder words profile) r own
+ShowsSortWords run profile context folder r own (Err x) = ⊥
+
 -- and of `refile`, with the folder that messages leave or are copied from
 abbrev pub ShowsRefileWords : ℕ → List NamedValue → List NamedValue → List ℕ → Result (List ℕ) CommandFault → List Deed
     → Result RefileWords Ended → Type 0
@@ -212,6 +231,8 @@ ShowsNamed run caller profile context folder r own words (Some FolderCommand) =
     ShowsTell run profile context folder r own (tell_said profile (map chars words))
 ShowsNamed run caller profile context folder r own words (Some Anno) =
     ShowsAnnoWords run profile context folder r own (annotated_by caller profile (map chars words))
+ShowsNamed run caller profile context folder r own words (Some Sortm) =
+    ShowsSortWords run profile context folder r own (sort_said profile (map chars words))
 
 -- by the command that the first word names
 abbrev pub ShowsWords : ℕ → Caller → List NamedValue → List NamedValue → List ℕ → Result (List ℕ) CommandFault → List Deed

@@ -20,6 +20,8 @@ use Rattle.pick_command.specs.declared.job.PickJob.{PickJob}
 use Rattle.mark_command.specs.declared.job.MarkJob.{MarkJob}
 use Rattle.anno_command.specs.Anno.{anno}
 use Rattle.anno_command.specs.declared.job.AnnoJob.{AnnoJob}
+use Rattle.sortm_command.specs.Sort.{sortm}
+use Rattle.sortm_command.specs.declared.job.SortJob.{SortJob}
 use Rattle.folder_command.specs.Folder.{folder as tell}
 use Rattle.folder_command.specs.declared.job.FolderJob.{FolderJob}
 use Rattle.inc_command.specs.Inc.{inc}
@@ -43,13 +45,15 @@ use Rattle.command_words.specs.ScanWords.{scan_said}
 use Rattle.command_words.specs.TellWords.{tell_said}
 use Rattle.anno_words.specs.AnnoWords.{anno_said}
 use Rattle.anno_words.specs.declared.words.AnnoWords.{AnnoWords}
+use Rattle.sort_words.specs.SortWords.{sort_said}
+use Rattle.sort_words.specs.declared.words.SortWords.{SortWords}
 use Rattle.command_line.specs.CommandNames.{named}
 use Rattle.command_line.specs.Incorporating.{IncAsked, job_by, job_writing}
 use Rattle.command_line.specs.Looking.{ScanAsked, look_found, scan_asked, unseen_known}
 use Rattle.command_line.specs.Profile.{folder_of, negation_of, path_of, profile_name}
 use Rattle.command_line.specs.declared.caller.Caller.{Caller}
 use Rattle.command_line.specs.declared.name.CommandName.{CommandName}
-use Rattle.command_line.specs.declared.name.CommandName.TheVariants.{Anno, Folder as FolderCommand, Inc, Mark, Pick, Refile, Rmm, Scan}
+use Rattle.command_line.specs.declared.name.CommandName.TheVariants.{Anno, Folder as FolderCommand, Inc, Mark, Pick, Refile, Rmm, Scan, Sortm}
 
 -- the context is read, and the run knows its entries
 unfoldable pub context_seen : List NamedValue → Commanded Unit
@@ -157,6 +161,18 @@ abbrev pub anno_by : ℕ → List NamedValue → Result AnnoWords Ended → Endi
 anno_by run profile (Ok words) = lifted plain (anno_begun run profile words)
 anno_by run profile (Err e) = Return (Err e)
 
+abbrev pub sort_job : List ℕ → SortWords → List NamedValue → SortJob
+sort_job folder words profile = record { folder = folder; specs = words.specs; key = words.key; negation = negation_of profile }
+
+unfoldable pub sort_begun : ℕ → List NamedValue → SortWords → Commanded Unit
+sort_begun run profile words = do
+  folder ← folder_found profile words.folder
+  sortm run (path_of profile) (sort_job folder words profile)
+
+abbrev pub sort_by : ℕ → List NamedValue → Result SortWords Ended → Ending Unit
+sort_by run profile (Ok words) = lifted plain (sort_begun run profile words)
+sort_by run profile (Err e) = Return (Err e)
+
 -- the source is the folder that is acted on, and becomes the current one where the words name it
 abbrev pub refile_job : List ℕ → RefileWords → List NamedValue → RefileJob
 refile_job folder words profile = record {
@@ -204,6 +220,7 @@ word_by run caller profile word words (Some Refile) = refile_by run profile (ref
 word_by run caller profile word words (Some Rmm) = rmm_by run profile (rmm_said profile (map chars words))
 word_by run caller profile word words (Some FolderCommand) = tell_by run profile (tell_said profile (map chars words))
 word_by run caller profile word words (Some Anno) = anno_by run profile (annotated_by caller profile (map chars words))
+word_by run caller profile word words (Some Sortm) = sort_by run profile (sort_said profile (map chars words))
 
 abbrev pub command_by : ℕ → Caller → List NamedValue → List (List ℕ) → Ending Unit
 command_by run caller profile [] = Return (Err (no_command None))

@@ -1,7 +1,7 @@
 -- The commands that there are, by name.
 use Rattle.std.specs.Prelude.{ℕ, Bool, true, false, List, [], ◌∷◌, Option, None, Some, bytes_eq, codes, if◌then◌else◌}
 use Rattle.command_line.specs.declared.name.CommandName.{CommandName}
-use Rattle.command_line.specs.declared.name.CommandName.TheVariants.{Anno, Folder as FolderCommand, Inc, Mark, Pick, Refile, Rmm, Scan}
+use Rattle.command_line.specs.declared.name.CommandName.TheVariants.{Anno, Folder as FolderCommand, Inc, Mark, Pick, Refile, Rmm, Scan, Sortm}
 
 -- the command of this name
 abbrev pub named : List ℕ → Option CommandName
@@ -13,7 +13,8 @@ named word =
     else (if bytes_eq word (codes "refile") then Some Refile
     else (if bytes_eq word (codes "pick") then Some Pick
     else (if bytes_eq word (codes "folder") then Some FolderCommand
-    else (if bytes_eq word (codes "anno") then Some Anno else None)))))))
+    else (if bytes_eq word (codes "anno") then Some Anno
+    else (if bytes_eq word (codes "sortm") then Some Sortm else None))))))))
 
 -- the command that the words of a call name
 abbrev pub command_of : List (List ℕ) → Option CommandName
@@ -31,6 +32,7 @@ begins_folders (Some Refile) = true
 begins_folders (Some Rmm) = true
 begins_folders (Some FolderCommand) = true
 begins_folders (Some Anno) = true
+begins_folders (Some Sortm) = true
 
 -- it makes its folder where that is missing
 abbrev pub makes_folders : Option CommandName → Bool
@@ -43,6 +45,7 @@ makes_folders (Some Refile) = true
 makes_folders (Some Rmm) = false
 makes_folders (Some FolderCommand) = false
 makes_folders (Some Anno) = false
+makes_folders (Some Sortm) = false
 
 -- what shows how it ended is said with one folder at most that is let go; of `refile`, which lets several go, apart
 abbrev pub shows_ends : Option CommandName → Bool
@@ -55,3 +58,4 @@ shows_ends (Some Refile) = false
 shows_ends (Some Rmm) = true
 shows_ends (Some FolderCommand) = true
 shows_ends (Some Anno) = true
+shows_ends (Some Sortm) = true

@@ -22,6 +22,7 @@ use Rattle.mh_looks.specs.ScanPledge.{scan_pledge}
 use Rattle.mark_command.specs.MarkPledge.{pledge_by}
 use Rattle.pick_command.specs.PickPledge.{pledge_by as pick_pledge_by}
 use Rattle.anno_command.specs.AnnoPledge.{anno_pledge}
+use Rattle.sortm_command.specs.SortPledge.{sortm_pledge}
 use Rattle.folder_command.specs.Folder.{pledge_by as tell_pledge_by}
 use Rattle.message_lines.specs.MessageText.{Writing}
 use Rattle.message_lines.specs.declared.standing.Standing.{Standing}
@@ -40,13 +41,15 @@ use Rattle.command_words.specs.declared.pick.PickWords.{PickWords}
 use Rattle.command_words.specs.declared.refile.RefileWords.{RefileWords}
 use Rattle.command_words.specs.declared.rmm.RmmWords.{RmmWords}
 use Rattle.anno_words.specs.declared.words.AnnoWords.{AnnoWords}
-use Rattle.command_line.specs.Command.{anno_job, annotated_by, mark_job, pick_job, picked_by, refile_job, rmm_job, tell_job}
+use Rattle.sort_words.specs.declared.words.SortWords.{SortWords}
+use Rattle.sort_words.specs.SortWords.{sort_said}
+use Rattle.command_line.specs.Command.{anno_job, annotated_by, mark_job, pick_job, picked_by, refile_job, rmm_job, tell_job, sort_job}
 use Rattle.command_line.specs.CommandNames.{command_of, named}
 use Rattle.command_line.specs.Incorporating.{IncAsked, job_by, job_writing}
 use Rattle.command_line.specs.Looking.{WritesAs}
 use Rattle.command_line.specs.Profile.{folder_of, path_of, profile_name}
 use Rattle.command_line.specs.declared.name.CommandName.{CommandName}
-use Rattle.command_line.specs.declared.name.CommandName.TheVariants.{Anno, Folder as FolderCommand, Inc, Mark, Pick, Refile, Rmm, Scan}
+use Rattle.command_line.specs.declared.name.CommandName.TheVariants.{Anno, Folder as FolderCommand, Inc, Mark, Pick, Refile, Rmm, Scan, Sortm}
 use Rattle.command_line.specs.declared.caller.Caller.{Caller}
 
 -- the text that was read; the empty one where there is none
@@ -116,6 +119,15 @@ abbrev pub annos_pledge : ℕ → List NamedValue → List NamedValue → Result
 annos_pledge run profile context (Ok words) = anno_on_named run profile words (folder_of words.folder context profile)
 annos_pledge run profile context (Err e) = scan_pledge run (path_of profile)
 
+-- of `sortm`
+abbrev pub sort_on_named : ℕ → List NamedValue → SortWords → Result (List ℕ) CommandFault → Pledge
+sort_on_named run profile words (Ok folder) = sortm_pledge run (path_of profile) (sort_job folder words profile)
+sort_on_named run profile words (Err e) = scan_pledge run (path_of profile)
+
+abbrev pub sorts_pledge : ℕ → List NamedValue → List NamedValue → Result SortWords Ended → Pledge
+sorts_pledge run profile context (Ok words) = sort_on_named run profile words (folder_of words.folder context profile)
+sorts_pledge run profile context (Err e) = scan_pledge run (path_of profile)
+
 -- and of `refile`
 abbrev pub refile_on_named : ℕ → List NamedValue → RefileWords → Result (List ℕ) CommandFault → Pledge
 refile_on_named run profile words (Ok folder) = refile_pledge run (path_of profile) (refile_job folder words profile)
@@ -156,6 +168,7 @@ word_pledge run caller profile context words (Some Refile) = refiles_pledge run 
 word_pledge run caller profile context words (Some Rmm) = rmms_pledge run profile context (rmm_said profile (map chars words))
 word_pledge run caller profile context words (Some FolderCommand) = tells_pledge run profile context (tell_said profile (map chars words))
 word_pledge run caller profile context words (Some Anno) = annos_pledge run profile context (annotated_by caller profile (map chars words))
+word_pledge run caller profile context words (Some Sortm) = sorts_pledge run profile context (sort_said profile (map chars words))
 
 -- what a command pledges, by the user's name, its words, the entries of the profile and those of the context
 abbrev pub command_pledge : ℕ → Caller → List (List ℕ) → List NamedValue → List NamedValue → Pledge
@@ -174,6 +187,7 @@ IsDone (Some Refile) path own = AreSettled own
 IsDone (Some Rmm) path own = AreSettled own
 IsDone (Some FolderCommand) path own = AreSettled own
 IsDone (Some Anno) path own = AreSettled own
+IsDone (Some Sortm) path own = AreSettled own
 
 -- the call began with the profile, which names the path of a mail directory, and with the context of that; it kept the pledge that these and
 -- its words make

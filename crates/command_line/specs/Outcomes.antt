@@ -20,6 +20,7 @@ use Rattle.opened_folders.specs.HomesOf.{homes_at}
 use Rattle.mark_command.specs.Outcomes.{mark_work}
 use Rattle.pick_command.specs.Outcomes.{pick_work}
 use Rattle.anno_command.specs.AnnoOutcome.{anno_work}
+use Rattle.sortm_command.specs.SortOutcome.{sort_work}
 use Rattle.folder_command.specs.Folder.{folder_work}
 use Rattle.inc_command.specs.IncOutcome.{inc_work, with_folder_made}
 use Rattle.refile_command.specs.MadeFolder.{or_empty}
@@ -39,14 +40,16 @@ use Rattle.command_words.specs.declared.pick.PickWords.{PickWords}
 use Rattle.command_words.specs.declared.refile.RefileWords.{RefileWords}
 use Rattle.command_words.specs.declared.rmm.RmmWords.{RmmWords}
 use Rattle.anno_words.specs.declared.words.AnnoWords.{AnnoWords}
-use Rattle.command_line.specs.Command.{anno_job, annotated_by, job_of, mark_job, no_command, pick_job, picked_by, refile_job, rmm_job, tell_job}
+use Rattle.sort_words.specs.declared.words.SortWords.{SortWords}
+use Rattle.sort_words.specs.SortWords.{sort_said}
+use Rattle.command_line.specs.Command.{anno_job, annotated_by, job_of, mark_job, no_command, pick_job, picked_by, refile_job, rmm_job, tell_job, sort_job}
 use Rattle.command_line.specs.CommandNames.{named}
 use Rattle.command_line.specs.Incorporating.{IncAsked, job_by, job_writing}
 use Rattle.command_line.specs.Looking.{InFile, Known, ScanAsked, Telling, scan_asked, written_with}
 use Rattle.command_line.specs.Profile.{folder_of, path_of, profile_name}
 use Rattle.command_line.specs.declared.caller.Caller.{Caller}
 use Rattle.command_line.specs.declared.name.CommandName.{CommandName}
-use Rattle.command_line.specs.declared.name.CommandName.TheVariants.{Anno, Folder as FolderCommand, Inc, Mark, Pick, Refile, Rmm, Scan}
+use Rattle.command_line.specs.declared.name.CommandName.TheVariants.{Anno, Folder as FolderCommand, Inc, Mark, Pick, Refile, Rmm, Scan, Sortm}
 
 abbrev pub plainly : Result Unit CommandFault → Result Unit Ended
 plainly (Ok u) = Ok u
@@ -154,6 +157,15 @@ abbrev pub anno_words_work : Meeting → Mailbox → List NamedValue → Result 
 anno_words_work g m profile (Ok words) = of_stage (on_folder m profile words.folder (annos g m profile words))
 anno_words_work g m profile (Err e) = refused_at m e
 
+-- `sortm`: so too
+abbrev pub sorts : Meeting → Mailbox → List NamedValue → SortWords → FolderWork
+sorts g m profile words context folder =
+    sort_work g.run (path_of profile) (g.entries context) (g.homes (m.folders (Folder (path_of profile) folder))) (sort_job folder words profile) m
+
+abbrev pub sort_words_work : Meeting → Mailbox → List NamedValue → Result SortWords Ended → Work Ended
+sort_words_work g m profile (Ok words) = of_stage (on_folder m profile words.folder (sorts g m profile words))
+sort_words_work g m profile (Err e) = refused_at m e
+
 -- `refile`: so too in each folder that it begins; one that is missing is empty
 abbrev pub refiles : Meeting → Mailbox → List NamedValue → RefileWords → FolderWork
 refiles g m profile words context folder =
@@ -186,6 +198,7 @@ word_work g m caller profile word words (Some Refile) = refile_words_work g m pr
 word_work g m caller profile word words (Some Rmm) = rmm_words_work g m profile (rmm_said profile (map chars words))
 word_work g m caller profile word words (Some FolderCommand) = tell_words_work g m profile (tell_said profile (map chars words))
 word_work g m caller profile word words (Some Anno) = anno_words_work g m profile (annotated_by caller profile (map chars words))
+word_work g m caller profile word words (Some Sortm) = sort_words_work g m profile (sort_said profile (map chars words))
 
 abbrev pub named_work : Meeting → Mailbox → Caller → List NamedValue → List (List ℕ) → Work Ended
 named_work g m caller profile [] = refused_at m (no_command None)

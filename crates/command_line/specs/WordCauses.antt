@@ -18,6 +18,7 @@ use Rattle.command_words.specs.RmmWords.{rmm_said}
 use Rattle.command_words.specs.ScanWords.{scan_said}
 use Rattle.command_words.specs.TellWords.{tell_said}
 use Rattle.command_words.specs.declared.ended.Ended.{Ended}
+use Rattle.sort_words.specs.SortWords.{sort_said}
 use Rattle.command_line.specs.Command.{annotated_by, no_command, picked_by}
 use Rattle.command_line.specs.CommandNames.{named}
 use Rattle.command_line.specs.CommandPledge.{entries_by, path_by}
@@ -26,7 +27,7 @@ use Rattle.command_line.specs.Looking.{InFile, Known, ScanAsked, Telling, scan_a
 use Rattle.command_line.specs.Profile.{profile_name}
 use Rattle.command_line.specs.declared.caller.Caller.{Caller}
 use Rattle.command_line.specs.declared.name.CommandName.{CommandName}
-use Rattle.command_line.specs.declared.name.CommandName.TheVariants.{Anno, Folder as FolderCommand, Inc, Mark, Pick, Refile, Rmm, Scan}
+use Rattle.command_line.specs.declared.name.CommandName.TheVariants.{Anno, Folder as FolderCommand, Inc, Mark, Pick, Refile, Rmm, Scan, Sortm}
 
 -- the refusal, where there is one
 abbrev pub refusal_in : {A : Type 0} → Result A Ended → Option CommandFault
@@ -45,6 +46,7 @@ named_refusal caller profile words (Some Refile) = refusal_in (refile_said profi
 named_refusal caller profile words (Some Rmm) = refusal_in (rmm_said profile (map chars words))
 named_refusal caller profile words (Some FolderCommand) = refusal_in (tell_said profile (map chars words))
 named_refusal caller profile words (Some Anno) = refusal_in (annotated_by caller profile (map chars words))
+named_refusal caller profile words (Some Sortm) = refusal_in (sort_said profile (map chars words))
 
 -- that of all words of a call
 abbrev pub words_refusal : Caller → List NamedValue → List (List ℕ) → Option CommandFault
@@ -75,6 +77,7 @@ named_file caller profile words (Some Refile) = None
 named_file caller profile words (Some Rmm) = None
 named_file caller profile words (Some FolderCommand) = None
 named_file caller profile words (Some Anno) = None
+named_file caller profile words (Some Sortm) = None
 
 abbrev pub words_file : Caller → List NamedValue → List (List ℕ) → Option FilePath
 words_file caller profile [] = None

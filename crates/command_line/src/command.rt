@@ -19,6 +19,7 @@ use crate::picking::run_pick;
 use crate::refiling::run_refile;
 use crate::removing::run_rmm;
 use crate::scanning::run_scan;
+use crate::sorting::run_sortm;
 use crate::telling::run_folder;
 use command_stages::read_text;
 use command_words::Ended;
@@ -69,6 +70,7 @@ fn run_word<F: Files, O: Sink>(
         Some(CommandName::Rmm) => run_rmm(alloc, run, files, profile, rest),
         Some(CommandName::Folder) => run_folder(alloc, run, files, out, profile, rest),
         Some(CommandName::Anno) => run_anno(alloc, run, files, profile, caller, rest),
+        Some(CommandName::Sortm) => run_sortm(alloc, run, files, profile, rest),
         None => {
             let word = Bytes::from_slice(alloc, word.as_bytes())?;
             Err(no_command(Some(word)))

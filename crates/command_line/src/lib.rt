@@ -14,6 +14,7 @@ mod profile;
 mod refiling;
 mod removing;
 mod scanning;
+mod sorting;
 mod telling;
 
 pub use caller::{Caller, Clock};

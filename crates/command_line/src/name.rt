@@ -13,6 +13,7 @@ pub enum CommandName {
     Rmm,
     Folder,
     Anno,
+    Sortm,
 }
 
 impl CommandName {
@@ -36,6 +37,8 @@ impl CommandName {
             Some(CommandName::Folder)
         } else if word == "anno" {
             Some(CommandName::Anno)
+        } else if word == "sortm" {
+            Some(CommandName::Sortm)
         } else {
             None
         }

@@ -38,7 +38,7 @@ use Rattle.step_plans.proofs.Law.{may_made}
 use Rattle.marks_law.specs.Heirs.{IsHeir, Descends, now, on, itself, further}
 use Rattle.marks_law.specs.Bearers.{Marking, in_folder, marks, Bears, set, kept, on}
 use Rattle.marks_law.specs.Sound.{IsSound, IsOwn}
-use Rattle.marks_law.specs.Minding.{Touches, Sees, SeesNoneHeld, Knowing, by_base, KeepsMarks, AreAllThere, Minds, keeps, replaces, makes, clears, plain, copies, gives_back, gives_above, takes_plain, takes_alone, takes_free, backs_up, removes, backs_up_plain, removes_plain, lets_go, commits}
+use Rattle.marks_law.specs.Minding.{Touches, Sees, SeesNoneHeld, Knowing, by_base, KeepsMarks, AreAllThere, Minds, keeps, replaces, makes, clears, plain, copies, gives_back, gives_above, takes_plain, takes_unmarked, takes_alone, takes_free, backs_up, removes, backs_up_plain, removes_plain, lets_go, commits}
 use Rattle.marks_law.proofs.Sounding.{number_name, number_held, absent, sound_marked, sound_set, sound_let_go, sound_removed, sound_removed_plain, sound_taken_plain, sound_taken_alone}
 use Rattle.marks_law.proofs.Seeing.{left_untouched}
 
@@ -213,6 +213,10 @@ module _ (start : World) (past : List Event) (r : ℕ) (s : Step) (a : Answer) (
             let eh : kind_of x_ ≡ Held r n = subst (λ j. kind_of x_ ≡ Held r j) same z.2 in
             (rw (place_is k.folder) (taken_names y x_ n e eh (λ f l. sound_taken_plain (λ q. now_in d q) (marks k v text) (IsOwn start k (Act r s a m ∷ past) text) y x_ n r f e eh l (same_names h)
             (marks_stay text text_below n ∙ unmarked n u) (λ b j ej q. there b (all.2 b j ej (sym (known all.0 all.1 j) ∙ (sym (marks_stay text text_below j) ∙ q))))) h))
+        by (takes_unmarked {number = y} {held = x_} {n = n} e is u all) es = let z = taking_is r (kind_of y) (kind_of x_) is in let same : z.0 ≡ n = number_same (sym z.1 ∙ e) in
+            let eh : kind_of x_ ≡ Held r n = subst (λ j. kind_of x_ ≡ Held r j) same z.2 in
+            (rw (place_is k.folder) (taken_names y x_ n e eh (λ f l. sound_taken_plain (λ q. now_in d q) (marks k v text) (IsOwn start k (Act r s a m ∷ past) text) y x_ n r f e eh l (same_names h)
+            (marks_stay text text_below n ∙ unmarked n u) (λ b j ej q. elim (all b j ej) [ inl o ↦ absurd (not_both (marks k v text j) q (marks_stay text text_below j ∙ unmarked j o)) | inr t ↦ there b t ])) h))
         by (takes_alone {number = y} {held = x_} {n = n} e is none above) es = let z = taking_is r (kind_of y) (kind_of x_) is in let same : z.0 ≡ n = number_same (sym z.1 ∙ e) in
             let eh : kind_of x_ ≡ Held r n = subst (λ j. kind_of x_ ≡ Held r j) same z.2 in
             (rw (place_is k.folder) (taken_names y x_ n e eh (λ f l. sound_taken_alone (λ q. now_in d q) (marks k v text) (IsOwn start k (Act r s a m ∷ past) text) y x_ n r f e eh l (same_names h)
@@ -300,6 +304,8 @@ rename_to e = (cc (e), cc (e), cc (e))
 pub commit_minds : (r : ℕ) (k : Marking) (g : Knowing) (deeds : List Deed) (t : List ℕ) → is_folder k.folder ≡ true → is_committed k.place k.name ≡ true → {s : Step} → Minds r k g deeds s → s ≡ step.Rename k.place t k.name
     → MarksMore k g t deeds ⊎ KeepsMarks r k t deeds
 commit_minds r k g deeds t folder c (takes_plain {number = y} {held = h} e is u all) es = let z = rename_to es in
+    absurd (not_both (is_standing h) (held_stands h (is_held_any r h (is_taking_held r y h is))) (subst (λ b. is_standing b ≡ false) (sym z.2) (is_committed_quiet k.place k.name c)))
+commit_minds r k g deeds t folder c (takes_unmarked {number = y} {held = h} e is u all) es = let z = rename_to es in
     absurd (not_both (is_standing h) (held_stands h (is_held_any r h (is_taking_held r y h is))) (subst (λ b. is_standing b ≡ false) (sym z.2) (is_committed_quiet k.place k.name c)))
 commit_minds r k g deeds t folder c (takes_alone {number = y} {held = h} e is none above) es = let z = rename_to es in
     absurd (not_both (is_standing h) (held_stands h (is_held_any r h (is_taking_held r y h is))) (subst (λ b. is_standing b ≡ false) (sym z.2) (is_committed_quiet k.place k.name c)))

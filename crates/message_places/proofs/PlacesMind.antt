@@ -304,12 +304,14 @@ module _ (Of : List ℕ → Type 0) (w : Pledge) (few : w.run < 2 ^ 128) (path n
   abbrev pub There : List ℕ → ℕ → Type 0
   There ends j = Stays j ⊎ (is_in j ends ≡ true)
 
-  -- What is known once the messages changed places: those that stay are there, and each number where a move ended; no message is held aside; and
-  -- where one moved the folder is steady.
+  -- What is known once the messages changed places: those that stay are there, and each number where a move ended, of which there are no fewer than
+  -- moves; no message is held aside; and where one moved the folder is steady.
   pub record HaveMoved (ms : List Move) (own : List Deed) (ends : List ℕ) : Type 0 where
     pub facts : Facts w path name names (IsOf (There ends)) own
     pub marks : Known own
     pub steady : (ms ≡ [] → ⊥) → Steady path name own
+    pub numbers : (e : ℕ) → is_in e ends ≡ true → IsMsgNum e
+    pub each : length ms ≤ length ends
 
   -- The moves are of just the messages that are taken; these numbers, their slots, and those above the highest are free for them.
   module _ (ms : List Move) (fs : AreMsgNums (froms ms)) (ss : AreMsgNums (slots ms)) (same : (k : ℕ) → is_in k (froms ms) ≡ is_in k takes) (frees_old : (k : ℕ) → is_in k takes ≡ true → Free k) (frees_slot : (k : ℕ) → is_in k (slots ms) ≡ true → Free k) where
@@ -352,6 +354,8 @@ module _ (Of : List ℕ → Type 0) (w : Pledge) (few : w.run < 2 ^ 128) (path n
         facts = facts_of ends (did (step.SyncFolder p) answer.Done ∷ own) k (λ n i. minding.on (λ u. cc (u)) (λ t. t) (f.1 n i));
         marks = k.0.marks;
         steady = λ some sequence. apart.synced refl f.0.0.lock;
+        numbers = λ e i. (k.1 e i).0;
+        each = enough;
       }
 
       for_good_meets : (k : ℕ) (own : List Deed) (h : Hand) → Know ends own → M own h (dropped_for_good w.run p ms k) (okay Left)
@@ -374,6 +378,8 @@ module _ (Of : List ℕ → Type 0) (w : Pledge) (few : w.run < 2 ^ 128) (path n
             facts = facts_of ends own f (λ n i. absurd (none_taken n (no_moves (last_none ends e)) i));
             marks = f.0.marks;
             steady = λ some. absurd (some (no_moves (last_none ends e)));
+            numbers = λ k i. (f.1 k i).0;
+            each = enough;
           })
         where
           none_taken : (n : ℕ) → ms ≡ [] → is_in n takes ≡ true → ⊥

@@ -1,11 +1,10 @@
 -- While no sequence marks the messages of a folder that change places, each step of theirs minds all marks.
-use Rattle.std.proofs.Common.{◌≡◌, ◌⊎◌, inl, inr, ◌<◌, ◌^◌, ◌∷◌, ℕ, true, false, List, refl, sym, ◌∙◌, ap, subst}
+use Rattle.std.proofs.Common.{◌≡◌, ◌==◌, ◌⊎◌, inl, inr, ◌<◌, ◌^◌, ◌∷◌, ℕ, Bool, true, false, List, refl, sym, ◌∙◌, ap, subst}
 use Rattle.std.specs.Prelude.{decimal}
 use Rattle.mh_base.specs.Entries.{entry_text, kind_of}
 use Rattle.mh_base.specs.Numbers.{IsMsgNum}
 use Rattle.mh_base.specs.declared.entry.Entry.TheVariants.{Held, Number, Sequences}
 use Rattle.mh_base.proofs.EntryKinds.{kind_of-entry_text}
-use Rattle.folder_files.specs.Careful.{IsKnown}
 use Rattle.folder_files.specs.Deeds.{Deed, did}
 use Rattle.folder_files.specs.Histories.{Changes}
 use Rattle.folder_files.specs.Named.{is_held}
@@ -14,18 +13,18 @@ use Rattle.folder_files.specs.declared.place.Place.TheVariants.{Folder, Mail}
 use Rattle.folder_files.specs.declared.step.Answer.{Answer}
 use Rattle.folder_files.specs.declared.step.Step.{Step}
 use Rattle.folder_files.specs.declared.step.Step.TheVariants as step
-use Rattle.folder_files.proofs.Names.{is_held_any, not_both}
+use Rattle.folder_files.proofs.Names.{is_held_any, not_both, num_itself, num_same}
 use Rattle.file_plans.proofs.Showing.{number_kind}
+use Rattle.step_plans.specs.Commits.{IsBase}
 use Rattle.step_plans.specs.ContextCommit.{context_name}
 use Rattle.step_plans.proofs.Facts.{LeavesBase, base_kept}
-use Rattle.step_plans.proofs.Past.{did_step}
 use Rattle.marks_law.specs.Apart.{by_text}
 use Rattle.marks_law.specs.Apart as apart
 use Rattle.marks_law.specs.Bearers.{Marking}
-use Rattle.marks_law.specs.Minding.{Knowing, Minds, Sees, Touches, by_base, plain, takes_plain}
+use Rattle.marks_law.specs.Minding.{IsUnmarked, Knowing, Minds, Sees, Touches, by_base, plain, takes_unmarked}
 use Rattle.marks_law.specs.Minding as minding
 use Rattle.message_moves.proofs.MovePledged.{is_held_so, is_taken_so, taking}
-use Rattle.sequence_marks.specs.SequenceMarks.{private_marks, public_marks}
+use Rattle.sequence_marks.specs.SequenceMarks.{private_marks, public_marks, says_public}
 use Rattle.opened_folders.proofs.AllMarks.{MindsAll, drop_minds, look_minds}
 use Rattle.opened_folders.proofs.CommitMinds.{one_folder, one_mail, sequences_name, text_name}
 use Rattle.message_places.specs.Arranging.{aside_name}
@@ -33,18 +32,29 @@ use Rattle.message_places.specs.Places.{is_in}
 use Rattle.message_places.proofs.ArrangedPledged.{dropping, giving}
 use Rattle.message_places.proofs.AsideNames.{name_there, names_one}
 
--- The run knows the text of these marks: it marks no number of which this holds, and each number that it marks is there.
+-- The run knows of each number of which this holds that it is not marked; and of each number it knows that it is not marked, or it is there.
 pub record Withdrawn (k : Marking) (g : Knowing) (Free : ℕ → Type 0) (own : List Deed) : Type 0 where
-  pub text : List ℕ
-  pub knows : g.Knows text own
-  pub silent : (n : ℕ) → Free n → k.says text n ≡ false
   pub free : (n : ℕ) → Free n → g.Unmarks n own
-  pub there : (z : List ℕ) (j : ℕ) → kind_of z ≡ Number j → k.says text j ≡ true → Sees k.folder z true own
+  pub there : (z : List ℕ) (j : ℕ) → kind_of z ≡ Number j → g.Unmarks j own ⊎ Sees k.folder z true own
 
 -- the same of all sequences of a folder, the public and the private ones
 pub record AreWithdrawn (run : ℕ) (path name : List ℕ) (Free : ℕ → Type 0) (own : List Deed) : Type 0 where
   pub public : (sequence : List ℕ) → Withdrawn (public_marks path name sequence) (by_base run (public_marks path name sequence)) Free own
   pub private : (sequence : List ℕ) → Withdrawn (private_marks path name sequence) (by_text run (private_marks path name sequence)) Free own
+
+-- so it is where the run knows the folder's text, which marks no such number, and each number that it marks is there
+pub known_withdrawn : (run : ℕ) (path name sequence : List ℕ) (Free : ℕ → Type 0) (own : List Deed) (text : List ℕ) → IsBase run (Folder path name) sequences_name text own → ((n : ℕ) → Free n → says_public sequence text n ≡ false)
+    → ((z : List ℕ) (j : ℕ) → kind_of z ≡ Number j → says_public sequence text j ≡ true → Sees (Folder path name) z true own)
+    → Withdrawn (public_marks path name sequence) (by_base run (public_marks path name sequence)) Free own
+known_withdrawn run path name sequence Free own text base silent there = record { free = λ n free. (text, known, silent n free); there = λ z j kind. go z j kind (says_public sequence text j) refl }
+  where
+    known : IsBase run (Folder path name) (public_marks path name sequence).name text own
+    known = rw text_name at base
+
+    go : (z : List ℕ) (j : ℕ) → kind_of z ≡ Number j → (b : Bool) → says_public sequence text j ≡ b
+        → IsUnmarked run (public_marks path name sequence) j own ⊎ Sees (Folder path name) z true own
+    go z j kind true e = inr (there z j kind e)
+    go z j kind false e = inl (text, known, e)
 
 -- A step of the moves of these messages: one is taken, of a free number; or one is given a free number, or is dropped; or the place is made safe.
 pub data MovesSo (run : ℕ) (p : Place) (takes : List ℕ) (Free : ℕ → Type 0) : Step → Type 0 where
@@ -84,9 +94,6 @@ module _ (run : ℕ) (few : run < 2 ^ 128) (path name takes : List ℕ) (Free : 
   pub aside_apart : (n : ℕ) → IsMsgNum n → (z : List ℕ) (j : ℕ) → kind_of z ≡ Number j → aside_name run n ≡ z → ⊥
   aside_apart n one z j kind e = number_unheld j run n (sym kind ∙ (ap kind_of (sym e) ∙ aside_kind n one))
 
-  named_apart : (k : ℕ) → IsMsgNum k → (x z : List ℕ) (j : ℕ) → kind_of x ≡ Number k → kind_of z ≡ Number j → x ≡ z → k ≡ j
-  named_apart k one x z j kind other e = same_number k j (sym kind ∙ (ap kind_of e ∙ other))
-
   number_held : (x y : List ℕ) (n : ℕ) → kind_of y ≡ Number n → y ≡ x → is_held (kind_of x) ≡ true → ⊥
   number_held x y n kind e held = not_both (is_held (kind_of x)) held (subst (λ z. is_held (kind_of z) ≡ false) e (rw kind refl))
 
@@ -119,60 +126,59 @@ module _ (run : ℕ) (few : run < 2 ^ 128) (path name takes : List ℕ) (Free : 
   others_stay x off _ (by_drop {n = n} one is) e = not_ours x off n is (let same : aside_name run n ≡ x = cc (e) in same)
   others_stay x off _ by_sync e = cc (e)
 
-  no_read : (s : Step) → Moves s → (q : Place) (x : List ℕ) (limit : ℕ) → s ≡ step.Read q x limit → ⊥
-  no_read _ (by_take one is free) q x limit e = cc (e)
-  no_read _ (by_give one is other free) q x limit e = cc (e)
-  no_read _ (by_drop one is) q x limit e = cc (e)
-  no_read _ by_sync q x limit e = cc (e)
-
   pub no_context : (s : Step) → Moves s → (temp x : List ℕ) → s ≡ step.Rename mail temp x → ⊥
   no_context _ (by_take one is free) temp x e = cc (e)
   no_context _ (by_give one is other free) temp x e = cc (e)
   no_context _ (by_drop one is) temp x e = cc (e)
   no_context _ by_sync temp x e = cc (e)
 
-  unread : (s : Step) → Moves s → (a : Answer) → IsKnown run mail context_name (did s a) → ⊥
-  unread s m a (inl w) = no_read s m mail context_name w.1.0 (did_step w.1.1)
-  unread s m a (inr (inl w)) = no_read s m mail context_name w.0 (did_step w.1)
-  unread s m a (inr (inr w)) = no_context s m w.0 context_name (did_step w.1)
+  named_free : (x z : List ℕ) (k j : ℕ) → kind_of x ≡ Number k → kind_of z ≡ Number j → Free k → (Free j) ⊎ (x ≡ z → ⊥)
+  named_free x z k j kind other free = go (k == j) refl
+    where
+      go : (b : Bool) → (k == j) ≡ b → (Free j) ⊎ (x ≡ z → ⊥)
+      go true e = inl (subst Free (num_same k j e) free)
+      go false e = inr (λ same. not_both (k == j) (subst (λ i. (k == i) ≡ true) (same_number k j (sym kind ∙ (ap kind_of same ∙ other))) (num_itself k)) e)
+
+  -- a number is free, or such a step leaves it alone
+  free_or_untouched : (z : List ℕ) (j : ℕ) → kind_of z ≡ Number j → (s : Step) → Moves s → (Free j) ⊎ (Touches p z s → ⊥)
+  free_or_untouched z j kind _ (by_take {n = n} one is free) = elim (named_free (entry_text (Number n)) z n j (kind_of-entry_text (Number n) one) kind free) [
+    | inl f ↦ inl f
+    | inr off ↦ inr (λ t. elim t.1 [ inl e ↦ off e | inr e ↦ aside_apart n one z j kind e ])
+  ]
+  free_or_untouched z j kind _ (by_give {k = k} one is other free) = elim (named_free (decimal k) z k j (number_kind k other) kind free) [ inl f ↦ inl f | inr off ↦ inr (λ t. off t.1) ]
+  free_or_untouched z j kind _ (by_drop {n = n} one is) = inr (λ t. aside_apart n one z j kind t.1)
+  free_or_untouched z j kind _ by_sync = inr (λ t. t)
 
   -- a step of the moves touches no number but a free one
   pub untouched : (z : List ℕ) (j : ℕ) → kind_of z ≡ Number j → (Free j → ⊥) → (s : Step) → Moves s → Touches p z s → ⊥
-  untouched z j kind marked _ (by_take {n = n} one is free) t = by t.1
-    where
-      by : (entry_text (Number n) ≡ z) ⊎ (aside_name run n ≡ z) → ⊥
-      by (inl e) = marked (subst Free (named_apart n one (entry_text (Number n)) z j (kind_of-entry_text (Number n) one) kind e) free)
-      by (inr e) = aside_apart n one z j kind e
-  untouched z j kind marked _ (by_give {k = k} one is other free) t = marked (subst Free (named_apart k other (decimal k) z j (number_kind k other) kind t.1) free)
-  untouched z j kind marked _ (by_drop {n = n} one is) t = aside_apart n one z j kind t.1
-  untouched z j kind marked _ by_sync t = t
+  untouched z j kind marked s m t = elim (free_or_untouched z j kind s m) [ inl f ↦ marked f | inr off ↦ off t ]
 
   -- it stays so
-  there_kept : (k : Marking) (g : Knowing) → k.folder ≡ p → (own : List Deed) (s : Step) (a : Answer) → Moves s → (f : Withdrawn k g Free own) → (z : List ℕ) (j : ℕ) → kind_of z ≡ Number j → k.says f.text j ≡ true → Sees k.folder z true (did s a ∷ own)
-  there_kept k g same own s a m f z j kind marked = subst (λ q. Sees q z true (did s a ∷ own)) (sym same) (minding.on (moves_stay s m) (untouched z j kind (λ free. not_both (k.says f.text j) marked (f.silent j free)) s m) (subst (λ q. Sees q z true own) same (f.there z j kind marked)))
+  there_kept : (k : Marking) (g : Knowing) → k.folder ≡ p → (own : List Deed) (s : Step) (a : Answer) → Moves s → ((n : ℕ) → g.Unmarks n own → g.Unmarks n (did s a ∷ own)) → Withdrawn k g Free own → Withdrawn k g Free (did s a ∷ own)
+  there_kept k g same own s a m keeps f = record {
+    free = λ n free. keeps n (f.free n free);
+    there = λ z j kind. elim (f.there z j kind) [
+      | inl u ↦ inl (keeps j u)
+      | inr t ↦ elim (free_or_untouched z j kind s m) [
+        | inl free ↦ inl (keeps j (f.free j free))
+        | inr off ↦ inr (subst (λ q. Sees q z true (did s a ∷ own)) (sym same) (minding.on (moves_stay s m) off (subst (λ q. Sees q z true own) same t)))
+      ]
+    ];
+  }
 
   pub public_kept : (sequence : List ℕ) (own : List Deed) (s : Step) (a : Answer) → Moves s → Withdrawn (public_marks path name sequence) (by_base run (public_marks path name sequence)) Free own
       → Withdrawn (public_marks path name sequence) (by_base run (public_marks path name sequence)) Free (did s a ∷ own)
-  public_kept sequence own s a m f = record {
-    text = f.text;
-    knows = base_kept run p (public_marks path name sequence).name f.text own s a leaves f.knows;
-    silent = f.silent;
-    free = λ n free. let u = f.free n free in (u.0, base_kept run p (public_marks path name sequence).name u.0 own s a leaves u.1, u.2);
-    there = there_kept (public_marks path name sequence) (by_base run (public_marks path name sequence)) refl own s a m f;
-  }
+  public_kept sequence own s a m f =
+      there_kept (public_marks path name sequence) (by_base run (public_marks path name sequence)) refl own s a m (λ n u. (u.0, base_kept run p (public_marks path name sequence).name u.0 own s a leaves u.1, u.2)) f
     where
       leaves : LeavesBase p (public_marks path name sequence).name s
       leaves = subst (λ z. LeavesBase p z s) text_name (texts_left s m)
 
   pub private_kept : (sequence : List ℕ) (own : List Deed) (s : Step) (a : Answer) → Moves s → Withdrawn (private_marks path name sequence) (by_text run (private_marks path name sequence)) Free own
       → Withdrawn (private_marks path name sequence) (by_text run (private_marks path name sequence)) Free (did s a ∷ own)
-  private_kept sequence own s a m f = record {
-    text = f.text;
-    knows = (apart.on (moves_stay s m) (unread s m a) f.knows.0, apart.on (moves_stay s m) (λ temp. no_context s m temp context_name) f.knows.1);
-    silent = f.silent;
-    free = λ n free. let u = f.free n free in (apart.on (moves_stay s m) (λ temp. no_context s m temp context_name) u.0, apart.on (moves_stay s m) (λ temp. no_context s m temp context_name) u.1);
-    there = there_kept (private_marks path name sequence) (by_text run (private_marks path name sequence)) refl own s a m f;
-  }
+  private_kept sequence own s a m f =
+      there_kept (private_marks path name sequence) (by_text run (private_marks path name sequence)) refl own s a m
+      (λ n u. (apart.on (moves_stay s m) (λ temp. no_context s m temp context_name) u.0, apart.on (moves_stay s m) (λ temp. no_context s m temp context_name) u.1)) f
 
   pub withdrawn_kept : (own : List Deed) (s : Step) (a : Answer) → Moves s → AreWithdrawn run path name Free own → AreWithdrawn run path name Free (did s a ∷ own)
   withdrawn_kept own s a m f = record { public = λ sequence. public_kept sequence own s a m (f.public sequence); private = λ sequence. private_kept sequence own s a m (f.private sequence) }
@@ -199,8 +205,8 @@ module _ (run : ℕ) (few : run < 2 ^ 128) (path name takes : List ℕ) (Free : 
     take_minds : (own : List Deed) (n : ℕ) → IsMsgNum n → Free n → AreWithdrawn run path name Free own → MindsAll Of run own (taking run p n)
     take_minds own n one free f =
         of_folder own (taking run p n) (λ q c. c) (λ other temp e. cc (e))
-        (λ sequence. takes_plain (kind_of-entry_text (Number n) one) (is_taken_so run few n one) ((f.public sequence).free n free) ((f.public sequence).text, (f.public sequence).knows, (f.public sequence).there))
-        (λ sequence. takes_plain (kind_of-entry_text (Number n) one) (is_taken_so run few n one) ((f.private sequence).free n free) ((f.private sequence).text, (f.private sequence).knows, (f.private sequence).there))
+        (λ sequence. takes_unmarked (kind_of-entry_text (Number n) one) (is_taken_so run few n one) ((f.public sequence).free n free) (f.public sequence).there)
+        (λ sequence. takes_unmarked (kind_of-entry_text (Number n) one) (is_taken_so run few n one) ((f.private sequence).free n free) (f.private sequence).there)
 
     give_minds : (own : List Deed) (n k : ℕ) → IsMsgNum k → Free k → AreWithdrawn run path name Free own → MindsAll Of run own (giving run p n k)
     give_minds own n k one free f =

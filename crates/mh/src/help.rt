@@ -10,6 +10,7 @@ mod pick;
 mod refile;
 mod rmm;
 mod scan;
+mod sortm;
 
 use crate::start::StartFault;
 use std::io::Write;
@@ -37,6 +38,7 @@ fn command_page(word: &str) -> Option<&'static str> {
         "refile" => Some(refile::PAGE),
         "rmm" => Some(rmm::PAGE),
         "scan" => Some(scan::PAGE),
+        "sortm" => Some(sortm::PAGE),
         _ => None,
     }
 }

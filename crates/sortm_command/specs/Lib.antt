@@ -3,3 +3,9 @@ pub mod Marking
 pub mod Ordered
 pub mod Reading
 pub mod Sort
+pub mod SortAlone
+pub mod SortAnswers
+pub mod SortDone
+pub mod SortMoves
+pub mod SortOutcome
+pub mod SortPledge

@@ -4,6 +4,8 @@ ghost use Rattle.file_plans.specs.Follows.{Follows, by_hand};
 ghost use Rattle.step_plans.specs.CommandFaults.{command_cause};
 ghost use Rattle.command_stages.specs.Chosen.{IsValue};
 ghost use Rattle.sortm_command.specs.Sort.{chosen_from, chosen_sorted, opened_sorted, sortm as sortm_plan};
+ghost use Rattle.sortm_command.specs.SortAlone.{SortsIfUnfaulted};
+ghost use Rattle.sortm_command.specs.SortPledge.{PromisesSteps};
 
 use crate::SortJob;
 use crate::moving::{move_all, moves};
@@ -85,6 +87,8 @@ pub fn sortm<F: Files>(
     job: &SortJob,
 ) -> Result<(), CommandFault>
     ensures plan { Follows hand.old.run command_cause (sortm_plan hand.old.run hand.old.mail job.now) (by_hand hand.old.kept (F.state files.old)) (by_hand hand.new.kept (F.state files.new)) result }
+    ensures alone { SortsIfUnfaulted hand.old.run hand.old.mail job.now hand.old.kept result (F.state files.old) (F.state files.new) }
+    ensures steps { PromisesSteps hand.old.run hand.old.mail job.now (by_hand hand.old.kept (F.state files.old)) (by_hand hand.new.kept (F.state files.new)) }
     ensures run { hand.new.run ≡ hand.old.run }
     ensures mail { hand.new.mail ≡ hand.old.mail }
 {
