@@ -14,4 +14,4 @@ mod walk;
 
 pub use files::{file_name, storing_line};
 pub use message::MessageParts;
-pub use rows::header_line;
+pub use rows::{header_line, shown_path};

@@ -36,7 +36,8 @@ fn number_text(alloc: Global, number: u64) -> Result<Text, AllocError>
     Ok(text)
 }
 
-fn shown_path(alloc: Global, path: &PartPath) -> Result<Text, AllocError>
+/// The path of a part as a word.
+pub fn shown_path(alloc: Global, path: &PartPath) -> Result<Text, AllocError>
     ensures { IfOk result (λ text. text ≡ text_of_path path.now) }
 {
     let mut text = Text::new(alloc);

@@ -1,0 +1,2 @@
+pub mod ListPledged
+pub mod Turns

@@ -1,0 +1,12 @@
+use Rattle.file_plans.proofs.Following.{go, stop}
+use Rattle.mhlist_command.proofs.Turns.{turn, end}
+use Rattle.mhlist_command.proofs.rows.list_all.Goals as goal
+
+pub returns-in_err-list_one : goal.returns-in_err-list_one
+returns-in_err-list_one g c = λ h. c.loop-number.invariant h _ _ (turn _ _ _ _ _ _ _ _ _ c.loop-number-test.true c.number-item.is (stop _ (c.in_err-list_one.ensures h) c.from_residual.ensures))
+
+pub loop-number-preserved : goal.loop-number-preserved
+loop-number-preserved g c = λ h z r f. c.loop-number.invariant h z r (turn _ _ _ _ _ _ _ _ _ c.loop-number-test.true c.number-item.is (go _ (c.in_ok-list_one.ensures h) f))
+
+pub returns : goal.returns
+returns g c = λ h. c.loop-number.invariant h _ _ (end _ _ _ _ _ _ c.loop-number-test.false)

@@ -1,0 +1,3 @@
+pub mod ListPledge
+pub mod Listing
+pub mod Values

@@ -1,0 +1,72 @@
+// `mhlist`: rows of the parts of chosen messages.
+ghost use Rattle.std.specs.Prelude.{◌≡◌};
+ghost use Rattle.file_plans.specs.Follows.{Follows, by_out};
+ghost use Rattle.step_plans.specs.CommandFaults.{command_cause};
+ghost use Rattle.mh_looks.specs.Scan.{entries_seen};
+ghost use Rattle.mhlist_command.specs.ListPledge.{PromisesSteps};
+ghost use Rattle.mhlist_command.specs.Listing.{chosen_seen, mhlist as mhlist_plan};
+ghost use Rattle.mhlist_command.specs.Values.{AreValue};
+
+use crate::ListJob;
+use crate::rows::{list_all, say_header};
+use command_stages::{
+    choose, folder_place, list_folder, make_current, numbers, read_sequences_text,
+};
+use folder_files::Files;
+use mh_base::{Bytes, MsgNum, NameList, Sink};
+use std::alloc::Global;
+use step_plans::{CommandFault, Hand};
+use told_folders::{listed, sequences_listed};
+
+/// The messages that the words choose.
+fn chosen(
+    alloc: Global,
+    hand: &Hand,
+    job: &ListJob,
+    names: &NameList,
+    text: &Bytes,
+) -> Result<Vec<MsgNum>, CommandFault>
+    ensures { AreValue (chosen_seen job.now names.now text.now (entries_seen hand.now.kept.context)) result }
+{
+    let listing = listed(alloc, names)?;
+    let sequences = sequences_listed(alloc, hand, &job.folder, text.as_slice(), &listing)?;
+    let set = choose(
+        alloc,
+        &job.specs,
+        &listing,
+        &sequences,
+        job.negation.as_slice(),
+    )?;
+    Ok(numbers(alloc, &set)?)
+}
+
+/// Writes a header line, and then the rows of each chosen message: of its parts that are wanted, or of all. A message that lacks one of those that are wanted
+/// ends the call, by the first of them, before a row of it is written. Then the folder becomes the current one.
+pub fn mhlist<F: Files, O: Sink>(
+    alloc: Global,
+    hand: &mut Hand,
+    files: &mut F,
+    out: &mut O,
+    job: &ListJob,
+) -> Result<(), CommandFault>
+    ensures plan { Follows hand.old.run command_cause (mhlist_plan hand.old.run hand.old.mail job.now) (by_out hand.old.kept (F.state files.old) (O.state out.old)) (by_out hand.new.kept (F.state files.new) (O.state out.new)) result }
+    ensures steps { PromisesSteps hand.old.run hand.old.mail job.now (by_out hand.old.kept (F.state files.old) (O.state out.old)) (by_out hand.new.kept (F.state files.new) (O.state out.new)) }
+    ensures run { hand.new.run ≡ hand.old.run }
+    ensures mail { hand.new.mail ≡ hand.old.mail }
+{
+    let place = folder_place(alloc, hand, &job.folder)?;
+    let names = list_folder(alloc, hand.run(), files, &place, &job.folder)?;
+    let text = read_sequences_text(alloc, hand.run(), files, &place)?;
+    let found = chosen(alloc, hand, job, &names, &text)?;
+    say_header(alloc, out)?;
+    list_all(
+        alloc,
+        hand.run(),
+        files,
+        out,
+        job.parts.as_slice(),
+        &place,
+        found.as_slice(),
+    )?;
+    make_current(alloc, hand, files, &job.folder)
+}
