@@ -1,2 +1,5 @@
+pub mod ListAlone
+pub mod ListGiven
 pub mod ListPledged
+pub mod RowsGiven
 pub mod Turns

@@ -1,3 +1,4 @@
+pub mod ListOutcome
 pub mod ListPledge
 pub mod Listing
 pub mod Values

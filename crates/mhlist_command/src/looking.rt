@@ -3,6 +3,8 @@ ghost use Rattle.std.specs.Prelude.{◌≡◌};
 ghost use Rattle.file_plans.specs.Follows.{Follows, by_out};
 ghost use Rattle.step_plans.specs.CommandFaults.{command_cause};
 ghost use Rattle.mh_looks.specs.Scan.{entries_seen};
+ghost use Rattle.told_folders.specs.ToldAlone.{TellsIfUnfaulted};
+ghost use Rattle.mhlist_command.specs.ListOutcome.{mhlist_work};
 ghost use Rattle.mhlist_command.specs.ListPledge.{PromisesSteps};
 ghost use Rattle.mhlist_command.specs.Listing.{chosen_seen, mhlist as mhlist_plan};
 ghost use Rattle.mhlist_command.specs.Values.{AreValue};
@@ -50,6 +52,7 @@ pub fn mhlist<F: Files, O: Sink>(
     job: &ListJob,
 ) -> Result<(), CommandFault>
     ensures plan { Follows hand.old.run command_cause (mhlist_plan hand.old.run hand.old.mail job.now) (by_out hand.old.kept (F.state files.old) (O.state out.old)) (by_out hand.new.kept (F.state files.new) (O.state out.new)) result }
+    ensures alone { TellsIfUnfaulted hand.old.run hand.old.mail job.now.folder hand.old.kept (λ entries held m. mhlist_work hand.old.mail entries job.now m) result (F.state files.old) (F.state files.new) (O.state out.old) (O.state out.new) }
     ensures steps { PromisesSteps hand.old.run hand.old.mail job.now (by_out hand.old.kept (F.state files.old) (O.state out.old)) (by_out hand.new.kept (F.state files.new) (O.state out.new)) }
     ensures run { hand.new.run ≡ hand.old.run }
     ensures mail { hand.new.mail ≡ hand.old.mail }

@@ -3,6 +3,7 @@ use Rattle.file_plans.proofs.Following.{go, no_room, stop, whole}
 use Rattle.mh_looks.specs.Scan.{entries_seen}
 use Rattle.command_stages.proofs.Values.{seen_off, seen_on}
 use Rattle.mhlist_command.specs.Listing.{chosen_seen, mhlist}
+use Rattle.mhlist_command.proofs.ListAlone.{list_alone}
 use Rattle.mhlist_command.proofs.ListPledged.{list_promises}
 use Rattle.mhlist_command.proofs.looking.mhlist.Goals as goal
 
@@ -72,3 +73,24 @@ returns-in_err-list_all-clause-steps g c = λ few. list_promises _ few _ _ _ _ _
 
 pub returns-clause-steps : goal.returns-clause-steps
 returns-clause-steps g c = λ few. list_promises _ few _ _ _ _ _ (returns-clause-plan g c)
+
+pub returns-in_err-place-clause-alone : goal.returns-in_err-place-clause-alone
+returns-in_err-place-clause-alone g c = list_alone _ _ _ _ _ _ _ _ _ _ (returns-in_err-place-clause-plan g c)
+
+pub returns-in_err-names-clause-alone : goal.returns-in_err-names-clause-alone
+returns-in_err-names-clause-alone g c = list_alone _ _ _ _ _ _ _ _ _ _ (returns-in_err-names-clause-plan g c)
+
+pub returns-in_err-text-clause-alone : goal.returns-in_err-text-clause-alone
+returns-in_err-text-clause-alone g c = list_alone _ _ _ _ _ _ _ _ _ _ (returns-in_err-text-clause-plan g c)
+
+pub returns-in_err-found-clause-alone : goal.returns-in_err-found-clause-alone
+returns-in_err-found-clause-alone g c = list_alone _ _ _ _ _ _ _ _ _ _ (returns-in_err-found-clause-plan g c)
+
+pub returns-in_err-say_header-clause-alone : goal.returns-in_err-say_header-clause-alone
+returns-in_err-say_header-clause-alone g c = list_alone _ _ _ _ _ _ _ _ _ _ (returns-in_err-say_header-clause-plan g c)
+
+pub returns-in_err-list_all-clause-alone : goal.returns-in_err-list_all-clause-alone
+returns-in_err-list_all-clause-alone g c = list_alone _ _ _ _ _ _ _ _ _ _ (returns-in_err-list_all-clause-plan g c)
+
+pub returns-clause-alone : goal.returns-clause-alone
+returns-clause-alone g c = list_alone _ _ _ _ _ _ _ _ _ _ (returns-clause-plan g c)
