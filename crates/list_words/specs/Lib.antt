@@ -1,0 +1,3 @@
+pub mod ListWords
+pub mod Parts
+pub mod Table

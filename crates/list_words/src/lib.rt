@@ -1,0 +1,8 @@
+//! What the words of `mhlist` say.
+#![tactic(auto)]
+
+mod parts;
+mod table;
+mod words;
+
+pub use words::{ListWords, list_words};

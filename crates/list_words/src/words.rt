@@ -1,0 +1,75 @@
+// The words of `mhlist`.
+ghost use Rattle.std.specs.Prelude.{◌≡◌, IfOk, Ok, map, option_map};
+ghost use Rattle.std.specs.Str.{chars};
+ghost use Rattle.std.specs.String.{string_bytes};
+ghost use Rattle.command_words.specs.FolderWords.{folder_named};
+ghost use Rattle.command_words.specs.Results.{IsSaid};
+ghost use Rattle.list_words.specs.ListWords.{items_said as items_said_of, list_said, with_folder, words_of};
+
+use crate::parts::{parts, wrong_part};
+use crate::table::list_table;
+use command_words::{
+    Ended, all_words, folder_said, folder_word, messages_or, read_items, wrong_at, wrong_earliest,
+};
+use mh_base::{FolderName, List, Text, TextList, WordWhy};
+use mh_profile::Entries;
+use mh_words::ItemList;
+use mime_tree::PartPath;
+use std::alloc::{AllocError, Global};
+
+/// The words of `mhlist`: the folder, where they name one; the messages' names; and the parts that are wanted, where they name some.
+#[derive(Drop)]
+pub struct ListWords {
+    pub folder: Option<FolderName>,
+    pub specs: TextList,
+    pub parts: List<PartPath>,
+}
+
+#[tactic(auto, using(command_words::proofs::Texts::chars_cur))]
+fn words_said(
+    alloc: Global,
+    items: &ItemList,
+    folder: Option<FolderName>,
+) -> Result<ListWords, AllocError>
+    ensures { IfOk result (λ words. words ≡ words_of folder items.now) }
+{
+    Ok(ListWords {
+        folder,
+        specs: messages_or(alloc, "cur", items)?,
+        parts: parts(alloc, items)?,
+    })
+}
+
+/// What the items say, with the folder of this word.
+fn word_said(alloc: Global, items: &ItemList, word: Option<&Text>) -> Result<ListWords, Ended>
+    ensures { IsSaid (with_folder items.now (folder_named (option_map (λ w. w.now) word.entry))) result }
+{
+    let folder = folder_said(alloc, word)?;
+    Ok(words_said(alloc, items, folder)?)
+}
+
+/// What the items of the words say.
+fn items_said(alloc: Global, all: &TextList, items: &ItemList) -> Result<ListWords, Ended>
+    ensures { IsSaid (items_said_of all.now (Ok items.now)) result }
+{
+    let wrong = wrong_part(alloc, items)?;
+    match folder_word(items) {
+        Ok(word) => {
+            if let Some(place) = wrong {
+                return Err(wrong_at(alloc, all, place, WordWhy::BadValue)?);
+            }
+            word_said(alloc, items, word)
+        }
+        Err(second) => Err(wrong_earliest(alloc, all, wrong, second)?),
+    }
+}
+
+/// What the words of `mhlist` say, those of the profile first.
+pub fn list_words(alloc: Global, profile: &Entries, words: &[String]) -> Result<ListWords, Ended>
+    ensures { IsSaid (list_said profile.now (map chars (map string_bytes words.now))) result }
+{
+    let table = list_table(alloc)?;
+    let all = all_words(alloc, profile, b"mhlist", words)?;
+    let items = read_items(alloc, &table, &all)?;
+    items_said(alloc, &all, &items)
+}
