@@ -1,0 +1,9 @@
+mod Attributing
+mod Commenting
+mod Drafting
+mod Filing
+mod Heading
+mod Joining
+mod Reading
+mod Signing
+mod Wording
