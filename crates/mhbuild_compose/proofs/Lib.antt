@@ -1,0 +1,7 @@
+mod Chains
+mod Keying
+mod Lining
+mod Noding
+mod Passing
+mod Texts
+mod Walking
