@@ -1,3 +1,4 @@
+mod Alone
 mod Attributing
 mod Commenting
 mod Drafting

@@ -14,6 +14,7 @@ use Rattle.mh_drafts.specs.Drafts.{Parts, none, leaf, multipart, written, AreSom
 use Rattle.mh_drafts.specs.Items.{Gathered, all_of, directed, gathered, prepended, texted, items_of}
 use Rattle.mh_drafts.specs.Marks.{Mark, plain, order, mark_of, marks_from, marks_in, open_after, open_behind, placed, settled, is_said}
 use Rattle.mh_drafts.specs.Outcomes.{HasParts}
+use Rattle.mh_drafts.proofs.Alone.{one_tree}
 use Rattle.mh_drafts.specs.Signs.{directive_sign, sign_of, ends_in, is_bare, is_wrong, first_wrong}
 
 -- parts of open multiparts, the innermost first, with the ends between them
@@ -274,6 +275,7 @@ ended g items t [] n are i count le sound = record {
   parts = with_text g.text g.said t;
   are_written = are ∙ spread_text g.text g.said t [] g.items i;
   are_sound = sound_text 32 g.text g.said t sound;
+  are_alone = λ others is. one_tree others (with_text g.text g.said t) (sym is ∙ are ∙ spread_text g.text g.said t [] g.items i);
 }
 ended g items t (u ∷ us) n are i count le sound = absurd (omega arith)
 

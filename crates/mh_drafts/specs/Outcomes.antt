@@ -15,11 +15,12 @@ abbrev pub IsRefused : List ℕ → DraftFault → Type 0
 IsRefused bytes (Bad line) = first_wrong_line bytes ≡ Some line
 IsRefused bytes Memory = Unit {0}
 
--- the items write parts: each multipart has a part, and at most 32 multiparts stand in one another
+-- the items write parts, and no others: each multipart has a part, and at most 32 multiparts stand in one another
 pub record HasParts (items : List Item) : Type 0 where
   pub parts : Parts
   pub are_written : items ≡ written parts
   pub are_sound : AreSound 32 parts
+  pub are_alone : (others : Parts) → items ≡ written others → others ≡ parts
 
 -- the body's first wrong line, or want of memory
 abbrev pub IsWrongBody : List ℕ → List ℕ → DraftFault → Type 0
