@@ -8,4 +8,5 @@ pub mod Messages
 pub mod Nodes
 pub mod Pieces
 pub mod Roots
+pub mod Trees
 pub mod Written
