@@ -1,6 +1,6 @@
 // The attributes of a type, read.
-ghost use Rattle.std.specs.Prelude.{◌≡◌, ◌<◌, ◌≤◌, ⊤, length, MatchOption, Some, None, IfOk, option_and_then};
-ghost use Rattle.mime_tree.specs.Tokens.{token_in, worth_in};
+ghost use Rattle.std.specs.Prelude.{◌≡◌, ◌<◌, ◌≤◌, ⊤, length, MatchOption, Some, None, IfOk};
+ghost use Rattle.mime_tree.specs.Tokens.{worth_in};
 ghost use Rattle.mime_tree.specs.Words.{word_of};
 ghost use Rattle.mh_drafts.specs.Attributes.{attribute_in, attributes_in, named_in, valued_in};
 ghost use Rattle.mh_drafts.specs.Blanks.{behind_byte as rest_behind_byte, behind_word as rest_behind_word};

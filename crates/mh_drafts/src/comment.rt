@@ -1,5 +1,5 @@
 // Where comments end.
-ghost use Rattle.std.specs.Prelude.{◌≡◌, ◌≤◌, ◌<◌, ◌^◌, ◌+◌, ◌==◌, ◌&&◌, not, false, ⊤, length, MatchOption, Some, None};
+ghost use Rattle.std.specs.Prelude.{◌≡◌, ◌≤◌, ◌<◌, ◌^◌, ◌+◌, ◌==◌, ◌&&◌, false, ⊤, length, MatchOption, Some, None};
 ghost use Rattle.mh_drafts.specs.Comments.{closes as closes_comment, depth_behind as depth_behind_byte, protects as protects_next, comment_end as end_of_comment};
 
 /// A backslash that protects the next byte.

@@ -1,6 +1,6 @@
 // Drafts.
-ghost use Rattle.std.specs.Prelude.{◌≡◌, ◌≤◌, ℕ, length, IfOk, IfErr, None};
-ghost use Rattle.mail_headers.specs.Message.{rest_of, body_of};
+ghost use Rattle.std.specs.Prelude.{◌≡◌, ◌≤◌, length, IfOk, IfErr, None};
+ghost use Rattle.mail_headers.specs.Message.{body_of};
 ghost use Rattle.mh_drafts.specs.Drafts.{first_wrong_line};
 ghost use Rattle.mh_drafts.specs.Headers.{fields_in};
 ghost use Rattle.mh_drafts.specs.Items.{items_of, wants_of};

@@ -1,7 +1,6 @@
 // What stands between brackets.
-ghost use Rattle.std.specs.Prelude.{◌≡◌, ◌≤◌, ◌<◌, ◌==◌, ⊤, not, length, MatchOption, Some, None, false};
+ghost use Rattle.std.specs.Prelude.{◌≡◌, ◌≤◌, ◌<◌, ◌==◌, ⊤, not, length, MatchOption, Some, None};
 ghost use Rattle.std.specs.List.{prefix_len};
-ghost use Rattle.mh_drafts.specs.Comments.{comment_end as end_of_comment};
 ghost use Rattle.mh_drafts.specs.Enclosed.{enclosed_in, comment_in, byte_place as place_of_byte, closed_at};
 ghost use Rattle.mh_drafts.specs.RawEnclosed.{enclosed_of};
 

@@ -1,9 +1,6 @@
 // The directive that makes messages parts.
-ghost use Rattle.std.specs.Prelude.{◌≡◌, ◌++◌, ◌∷◌, [], map, filter, take, drop, IfOk, OnOk, Some};
-ghost use Rattle.mail_headers.specs.Lines.{is_blank as is_blank_byte};
+ghost use Rattle.std.specs.Prelude.{◌≡◌, ◌++◌, ◌∷◌, [], map, filter, IfOk, OnOk, Some};
 ghost use Rattle.mail_text.specs.ShownBytes.{shown};
-ghost use Rattle.mh_drafts.specs.declared.directive.Directive.TheVariants.{Part as PartLine};
-ghost use Rattle.mh_drafts.specs.declared.item.Leaf.TheVariants.{Messages as MessageLeaf};
 ghost use Rattle.mh_drafts.specs.Blanks.{is_some_text, words_in as words_of};
 ghost use Rattle.mh_drafts.specs.Forwards.{forwarded, messages_in, named_messages};
 

@@ -2,9 +2,7 @@
 ghost use Rattle.std.specs.Prelude.{◌≡◌, ◌≤◌, ◌+◌, ◌^◌, ◌<◌, ◌++◌, ◌∷◌, [], false, ◌||◌, length, IfOk, OnOk, List};
 ghost use Rattle.mh_drafts.specs.Gatherings.{completed};
 ghost use Rattle.mh_drafts.specs.Items.{texted, whole_of, item_before, want_before};
-ghost use Rattle.mh_drafts.specs.Marks.{Mark, plain as text_mark, order as order_mark, marks_in, mark_of, placed, open_after, open_behind as open_behind_directive, is_said as is_some_line};
-ghost use Rattle.mh_drafts.specs.RawLines.{line_mark};
-ghost use Rattle.mh_drafts.specs.Signs.{directive_sign, sign_of};
+ghost use Rattle.mh_drafts.specs.Marks.{Mark, plain as text_mark, order as order_mark, marks_in, mark_of, placed, open_after, open_behind as open_behind_directive};
 
 use crate::directive::Directive;
 use crate::line::{Line, read_directive, settled};

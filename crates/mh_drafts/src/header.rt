@@ -1,9 +1,8 @@
 // The header of a draft.
-ghost use Rattle.std.specs.Prelude.{◌≡◌, ◌≤◌, ◌<◌, ◌==◌, ◌-◌, ◌+◌, ◌^◌, length, take, codes, MatchOption, Some, None};
+ghost use Rattle.std.specs.Prelude.{◌≡◌, ◌≤◌, ◌<◌, ◌==◌, ◌-◌, ◌+◌, length, take};
 ghost use Rattle.std.specs.List.{count_by};
 ghost use Rattle.mail_headers.specs.Fields.{same_name};
-ghost use Rattle.mail_headers.specs.Message.{rest_of};
-ghost use Rattle.mh_drafts.specs.Headers.{is_reserved as is_reserved_name, before as bytes_before, line_at as line_number_at, reserved_in};
+ghost use Rattle.mh_drafts.specs.Headers.{is_reserved as is_reserved_name, before as bytes_before, line_at as line_number_at};
 ghost use Rattle.mh_drafts.specs.RawHeaders.{IsHeaderOf};
 
 use mail_headers::{Message, folded_line_len};

@@ -1,7 +1,7 @@
 // What a line of a draft's body is.
-ghost use Rattle.std.specs.Prelude.{◌≡◌, ℕ, List, take, drop, length, IfOk, MatchOption, Some, None, bytes_eq, codes, ◌+◌, ◌-◌, ◌≤◌, ◌<◌, ◌^◌};
-ghost use Rattle.mh_drafts.specs.Directives.{begin_in, begin_by, end_in, kind_in, directive_in};
-ghost use Rattle.mh_drafts.specs.Marks.{mark_of, settled as settled_where, open_behind as open_behind_directive};
+ghost use Rattle.std.specs.Prelude.{◌≡◌, IfOk, Some, None, ◌-◌, ◌<◌};
+ghost use Rattle.mh_drafts.specs.Directives.{begin_in, end_in, kind_in, directive_in};
+ghost use Rattle.mh_drafts.specs.Marks.{mark_of, settled as settled_where};
 ghost use Rattle.mh_drafts.specs.RawLines.{line_mark, hashed_line};
 
 use crate::Kind;

@@ -1,5 +1,5 @@
 // The directive that makes a file a part.
-ghost use Rattle.std.specs.Prelude.{◌≡◌, ℕ, List, map, length, ◌==◌, IfOk, Option, option_map, codes, bytes_eq, ◌||◌};
+ghost use Rattle.std.specs.Prelude.{◌≡◌, map, ◌==◌, IfOk, Option, option_map, ◌||◌};
 ghost use Rattle.std.specs.Char.{to_ascii_lowercase};
 ghost use Rattle.mh_drafts.specs.PartLines.{file_part, labelled, is_no_file, label_with, part_in};
 ghost use Rattle.mh_drafts.specs.RawEnclosed.{heading_of, trail_of};

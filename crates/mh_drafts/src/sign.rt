@@ -1,7 +1,7 @@
 // Which lines are wrong.
 ghost use Rattle.std.specs.Prelude.{◌≡◌, ◌<◌, ◌≤◌, ◌+◌, ◌^◌, ⊤, length, MatchOption, Some, None, if◌then◌else◌};
 ghost use Rattle.mh_drafts.specs.Marks.{is_said as is_some_line};
-ghost use Rattle.mh_drafts.specs.Signs.{directive_sign, text_sign, ends_in, is_bare, is_wrong as is_wrong_before, first_wrong as first_wrong_of};
+ghost use Rattle.mh_drafts.specs.Signs.{directive_sign, text_sign, is_bare, first_wrong as first_wrong_of};
 ghost use Rattle.mh_drafts.specs.Behinds.{ends_behind, bare_behind, wrong_by};
 
 use crate::directive::Directive;

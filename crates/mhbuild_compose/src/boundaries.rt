@@ -1,11 +1,11 @@
 // Boundaries.
-ghost use Rattle.std.specs.Prelude.{◌≡◌, ◌++◌, ◌∷◌, ◌<◌, [], false, OnOk, IfOk, codes};
+ghost use Rattle.std.specs.Prelude.{◌≡◌, ◌++◌, ◌<◌, false, OnOk};
 ghost use Rattle.std.specs.Fmt.{digit_glyph};
 ghost use Rattle.mh_base.specs.Numbers.{hex};
 ghost use Rattle.mhbuild_compose.specs.Boundaries.{boundary_of, mark_of};
 
 use mh_base::Bytes;
-use std::alloc::{AllocError, Global};
+use std::alloc::AllocError;
 
 fn digit(value: u8) -> u8
     requires { value < 16 }

@@ -1,5 +1,5 @@
 // Messages composed.
-ghost use Rattle.std.specs.Prelude.{◌≡◌, ◌++◌, ◌==◌, ℕ, [], List, Bool, IfOk, OnOk, codes};
+ghost use Rattle.std.specs.Prelude.{◌≡◌, ◌++◌, [], IfOk, OnOk};
 ghost use Rattle.mhbuild_compose.specs.Messages.{IsComposed, ended, opened};
 ghost use Rattle.mhbuild_compose.specs.Written.{written};
 

@@ -1,5 +1,5 @@
 // Which multiparts have bytes above 127 as they are.
-ghost use Rattle.std.specs.Prelude.{◌≡◌, ◌∷◌, [], OnOk, IfOk, ◌||◌, Bool, List};
+ghost use Rattle.std.specs.Prelude.{◌≡◌, OnOk, IfOk, ◌||◌, List};
 ghost use Rattle.mhbuild_compose.specs.Eights.{top as top_of, below as below_top, eights_with, flags_with, flags_of};
 
 use crate::node::Node;

@@ -1,5 +1,5 @@
 // How a body is carried.
-ghost use Rattle.std.specs.Prelude.{◌≡◌, ◌≤◌, ◌&&◌, nat_le, not, ◌==◌, IfOk, bytes_eq, codes};
+ghost use Rattle.std.specs.Prelude.{◌≡◌, ◌&&◌, ◌==◌, IfOk};
 ghost use Rattle.std.specs.List.{list_any};
 ghost use Rattle.mhbuild_compose.specs.Encodings.{column_behind as column_behind_byte, encoding_of, encoded_by, is_plain, is_high, is_seven as is_seven_text};
 

@@ -1,13 +1,13 @@
 // The header lines of a part.
-ghost use Rattle.std.specs.Prelude.{◌≡◌, ◌++◌, ◌∷◌, [], OnOk, IfOk, codes, ◌&&◌, not, Bool, ◌||◌, ◌==◌};
+ghost use Rattle.std.specs.Prelude.{◌≡◌, ◌++◌, OnOk, ◌&&◌, ◌||◌, ◌==◌};
 ghost use Rattle.std.specs.List.{list_any};
 ghost use Rattle.mail_headers.specs.Fields.{same_name as are_same};
 ghost use Rattle.mhbuild_compose.specs.Heads.{attribute_text, attributes_text, bracketed, charset_text, is_charset, needs_charset as wants_charset, encoding_line, head_of, name_text, protected_text, protected_byte, type_text};
 
-use crate::encoding::{Encoding, is_high_text};
+use crate::encoding::Encoding;
 use mh_base::Bytes;
 use mh_drafts::{Attribute, Label};
-use std::alloc::{AllocError, Global};
+use std::alloc::AllocError;
 
 fn put_protected_byte(out: &mut Bytes, byte: u8) -> Result<(), AllocError>
     ensures { OnOk result (out.new ≡ out.old ++ protected_byte byte) }

@@ -1,9 +1,8 @@
 // The keys of boundaries.
-ghost use Rattle.std.specs.Prelude.{◌≡◌, ◌≤◌, ◌<◌, ◌+◌, ◌++◌, ◌||◌, ◌∷◌, [], true, false, ℕ, List, take, length, IfOk, OnOk, codes, bytes_eq, MatchOption, None, Some, ◌-◌};
+ghost use Rattle.std.specs.Prelude.{◌≡◌, ◌≤◌, ◌<◌, ◌+◌, ◌||◌, ℕ, List, take, length, IfOk, OnOk, bytes_eq, MatchOption, None, Some, ◌-◌};
 ghost use Rattle.std.specs.List.{list_any};
 ghost use Rattle.mh_base.specs.Numbers.{hex};
 ghost use Rattle.mime_tree.specs.BoundaryLines.{lines, behind_front};
-ghost use Rattle.mhbuild_compose.specs.Boundaries.{mark_of};
 ghost use Rattle.mhbuild_compose.specs.KeySets.{has_digits};
 ghost use Rattle.mhbuild_compose.specs.Keys.{AreKeys, IsLeastFree, begins_in, is_begin, node_takes, takes, takes_any, hyphened};
 

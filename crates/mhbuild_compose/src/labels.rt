@@ -1,5 +1,5 @@
 // The labels of parts that no directive describes.
-ghost use Rattle.std.specs.Prelude.{◌≡◌, IfOk, codes};
+ghost use Rattle.std.specs.Prelude.{◌≡◌, IfOk};
 ghost use Rattle.mhbuild_compose.specs.Pieces.{plain_label, text_label as label_of_text, message_label as label_of_message};
 
 use mh_base::{Bytes, List};

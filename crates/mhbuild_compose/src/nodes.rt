@@ -1,7 +1,6 @@
 // The nodes of a draft with what is given.
-ghost use Rattle.std.specs.Prelude.{◌≡◌, ◌++◌, ◌∷◌, [], List, drop, length, map, IfOk, OnOk, slice_get, Option, MatchOption, None, Some};
+ghost use Rattle.std.specs.Prelude.{◌≡◌, ◌++◌, ◌∷◌, [], List, map, OnOk, None, Some};
 ghost use Rattle.mh_drafts.specs.declared.item.Item.{Item as ItemValue};
-ghost use Rattle.mhbuild_compose.specs.declared.given.Given.{Given as GivenValue};
 ghost use Rattle.mhbuild_compose.specs.declared.node.Node.TheVariants.{Leaf as leaf_node};
 ghost use Rattle.mh_drafts.specs.declared.item.Item.TheVariants.{Leaf as leaf_item};
 ghost use Rattle.mhbuild_compose.specs.Pieces.{piece_of as piece_by};

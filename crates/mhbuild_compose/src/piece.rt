@@ -1,6 +1,5 @@
 // Parts without parts.
 ghost use Rattle.std.specs.Prelude.{◌≡◌, IfOk};
-ghost use Rattle.mhbuild_compose.specs.declared.encoding.Encoding.TheVariants.{EightBit as eight_bit};
 ghost use Rattle.mhbuild_compose.specs.Pieces.{piece_of, is_eight as is_eight_bit};
 
 use crate::encoding::{Encoding, is_high_text};

@@ -1,6 +1,5 @@
 // The root of a message.
-ghost use Rattle.std.specs.Prelude.{◌≡◌, ◌≤◌, ◌+◌, ◌^◌, ◌<◌, ◌==◌, ◌++◌, ◌∷◌, [], length, IfOk, OnOk, if◌then◌else◌, List};
-ghost use Rattle.mhbuild_compose.specs.Nodes.{nodes_of};
+ghost use Rattle.std.specs.Prelude.{◌≡◌, ◌≤◌, ◌+◌, ◌^◌, ◌<◌, ◌==◌, ◌++◌, [], IfOk, OnOk};
 ghost use Rattle.mhbuild_compose.specs.Roots.{depth_behind as depth_behind_item, is_top as is_top_item, tops as tops_of, root_front, root_back, all_nodes};
 
 use crate::Given;

@@ -1,9 +1,7 @@
 // A message written, node by node.
-ghost use Rattle.std.specs.Prelude.{◌≡◌, ◌++◌, ◌∷◌, [], Bool, ℕ, List, OnOk, IfOk, codes, drop};
-ghost use Rattle.mh_drafts.specs.declared.kind.Kind.{Kind as KindValue};
-ghost use Rattle.mhbuild_compose.specs.declared.node.Node.{Node as NodeValue};
+ghost use Rattle.std.specs.Prelude.{◌≡◌, ◌++◌, ◌∷◌, [], OnOk, IfOk};
 ghost use Rattle.mhbuild_compose.specs.declared.node.Node.TheVariants.{Leaf as leaf_node, Begin as begin_node, End as end_node};
-ghost use Rattle.mhbuild_compose.specs.Written.{closing_of, encoding_with, end_text, first_flag, first_key, flags_behind, flags_left, inner as inner_of, keys_behind, keys_left, kind_text, lead_by, leaf_text, levels_behind, levels_left, line_of, multipart_head, multipart_type, node_text, trail_by};
+ghost use Rattle.mhbuild_compose.specs.Written.{closing_of, encoding_with, first_flag, first_key, flags_behind, flags_left, inner as inner_of, keys_behind, keys_left, kind_text, lead_by, leaf_text, levels_behind, levels_left, line_of, multipart_head, multipart_type, node_text, trail_by};
 
 use crate::boundaries::put_boundary;
 use crate::encoding::Encoding;
@@ -12,7 +10,7 @@ use crate::node::{Node, Piece};
 use crate::stack::Stack;
 use mh_base::Bytes;
 use mh_drafts::Kind;
-use std::alloc::{AllocError, Global};
+use std::alloc::AllocError;
 
 /// A message that is written: the text so far, the keys of the multiparts that are open, the innermost on top, and what is
 /// known of those that are to begin: whether one of their parts has bytes above 127 as they are, and their keys.
