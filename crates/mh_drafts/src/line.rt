@@ -1,8 +1,8 @@
 // What a line of a draft's body is.
 ghost use Rattle.std.specs.Prelude.{◌≡◌, IfOk, Some, None, ◌-◌, ◌<◌};
 ghost use Rattle.mh_drafts.specs.Directives.{begin_in, end_in, kind_in, directive_in};
-ghost use Rattle.mh_drafts.specs.Marks.{mark_of, settled as settled_where};
-ghost use Rattle.mh_drafts.specs.RawLines.{line_mark, hashed_line};
+ghost use Rattle.mh_drafts.specs.Marks.{hashed as hashed_mark, mark_of, settled as settled_where};
+ghost use Rattle.mh_drafts.specs.RawLines.{line_mark};
 
 use crate::Kind;
 use crate::blanks::{is_led_by, word_len};
@@ -23,7 +23,7 @@ pub(crate) enum Line<'a> {
 }
 
 fn hashed(rest: &[u8]) -> Line<'_>
-    ensures { line_mark result ≡ hashed_line rest.now }
+    ensures { line_mark result ≡ hashed_mark rest.now }
 {
     if is_led_by(rest, b'#') {
         Line::Text(rest)

@@ -66,9 +66,6 @@ pub kept_is : (keys : Keys) (mark : List ℕ) (run : ℕ) (nodes : List Node) �
 kept_is keys mark run nodes m has k = has (hex 16 k) ∙ ap (λ x. list_any (node_takes x (hex 16 k)) nodes) m
 
 -- whatever keys come next, they follow these
-Follow : (ℕ → Bool) → ℕ → List ℕ → Type 0
-Follow taken from keys = (rest : List ℕ) → AreKeys taken from rest → AreKeys taken 0 (keys ++ rest)
-
 pub record Chosen (taken : ℕ → Bool) (from count i : ℕ) (keys : List ℕ) : Type 0 where
   pub follow : (rest : List ℕ) → AreKeys taken from rest → AreKeys taken 0 (keys ++ rest)
   pub all : length keys ≡ i
