@@ -1,12 +1,12 @@
 mod Bodies
-mod Cutting
-mod Emptiness
+pub mod Cutting
+pub mod Emptiness
 mod Gapping
 mod Growing
-mod Lining
+pub mod Lining
 mod Marking
 mod Naming
 mod Quoting
 mod Sections
-mod Shortening
+pub mod Shortening
 mod Stepping

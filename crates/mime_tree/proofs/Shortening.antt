@@ -9,11 +9,11 @@ use Rattle.mime_tree.specs.Gaps.{place_behind, at_end, begun, behind_gap_at, beh
 use Rattle.mime_tree.specs.Tokens.{Taken, is_token, taken_at, token_in, closing, quoted_in, worth_in, with_gap, behind_sign, word_in}
 use Rattle.mime_tree.specs.Params.{TakenParam, param_named, named_in, param_in, with_param, params_up_to, params_in}
 
-then_is : {A B : Type 0} (f : A → Option B) (o : Option A) (y : B) → option_and_then f o ≡ Some y → (x : A) × (o ≡ Some x) × (f x ≡ Some y)
+pub then_is : {A B : Type 0} (f : A → Option B) (o : Option A) (y : B) → option_and_then f o ≡ Some y → (x : A) × (o ≡ Some x) × (f x ≡ Some y)
 then_is f None y e = cc
 then_is f (Some x) y e = (x, refl, e)
 
-map_is : {A B : Type 0} (f : A → B) (o : Option A) (y : B) → option_map f o ≡ Some y → (x : A) × (o ≡ Some x) × (f x ≡ y)
+pub map_is : {A B : Type 0} (f : A → B) (o : Option A) (y : B) → option_map f o ≡ Some y → (x : A) × (o ≡ Some x) × (f x ≡ y)
 map_is f None y e = cc
 map_is f (Some x) y e = (x, refl, cc)
 
@@ -43,7 +43,7 @@ with_gap_le t u e =
 taken_le : (len behind : ℕ) (text : List ℕ) → length (taken_at len behind text).rest ≤ length text
 taken_le len behind text = omega (arith, length-drop behind text)
 
-token_le : (text : List ℕ) (t : Taken) → token_in text ≡ Some t → length t.rest ≤ length text
+pub token_le : (text : List ℕ) (t : Taken) → token_in text ≡ Some t → length t.rest ≤ length text
 token_le text t e = choose (prefix_len is_token text == 0) e
   where
     choose : (b : Bool) → (if b then None else Some (taken_at (prefix_len is_token text) (prefix_len is_token text) text)) ≡ Some t → length t.rest ≤ length text
@@ -55,7 +55,7 @@ quoted_le text t e =
     let m = map_is (λ n. taken_at n (n + 1) text) (closing false text) t e in
     rw (← m.2) (taken_le m.0 (m.0 + 1) text)
 
-worth_le : (text : List ℕ) (t : Taken) → worth_in text ≡ Some t → length t.rest ≤ length text
+pub worth_le : (text : List ℕ) (t : Taken) → worth_in text ≡ Some t → length t.rest ≤ length text
 worth_le text t e = choose (slice_index text 0 == 34) e
   where
     choose : (b : Bool) → (if b then quoted_in (drop 1 text) else token_in text) ≡ Some t → length t.rest ≤ length text

@@ -21,9 +21,11 @@ mod token;
 mod tree;
 
 pub use encoding::Encoding;
+pub use mark::line_len;
 pub use odd::Odd;
 pub use param::{Param, ParamList};
 pub use part::{Part, PartList};
 pub use path::{PartPath, PathFault};
 pub use span::Span;
+pub use token::{Word, first_token, quoted, unprotected};
 pub use tree::Tree;

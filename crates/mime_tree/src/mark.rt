@@ -15,7 +15,7 @@ pub(crate) enum Mark {
 }
 
 /// The length of the first line, with the line feed that ends it.
-pub(crate) fn line_len(text: &[u8]) -> usize
+pub fn line_len(text: &[u8]) -> usize
     ensures value { result ≡ first_line_len text.now }
     ensures inside { result ≤ length text.now }
 {

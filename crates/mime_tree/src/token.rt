@@ -10,9 +10,9 @@ use std::alloc::{AllocError, Global};
 
 /// A word, and what follows it.
 #[derive(Clone, Copy, Debug)]
-pub(crate) struct Word<'a> {
-    pub(crate) value: &'a [u8],
-    pub(crate) rest: &'a [u8],
+pub struct Word<'a> {
+    pub value: &'a [u8],
+    pub rest: &'a [u8],
 }
 
 fn is_token(byte: u8) -> bool
@@ -57,7 +57,8 @@ fn closing_place(text: &[u8]) -> Option<usize>
     None
 }
 
-fn first_token(text: &[u8]) -> Option<Word<'_>>
+/// The token at the front.
+pub fn first_token(text: &[u8]) -> Option<Word<'_>>
     ensures value { MatchOption result (token_in text.now ≡ None) (λ w. token_in text.now ≡ Some (word_of w)) }
     ensures inside { MatchOption result ⊤ (λ w. length w.rest.now ≤ length text.now) }
 {
@@ -69,7 +70,8 @@ fn first_token(text: &[u8]) -> Option<Word<'_>>
     Some(Word { value, rest })
 }
 
-fn quoted(text: &[u8]) -> Option<Word<'_>>
+/// The inside of the quoted string at the front, of which the first mark has been passed.
+pub fn quoted(text: &[u8]) -> Option<Word<'_>>
     ensures value { MatchOption result (quoted_in text.now ≡ None) (λ w. quoted_in text.now ≡ Some (word_of w)) }
     ensures inside { MatchOption result ⊤ (λ w. length w.rest.now ≤ length text.now) }
 {
@@ -133,7 +135,7 @@ fn keep(bytes: &mut Vec<u8>, protected: bool, byte: u8) -> Result<bool, AllocErr
 }
 
 /// The text without the backslashes that protect.
-pub(crate) fn unprotected(alloc: Global, text: &[u8]) -> Result<Bytes, AllocError>
+pub fn unprotected(alloc: Global, text: &[u8]) -> Result<Bytes, AllocError>
     ensures { IfOk result (λ b. b ≡ without_protection text.now) }
 {
     let mut bytes = Vec::new(alloc);

@@ -1,0 +1,10 @@
+mod Alone
+mod Attributing
+mod Commenting
+mod Drafting
+mod Filing
+mod Heading
+mod Joining
+mod Reading
+mod Signing
+mod Wording

@@ -1,0 +1,9 @@
+mod Chains
+mod Composed
+mod Keying
+mod Lining
+mod Noding
+mod Passing
+mod Texts
+mod Trees
+mod Walking

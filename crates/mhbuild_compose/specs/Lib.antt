@@ -1,0 +1,12 @@
+pub mod Boundaries
+pub mod Eights
+pub mod Encodings
+pub mod Heads
+pub mod Keys
+pub mod KeySets
+pub mod Messages
+pub mod Nodes
+pub mod Pieces
+pub mod Roots
+pub mod Trees
+pub mod Written
