@@ -1,9 +1,11 @@
-//! Tests of `folder`, `anno` and `sortm` on a mailbox in memory. There is nothing here but tests.
+//! Tests of `folder`, `folder -pack`, `anno` and `sortm` on a mailbox in memory. There is nothing here but tests.
 #![tactic(auto)]
 
 #[cfg(test)]
 mod annos;
 #[cfg(test)]
 mod folders;
+#[cfg(test)]
+mod packs;
 #[cfg(test)]
 mod sorts;

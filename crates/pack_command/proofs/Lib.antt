@@ -1,0 +1,9 @@
+pub mod Counted
+pub mod MovesMade
+pub mod PackAlone
+pub mod PackGiven
+pub mod PackLets
+pub mod PackMoves
+pub mod PackPledged
+pub mod PlacesGiven
+pub mod Stood

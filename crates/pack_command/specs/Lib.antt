@@ -1,0 +1,7 @@
+pub mod Moving
+pub mod Pack
+pub mod PackAlone
+pub mod PackDone
+pub mod PackOutcome
+pub mod PackPledge
+pub mod Places
