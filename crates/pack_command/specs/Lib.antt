@@ -1,6 +1,7 @@
 pub mod Moving
 pub mod Pack
 pub mod PackAlone
+pub mod PackAnswers
 pub mod PackDone
 pub mod PackOutcome
 pub mod PackPledge
