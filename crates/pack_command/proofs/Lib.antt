@@ -1,4 +1,5 @@
 pub mod Counted
+pub mod InPlace
 pub mod MovesMade
 pub mod PackAlone
 pub mod PackDone

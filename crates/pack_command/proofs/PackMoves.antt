@@ -33,8 +33,11 @@ range_good a (suc k) low high = ((low, omega (arith, high)), range_good (a + 1) 
 pub places_many : (ns : List ℕ) → length (places_of ns) ≡ length ns
 places_many ns = length-range_with_len 1 (length ns)
 
+pub places_rise : (ns : List ℕ) → Rise 1 (places_of ns)
+places_rise ns = range_rises 1 (length ns)
+
 pub places_distinct : (ns : List ℕ) → AreDistinct (places_of ns)
-places_distinct ns = rise_distinct 1 (places_of ns) (range_rises 1 (length ns))
+places_distinct ns = rise_distinct 1 (places_of ns) (places_rise ns)
 
 module _ (listing : List Run) (runs : AreRuns listing) where
   abbrev numbers : List ℕ

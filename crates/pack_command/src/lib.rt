@@ -2,9 +2,11 @@
 #![tactic(auto)]
 
 mod job;
+mod laws;
 mod moving;
 mod packing;
 mod places;
 
 pub use job::PackJob;
+pub use laws::numbered_from_one;
 pub use packing::pack;
