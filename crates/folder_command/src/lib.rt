@@ -8,3 +8,4 @@ mod summary;
 
 pub use changing::folder;
 pub use job::FolderJob;
+pub use looking::say_summary;

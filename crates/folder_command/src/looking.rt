@@ -18,7 +18,7 @@ use step_plans::{CommandFault, Hand};
 use told_folders::{listed, say_lines, sequences_listed};
 
 /// Writes the line of a folder with these messages and sequences.
-pub(crate) fn say_summary<O: Sink>(
+pub fn say_summary<O: Sink>(
     alloc: Global,
     out: &mut O,
     job: &FolderJob,

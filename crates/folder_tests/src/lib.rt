@@ -1,4 +1,4 @@
-//! Tests of `folder`, `anno`, `sortm` and `mhlist` on a mailbox in memory. There is nothing here but tests.
+//! Tests of `folder`, `folder -pack`, `anno`, `sortm` and `mhlist` on a mailbox in memory. There is nothing here but tests.
 #![tactic(auto)]
 
 #[cfg(test)]
@@ -7,5 +7,7 @@ mod annos;
 mod folders;
 #[cfg(test)]
 mod lists;
+#[cfg(test)]
+mod packs;
 #[cfg(test)]
 mod sorts;

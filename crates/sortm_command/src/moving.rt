@@ -22,11 +22,7 @@ use std::alloc::{AllocError, Global};
 use step_plans::{Hand, PlanFault};
 
 /// The moves by which messages that stand at these slots come to stand there in this order.
-pub(crate) fn moves(
-    alloc: Global,
-    order: &[MsgNum],
-    places: &[MsgNum],
-) -> Result<List<Move>, AllocError>
+pub fn moves(alloc: Global, order: &[MsgNum], places: &[MsgNum]) -> Result<List<Move>, AllocError>
     ensures { IfOk result (λ moves. moves ≡ moves_of order.now places.now) }
 {
     let mut moves = List::new(alloc);
@@ -51,7 +47,7 @@ fn moving(alloc: Global, moves: &[Move]) -> Result<List<MsgNum>, AllocError>
 }
 
 /// The last number of a listing, or 0.
-fn last(listing: &NumSet) -> u32
+pub fn last(listing: &NumSet) -> u32
     ensures value { result ≡ last_in listing.now.runs }
     ensures range { result ≤ 999999 }
 {
@@ -62,7 +58,7 @@ fn last(listing: &NumSet) -> u32
 }
 
 /// These messages leave all sequences.
-fn withdraw<F: Files>(
+pub fn withdraw<F: Files>(
     alloc: Global,
     hand: &mut Hand,
     files: &mut F,

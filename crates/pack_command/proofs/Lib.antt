@@ -1,0 +1,13 @@
+pub mod Counted
+pub mod InPlace
+pub mod MovesMade
+pub mod PackAlone
+pub mod PackDone
+pub mod PackEnds
+pub mod PackGiven
+pub mod PackLets
+pub mod PackMinds
+pub mod PackMoves
+pub mod PackPledged
+pub mod PlacesGiven
+pub mod Stood

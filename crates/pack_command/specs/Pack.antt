@@ -1,0 +1,44 @@
+-- The plan of `folder -pack`.
+use Rattle.std.specs.Prelude.{ℕ, List, [], ◌∷◌}
+use Rattle.std.specs.Str.{encode_utf8_all}
+use Rattle.mh_sequences.specs.declared.run.Run.{Run}
+use Rattle.mh_sequences.specs.Runs.{numbers_of}
+use Rattle.mh_sequences.specs.Sequences.{Marked}
+use Rattle.folder_files.specs.declared.place.Place.TheVariants.{Folder, Mail}
+use Rattle.file_plans.specs.Plan.{bind, lifted, ◌>>=◌}
+use Rattle.command_stages.specs.Current.{made_current}
+use Rattle.command_stages.specs.Endings.{of_plan}
+use Rattle.command_stages.specs.Texts.{Commanded}
+use Rattle.opened_folders.specs.Ending.{ended}
+use Rattle.opened_folders.specs.Opening.{Opened, begun}
+use Rattle.told_folders.specs.Plans.{lines_said}
+use Rattle.folder_command.specs.Summary.{summary}
+use Rattle.folder_command.specs.declared.job.FolderJob.{FolderJob}
+use Rattle.pack_command.specs.Moving.{moved_if, sequences_after}
+use Rattle.pack_command.specs.Places.{listing_moves, packed_listing}
+use Rattle.pack_command.specs.declared.job.PackJob.{PackJob}
+
+-- what `folder` would be asked, to tell of the folder alone
+abbrev pub told_of : PackJob → FolderJob
+told_of job = record { folder = job.folder; specs = []; negation = [] }
+
+-- the line of the folder with these numbers and sequences
+abbrev pub line_of : PackJob → List Run → Marked → List ℕ
+line_of job listing m = summary (encode_utf8_all job.folder) (numbers_of listing) m.cur
+
+-- the line, once the messages that move ended at these numbers
+abbrev pub line_after : PackJob → List Run → Marked → List ℕ → List ℕ
+line_after job listing m ends = line_of job (packed_listing listing ends) (sequences_after (listing_moves listing) ends m)
+
+-- the messages are numbered anew, the folder's line is said, and it becomes the current one
+unfoldable pub opened_packed : ℕ → List ℕ → PackJob → Opened → Commanded Unit
+opened_packed run path job o = do
+  ends ← lifted (of_plan job.folder) (moved_if run (Mail path) o (listing_moves o.listing))
+  told ← lines_said (line_after job o.listing o.sequences ends ∷ [])
+  made_current run path job.folder
+
+-- `folder -pack`: the folder is begun, its messages are numbered anew, and its lock falls
+unfoldable pub pack : ℕ → List ℕ → PackJob → Commanded Unit
+pack run path job = do
+  o ← lifted (of_plan job.folder) (begun run (Folder path job.folder) (Mail path) job.folder)
+  bind (opened_packed run path job o) (ended (Folder path job.folder))

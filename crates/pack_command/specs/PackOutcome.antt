@@ -1,0 +1,50 @@
+-- What `folder -pack` comes to, by the mailbox. Nothing here knows of steps.
+use Rattle.std.specs.Prelude.{◌==◌, ◌&&◌, ◌∷◌, [], ℕ, List, None, if◌then◌else◌}
+use Rattle.mh_profile.specs.declared.named_value.NamedValue.{NamedValue}
+use Rattle.mh_sequences.specs.Sequences.{Marked}
+use Rattle.mh_sequences.specs.declared.run.Run.{Run}
+use Rattle.folder_files.specs.declared.place.Place.{Place}
+use Rattle.folder_files.specs.declared.place.Place.TheVariants.{Folder}
+use Rattle.file_plans.specs.Mailboxes.{Folder as FolderValue, Mailbox}
+use Rattle.step_plans.specs.declared.command_fault.CommandFault.{CommandFault}
+use Rattle.held_messages.specs.HeldPairs.{with_folder_changed}
+use Rattle.message_places.specs.Places.{froms, is_in, slots, source_of, stood_at}
+use Rattle.message_places.specs.declared.moves.Move.{Move}
+use Rattle.command_stages.specs.Works.{Work}
+use Rattle.opened_folders.specs.BegunWork.{Homes, after_commits, begun_work, current_work}
+use Rattle.opened_folders.specs.Kept.{Commits, Kept, all_made, kept_of, sequences_kept}
+use Rattle.sortm_command.specs.Marking.{gone_along, withdrawn}
+use Rattle.sortm_command.specs.SortOutcome.{then_commits}
+use Rattle.pack_command.specs.Pack.{line_after}
+use Rattle.pack_command.specs.Places.{listing_moves}
+use Rattle.pack_command.specs.declared.job.PackJob.{PackJob}
+
+-- The folder where each move's message stands at its slot; the other numbers from which one moved are free, and all else is as before. Of those that moved the
+-- run holds none aside.
+abbrev pub moved_at : ℕ → List Move → FolderValue → FolderValue
+moved_at run ms f = record {
+  messages = λ k. stood_at f.messages (source_of ms (slots ms) k) (if is_in k (froms ms) then None else f.messages k);
+  removed = f.removed;
+  held = λ r k. if (run == r) && is_in k (froms ms) then None else f.held r k;
+  sequences = f.sequences;
+}
+
+abbrev pub with_moved : ℕ → Place → List Move → Kept → Kept
+with_moved run p ms k = kept_of (with_folder_changed k.mailbox p (moved_at run ms)) k.entries
+
+-- The messages come to their slots. Their marks go along, and so does the current message: the sequences are without those that move, and have them again
+-- at their slots. Where none moves nothing is changed.
+abbrev pub marks_along : ℕ → List ℕ → List ℕ → Marked → List Move → Kept → Commits
+marks_along run path folder m [] k = all_made k
+marks_along run path folder m (x ∷ ms) k =
+    then_commits (sequences_kept path folder m (withdrawn (froms (x ∷ ms)) m) k)
+    (λ l. sequences_kept path folder (withdrawn (froms (x ∷ ms)) m) (gone_along (x ∷ ms) (slots (x ∷ ms)) m) (with_moved run (Folder path folder) (x ∷ ms) l))
+
+-- of a folder with these numbers and sequences: then its line is said, and it becomes the current one
+abbrev pub opened_work : ℕ → List ℕ → PackJob → List Run → Marked → Kept → Work CommandFault
+opened_work run path job listing m k =
+    after_commits (marks_along run path job.folder m (listing_moves listing) k) (current_work path job.folder (line_after job listing m (slots (listing_moves listing))))
+
+-- `folder -pack` of this run, where the context has these entries, and what was held aside in the folder goes so
+unfoldable pub pack_work : ℕ → List ℕ → List NamedValue → Homes → PackJob → Mailbox → Work CommandFault
+pack_work run path entries h job m = begun_work path job.folder entries h m (opened_work run path job)

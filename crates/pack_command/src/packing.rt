@@ -1,0 +1,115 @@
+// `folder -pack`: messages are numbered anew, and the folder is told of.
+ghost use Rattle.std.specs.Prelude.{◌≡◌, IfOk};
+ghost use Rattle.file_plans.specs.Follows.{Follows, by_hand, by_out};
+ghost use Rattle.file_plans.specs.Plan.{lifted};
+ghost use Rattle.step_plans.specs.CommandFaults.{command_cause};
+ghost use Rattle.step_plans.specs.Hands.{mail_place};
+ghost use Rattle.command_stages.specs.Endings.{of_plan};
+ghost use Rattle.message_places.specs.Order.{moves_of};
+ghost use Rattle.pack_command.specs.Moving.{moved_if, sequences_after};
+ghost use Rattle.pack_command.specs.Pack.{opened_packed, pack as pack_plan, told_of};
+ghost use Rattle.pack_command.specs.PackAlone.{PacksIfUnfaulted};
+ghost use Rattle.pack_command.specs.PackPledge.{PromisesSteps};
+
+use crate::PackJob;
+use crate::moving::move_all;
+use crate::places::{count, listing_after, places};
+use command_stages::{fault_in, folder_place, make_current, numbers};
+use folder_command::{FolderJob, say_summary};
+use folder_files::Files;
+use mh_base::{Bytes, Duplicate, List, MsgNum, Sink};
+use opened_folders::{Opened, end, open};
+use sortm_command::moves;
+use std::alloc::{AllocError, Global};
+use step_plans::{CommandFault, Hand};
+
+/// What `folder` is to tell of.
+fn told(alloc: Global, job: &PackJob) -> Result<FolderJob, AllocError>
+    ensures { IfOk result (λ told. told ≡ told_of job.now) }
+{
+    let folder = job.folder.duplicate(alloc)?;
+    Ok(FolderJob {
+        folder,
+        specs: List::new(alloc),
+        negation: Bytes::new(alloc),
+    })
+}
+
+/// The messages of these numbers come to stand at these places; where those ended that moved.
+fn pack_messages<F: Files>(
+    alloc: Global,
+    hand: &mut Hand,
+    files: &mut F,
+    job: &PackJob,
+    opened: &mut Opened,
+    numbers: &[MsgNum],
+    places: &[MsgNum],
+) -> Result<List<MsgNum>, CommandFault>
+    ensures plan { Follows hand.old.run command_cause (lifted (of_plan job.now.folder) (moved_if hand.old.run (mail_place hand.old) opened.old (moves_of numbers.now places.now))) (by_hand hand.old.kept (F.state files.old)) (by_hand hand.new.kept (F.state files.new)) result }
+    ensures left { IfOk result (λ ends. opened.new.sequences ≡ sequences_after (moves_of numbers.now places.now) ends opened.old.sequences) }
+    ensures run { hand.new.run ≡ hand.old.run }
+    ensures mail { hand.new.mail ≡ hand.old.mail }
+{
+    let moves = moves(alloc, numbers, places)?;
+    let folder = job.folder.duplicate(alloc)?;
+    match move_all(alloc, hand, files, opened, moves.as_slice()) {
+        Ok(ends) => Ok(ends),
+        Err(fault) => Err(fault_in(folder, fault)),
+    }
+}
+
+/// The work on a folder that was begun.
+fn pack_opened<F: Files, O: Sink>(
+    alloc: Global,
+    hand: &mut Hand,
+    files: &mut F,
+    out: &mut O,
+    job: &PackJob,
+    mut opened: Opened,
+) -> Result<(), CommandFault>
+    ensures plan { Follows hand.old.run command_cause (opened_packed hand.old.run hand.old.mail job.now opened) (by_out hand.old.kept (F.state files.old) (O.state out.old)) (by_out hand.new.kept (F.state files.new) (O.state out.new)) result }
+    ensures run { hand.new.run ≡ hand.old.run }
+    ensures mail { hand.new.mail ≡ hand.old.mail }
+{
+    let told = told(alloc, job)?;
+    let numbers = numbers(alloc, opened.listing())?;
+    let places = places(alloc, count(opened.listing()))?;
+    let ends = pack_messages(
+        alloc,
+        hand,
+        files,
+        job,
+        &mut opened,
+        numbers.as_slice(),
+        places.as_slice(),
+    )?;
+    let listing = listing_after(
+        alloc,
+        numbers.as_slice(),
+        places.as_slice(),
+        ends.as_slice(),
+    )?;
+    say_summary(alloc, out, &told, &listing, opened.sequences())?;
+    make_current(alloc, hand, files, &job.folder)
+}
+
+/// Numbers the messages of a folder anew, from 1 on, in the order that they have, in a folder that is begun. Marks and the current message go with their
+/// messages. Where all stand so nothing is changed. Then the folder is told of as `folder` does it, and becomes the current one.
+pub fn pack<F: Files, O: Sink>(
+    alloc: Global,
+    hand: &mut Hand,
+    files: &mut F,
+    out: &mut O,
+    job: &PackJob,
+) -> Result<(), CommandFault>
+    ensures plan { Follows hand.old.run command_cause (pack_plan hand.old.run hand.old.mail job.now) (by_out hand.old.kept (F.state files.old) (O.state out.old)) (by_out hand.new.kept (F.state files.new) (O.state out.new)) result }
+    ensures alone { PacksIfUnfaulted hand.old.run hand.old.mail job.now hand.old.kept result (F.state files.old) (F.state files.new) (O.state out.old) (O.state out.new) }
+    ensures steps { PromisesSteps hand.old.run hand.old.mail job.now (by_out hand.old.kept (F.state files.old) (O.state out.old)) (by_out hand.new.kept (F.state files.new) (O.state out.new)) }
+    ensures run { hand.new.run ≡ hand.old.run }
+    ensures mail { hand.new.mail ≡ hand.old.mail }
+{
+    let place = folder_place(alloc, hand, &job.folder)?;
+    let opened = open(alloc, hand, files, &job.folder)?;
+    let done = pack_opened(alloc, hand, files, out, job, opened);
+    end(alloc, hand.run(), files, &place, done)
+}
