@@ -6,6 +6,8 @@ mod given;
 #[cfg(test)]
 mod inc;
 #[cfg(test)]
+mod listing;
+#[cfg(test)]
 mod mark;
 #[cfg(test)]
 mod scan;

@@ -26,7 +26,8 @@ fn push_part(alloc: Global, item: &Item, parts: &mut List<PartPath>) -> Result<(
 {
     match item {
         Item::Switch {
-            value: Some(value), ..
+            value: Some(value),
+            ..
         } => {
             if let Some(path) = part(alloc, value)? {
                 parts.push(path)?;
