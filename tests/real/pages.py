@@ -29,8 +29,9 @@ def run(*words, home=ROOM, program=PROGRAM):
 
 
 def tables():
-    """The switches of each command, by the code."""
-    files = [TOP / "crates/command_words/src/tables.rt", *TOP.glob("crates/*_words/src/table.rt")]
+    """The switches of each command, by the code of the words that the program reads."""
+    below = re.search(r"^command_line: (.*)$", (TOP / "crates.txt").read_text(), re.M).group(1).split()
+    files = [it for crate in below for it in (TOP / f"crates/{crate}/src").glob("table*.rt") if crate.endswith("_words")]
     found = {}
     for name, body in re.findall(r"fn (\w+)_table\(.*?\n\{(.*?)\n\}", "\n".join(it.read_text() for it in files), re.S):
         found["sortm" if name == "sort" else name] = set(re.findall(r'push_switch\(alloc, &mut switches, "(\w+)"', body))
