@@ -21,7 +21,7 @@ use Rattle.step_plans.proofs.Drops.{own_split}
 use Rattle.step_plans.proofs.Past.{own_deliver, own_crash, own_end}
 use Rattle.commit_fold.specs.Counting.{done_in}
 use Rattle.commit_fold.specs.Folding.{Replaces, OwnAreReplacing, Makes, IsFold}
-use Rattle.commit_fold.specs.Pledged.{IsBack, as_pledged, CommitAsPledged}
+use Rattle.commit_fold.specs.Pledged.{IsBack, as_pledged}
 use Rattle.commit_fold.proofs.Folding.{of_each_run}
 use Rattle.commit_fold.proofs.Telling.{fold_so}
 
@@ -60,6 +60,10 @@ module _ (pledges : ℕ → Pledge) (start : World) (p : Place) (x : List ℕ) (
   own_replacing r e (Deliver path piece ∷ past) back h = own_replacing r e past (back_same (own_deliver r path piece past) back) h
   own_replacing r e (Crash v ∷ past) back h = own_replacing r e past (back_same (own_crash r v past) back) h
   own_replacing r e (End o ∷ past) back h = own_replacing r e past (back_same (own_end r o past) back) h
+
+-- each run has its pledge, and commits as it says
+abbrev pub CommitAsPledged : (ℕ → Pledge) → World → List Event → Type 0
+CommitAsPledged pledges start past = (run : ℕ) → ((pledges run).run ≡ run) × CommitsItsMarks (pledges run) start past
 
 pub fold_of_pledges : (start : World) (past : List Event) (p : Place) (x : List ℕ) (pledges : ℕ → Pledge) → IsStart start → IsLegal start past → AreCareful past → HasNoneOfTheirs start past
     → is_committed p x ≡ true → CommitAsPledged pledges start past → IsFold start p x (Makes (as_pledged pledges p x past) (text_at (world_after start []) p x)) past

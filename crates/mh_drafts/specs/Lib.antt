@@ -3,6 +3,7 @@ pub mod Behinds
 pub mod Blanks
 pub mod Comments
 pub mod Directives
+pub mod Drafted
 pub mod Drafts
 pub mod Enclosed
 pub mod Forwards

@@ -14,13 +14,22 @@ use crate::{DraftFault, ItemList, WantList};
 use mail_headers::Message;
 use mh_base::Bytes;
 use std::alloc::Global;
+use std::marker::Model;
 
-/// A draft: its fields, the items that write the parts of its body, and what these parts want.
+/// A draft that was read.
 #[derive(Drop)]
 pub struct Draft {
     fields: Bytes,
     items: ItemList,
     wants: WantList,
+}
+
+impl Model for Draft {
+    ghost use Rattle.mh_drafts.specs.Drafted.{Drafted};
+
+    ghost Value = { Drafted };
+
+    ghost view = { λ d. record { fields = d.fields; items = d.items; wants = d.wants } };
 }
 
 /// The body, unless one of its lines is wrong.

@@ -19,7 +19,7 @@ use std::mem;
 pub(crate) struct Gathering {
     text: Bytes,
     said: bool,
-    open: u64,
+    depth: u64,
     pub(crate) items: ItemList,
     pub(crate) wants: WantList,
     pub(crate) signs: List<Sign>,
@@ -27,14 +27,14 @@ pub(crate) struct Gathering {
 
 impl Gathering {
     fn new(alloc: Global) -> Gathering
-        ensures open { result.open ≡ 0 }
+        ensures depth { result.depth ≡ 0 }
         ensures signs { result.signs ≡ [] }
         ensures whole { (marks : List Mark) → completed result marks ≡ whole_of marks }
     {
         Gathering {
             text: Bytes::new(alloc),
             said: false,
-            open: 0,
+            depth: 0,
             items: List::new(alloc),
             wants: List::new(alloc),
             signs: List::new(alloc),
@@ -42,7 +42,7 @@ impl Gathering {
     }
 
     fn add_text(&mut self, line: &[u8]) -> Result<(), AllocError>
-        ensures open { OnOk result (self.new.open ≡ self.old.open) }
+        ensures depth { OnOk result (self.new.depth ≡ self.old.depth) }
         ensures signs { OnOk result (length self.new.signs ≡ length self.old.signs + 1) }
         ensures whole { OnOk result ((marks : List Mark) → completed self.new marks ≡ completed self.old (text_mark line.now ∷ marks)) }
     {
@@ -56,7 +56,7 @@ impl Gathering {
     fn end_text(&mut self, alloc: Global) -> Result<(), AllocError>
         ensures text { OnOk result (self.new.text ≡ []) }
         ensures said { OnOk result (self.new.said ≡ false) }
-        ensures open { OnOk result (self.new.open ≡ self.old.open) }
+        ensures depth { OnOk result (self.new.depth ≡ self.old.depth) }
         ensures items { OnOk result (self.new.items ≡ self.old.items ++ texted self.old.text self.old.said []) }
         ensures wants { OnOk result (self.new.wants ≡ self.old.wants) }
         ensures signs { OnOk result (self.new.signs ≡ self.old.signs) }
@@ -72,7 +72,7 @@ impl Gathering {
     fn push_directive(&mut self, directive: Directive) -> Result<(), AllocError>
         ensures text { OnOk result (self.new.text ≡ self.old.text) }
         ensures said { OnOk result (self.new.said ≡ self.old.said) }
-        ensures open { OnOk result (self.new.open ≡ self.old.open) }
+        ensures depth { OnOk result (self.new.depth ≡ self.old.depth) }
         ensures items { OnOk result (self.new.items ≡ self.old.items ++ item_before directive []) }
         ensures wants { OnOk result (self.new.wants ≡ self.old.wants ++ want_before directive []) }
         ensures signs { OnOk result (self.new.signs ≡ self.old.signs) }
@@ -89,28 +89,28 @@ impl Gathering {
     }
 
     fn add_directive(&mut self, alloc: Global, directive: Directive) -> Result<(), AllocError>
-        requires { self.old.open + 1 < 2 ^ 64 }
-        ensures open { OnOk result (self.new.open ≡ open_behind_directive self.old.open directive) }
+        requires { self.old.depth + 1 < 2 ^ 64 }
+        ensures depth { OnOk result (self.new.depth ≡ open_behind_directive self.old.depth directive) }
         ensures signs { OnOk result (length self.new.signs ≡ length self.old.signs + 1) }
         ensures whole { OnOk result ((marks : List Mark) → completed self.new marks ≡ completed self.old (order_mark directive ∷ marks)) }
     {
         self.end_text(alloc)?;
         self.signs.push(Sign::of(&directive))?;
-        self.open = open_behind(self.open, &directive);
+        self.depth = open_behind(self.depth, &directive);
         self.push_directive(directive)
     }
 
     /// One line more.
     fn add(&mut self, alloc: Global, line: &[u8]) -> Result<(), AllocError>
-        requires { self.old.open + 1 < 2 ^ 64 }
-        ensures open { OnOk result (self.new.open ≡ open_after self.old.open (placed self.old.open (mark_of line.now))) }
+        requires { self.old.depth + 1 < 2 ^ 64 }
+        ensures depth { OnOk result (self.new.depth ≡ open_after self.old.depth (placed self.old.depth (mark_of line.now))) }
         ensures signs { OnOk result (length self.new.signs ≡ length self.old.signs + 1) }
-        ensures whole { OnOk result ((marks : List Mark) → completed self.new marks ≡ completed self.old (placed self.old.open (mark_of line.now) ∷ marks)) }
+        ensures whole { OnOk result ((marks : List Mark) → completed self.new marks ≡ completed self.old (placed self.old.depth (mark_of line.now) ∷ marks)) }
     {
         match Line::of(line) {
             Line::Text(line) => self.add_text(line),
             Line::Order(rest) => {
-                let directive = settled(self.open, read_directive(alloc, rest)?);
+                let directive = settled(self.depth, read_directive(alloc, rest)?);
                 self.add_directive(alloc, directive)
             }
         }

@@ -7,9 +7,9 @@ use Rattle.mh_drafts.proofs.gathering.gather.Given as goal
 
 abbrev pub invariant-loop-rest : goal.invariant-loop-rest
 invariant-loop-rest l = record {
-  whole : completed l.gathering (marks_from l.gathering.open (lines l.rest)) ≡ whole_of (marks_in l.body);
+  whole : completed l.gathering (marks_from l.gathering.depth (lines l.rest)) ≡ whole_of (marks_in l.body);
   few : length l.gathering.signs + length l.rest ≤ length l.body;
-  shallow : l.gathering.open + length l.rest ≤ length l.body;
+  shallow : l.gathering.depth + length l.rest ≤ length l.body;
 }
 
 abbrev pub decreases-loop-rest : goal.decreases-loop-rest
