@@ -4,7 +4,7 @@ _mh_switches() {
     case $1 in
         inc) echo "-format -form -width -file -truncate -notruncate -changecur -nochangecur -silent -nosilent" ;;
         scan) echo "-format -form -width -reverse -noreverse" ;;
-        folder) echo "" ;;
+        folder) echo "-pack -nopack" ;;
         pick) echo "-and -or -not -lbrace -rbrace -from -to -cc -subject -date -search -before -after -datefield -sequence -public -nopublic -zero -nozero -list -nolist" ;;
         mark) echo "-add -delete -list -sequence -public -nopublic -zero -nozero" ;;
         refile) echo "-link -nolink -src" ;;

@@ -7,7 +7,7 @@ function __mh_switches
         case scan
             echo "-format -form -width -reverse -noreverse"
         case folder
-            echo ""
+            echo "-pack -nopack"
         case pick
             echo "-and -or -not -lbrace -rbrace -from -to -cc -subject -date -search -before -after -datefield -sequence -public -nopublic -zero -nozero -list -nolist"
         case mark

@@ -30,8 +30,9 @@ same 'and the current folder' "$home/Mail/context" 'Current-Folder: inbox\n'
 row 'two messages' "$home" 1 '' 'mh: unexpected word: 3\n' folder 1 3
 row 'two folders' "$home" 1 '' 'mh: unexpected word: +a\n' folder +empty +a
 row 'the earliest word that is too many' "$home" 1 '' 'mh: unexpected word: 2\n' folder +inbox 1 2 +a
-row 'a switch of nmh' "$home" 1 '' 'mh: unknown switch: -pack\n' folder -pack
-row 'and that it is not done' "$home" 1 '' 'mh: unknown switch: -nopack\n' folder -nopack
+row 'a switch of nmh' "$home" 1 '' 'mh: unknown switch: -push\n' folder -push
+row 'a message beside -pack' "$home" 1 '' 'mh: unexpected word: 2\n' folder -pack 2
+row 'the last of -pack and -nopack counts' "$home" 0 'inbox+ has 3 messages (1-3); cur=2.\n' '' folder -pack -nopack +inbox
 row 'a wrong folder name' "$home" 1 '' 'mh: bad folder name: +a//b\n' folder +a//b
 row 'a folder that is not there' "$home" 1 '' 'mh: no such folder: +none\n' folder +none
 row 'nor with a message' "$home" 1 '' 'mh: no such folder: +none\n' folder +none 1
@@ -73,6 +74,32 @@ row 'a message that is held aside is not told' "$home" 0 'inbox+ has 1 message (
 names 'it stays aside' "$home/Mail/inbox" '.mh_held_00000000000000000000000000000005_2\n1\n'
 row 'it goes back, and can be the current one' "$home" 0 'inbox+ has 2 messages (1-2); cur=2.\n' '' folder last
 names 'at its number' "$home/Mail/inbox" '.mh_lock\n.mh_sequences\n1\n2\n'
+
+# Messages are numbered anew: marks, and the current message, go along; a file keeps its time and its links.
+home=$room/packed
+mailbox "$home"
+printf 'Subject: m3\n\n' > "$home/Mail/inbox/3"
+printf 'Subject: m7\n\n' > "$home/Mail/inbox/7"
+printf 'Subject: m9\n\n' > "$home/Mail/inbox/9"
+touch -d '2001-02-03 04:05:06 UTC' "$home/Mail/inbox/9"
+ln "$home/Mail/inbox/9" "$home/nine"
+printf 'cur: 7\ntodo: 7 9\n' > "$home/Mail/inbox/.mh_sequences"
+row 'its messages are numbered anew' "$home" 0 'inbox+ has 3 messages (1-3); cur=2.\n' '' folder -pack +inbox
+same 'marks go along' "$home/Mail/inbox/.mh_sequences" 'cur: 2\ntodo: 2-3\n'
+row 'they keep their order' "$home" 0 '   1 m3\n   2 m7\n   3 m9\n' '' scan
+names 'nothing is held aside' "$home/Mail/inbox" '.mh_lock\n.mh_sequences\n1\n2\n3\n'
+if [ "$(stat -c '%Y %h' "$home/Mail/inbox/3")" = '981173106 2' ] && [ "$home/nine" -ef "$home/Mail/inbox/3" ]; then passed=$((passed + 1)); else failed=$((failed + 1)); echo 'failed: a file that gets another number is another file'; fi
+row 'all have their numbers' "$home" 0 'inbox+ has 3 messages (1-3); cur=2.\n' '' folder -pack
+mkdir "$home/Mail/none"
+row 'a folder without messages' "$home" 0 'none+ has no messages.\n' '' folder -pack +none
+row 'it is the current one then' "$home" 0 'none+ has no messages.\n' '' folder
+row 'a folder that is not there' "$home" 1 '' 'mh: no such folder: +nowhere\n' folder -pack +nowhere
+printf 'folder: -pack\n' >> "$home/.mh_profile"
+row 'rmm leaves a gap' "$home" 0 '' '' rmm +inbox 2
+row 'by the profile' "$home" 0 'inbox+ has 2 messages (1-2); cur=2.\n' '' folder
+row 'not where words say so' "$home" 0 'inbox+ has 2 messages (1-2); cur=1.\n' '' folder -nopack 1
+flock "$home/Mail/inbox/.mh_lock" env -i HOME="$home" "$room/mh" folder -pack > "$room/out.txt" 2> "$room/err.txt"
+if [ $? = 3 ] && [ ! -s "$room/out.txt" ] && [ "$(cat "$room/err.txt")" = 'mh: +inbox is locked' ]; then passed=$((passed + 1)); else failed=$((failed + 1)); echo 'failed: -pack in a locked folder'; fi
 
 # Three processes set the current message, twenty times each; one that finds a lock comes again. Each is told what it set.
 home=$room/tellers

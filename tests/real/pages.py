@@ -187,7 +187,7 @@ def completions():
     check("commands", completed(home, "mh", "r") == ["refile", "rmm"])
     check("pages of help", completed(home, "mh", "help", "e") == ["errors"] and completed(home, "mh", "help", "f") == ["folder"])
     check("switches", completed(home, "mh", "scan", "-r") == ["-reverse"])
-    check("no switches", completed(home, "mh", "folder", "-") == [])
+    check("switches of folder", completed(home, "mh", "folder", "-") == ["-nopack", "-pack"])
     check("switches of a link", completed(home, "scan", "-no") == ["-noreverse"])
     check("folders", completed(home, "mh", "scan", "+w") == ["+work", "+work/later"])
     check("sequences of the current folder", completed(home, "mh", "scan", "t") == ["todo"])

@@ -1,5 +1,5 @@
 -- `anno` keeps a pledge that minds the marks of messages, where none is held aside when it takes one.
-use Rattle.std.proofs.Common.{◌≡◌, ◌<◌, ◌^◌, ◌∷◌, [], ℕ, true, List, Result, Ok, Err, refl, sym, ap, subst}
+use Rattle.std.proofs.Common.{◌≡◌, ◌<◌, ◌^◌, ℕ, true, List, Result, Ok, Err, refl, sym, ap, subst}
 use Rattle.mh_base.specs.Folders.{is_folder_name}
 use Rattle.mh_profile.specs.declared.named_value.NamedValue.{NamedValue}
 use Rattle.folder_files.specs.Annotations.{are_annotations}

@@ -1,5 +1,5 @@
 -- How a command ends whose words name one that begins a folder, and what shows it.
-use Rattle.std.proofs.Common.{◌≡◌, ◌≢◌, ◌⊎◌, ◌<◌, inl, inr, ◌^◌, ◌∷◌, [], ℕ, true, List, Option, Some, None, Result, Ok, Err, refl, sym, ◌∙◌, ap, subst}
+use Rattle.std.proofs.Common.{◌≡◌, ◌≢◌, ◌⊎◌, ◌<◌, inl, inr, ◌^◌, ◌∷◌, [], ℕ, Bool, true, false, List, Option, Some, None, Result, Ok, Err, refl, sym, ◌∙◌, ap, subst}
 use Rattle.std.specs.Prelude.{map}
 use Rattle.std.specs.Str.{chars}
 use Rattle.mh_profile.specs.declared.named_value.NamedValue.{NamedValue}
@@ -56,6 +56,12 @@ use Rattle.told_folders.proofs.LooksSay.{listing_says as tell_listing_says}
 use Rattle.folder_command.specs.Folder.{folder as tell, folder_by, task_with}
 use Rattle.folder_command.specs.declared.job.FolderJob.{FolderJob}
 use Rattle.folder_command.proofs.Orderly.{orderly}
+use Rattle.pack_command.specs.Pack.{pack}
+use Rattle.pack_command.specs.PackAnswers.{ShowsPack}
+use Rattle.pack_command.specs.PackPledge.{TellsPacked}
+use Rattle.pack_command.specs.declared.job.PackJob.{PackJob}
+use Rattle.pack_command.proofs.PackEnds.{pack_ends}
+use Rattle.pack_command.proofs.PackSays.{pack_says}
 use Rattle.anno_command.specs.Anno.{anno}
 use Rattle.anno_command.specs.AnnoAnswers.{ShowsAnno}
 use Rattle.anno_command.specs.AnnoPledge.{anno_pledge}
@@ -94,9 +100,9 @@ use Rattle.command_words.specs.declared.mark.MarkWords.{MarkWords}
 use Rattle.command_words.specs.declared.pick.PickWords.{PickWords}
 use Rattle.command_words.specs.declared.rmm.RmmWords.{RmmWords}
 use Rattle.sort_words.specs.SortWords.{sort_said}
-use Rattle.command_line.specs.BegunCauses.{IsPickOn, PicksBy, ShowsAnnoWords, ShowsNoting, ShowsEarly, ShowsFault, ShowsIncJob, ShowsMark, ShowsMarking, ShowsNamed, ShowsOnFolder, ShowsPick, ShowsPickJob, ShowsRemoving, ShowsRmm, TakesInBy, TellsNoneBy, TellsOnFolder, long_context, long_profile, wrong_stored, ShowsTell, ShowsTelling, ShowsSortWords, ShowsSorting}
+use Rattle.command_line.specs.BegunCauses.{IsPickOn, PicksBy, ShowsAnnoWords, ShowsNoting, ShowsEarly, ShowsFault, ShowsIncJob, ShowsMark, ShowsMarking, ShowsNamed, ShowsOnFolder, ShowsPick, ShowsPickJob, ShowsRemoving, ShowsRmm, TakesInBy, TellsNoneBy, TellsOnFolder, long_context, long_profile, wrong_stored, ShowsPacking, ShowsTask, ShowsTell, ShowsTelling, ShowsSortWords, ShowsSorting}
 use Rattle.command_line.specs.Causes.{ShowsCommandFault}
-use Rattle.command_line.specs.Command.{anno_begun, anno_by, anno_job, annotated_by, command, command_by, context_entered, folder_found, inc_begun, inc_by, mark_begun, mark_by, mark_job, pick_begun, pick_by, pick_job, picked_by, rmm_begun, rmm_by, rmm_job, word_by, tell_begun, tell_by, tell_job, sort_begun, sort_by, sort_job}
+use Rattle.command_line.specs.Command.{anno_begun, anno_by, anno_job, annotated_by, command, command_by, context_entered, folder_found, inc_begun, inc_by, mark_begun, mark_by, mark_job, pick_begun, pick_by, pick_job, picked_by, rmm_begun, rmm_by, rmm_job, word_by, pack_begun, pack_job, task_begun, tell_begun, tell_by, tell_job, sort_begun, sort_by, sort_job}
 use Rattle.command_line.specs.CommandNames.{shows_ends, command_of, named}
 use Rattle.command_line.specs.CommandPledge.{entries_by}
 use Rattle.command_line.specs.Incorporating.{IncAsked, job_by, job_writing}
@@ -301,16 +307,56 @@ module _ (run : ℕ) (few : run < 2 ^ 128) (caller : Caller) (words_ : List (Lis
 
       -- `folder`
       module _ (name : named word ≡ Some FolderCommand) (words : FolderWords) (said : tell_said profile (map chars rest) ≡ Ok words) where
-        tell_on : (b : Answer) (folder : List ℕ) → folder_of words.folder (entries_by b) profile ≡ Ok folder → (r : Result (List ℕ) CommandFault) (own : List Deed)
-            → Behind a b own × ShowsTelling run path (tell_job folder words profile) (entries_by b) r own words.specs → ShowsOnFolder run caller words_ r own
-        tell_on b folder there r own s =
+        task_on : (b : Answer) (folder : List ℕ) → folder_of words.folder (entries_by b) profile ≡ Ok folder → (r : Result (List ℕ) CommandFault) (own : List Deed)
+            → Behind a b own × ShowsTask run profile (entries_by b) folder words r own words.pack → ShowsOnFolder run caller words_ r own
+        task_on b folder there r own s =
             on_folder word rest is_words b folder r own s.0
             (subst (λ n. ShowsNamed run caller profile (entries_by b) folder r own rest n) (sym name)
             (subst (λ m. ShowsTell run profile (entries_by b) folder r own m) (sym said) (there, s.1)))
 
-        module _ (past : List runs.Deed) (j : Hand) (folder : List ℕ) (b : Answer) (is : acts past ≡ after_context path a b) (first : j ≡ knowing (entries_by b) fresh) (there : folder_of words.folder (entries_by b) profile ≡ Ok folder) (clean : NoneFailed (acts past)) (silent : said_of past ≡ []) where
+        -- its messages are numbered anew
+        module _ (anew : words.pack ≡ true) (past : List runs.Deed) (j : Hand) (folder : List ℕ) (b : Answer) (is : acts past ≡ after_context path a b) (first : j ≡ knowing (entries_by b) fresh) (there : folder_of words.folder (entries_by b) profile ≡ Ok folder) (clean : NoneFailed (acts past)) (silent : said_of past ≡ []) where
+          abbrev packing : PackJob
+          packing = pack_job folder
+
+          pack_begins : Clean run (acts past) j
+          pack_begins = clean_there a run b (acts past) j is first clean
+
+          pack_on : (r : Result (List ℕ) CommandFault) (own : List Deed) → Behind a b own × ShowsPacking run path packing r own → ShowsOnFolder run caller words_ r own
+          pack_on r own s = task_on b folder there r own (s.0, subst (λ k. ShowsTask run profile (entries_by b) folder words r own k) (sym anew) s.1)
+
+          pack_unheld : HasHeldNone run (Folder path folder) (acts past)
+          pack_unheld = subst (HasHeldNone run (Folder path folder)) (sym is) (none_held run path folder a b)
+
+          packs_so : Keeps Speech past j (pack run path packing) Plainly
+          packs_so =
+              keeps_more Speech past j (pack run path packing) (λ later i r. Says later i r × So later i r) Plainly more
+              (keeps_both Speech anything past j (pack run path packing) Says So
+              (speaks_more T Spoken (λ text own t. inl (pack_on (Ok text) own t)) past j (pack run path packing) Says
+              (pack_says run few path packing (Behind a b) (behind_kept a b) past j silent ([], is) pack_unheld (record { numbered = pack_begins.numbered; unfailed = pack_begins.unfailed })))
+              (pack_ends run few path packing (Behind a b) (behind_kept a b) past j clean pack_begins (subst (PutsNone (Mail path)) (sym is) (none_put (Mail path) path a b))
+              (λ x n t. none_taken (Folder path folder) path a b x n (subst (λ o. Once (λ d older. IsTakenAway (Folder path folder) x d) o) is t)) ([], is)))
+            where
+              T : List ℕ → List Deed → Type 0
+              T text own = Behind a b own × TellsPacked run path packing own text
+
+              Says : List runs.Deed → Hand → Result Unit CommandFault → Type 0
+              Says later i r = IfOkay (λ last k u. T (said_of last) (acts last)) later i r
+
+              So : List runs.Deed → Hand → Result Unit CommandFault → Type 0
+              So later i r = EndsBeside (λ e own. ShowsPack run path packing e own) (Behind a b) (λ own. Unit {0}) later i r
+
+              more : (later : List runs.Deed) (i : Hand) (r : Result Unit CommandFault) → Says later i r × So later i r → Plainly later i r
+              more later i (Ok u) s = pack_on (Ok (said_of later)) (acts later) s.0
+              more later i (Err e) s = ended_more (λ k own. Behind a b own × ShowsPack run path packing k own) Shows (λ x own q. inr (inr (pack_on (Err x) own q))) e (acts later) s.1
+
+        -- or it is told of as it is
+        module _ (as_is : words.pack ≡ false) (past : List runs.Deed) (j : Hand) (folder : List ℕ) (b : Answer) (is : acts past ≡ after_context path a b) (first : j ≡ knowing (entries_by b) fresh) (there : folder_of words.folder (entries_by b) profile ≡ Ok folder) (clean : NoneFailed (acts past)) (silent : said_of past ≡ []) where
           abbrev telling : FolderJob
           telling = tell_job folder words profile
+
+          tell_on : (r : Result (List ℕ) CommandFault) (own : List Deed) → Behind a b own × ShowsTelling run path telling (entries_by b) r own words.specs → ShowsOnFolder run caller words_ r own
+          tell_on r own s = task_on b folder there r own (s.0, subst (λ k. ShowsTask run profile (entries_by b) folder words r own k) (sym as_is) s.1)
 
           tell_begins : Clean run (acts past) j
           tell_begins = clean_there a run b (acts past) j is first clean
@@ -334,13 +380,13 @@ module _ (run : ℕ) (few : run < 2 ^ 128) (caller : Caller) (words_ : List (Lis
               Both later i r = Says later i r × EndsSo run few path folder (change_answers (task_with (spec ∷ specs) telling)) (Behind a b) (λ own. Unit {0}) later i r
 
               tells : (text : List ℕ) (own : List Deed) → T text own → ShowsOnFolder run caller words_ (Ok text) own
-              tells text own t = tell_on b folder there (Ok text) own (t.0, subst (λ z. ShowsTelling run path telling (entries_by b) (Ok text) own z) (sym is_specs) t.1)
+              tells text own t = tell_on (Ok text) own (t.0, subst (λ z. ShowsTelling run path telling (entries_by b) (Ok text) own z) (sym is_specs) t.1)
 
               more : (later : List runs.Deed) (i : Hand) (r : Result Unit CommandFault) → Both later i r → Plainly later i r
               more later i (Ok u) s = tells (said_of later) (acts later) s.0
               more later i (Err e) s =
                   ended_more (ShowsSo run few path folder (change_answers (task_with (spec ∷ specs) telling)) (Behind a b)) Shows
-                  (λ x own q. inr (inr (tell_on b folder there (Err x) own (q.0, subst (λ z. ShowsTelling run path telling (entries_by b) (Err x) own z) (sym is_specs) q.1)))) e (acts later) s.1
+                  (λ x own q. inr (inr (tell_on (Err x) own (q.0, subst (λ z. ShowsTelling run path telling (entries_by b) (Err x) own z) (sym is_specs) q.1)))) e (acts later) s.1
 
           tell_looking : words.specs ≡ [] → Keeps Speech past j (folder_looked run path (task_with [] telling)) Plainly
           tell_looking is_specs =
@@ -364,7 +410,7 @@ module _ (run : ℕ) (few : run < 2 ^ 128) (caller : Caller) (words_ : List (Lis
 
               tells : (text : List ℕ) (own : List Deed) → T text own → ShowsOnFolder run caller words_ (Ok text) own
               tells text own t =
-                  tell_on b folder there (Ok text) own
+                  tell_on (Ok text) own
                   (t.0, subst (λ z. ShowsTelling run path telling (entries_by b) (Ok text) own z) (sym is_specs) (subst (λ i. TellsFolder path (task_with [] telling) (entries_seen i.context) text own) first t.1))
 
               LookedSo : Outcome (Result Unit CommandFault)
@@ -383,7 +429,7 @@ module _ (run : ℕ) (few : run < 2 ^ 128) (caller : Caller) (words_ : List (Lis
               more later i (Ok u) s = tells (said_of later) (acts later) s.0
               more later i (Err e) s =
                   looked e (acts later) (scan_shows run path folder e (acts later) s.1.1.1.0)
-                  (λ f. inr (inr (tell_on b folder there (Err e) (acts later) (s.1.1.0, subst (λ z. ShowsTelling run path telling (entries_by b) (Err e) (acts later) z) (sym is_specs) (f, refuses e (acts later) s.1.1.1.1))))) s.1.0
+                  (λ f. inr (inr (tell_on (Err e) (acts later) (s.1.1.0, subst (λ z. ShowsTelling run path telling (entries_by b) (Err e) (acts later) z) (sym is_specs) (f, refuses e (acts later) s.1.1.1.1))))) s.1.0
 
           tell_keeps : Keeps Speech past j (tell run path telling) Plainly
           unfolding tell
@@ -393,14 +439,28 @@ module _ (run : ℕ) (few : run < 2 ^ 128) (caller : Caller) (words_ : List (Lis
               go [] is_specs = tell_looking is_specs
               go (spec ∷ specs) is_specs = setting spec specs is_specs
 
-        tell_begun_keeps : (past : List runs.Deed) → acts past ≡ after_profile a → NoneFailed (acts past) → said_of past ≡ [] → Keeps Speech past fresh (tell_begun run profile words) Plainly
+        pack_begun_keeps : words.pack ≡ true → (past : List runs.Deed) → acts past ≡ after_profile a → NoneFailed (acts past) → said_of past ≡ [] → Keeps Speech past fresh (pack_begun run profile words) Plainly
+        unfolding pack_begun ◌>>=◌
+        pack_begun_keeps anew past is clean silent =
+            keeps_bind Speech past fresh (folder_found profile words.folder) (after (λ folder. pack run path (pack_job folder))) _ Plainly (folder_keeps words.folder past is clean silent) go
+          where
+            go : (later : List runs.Deed) (j : Hand) (r : Result (List ℕ) CommandFault) → (said_of later ≡ []) × OfActs (Finds words.folder) later j r → Keeps Speech later j (after (λ folder. pack run path (pack_job folder)) r) Plainly
+            go later j (Ok folder) q = packs_so anew later j folder q.1.1.0 q.1.1.1 q.1.1.2 q.1.1.3 q.1.0 q.0
+            go later j (Err e) q = stops_plainly later j e q.0 (early e (acts later) q.1.1 q.1.0)
+
+        tell_begun_keeps : words.pack ≡ false → (past : List runs.Deed) → acts past ≡ after_profile a → NoneFailed (acts past) → said_of past ≡ [] → Keeps Speech past fresh (tell_begun run profile words) Plainly
         unfolding tell_begun ◌>>=◌
-        tell_begun_keeps past is clean silent =
+        tell_begun_keeps as_is past is clean silent =
             keeps_bind Speech past fresh (folder_found profile words.folder) (after (λ folder. tell run path (tell_job folder words profile))) _ Plainly (folder_keeps words.folder past is clean silent) go
           where
             go : (later : List runs.Deed) (j : Hand) (r : Result (List ℕ) CommandFault) → (said_of later ≡ []) × OfActs (Finds words.folder) later j r → Keeps Speech later j (after (λ folder. tell run path (tell_job folder words profile)) r) Plainly
-            go later j (Ok folder) q = tell_keeps later j folder q.1.1.0 q.1.1.1 q.1.1.2 q.1.1.3 q.1.0 q.0
+            go later j (Ok folder) q = tell_keeps as_is later j folder q.1.1.0 q.1.1.1 q.1.1.2 q.1.1.3 q.1.0 q.0
             go later j (Err e) q = stops_plainly later j e q.0 (early e (acts later) q.1.1 q.1.0)
+
+        task_begun_keeps : (k : Bool) → words.pack ≡ k → (past : List runs.Deed) → acts past ≡ after_profile a → NoneFailed (acts past) → said_of past ≡ [] → Keeps Speech past fresh (task_begun run profile words k) Plainly
+        unfolding task_begun
+        task_begun_keeps true is_k past is clean silent = pack_begun_keeps is_k past is clean silent
+        task_begun_keeps false is_k past is clean silent = tell_begun_keeps is_k past is clean silent
 
       -- `pick`
       module _ (name : named word ≡ Some Pick) (words : PickWords) (said : picked_by caller profile (map chars rest) ≡ Ok words) where
@@ -744,7 +804,7 @@ module _ (run : ℕ) (few : run < 2 ^ 128) (caller : Caller) (words_ : List (Lis
       by_word word rest is_words (Some FolderCommand) name begins = go (tell_said profile (map chars rest)) refl
         where
           go : (r : Result FolderWords Ended) → tell_said profile (map chars rest) ≡ r → Keeps Speech past fresh (tell_by run profile r) EndsBy
-          go (Ok words) said = plain_keeps past fresh (tell_begun run profile words) (tell_begun_keeps word rest is_words name words said past is clean silent)
+          go (Ok words) said = plain_keeps past fresh (task_begun run profile words words.pack) (task_begun_keeps word rest is_words name words said words.pack refl past is clean silent)
           go (Err x) said = stops past fresh x silent
               (refused_shown a x past is (tell_refuses profile (map chars rest) x said) (refused_by caller words_ a word rest is_words (Some FolderCommand) name x.fault (refusal_of (tell_said profile (map chars rest)) x said)) clean)
       by_word word rest is_words (Some Anno) name begins = go (annotated_by caller profile (map chars rest)) refl

@@ -40,7 +40,7 @@ use Rattle.command_words.specs.MarkWords.{folder_said as mark_words_said, items_
 use Rattle.command_words.specs.RefileWords.{items_said as refile_items, last_or, refile_said, source_of, targets, targets_said, unless_wrong, words_of, wrong_names}
 use Rattle.command_words.specs.RmmWords.{folder_said as rmm_words_said, items_said as rmm_items, rmm_said, said_folder as rmm_said_folder, with_folder as rmm_folder}
 use Rattle.command_words.specs.Switches.{values}
-use Rattle.command_words.specs.TellWords.{folder_and_message, folder_said as tell_words_said, items_said as tell_items, said_folder as tell_said_folder, second_of, tell_said, with_folder as tell_folder}
+use Rattle.command_words.specs.TellWords.{folder_and_message, folder_said as tell_words_said, items_said as tell_items, said_folder as tell_said_folder, is_packed, tell_said, too_many, with_folder as tell_folder}
 use Rattle.command_words.specs.Tables.{folder_table, inc_table, mark_table, pick_table, refile_table, rmm_table}
 use Rattle.command_words.specs.Words.{profile_words, words_in}
 use Rattle.command_words.specs.declared.ended.Ended.{Ended}
@@ -301,7 +301,7 @@ tell_one_chars words items (Ok word) f = tell_folder_chars items word f
 tell_one_chars words items (Err wrong) f = tt
 
 tell_items_chars : (words : List (List ℕ)) (r : Result (List Item) Wrong) → Textual r → TellChars (tell_items words r)
-tell_items_chars words (Ok items) f = tell_one_chars words items (folder_and_message items) (alone_chars (one_folder (folders items)) (second_of (inc_words.message_places items)) (one_chars (folders items) (folder_texts items f)))
+tell_items_chars words (Ok items) f = tell_one_chars words items (folder_and_message items) (alone_chars (one_folder (folders items)) (too_many (is_packed items) (inc_words.message_places items)) (one_chars (folders items) (folder_texts items f)))
 tell_items_chars words (Err wrong) f = tt
 
 pub tell_chars : (profile : List NamedValue) (words : List (List ℕ)) (said : FolderWords) → AreTexts words → tell_said profile words ≡ Ok said → HasChars said.folder

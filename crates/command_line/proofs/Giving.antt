@@ -47,6 +47,8 @@ use Rattle.pick_command.specs.Pick.{pick}
 use Rattle.pick_command.proofs.PickGiven.{pick_gives}
 use Rattle.folder_command.specs.Folder.{folder as tell}
 use Rattle.folder_command.proofs.FolderAlone.{folder_gives}
+use Rattle.pack_command.specs.Pack.{pack}
+use Rattle.pack_command.proofs.PackGiven.{pack_gives}
 use Rattle.refile_command.specs.Refile.{refile}
 use Rattle.refile_command.specs.RefileOutcome.{homes_of_all}
 use Rattle.refile_command.specs.Rmm.{rmm}
@@ -77,10 +79,10 @@ use Rattle.anno_words.specs.declared.words.AnnoWords.{AnnoWords}
 use Rattle.sort_words.specs.declared.words.SortWords.{SortWords}
 use Rattle.anno_words.proofs.Said.{anno_refuses, anno_valid}
 use Rattle.sort_words.proofs.Said.{sort_refuses, sort_valid}
-use Rattle.command_line.specs.Command.{anno_begun, anno_by, anno_job, annotated_by, context_seen, context_entered, folder_found, inc_begun, inc_by, job_of, mark_job, scan_begun, scan_by, mark_begun, mark_by, pick_begun, pick_by, pick_job, picked_by, refile_begun, refile_by, refile_job, rmm_begun, rmm_by, rmm_job, word_by, command_by, command, tell_begun, tell_by, tell_job, sort_begun, sort_by, sort_job}
+use Rattle.command_line.specs.Command.{anno_begun, anno_by, anno_job, annotated_by, context_seen, context_entered, folder_found, inc_begun, inc_by, job_of, mark_job, scan_begun, scan_by, mark_begun, mark_by, pick_begun, pick_by, pick_job, picked_by, refile_begun, refile_by, refile_job, rmm_begun, rmm_by, rmm_job, word_by, command_by, command, pack_begun, pack_job, task_begun, tell_begun, tell_by, tell_job, sort_begun, sort_by, sort_job}
 use Rattle.command_line.specs.CommandNames.{begins_folders, command_of, makes_folders, named}
 use Rattle.command_line.specs.Incorporating.{IncAsked, job_by, job_writing}
-use Rattle.command_line.specs.Outcomes.{anno_words_work, annos, FolderWork, inc_job_work, incs, plainly, of_stage, in_folder, with_context, scans, scan_words_work, writing, written_there, marks, mark_words_work, picks, pick_words_work, refiles, refile_words_work, rmms, rmm_words_work, word_work, named_work, with_profile, work_by, work_of, alone_meeting, tell_words_work, tells, sort_words_work, sorts}
+use Rattle.command_line.specs.Outcomes.{anno_words_work, annos, FolderWork, inc_job_work, incs, plainly, of_stage, in_folder, with_context, scans, scan_words_work, on_folder, writing, written_there, marks, mark_words_work, picks, pick_words_work, refiles, refile_words_work, rmms, rmm_words_work, word_work, named_work, with_profile, work_by, work_of, alone_meeting, packs, tasks, tell_words_work, tells, sort_words_work, sorts}
 use Rattle.command_line.specs.Profile.{folder_of, path_of, profile_name}
 use Rattle.command_line.specs.declared.name.CommandName.{CommandName}
 use Rattle.command_line.specs.declared.name.CommandName.TheVariants.{Anno, Folder as FolderCommand, Inc, Mark, Pick, Refile, Rmm, Scan, Sortm}
@@ -333,6 +335,25 @@ tell_stage run c few homes profile words valid v h same unmet begun =
     (homes_at run ((mailbox_in c).folders (Folder (path_of profile) folder))) (homes (Folder (path_of profile) folder)) v.numbers (after_read v (Mail (path_of profile)) context_name) (knowing (entries_in text) h)
     (record { has = (same, refl); fresh = λ x. begun.names (path_of profile) folder x; unmet = λ x is_held. unmet (Folder (path_of profile) folder) x; hand = refl }) same refl refl)
 
+-- `folder -pack` alone, from the context on
+pack_stage : (run : ℕ) (c : Contents) → run < 2 ^ 128 → AreAllHomes run c → (profile : List NamedValue) (words : FolderWords) → IsValid words.folder → (v : View) (h : Hand) (same : v.contents ≡ c) → (unmet : (p : Place) (x : List ℕ) → v.met p x ≡ false) → (begun : IsBegun v)
+    → Gives (by_view true) v h (stage true c profile words.folder v h same (λ e. begun) (packs (alone_meeting run) (mailbox_in c) profile)).text (pack_begun run profile words) (WorkEnds (stage true c profile words.folder v h same (λ e. begun) (packs (alone_meeting run) (mailbox_in c) profile)))
+unfolding pack_begun
+pack_stage run c few homes profile words valid v h same unmet begun =
+    stage_gives true c profile words.folder v h same (λ e. begun) (packs (alone_meeting run) (mailbox_in c) profile) WorkEnds (mark_refused c) (λ folder. pack run (path_of profile) (pack_job folder))
+    (λ text folder reads is.
+    let short = read_short (c.texts (Mail (path_of profile)) context_name) text reads in
+    pack_gives run few (path_of profile) (pack_job folder) (acted_valid words.folder (entries_in text) profile folder valid is) (suffix_clean folder) c (entries_in text) (ap entries_in short.1) short.0
+    (homes_at run ((mailbox_in c).folders (Folder (path_of profile) folder))) (homes (Folder (path_of profile) folder)) v.numbers (after_read v (Mail (path_of profile)) context_name) (knowing (entries_in text) h)
+    (record { has = (same, refl); fresh = λ x. begun.names (path_of profile) folder x; unmet = λ x is_held. unmet (Folder (path_of profile) folder) x; hand = refl }))
+
+-- the one or the other
+task_stage : (run : ℕ) (c : Contents) → run < 2 ^ 128 → AreAllHomes run c → (profile : List NamedValue) (words : FolderWords) → IsValid words.folder → (v : View) (h : Hand) (same : v.contents ≡ c) → (unmet : (p : Place) (x : List ℕ) → v.met p x ≡ false) → (begun : IsBegun v) → (b : Bool)
+    → Gives (by_view true) v h (stage true c profile words.folder v h same (λ e. begun) (tasks (alone_meeting run) (mailbox_in c) profile words b)).text (task_begun run profile words b) (WorkEnds (stage true c profile words.folder v h same (λ e. begun) (tasks (alone_meeting run) (mailbox_in c) profile words b)))
+unfolding task_begun
+task_stage run c few homes profile words valid v h same unmet begun true = pack_stage run c few homes profile words valid v h same unmet begun
+task_stage run c few homes profile words valid v h same unmet begun false = tell_stage run c few homes profile words valid v h same unmet begun
+
 -- `pick` alone, from the context on
 pick_stage : (run : ℕ) (c : Contents) → run < 2 ^ 128 → AreAllHomes run c → (profile : List NamedValue) (words : PickWords) → IsValid words.folder → (v : View) (h : Hand) (same : v.contents ≡ c) → (unmet : (p : Place) (x : List ℕ) → v.met p x ≡ false) → (begun : IsBegun v)
     → Gives (by_view true) v h (stage true c profile words.folder v h same (λ e. begun) (picks (alone_meeting run) (mailbox_in c) profile words)).text (pick_begun run profile words) (WorkEnds (stage true c profile words.folder v h same (λ e. begun) (picks (alone_meeting run) (mailbox_in c) profile words)))
@@ -516,11 +537,14 @@ module _ (alone : Bool) (run : ℕ) (c : Contents) (few : run < 2 ^ 128) (homes 
     tell_words_true : AreAllHomes run c → (value : Result FolderWords Ended) → ((words : FolderWords) → value ≡ Ok words → IsValid words.folder) → ((e : Ended) → value ≡ Err e → IsRefusal e.fault)
         → Gives (by_view true) z fresh (tell_words_work (alone_meeting run) box profile value).text (tell_by run profile value) (CommandEnds true (tell_words_work (alone_meeting run) box profile value))
     unfolding Gives lifted mailbox_in
-    tell_words_true there (Ok words) valid r =
-        gives_bind (by_view true) z fresh (tell_words_work (alone_meeting run) box profile (Ok words)).text (tell_begun run profile words) (λ q. Return (converted plain q)) (WorkEnds (stage true c profile words.folder z fresh same (λ e. begun) (tells (alone_meeting run) box profile words)))
-        (CommandEnds true (tell_words_work (alone_meeting run) box profile (Ok words)))
-        (tell_stage run c few there profile words (valid words refl) z fresh same unmet begun)
-        (λ y j left q e. mark_ends (stage true c profile words.folder z fresh same (λ e. begun) (tells (alone_meeting run) box profile words)) y j left q e)
+    tell_words_true there (Ok words) valid r = by_task words.pack
+      where
+        by_task : (b : Bool) → Gives (by_view true) z fresh (of_stage (on_folder box profile words.folder (tasks (alone_meeting run) box profile words b))).text (lifted plain (task_begun run profile words b)) (CommandEnds true (of_stage (on_folder box profile words.folder (tasks (alone_meeting run) box profile words b))))
+        by_task b =
+            gives_bind (by_view true) z fresh (of_stage (on_folder box profile words.folder (tasks (alone_meeting run) box profile words b))).text (task_begun run profile words b) (λ q. Return (converted plain q)) (WorkEnds (stage true c profile words.folder z fresh same (λ e. begun) (tasks (alone_meeting run) box profile words b)))
+            (CommandEnds true (of_stage (on_folder box profile words.folder (tasks (alone_meeting run) box profile words b))))
+            (task_stage run c few there profile words (valid words refl) z fresh same unmet begun b)
+            (λ y j left q e. mark_ends (stage true c profile words.folder z fresh same (λ e. begun) (tasks (alone_meeting run) box profile words b)) y j left q e)
     tell_words_true there (Err e) valid r = let is = r e refl in plain_refused true c e is.0 z fresh [] is.1 refl same
 
     tell_words_give : alone ≡ true → (words : List (List ℕ)) → Gives (by_view alone) z fresh (tell_words_work (alone_meeting run) box profile (tell_said profile words)).text (tell_by run profile (tell_said profile words)) (CommandEnds alone (tell_words_work (alone_meeting run) box profile (tell_said profile words)))

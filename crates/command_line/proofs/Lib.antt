@@ -14,6 +14,7 @@ pub mod Looked
 pub mod MarksKept
 pub mod MindingPlans
 pub mod MindsMarks
+pub mod PackMarks
 pub mod PickEnding
 pub mod PickMarks
 pub mod Plans

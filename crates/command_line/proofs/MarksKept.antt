@@ -1,5 +1,5 @@
 -- A command keeps the marks of messages.
-use Rattle.std.proofs.Common.{◌≡◌, ◌<◌, ◌^◌, ◌∷◌, [], ℕ, true, List, Option, Some, None, Result, Ok, Err, map, refl, sym, ◌∙◌, ap, subst}
+use Rattle.std.proofs.Common.{◌≡◌, ◌<◌, ◌^◌, ◌∷◌, [], ℕ, Bool, true, false, List, Option, Some, None, Result, Ok, Err, map, refl, sym, ◌∙◌, ap, subst}
 use Rattle.std.specs.Str.{chars}
 use Rattle.mh_base.specs.Folders.{is_folder_name}
 use Rattle.mh_profile.specs.declared.named_value.NamedValue.{NamedValue}
@@ -70,7 +70,7 @@ use Rattle.sort_words.specs.SortWords.{sort_said}
 use Rattle.command_line.specs.Command.{annotated_by, command, mark_by, mark_job, picked_by, rmm_by, rmm_job, word_by, tell_by, tell_job}
 use Rattle.command_line.specs.CommandMarks.{IsTextName, KeepsCommandMarks, KeepsWhere}
 use Rattle.command_line.specs.CommandNames.{begins_folders, command_of, named}
-use Rattle.command_line.specs.CommandPledge.{entries_by, marks_pledge, on_named, rmm_on_named, rmms_pledge, tell_on_named, tells_pledge}
+use Rattle.command_line.specs.CommandPledge.{entries_by, marks_pledge, on_named, rmm_on_named, rmms_pledge, task_pledge, tell_on_named, tells_pledge}
 use Rattle.command_line.specs.Profile.{folder_of, path_of, profile_name}
 use Rattle.command_line.specs.declared.name.CommandName.{CommandName}
 use Rattle.command_line.specs.declared.name.CommandName.TheVariants.{Anno, Folder as FolderCommand, Inc, Mark, Pick, Refile, Rmm, Scan, Sortm}
@@ -78,10 +78,11 @@ use Rattle.command_line.specs.declared.caller.Caller.{Caller}
 use Rattle.command_line.proofs.IncKept.{inc_kept}
 use Rattle.command_line.proofs.MindingPlans.{Minding, NothingMore, minding_kept, minding_where, minds_own, minds_with, ok_one, sound_so}
 use Rattle.command_line.proofs.MindsMarks.{command_keeps_sequences, minds_sequences}
-use Rattle.command_line.proofs.Pledging.{Answered, answers, context_keeps, context_step, known_sound, mark_acts, mark_onward, mark_words_keep, named_onward, on_context, onward_by, plan_by, profile_step, rmm_acts, rmm_onward, rmm_words_keep, two_readings, word_onward, tell_acts, tell_onward, tell_words_keep}
+use Rattle.command_line.proofs.Pledging.{Answered, answers, context_keeps, context_step, known_sound, mark_acts, mark_onward, mark_words_keep, named_onward, on_context, onward_by, plan_by, profile_step, rmm_acts, rmm_onward, rmm_words_keep, two_readings, word_onward, task_acts, tell_acts, tell_onward, tell_words_keep}
 use Rattle.command_line.proofs.AnnoMarks.{anno_minding}
 use Rattle.command_line.proofs.SortMarks.{sort_minding}
 use Rattle.command_line.proofs.FolderChars.{AreUtf8, HasChars, acted_chars, anno_chars, chars_texts, mark_chars, pick_chars, refile_chars, rmm_chars, tell_chars, sort_chars}
+use Rattle.command_line.proofs.PackMarks.{pack_minding, tell_plan}
 use Rattle.command_line.proofs.PickMarks.{pick_minding}
 use Rattle.command_line.proofs.RefileMarks.{refile_minding}
 use Rattle.command_line.proofs.SaidFolder.{acted_valid, mark_valid, refile_words_valid, rmm_words_valid, tell_words_valid}
@@ -251,9 +252,6 @@ module _ (run : ℕ) (few : run < 2 ^ 128) (profile : List NamedValue) (h : Hand
         set_by [] word rest e k = cc (e)
         set_by (x ∷ xs) word rest e k = k
 
-  abbrev tell_plan : Answer → FolderWords → Plan (Result Unit Ended)
-  tell_plan b words = Ask profile_step (λ c. rest_by (context_step profile) (tell_by run profile (Ok words)) (tell_onward run profile (Ok words)) b)
-
   tell_minding : (b : Answer) (value : Result FolderWords Ended) → ((words : FolderWords) → value ≡ Ok words → IsValid words.folder × HasChars words.folder) → Minding run NoMore h (Ask profile_step (λ c. rest_by (context_step profile) (tell_by run profile value) (tell_onward run profile value) b))
   unfolding tell_onward
   tell_minding b (Err e) valid = record {
@@ -265,7 +263,7 @@ module _ (run : ℕ) (few : run < 2 ^ 128) (profile : List NamedValue) (h : Hand
   }
   tell_minding b (Ok words) valid = named_by (folder_of words.folder (entries_by b) profile) refl
     where
-      named_by : (v : Result (List ℕ) CommandFault) → folder_of words.folder (entries_by b) profile ≡ v → Minding run NoMore h (tell_plan b words)
+      named_by : (v : Result (List ℕ) CommandFault) → folder_of words.folder (entries_by b) profile ≡ v → Minding run NoMore h (tell_plan run profile b words)
       named_by (Err e) is = record {
         pledge = tell_on_named run profile words (folder_of words.folder (entries_by b) profile);
         run_is = ap (λ v. (tell_on_named run profile words v).run) is;
@@ -273,28 +271,34 @@ module _ (run : ℕ) (few : run < 2 ^ 128) (profile : List NamedValue) (h : Hand
         Q = _;
         keeps = tell_words_keep run few profile h b (Ok words);
       }
-      named_by (Ok folder) is = acted (acted_valid words.folder (entries_by b) profile folder (valid words refl).0 is) (acted_chars words.folder (entries_by b) profile folder (valid words refl).1 is) words.specs refl
+      named_by (Ok folder) is = acted (acted_valid words.folder (entries_by b) profile folder (valid words refl).0 is) (acted_chars words.folder (entries_by b) profile folder (valid words refl).1 is) words.pack refl
         where
-          acted : is_folder_name folder ≡ true → IsTextName folder → (o : List (List ℕ)) → words.specs ≡ o → Minding run NoMore h (tell_plan b words)
-          acted real text [] none = record {
+          by_specs : words.pack ≡ false → is_folder_name folder ≡ true → IsTextName folder → (o : List (List ℕ)) → words.specs ≡ o → Minding run NoMore h (tell_plan run profile b words)
+          by_specs as_is real text [] none = record {
             pledge = tell_on_named run profile words (folder_of words.folder (entries_by b) profile);
-            run_is = ap (λ v. (tell_on_named run profile words v).run) is ∙ ap (λ o. (tell_pledge_by run path (tell_job folder words profile) o).run) none;
+            run_is = ap (λ v. (tell_on_named run profile words v).run) is ∙ (ap (λ k. (task_pledge run profile words folder k).run) as_is ∙ ap (λ o. (tell_pledge_by run path (tell_job folder words profile) o).run) none);
             minds = subst (λ v. MindsSequencesOf IsTextName (with_step (tell_on_named run profile words v) NoMore)) (sym is)
+                (subst (λ k. MindsSequencesOf IsTextName (with_step (task_pledge run profile words folder k) NoMore)) (sym as_is)
                 (subst (λ o. MindsSequencesOf IsTextName (with_step (tell_pledge_by run path (tell_job folder words profile) o) NoMore)) (sym none)
-                (minds_with (look_pledge run path (task_with [] (tell_job folder words profile))) NoMore (tell_looks_mind run path (tell_job folder words profile) real)));
+                (minds_with (look_pledge run path (task_with [] (tell_job folder words profile))) NoMore (tell_looks_mind run path (tell_job folder words profile) real))));
             Q = _;
             keeps = tell_words_keep run few profile h b (Ok words);
           }
-          acted real text (word ∷ rest) some = record {
+          by_specs as_is real text (word ∷ rest) some = record {
             pledge = sets_pledge words (entries_by b) folder real text (word ∷ rest);
             run_is = refl;
             minds = told_minds words (entries_by b) folder real text (word ∷ rest);
             Q = IfOkay Any;
-            keeps = keeps_after (sets_pledge words (entries_by b) folder real text (word ∷ rest)) Home (Mail path) profile_name context_name LIMIT_BYTES h (on_context profile words.folder (tell_acts run profile words) (reading_of b)) (IfOkay Any)
-                (λ c d sound. context_keeps (sets_pledge words (entries_by b) folder real text (word ∷ rest)) (two_readings profile c d) h sound profile words.folder (tell_acts run profile words) Any (reading_of b)
-                (λ other known. subst (λ z. Keeps (rules_of (sets_pledge words (entries_by b) folder real text (word ∷ rest))) (two_readings profile c d) (knowing (entries_by b) h) (tell_acts run profile words z) (IfOkay Any)) (ok_one (folder_of words.folder (entries_by b) profile) folder other is known)
-                (sets_keep words (entries_by b) folder real text (word ∷ rest) word rest refl some c d (known_sound (sets_pledge words (entries_by b) folder real text (word ∷ rest)) (acts (two_readings profile c d)) h (entries_by b) sound))));
+            keeps = keeps_after (sets_pledge words (entries_by b) folder real text (word ∷ rest)) Home (Mail path) profile_name context_name LIMIT_BYTES h (on_context profile words.folder (task_acts run profile words words.pack) (reading_of b)) (IfOkay Any)
+                (λ c d sound. context_keeps (sets_pledge words (entries_by b) folder real text (word ∷ rest)) (two_readings profile c d) h sound profile words.folder (task_acts run profile words words.pack) Any (reading_of b)
+                (λ other known. subst (λ z. Keeps (rules_of (sets_pledge words (entries_by b) folder real text (word ∷ rest))) (two_readings profile c d) (knowing (entries_by b) h) (task_acts run profile words words.pack z) (IfOkay Any)) (ok_one (folder_of words.folder (entries_by b) profile) folder other is known)
+                (subst (λ k. Keeps (rules_of (sets_pledge words (entries_by b) folder real text (word ∷ rest))) (two_readings profile c d) (knowing (entries_by b) h) (task_acts run profile words k folder) (IfOkay Any)) (sym as_is)
+                (sets_keep words (entries_by b) folder real text (word ∷ rest) word rest refl some c d (known_sound (sets_pledge words (entries_by b) folder real text (word ∷ rest)) (acts (two_readings profile c d)) h (entries_by b) sound)))));
           }
+
+          acted : is_folder_name folder ≡ true → IsTextName folder → (k : Bool) → words.pack ≡ k → Minding run NoMore h (tell_plan run profile b words)
+          acted real text true anew = pack_minding run few profile h b words folder is real text anew
+          acted real text false as_is = by_specs as_is real text words.specs refl
 
   -- `rmm`
   module _ (words : RmmWords) (es : List NamedValue) (folder : List ℕ) (valid : is_folder_name folder ≡ true) (text : IsTextName folder) where

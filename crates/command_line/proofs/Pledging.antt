@@ -1,5 +1,5 @@
 -- A command goes as pledged: by the mail directory that its profile names, its words and the context.
-use Rattle.std.proofs.Common.{◌≡◌, ◌⊎◌, inl, inr, ◌<◌, ◌^◌, ℕ, true, List, [], ◌∷◌, Option, None, Some, Result, Ok, Err, refl, sym, subst, map}
+use Rattle.std.proofs.Common.{◌≡◌, ◌⊎◌, inl, inr, ◌<◌, ◌^◌, ℕ, Bool, true, false, List, [], ◌∷◌, Option, None, Some, Result, Ok, Err, refl, sym, subst, map}
 use Rattle.std.specs.Str.{chars}
 use Rattle.mh_profile.specs.declared.named_value.NamedValue.{NamedValue}
 use Rattle.mh_profile.specs.Reading.{entries_in}
@@ -53,6 +53,8 @@ use Rattle.sortm_command.proofs.SortPledged.{sortm_keeps}
 use Rattle.sort_words.specs.declared.words.SortWords.{SortWords}
 use Rattle.folder_command.specs.Folder.{folder as tell, pledge_by as tell_pledge_by}
 use Rattle.folder_command.proofs.FolderPledged.{folder_keeps}
+use Rattle.pack_command.specs.Pack.{pack}
+use Rattle.pack_command.proofs.PackPledged.{pack_keeps}
 use Rattle.pick_command.specs.Pick.{pick}
 use Rattle.pick_command.specs.PickPledge.{pledge_by as pick_pledge_by}
 use Rattle.pick_command.specs.declared.job.PickMarks.{PickMarks}
@@ -79,9 +81,9 @@ use Rattle.refile_command.specs.declared.job.RefileJob.{RefileJob}
 use Rattle.refile_command.proofs.RefileMoved.{HasHeldNone}
 use Rattle.refile_command.proofs.RefilePledged.{EndsRefiled, refile_keeps}
 use Rattle.refile_command.proofs.RmmPledged.{rmm_keeps}
-use Rattle.command_line.specs.Command.{anno_begun, anno_by, anno_job, annotated_by, command, command_by, context_entered, context_seen, folder_found, inc_begun, inc_by, job_of, mark_begun, mark_by, mark_job, no_command, pick_begun, pick_by, pick_job, picked_by, refile_begun, refile_by, refile_job, rmm_begun, rmm_by, rmm_job, scan_begun, scan_by, word_by, tell_begun, tell_by, tell_job, sort_begun, sort_by, sort_job}
+use Rattle.command_line.specs.Command.{anno_begun, anno_by, anno_job, annotated_by, command, command_by, context_entered, context_seen, folder_found, inc_begun, inc_by, job_of, mark_begun, mark_by, mark_job, no_command, pick_begun, pick_by, pick_job, picked_by, refile_begun, refile_by, refile_job, rmm_begun, rmm_by, rmm_job, scan_begun, scan_by, word_by, pack_begun, pack_job, task_begun, tell_begun, tell_by, tell_job, sort_begun, sort_by, sort_job}
 use Rattle.command_line.specs.CommandNames.{command_of, named}
-use Rattle.command_line.specs.CommandPledge.{IsDone, KeepsPledge, TellsAsked, anno_on_named, annos_pledge, asked_pledge, command_pledge, entries_by, incs_pledge, marks_pledge, on_named, path_by, pick_on_named, picks_pledge, refile_on_named, refiles_pledge, rmm_on_named, rmms_pledge, text_of, word_pledge, tell_on_named, tells_pledge, sort_on_named, sorts_pledge}
+use Rattle.command_line.specs.CommandPledge.{IsDone, KeepsPledge, TellsAsked, anno_on_named, annos_pledge, asked_pledge, command_pledge, entries_by, incs_pledge, marks_pledge, on_named, path_by, pick_on_named, picks_pledge, refile_on_named, refiles_pledge, rmm_on_named, rmms_pledge, text_of, word_pledge, task_pledge, tell_on_named, tells_pledge, sort_on_named, sorts_pledge}
 use Rattle.command_line.specs.Incorporating.{IncAsked, job_by, job_writing}
 use Rattle.command_line.specs.Profile.{folder_of, path_of, profile_name}
 use Rattle.command_line.specs.declared.name.CommandName.{CommandName}
@@ -133,6 +135,13 @@ module _ (run : ℕ) (profile : List NamedValue) where
   abbrev pub tell_acts : FolderWords → List ℕ → Commanded Unit
   tell_acts words folder = tell run (path_of profile) (tell_job folder words profile)
 
+  abbrev pub pack_acts : List ℕ → Commanded Unit
+  pack_acts folder = pack run (path_of profile) (pack_job folder)
+
+  abbrev pub task_acts : FolderWords → Bool → List ℕ → Commanded Unit
+  task_acts words true folder = pack_acts folder
+  task_acts words false folder = tell_acts words folder
+
   abbrev pub pick_acts : PickWords → List ℕ → Commanded Unit
   pick_acts words folder = pick run (path_of profile) (pick_job folder words profile)
 
@@ -158,9 +167,13 @@ module _ (run : ℕ) (profile : List NamedValue) where
   mark_onward (Ok words) = inr (λ b. on_context profile words.folder (mark_acts words) (reading_of b), context_asked profile words.folder (mark_acts words))
   mark_onward (Err e) = inl (Err e, refl)
 
+  pub task_asked : (words : FolderWords) (k : Bool) → lifted plain (task_begun run profile words k) ≡ Ask (context_step profile) (λ b. on_context profile words.folder (task_acts words k) (reading_of b))
+  unfolding task_begun tell_begun pack_begun
+  task_asked words true = context_asked profile words.folder pack_acts
+  task_asked words false = context_asked profile words.folder (tell_acts words)
+
   unfoldable pub tell_onward : (value : Result FolderWords Ended) → Onward (context_step profile) (tell_by run profile value)
-  unfolding tell_begun
-  tell_onward (Ok words) = inr (λ b. on_context profile words.folder (tell_acts words) (reading_of b), context_asked profile words.folder (tell_acts words))
+  tell_onward (Ok words) = inr (λ b. on_context profile words.folder (task_acts words words.pack) (reading_of b), task_asked words words.pack)
   tell_onward (Err e) = inl (Err e, refl)
 
   unfoldable pub pick_onward : (value : Result PickWords Ended) → Onward (context_step profile) (pick_by run profile value)
@@ -349,25 +362,29 @@ module _ (run : ℕ) (few : run < 2 ^ 128) (profile : List NamedValue) (h : Hand
   tell_done a b later j (Err e) f = tt
 
   module _ (words : FolderWords) (a b : Answer) (es : List NamedValue) (folder : List ℕ) where
-    abbrev TellKeeps : Pledge → Type 0
-    TellKeeps w = Sound w (acts (two_readings profile a b)) h → Keeps (rules_of w) (two_readings profile a b) (knowing es h) (tell_acts run profile words folder) (IfOkay (Finished (Some FolderCommand) path))
+    abbrev TaskKeeps : Bool → Pledge → Type 0
+    TaskKeeps k w = Sound w (acts (two_readings profile a b)) h → Keeps (rules_of w) (two_readings profile a b) (knowing es h) (task_acts run profile words k folder) (IfOkay (Finished (Some FolderCommand) path))
 
-    told_so : TellKeeps (tell_on_named run profile words (Ok folder))
+    task_so : (k : Bool) → TaskKeeps k (task_pledge run profile words folder k)
     unfolding tell
-    told_so sound =
-        let w = tell_on_named run profile words (Ok folder) in
+    task_so true sound =
+        let w = task_pledge run profile words folder true in
+        keeps_more (rules_of w) (two_readings profile a b) (knowing es h) (pack_acts run profile folder) (IfOkay (Still (acts (two_readings profile a b)))) (IfOkay (Finished (Some FolderCommand) path)) (tell_done a b)
+        (pack_keeps run few path (pack_job folder) (two_readings profile a b) (knowing es h) (two_unheld run profile folder a b) (known_sound w (acts (two_readings profile a b)) h es sound))
+    task_so false sound =
+        let w = task_pledge run profile words folder false in
         keeps_more (rules_of w) (two_readings profile a b) (knowing es h) (tell_acts run profile words folder) (IfOkay (Still (acts (two_readings profile a b)))) (IfOkay (Finished (Some FolderCommand) path)) (tell_done a b)
         (folder_keeps run few path (tell_job folder words profile) words.specs (two_readings profile a b) (knowing es h) (known_sound w (acts (two_readings profile a b)) h es sound))
 
-    told_at : folder_of words.folder es profile ≡ Ok folder → TellKeeps (tell_on_named run profile words (folder_of words.folder es profile))
-    told_at is = subst (λ v. TellKeeps (tell_on_named run profile words v)) (sym is) told_so
+    told_at : folder_of words.folder es profile ≡ Ok folder → TaskKeeps words.pack (tell_on_named run profile words (folder_of words.folder es profile))
+    told_at is = subst (λ v. TaskKeeps words.pack (tell_on_named run profile words v)) (sym is) (task_so words.pack)
 
   pub tell_words_keep : (b : Answer) (value : Result FolderWords Ended)
       → Keeps (rules_of (tells_pledge run profile (entries_by b) value)) [] h (Ask profile_step (λ c. rest_by (context_step profile) (tell_by run profile value) (tell_onward run profile value) b)) (IfOkay (Finished (Some FolderCommand) path))
   unfolding tell_onward
   tell_words_keep b (Ok words) =
-      keeps_after w Home (Mail path) profile_name context_name LIMIT_BYTES h (on_context profile words.folder (tell_acts run profile words) (reading_of b)) (IfOkay (Finished (Some FolderCommand) path))
-      (λ c d sound. context_keeps w (two_readings profile c d) h sound profile words.folder (tell_acts run profile words) (Finished (Some FolderCommand) path) (reading_of b)
+      keeps_after w Home (Mail path) profile_name context_name LIMIT_BYTES h (on_context profile words.folder (task_acts run profile words words.pack) (reading_of b)) (IfOkay (Finished (Some FolderCommand) path))
+      (λ c d sound. context_keeps w (two_readings profile c d) h sound profile words.folder (task_acts run profile words words.pack) (Finished (Some FolderCommand) path) (reading_of b)
       (λ folder is. told_at words c d (entries_by b) folder is sound))
     where
       w : Pledge
@@ -603,8 +620,12 @@ pledge_run run caller (word ∷ words) profile context = go (named word)
         by_specs folder [] = refl
         by_specs folder (word ∷ words) = refl
 
+        by_task : (folder : List ℕ) (k : Bool) → (task_pledge run profile said folder k).run ≡ run
+        by_task folder true = refl
+        by_task folder false = by_specs folder said.specs
+
         by_folder : (value : Result (List ℕ) CommandFault) → (tell_on_named run profile said value).run ≡ run
-        by_folder (Ok folder) = by_specs folder said.specs
+        by_folder (Ok folder) = by_task folder said.pack
         by_folder (Err e) = refl
     tells_by (Err e) = refl
 

@@ -6,7 +6,6 @@ use Rattle.mh_profile.specs.declared.named_value.NamedValue.{NamedValue}
 use Rattle.mh_words.specs.Whole.{Wrong, read_in}
 use Rattle.mh_words.specs.declared.item.Item.{Item}
 use Rattle.folder_files.specs.declared.refusal.Refusal.TheVariants as refusal
-use Rattle.step_plans.specs.declared.command_fault.CommandFault.{CommandFault}
 use Rattle.step_plans.specs.declared.command_fault.CommandFault.TheVariants as fault
 use Rattle.pick_expr.specs.Whole.{expr_in}
 use Rattle.pick_expr.specs.declared.expr.Expr.{Expr}
@@ -17,8 +16,7 @@ use Rattle.command_words.specs.BadValues.{first_of, unless_bad}
 use Rattle.command_words.specs.FieldNames.{bad_names}
 use Rattle.command_words.specs.FolderWords.{folder_named, folders, one_folder, some_named}
 use Rattle.command_words.specs.PickWords.{date_word, folder_said, items_said, named_expr, pick_line, pick_said, with_expr, with_folder, with_names}
-use Rattle.command_words.specs.SequenceNames.{named_sequences, unless_wrong, wrong_names}
-use Rattle.command_words.specs.Switches.{values}
+use Rattle.command_words.specs.SequenceNames.{unless_wrong}
 use Rattle.command_words.specs.Tables.{pick_table}
 use Rattle.command_words.specs.declared.ended.Ended.{Ended}
 use Rattle.command_words.specs.declared.pick.PickWords.{PickWords}

@@ -1,6 +1,6 @@
 -- What shows how a command ended whose words name one that begins a folder: its run's own deeds in the call, the newest
 -- first.
-use Rattle.std.specs.Prelude.{◌≡◌, ◌⊎◌, ◌++◌, ℕ, List, [], ◌∷◌, map, Option, None, Some, Result, Ok, Err}
+use Rattle.std.specs.Prelude.{◌≡◌, ◌⊎◌, ◌++◌, ℕ, Bool, true, false, List, [], ◌∷◌, map, Option, None, Some, Result, Ok, Err}
 use Rattle.std.specs.Str.{chars}
 use Rattle.mh_profile.specs.declared.named_value.NamedValue.{NamedValue}
 use Rattle.folder_files.specs.Deeds.{Deed, did}
@@ -29,6 +29,9 @@ use Rattle.sortm_command.specs.declared.job.SortJob.{SortJob}
 use Rattle.told_folders.specs.Answers.{HasChanged, ShowsListing as ShowsTellListing, TellsFolder, change_answers}
 use Rattle.folder_command.specs.Folder.{task_with}
 use Rattle.folder_command.specs.declared.job.FolderJob.{FolderJob}
+use Rattle.pack_command.specs.PackAnswers.{ShowsPack}
+use Rattle.pack_command.specs.PackPledge.{TellsPacked}
+use Rattle.pack_command.specs.declared.job.PackJob.{PackJob}
 use Rattle.inc_command.specs.IncAnswers.{IsTextOfNew, ShowsIncorporating}
 use Rattle.message_lines.specs.MessageText.{Writing}
 use Rattle.message_lines.specs.declared.standing.Standing.{Standing}
@@ -52,7 +55,7 @@ use Rattle.sort_words.specs.SortWords.{sort_said}
 use Rattle.command_line.specs.Causes.{IsWrongStored, ShowsCommandFault}
 use Rattle.anno_words.specs.declared.words.AnnoWords.{AnnoWords}
 use Rattle.sort_words.specs.declared.words.SortWords.{SortWords}
-use Rattle.command_line.specs.Command.{anno_job, annotated_by, mark_job, pick_job, picked_by, refile_job, rmm_job, tell_job, sort_job}
+use Rattle.command_line.specs.Command.{anno_job, annotated_by, mark_job, pack_job, pick_job, picked_by, refile_job, rmm_job, tell_job, sort_job}
 use Rattle.command_line.specs.CommandNames.{named}
 use Rattle.command_line.specs.CommandPledge.{entries_by, path_by}
 use Rattle.command_line.specs.Incorporating.{IncAsked, job_by, job_writing}
@@ -124,6 +127,16 @@ abbrev pub ShowsTelling : ℕ → List ℕ → FolderJob → List NamedValue →
 ShowsTelling run path job context r own [] = ShowsTellingOf run path job context r own
 ShowsTelling run path job context r own (word ∷ words) = ShowsSetting run path job (word ∷ words) r own
 
+-- `folder -pack`: at its end its messages had got other numbers, and it said the line of the folder as it was then; or this shows its fault
+abbrev pub ShowsPacking : ℕ → List ℕ → PackJob → Result (List ℕ) CommandFault → List Deed → Type 0
+ShowsPacking run path job (Ok said) own = TellsPacked run path job own said
+ShowsPacking run path job (Err e) own = ShowsPack run path job e own
+
+-- by whether messages are numbered anew
+abbrev pub ShowsTask : ℕ → List NamedValue → List NamedValue → List ℕ → FolderWords → Result (List ℕ) CommandFault → List Deed → Bool → Type 0
+ShowsTask run profile context folder words r own true = ShowsPacking run (path_of profile) (pack_job folder) r own
+ShowsTask run profile context folder words r own false = ShowsTelling run (path_of profile) (tell_job folder words profile) context r own words.specs
+
 -- `rmm` on this folder: at its end it had removed the messages that the job's words choose, and said nothing; or this
 -- shows its fault
 abbrev pub ShowsRemoving : ℕ → List ℕ → RmmJob → Result (List ℕ) CommandFault → List Deed → Type 0
@@ -169,7 +182,7 @@ abbrev pub ShowsTell : ℕ → List NamedValue → List NamedValue → List ℕ 
     → Result FolderWords Ended → Type 0
 ShowsTell run profile context folder r own (Ok words) =
     (folder_of words.folder context profile ≡ Ok folder)
-    × ShowsTelling run (path_of profile) (tell_job folder words profile) context r own words.specs
+    × ShowsTask run profile context folder words r own words.pack
 ShowsTell run profile context folder r own (Err x) = ⊥
 
 -- of `rmm`

@@ -1,5 +1,5 @@
 -- The plan of a command, by its words.
-use Rattle.std.specs.Prelude.{ℕ, List, [], ◌∷◌, Option, None, Some, is_some, map, Result, Ok, Err}
+use Rattle.std.specs.Prelude.{ℕ, Bool, true, false, List, [], ◌∷◌, Option, None, Some, is_some, map, Result, Ok, Err}
 use Rattle.std.specs.Str.{chars}
 use Rattle.mh_base.specs.declared.word.WordWhy.TheVariants.{NoCommand}
 use Rattle.mh_profile.specs.declared.named_value.NamedValue.{NamedValue}
@@ -24,6 +24,8 @@ use Rattle.sortm_command.specs.Sort.{sortm}
 use Rattle.sortm_command.specs.declared.job.SortJob.{SortJob}
 use Rattle.folder_command.specs.Folder.{folder as tell}
 use Rattle.folder_command.specs.declared.job.FolderJob.{FolderJob}
+use Rattle.pack_command.specs.Pack.{pack}
+use Rattle.pack_command.specs.declared.job.PackJob.{PackJob}
 use Rattle.inc_command.specs.Inc.{inc}
 use Rattle.refile_command.specs.Refile.{refile}
 use Rattle.refile_command.specs.Rmm.{rmm}
@@ -141,8 +143,22 @@ tell_begun run profile words = do
   folder ← folder_found profile words.folder
   tell run (path_of profile) (tell_job folder words profile)
 
+abbrev pub pack_job : List ℕ → PackJob
+pack_job folder = record { folder = folder }
+
+-- `folder -pack`
+unfoldable pub pack_begun : ℕ → List NamedValue → FolderWords → Commanded Unit
+pack_begun run profile words = do
+  folder ← folder_found profile words.folder
+  pack run (path_of profile) (pack_job folder)
+
+-- by whether messages are numbered anew
+unfoldable pub task_begun : ℕ → List NamedValue → FolderWords → Bool → Commanded Unit
+task_begun run profile words true = pack_begun run profile words
+task_begun run profile words false = tell_begun run profile words
+
 abbrev pub tell_by : ℕ → List NamedValue → Result FolderWords Ended → Ending Unit
-tell_by run profile (Ok words) = lifted plain (tell_begun run profile words)
+tell_by run profile (Ok words) = lifted plain (task_begun run profile words words.pack)
 tell_by run profile (Err e) = Return (Err e)
 
 -- what the words of `anno` say, whose lines have their date by the caller's clock

@@ -1,5 +1,5 @@
 -- What a call of a command keeps.
-use Rattle.std.specs.Prelude.{◌≡◌, ◌⊎◌, ◌++◌, ℕ, List, [], ◌∷◌, map, Option, None, Some, Result, Ok, Err}
+use Rattle.std.specs.Prelude.{◌≡◌, ◌⊎◌, ◌++◌, ℕ, Bool, true, false, List, [], ◌∷◌, map, Option, None, Some, Result, Ok, Err}
 use Rattle.std.specs.Str.{chars}
 use Rattle.mh_profile.specs.Reading.{entries_in}
 use Rattle.mh_profile.specs.declared.named_value.NamedValue.{NamedValue}
@@ -24,6 +24,7 @@ use Rattle.pick_command.specs.PickPledge.{pledge_by as pick_pledge_by}
 use Rattle.anno_command.specs.AnnoPledge.{anno_pledge}
 use Rattle.sortm_command.specs.SortPledge.{sortm_pledge}
 use Rattle.folder_command.specs.Folder.{pledge_by as tell_pledge_by}
+use Rattle.pack_command.specs.PackPledge.{pack_pledge}
 use Rattle.message_lines.specs.MessageText.{Writing}
 use Rattle.message_lines.specs.declared.standing.Standing.{Standing}
 use Rattle.inc_command.specs.IncPledge.{TellsNew, inc_pledge}
@@ -43,7 +44,7 @@ use Rattle.command_words.specs.declared.rmm.RmmWords.{RmmWords}
 use Rattle.anno_words.specs.declared.words.AnnoWords.{AnnoWords}
 use Rattle.sort_words.specs.declared.words.SortWords.{SortWords}
 use Rattle.sort_words.specs.SortWords.{sort_said}
-use Rattle.command_line.specs.Command.{anno_job, annotated_by, mark_job, pick_job, picked_by, refile_job, rmm_job, tell_job, sort_job}
+use Rattle.command_line.specs.Command.{anno_job, annotated_by, mark_job, pack_job, pick_job, picked_by, refile_job, rmm_job, tell_job, sort_job}
 use Rattle.command_line.specs.CommandNames.{command_of, named}
 use Rattle.command_line.specs.Incorporating.{IncAsked, job_by, job_writing}
 use Rattle.command_line.specs.Looking.{WritesAs}
@@ -92,9 +93,13 @@ abbrev pub picks_pledge : ℕ → List NamedValue → List NamedValue → Result
 picks_pledge run profile context (Ok words) = pick_on_named run profile words (folder_of words.folder context profile)
 picks_pledge run profile context (Err e) = scan_pledge run (path_of profile)
 
--- of `folder`
+-- of `folder`, by whether messages are numbered anew
+abbrev pub task_pledge : ℕ → List NamedValue → FolderWords → List ℕ → Bool → Pledge
+task_pledge run profile words folder true = pack_pledge run (path_of profile) (pack_job folder)
+task_pledge run profile words folder false = tell_pledge_by run (path_of profile) (tell_job folder words profile) words.specs
+
 abbrev pub tell_on_named : ℕ → List NamedValue → FolderWords → Result (List ℕ) CommandFault → Pledge
-tell_on_named run profile words (Ok folder) = tell_pledge_by run (path_of profile) (tell_job folder words profile) words.specs
+tell_on_named run profile words (Ok folder) = task_pledge run profile words folder words.pack
 tell_on_named run profile words (Err e) = scan_pledge run (path_of profile)
 
 abbrev pub tells_pledge : ℕ → List NamedValue → List NamedValue → Result FolderWords Ended → Pledge

@@ -1,5 +1,5 @@
 -- What a command comes to, by its words and the mailbox. Nothing here knows of steps.
-use Rattle.std.specs.Prelude.{ℕ, List, [], ◌∷◌, map, Option, None, Some, Result, Ok, Err}
+use Rattle.std.specs.Prelude.{ℕ, Bool, true, false, List, [], ◌∷◌, map, Option, None, Some, Result, Ok, Err}
 use Rattle.std.specs.Str.{chars}
 use Rattle.mh_profile.specs.declared.named_value.NamedValue.{NamedValue}
 use Rattle.mh_profile.specs.Reading.{entries_in}
@@ -22,6 +22,7 @@ use Rattle.pick_command.specs.Outcomes.{pick_work}
 use Rattle.anno_command.specs.AnnoOutcome.{anno_work}
 use Rattle.sortm_command.specs.SortOutcome.{sort_work}
 use Rattle.folder_command.specs.Folder.{folder_work}
+use Rattle.pack_command.specs.PackOutcome.{pack_work}
 use Rattle.inc_command.specs.IncOutcome.{inc_work, with_folder_made}
 use Rattle.refile_command.specs.MadeFolder.{or_empty}
 use Rattle.refile_command.specs.RefileOutcome.{refile_work}
@@ -42,7 +43,7 @@ use Rattle.command_words.specs.declared.rmm.RmmWords.{RmmWords}
 use Rattle.anno_words.specs.declared.words.AnnoWords.{AnnoWords}
 use Rattle.sort_words.specs.declared.words.SortWords.{SortWords}
 use Rattle.sort_words.specs.SortWords.{sort_said}
-use Rattle.command_line.specs.Command.{anno_job, annotated_by, job_of, mark_job, no_command, pick_job, picked_by, refile_job, rmm_job, tell_job, sort_job}
+use Rattle.command_line.specs.Command.{anno_job, annotated_by, job_of, mark_job, no_command, pack_job, pick_job, picked_by, refile_job, rmm_job, tell_job, sort_job}
 use Rattle.command_line.specs.CommandNames.{named}
 use Rattle.command_line.specs.Incorporating.{IncAsked, job_by, job_writing}
 use Rattle.command_line.specs.Looking.{InFile, Known, ScanAsked, Telling, scan_asked, written_with}
@@ -135,8 +136,18 @@ abbrev pub tells : Meeting → Mailbox → List NamedValue → FolderWords → F
 tells g m profile words context folder =
     folder_work (path_of profile) (tell_job folder words profile) (g.entries context) (g.homes (m.folders (Folder (path_of profile) folder))) m
 
+-- `folder -pack`: so too
+abbrev pub packs : Meeting → Mailbox → List NamedValue → FolderWork
+packs g m profile context folder =
+    pack_work g.run (path_of profile) (g.entries context) (g.homes (m.folders (Folder (path_of profile) folder))) (pack_job folder) m
+
+-- the one or the other
+abbrev pub tasks : Meeting → Mailbox → List NamedValue → FolderWords → Bool → FolderWork
+tasks g m profile words true = packs g m profile
+tasks g m profile words false = tells g m profile words
+
 abbrev pub tell_words_work : Meeting → Mailbox → List NamedValue → Result FolderWords Ended → Work Ended
-tell_words_work g m profile (Ok words) = of_stage (on_folder m profile words.folder (tells g m profile words))
+tell_words_work g m profile (Ok words) = of_stage (on_folder m profile words.folder (tasks g m profile words words.pack))
 tell_words_work g m profile (Err e) = refused_at m e
 
 -- `rmm`: so too

@@ -7,7 +7,7 @@ ghost use Rattle.file_plans.specs.Follows.{Follows, by_out};
 ghost use Rattle.step_plans.specs.CommandFaults.{command_cause};
 ghost use Rattle.command_words.specs.Ended.{ended_cause};
 ghost use Rattle.command_words.specs.TellWords.{tell_said};
-ghost use Rattle.command_line.specs.Command.{tell_begun, tell_by};
+ghost use Rattle.command_line.specs.Command.{pack_begun, task_begun, tell_begun, tell_by};
 ghost use Rattle.command_line.specs.Profile.{path_of};
 
 use crate::current::enter_folder;
@@ -17,10 +17,11 @@ use folder_command::{FolderJob, folder};
 use folder_files::Files;
 use mh_base::Sink;
 use mh_profile::Entries;
+use pack_command::{PackJob, pack};
 use std::alloc::Global;
 use step_plans::{CommandFault, Hand};
 
-/// Runs `folder`, from the context on.
+/// Tells of a folder, from the context on.
 fn begin_folder<F: Files, O: Sink>(
     alloc: Global,
     hand: &mut Hand,
@@ -41,6 +42,42 @@ fn begin_folder<F: Files, O: Sink>(
     folder(alloc, hand, files, out, &job)
 }
 
+/// Numbers the messages of a folder anew, from the context on.
+fn begin_pack<F: Files, O: Sink>(
+    alloc: Global,
+    hand: &mut Hand,
+    files: &mut F,
+    out: &mut O,
+    profile: &Entries,
+    words: FolderWords,
+) -> Result<(), CommandFault>
+    requires { hand.old.mail ≡ path_of profile.now }
+    ensures { Follows hand.old.run command_cause (pack_begun hand.old.run profile.now words) (by_out hand.old.kept (F.state files.old) (O.state out.old)) (by_out hand.new.kept (F.state files.new) (O.state out.new)) result }
+{
+    let folder = enter_folder(alloc, hand, files, profile, words.folder)?;
+    pack(alloc, hand, files, out, &PackJob { folder })
+}
+
+/// Runs `folder`, from the context on.
+#[tactic(auto, unfolding(crate::specs::Command::task_begun))]
+fn begin_task<F: Files, O: Sink>(
+    alloc: Global,
+    hand: &mut Hand,
+    files: &mut F,
+    out: &mut O,
+    profile: &Entries,
+    words: FolderWords,
+) -> Result<(), CommandFault>
+    requires { hand.old.mail ≡ path_of profile.now }
+    ensures { Follows hand.old.run command_cause (task_begun hand.old.run profile.now words words.pack) (by_out hand.old.kept (F.state files.old) (O.state out.old)) (by_out hand.new.kept (F.state files.new) (O.state out.new)) result }
+{
+    if words.pack {
+        begin_pack(alloc, hand, files, out, profile, words)
+    } else {
+        begin_folder(alloc, hand, files, out, profile, words)
+    }
+}
+
 /// Runs `folder` by its words, which are not read yet.
 pub(crate) fn run_folder<F: Files, O: Sink>(
     alloc: Global,
@@ -54,6 +91,6 @@ pub(crate) fn run_folder<F: Files, O: Sink>(
 {
     let words = folder_words(alloc, profile, words)?;
     let mut hand = Hand::new(run, path(alloc, profile)?);
-    begin_folder(alloc, &mut hand, files, out, profile, words)?;
+    begin_task(alloc, &mut hand, files, out, profile, words)?;
     Ok(())
 }

@@ -1,7 +1,6 @@
 -- The folders that the words of `refile` name are folders' names.
-use Rattle.std.proofs.Common.{◌≡◌, ◌∷◌, ◌++◌, [], ℕ, ◌==◌, Bool, true, false, List, Option, None, Some, Result, Ok, Err, refl, subst, ap, if◌then◌else◌}
+use Rattle.std.proofs.Common.{◌≡◌, ◌∷◌, ◌++◌, [], ℕ, ◌==◌, Bool, true, false, List, Option, None, Some, Result, Ok, Err, refl, subst, if◌then◌else◌}
 use Rattle.std.specs.Prelude.{filter, not}
-use Rattle.std.specs.List.{flat_map}
 use Rattle.mh_base.specs.Folders.{is_folder_name, without_plus}
 use Rattle.mh_words.specs.Whole.{Wrong}
 use Rattle.mh_words.specs.declared.item.Item.{Item}

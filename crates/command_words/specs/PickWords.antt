@@ -1,5 +1,5 @@
 -- What the words of `pick` say.
-use Rattle.std.specs.Prelude.{◌++◌, ◌==◌, codes, ℕ, ℤ, Bool, true, unwrap_or, List, [], ◌∷◌, length, Option, None, Some, Result, Ok, Err, if◌then◌else◌}
+use Rattle.std.specs.Prelude.{◌++◌, ◌==◌, codes, ℕ, ℤ, true, unwrap_or, List, [], ◌∷◌, length, Option, None, Some, Result, Ok, Err, if◌then◌else◌}
 use Rattle.std.specs.List.{flat_map}
 use Rattle.mh_words.specs.declared.item.Item.{Item}
 use Rattle.mh_words.specs.declared.item.Item.TheVariants.{Folder, Message, Switch, Component}

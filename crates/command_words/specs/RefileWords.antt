@@ -8,12 +8,11 @@ use Rattle.mh_words.specs.declared.item.Item.TheVariants.{Folder, Message, Switc
 use Rattle.mh_words.specs.Whole.{Wrong, read_in}
 use Rattle.mh_profile.specs.declared.named_value.NamedValue.{NamedValue}
 use Rattle.folder_files.specs.declared.refusal.Refusal.TheVariants as refusal
-use Rattle.step_plans.specs.declared.command_fault.CommandFault.{CommandFault}
 use Rattle.step_plans.specs.declared.command_fault.CommandFault.TheVariants as fault
 use Rattle.command_words.specs.Ended.{plain, wrong_at}
 use Rattle.command_words.specs.FolderWords.{folder_in}
 use Rattle.command_words.specs.MessageWords.{messages, names_or}
-use Rattle.command_words.specs.Switches.{last_choice, value_in, values}
+use Rattle.command_words.specs.Switches.{last_choice, values}
 use Rattle.command_words.specs.Tables.{refile_table}
 use Rattle.command_words.specs.Words.{profile_words}
 use Rattle.command_words.specs.declared.ended.Ended.{Ended}

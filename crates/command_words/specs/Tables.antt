@@ -39,9 +39,9 @@ inc_table =
 abbrev pub refile_table : SwitchTable
 refile_table = table_of (switch (codes "link") Flag ∷ switch (codes "nolink") Flag ∷ switch (codes "src") Value ∷ [])
 
--- `folder` has none
+-- the switches of `folder`
 abbrev pub folder_table : SwitchTable
-folder_table = table_of []
+folder_table = table_of (switch (codes "pack") Flag ∷ switch (codes "nopack") Flag ∷ [])
 
 -- the switches of `rmm`
 abbrev pub rmm_table : SwitchTable

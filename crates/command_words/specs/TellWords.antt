@@ -1,5 +1,5 @@
 -- What the words of `folder` say.
-use Rattle.std.specs.Prelude.{◌++◌, codes, ℕ, Bool, true, false, List, [], ◌∷◌, Option, None, Some, Result, Ok, Err}
+use Rattle.std.specs.Prelude.{◌++◌, codes, ℕ, Bool, true, false, unwrap_or, List, [], ◌∷◌, Option, None, Some, Result, Ok, Err}
 use Rattle.mh_words.specs.declared.item.Item.{Item}
 use Rattle.mh_words.specs.Whole.{Wrong, read_in}
 use Rattle.mh_profile.specs.declared.named_value.NamedValue.{NamedValue}
@@ -9,10 +9,12 @@ use Rattle.command_words.specs.Ended.{plain, wrong_at}
 use Rattle.command_words.specs.FolderWords.{folders, one_folder, named_folder}
 use Rattle.command_words.specs.IncWords.{alone, message_places}
 use Rattle.command_words.specs.MessageWords.{messages}
+use Rattle.command_words.specs.Switches.{last_choice}
 use Rattle.command_words.specs.Tables.{folder_table}
 use Rattle.command_words.specs.Words.{profile_words}
 use Rattle.command_words.specs.declared.ended.Ended.{Ended}
 use Rattle.command_words.specs.declared.folder.FolderWords.{FolderWords}
+use Rattle.command_words.specs.declared.tables.TheConstants.{NOPACK, PACK}
 
 -- the second of these places
 abbrev pub second_of : List ℕ → Option ℕ
@@ -24,13 +26,22 @@ abbrev pub second_from : Bool → List ℕ → Option ℕ
 second_from false places = second_of places
 second_from true places = first_of places
 
--- one folder or none, and one message's name or none: the earliest word that is too many is refused
+-- whether the messages are numbered anew: the last of `-pack` and `-nopack` counts
+abbrev pub is_packed : List Item → Bool
+is_packed items = unwrap_or (last_choice PACK NOPACK items) false
+
+-- of these places of messages' names the first that is too many: where the messages are numbered anew each is, else the second
+abbrev pub too_many : Bool → List ℕ → Option ℕ
+too_many true places = first_of places
+too_many false places = second_of places
+
+-- one folder or none, and one message's name or none, and none where the messages are numbered anew: the earliest word that is too many is refused
 abbrev pub folder_and_message : List Item → Result (Option (List ℕ)) Wrong
-folder_and_message items = alone (one_folder (folders items)) (second_of (message_places items))
+folder_and_message items = alone (one_folder (folders items)) (too_many (is_packed items) (message_places items))
 
 -- what the items say beside the folder
 abbrev pub words_of : Option (List ℕ) → List Item → FolderWords
-words_of folder items = record { folder = folder; specs = messages items }
+words_of folder items = record { folder = folder; pack = is_packed items; specs = messages items }
 
 abbrev pub with_folder : List Item → Result (List ℕ) CommandFault → Result FolderWords Ended
 with_folder items (Ok name) = Ok (words_of (Some name) items)

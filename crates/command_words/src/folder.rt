@@ -7,18 +7,21 @@ ghost use Rattle.command_words.specs.IncWords.{message_places};
 ghost use Rattle.command_words.specs.Results.{IsOneFolder, IsSaid};
 ghost use Rattle.command_words.specs.TellWords.{
   folder_and_message,
+  is_packed as is_packed_of,
   items_said as items_said_of,
   second_from,
   second_of,
   tell_said,
+  too_many as too_many_of,
   words_of,
 };
 
 use crate::ended::Ended;
 use crate::folders::{folder_beside, folder_said};
-use crate::inc::message_place;
+use crate::inc::{first_message, message_place};
 use crate::message_words::messages;
-use crate::tables::folder_table;
+use crate::switches::last_choice;
+use crate::tables::{NOPACK, PACK, folder_table};
 use crate::words::all_words;
 use crate::wrong_word::{read_items, wrong_at};
 use mh_base::{FolderName, Text, TextList, WordWhy};
@@ -26,11 +29,18 @@ use mh_profile::Entries;
 use mh_words::ItemList;
 use std::alloc::{AllocError, Global};
 
-/// The words of `folder`: the folder, where they name one; and the messages' name, where there is one.
+/// The words of `folder`: the folder, where they name one; whether its messages are numbered anew; and the messages' name, where there is one.
 #[derive(Drop)]
 pub struct FolderWords {
     pub folder: Option<FolderName>,
+    pub pack: bool,
     pub specs: TextList,
+}
+
+fn is_packed(items: &ItemList) -> bool
+    ensures { result ≡ is_packed_of items.now }
+{
+    last_choice(PACK, NOPACK, items).unwrap_or(false)
 }
 
 /// The place of the second message's name.
@@ -49,11 +59,22 @@ fn second_message(items: &ItemList) -> Option<u64>
     None
 }
 
-/// The word of the one folder, or the place of the first word that is too many: a second folder, or a second message's name.
+/// The place of the first message's name that is too many.
+fn too_many(items: &ItemList) -> Option<u64>
+    ensures { result ≡ too_many_of (is_packed_of items.now) (message_places items.now) }
+{
+    if is_packed(items) {
+        first_message(items)
+    } else {
+        second_message(items)
+    }
+}
+
+/// The word of the one folder, or the place of the first word that is too many: a second folder, or a message's name.
 fn folder_alone(items: &ItemList) -> Result<Option<&Text>, u64>
     ensures { IsOneFolder (folder_and_message items.now) result }
 {
-    folder_beside(items, second_message(items))
+    folder_beside(items, too_many(items))
 }
 
 fn words_said(
@@ -64,7 +85,11 @@ fn words_said(
     ensures { IfOk result (λ words. words ≡ words_of folder items.now) }
 {
     let specs = messages(alloc, items)?;
-    Ok(FolderWords { folder, specs })
+    Ok(FolderWords {
+        folder,
+        pack: is_packed(items),
+        specs,
+    })
 }
 
 /// What the items of the words say.
@@ -88,7 +113,7 @@ pub fn folder_words(
 ) -> Result<FolderWords, Ended>
     ensures { IsSaid (tell_said profile.now (map chars (map string_bytes words.now))) result }
 {
-    let table = folder_table(alloc);
+    let table = folder_table(alloc)?;
     let all = all_words(alloc, profile, b"folder", words)?;
     let items = read_items(alloc, &table, &all)?;
     items_said(alloc, &all, &items)

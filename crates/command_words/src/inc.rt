@@ -51,7 +51,7 @@ pub(crate) fn message_place(item: &Item) -> Option<u64>
 }
 
 /// The place of the first message's name.
-fn first_message(items: &ItemList) -> Option<u64>
+pub(crate) fn first_message(items: &ItemList) -> Option<u64>
     ensures { result ≡ first_of (message_places items.now) }
 {
     for item in items.as_slice() {

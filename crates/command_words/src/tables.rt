@@ -84,6 +84,11 @@ pub(crate) const NOLINK: u64 = 1;
 
 pub(crate) const SRC: u64 = 2;
 
+// The places of the switches of `folder` in its table.
+pub(crate) const PACK: u64 = 0;
+
+pub(crate) const NOPACK: u64 = 1;
+
 // The places of the switches of `rmm` in its table.
 pub(crate) const UNLINK: u64 = 0;
 
@@ -172,14 +177,17 @@ pub(crate) fn refile_table(alloc: Global) -> Result<SwitchTable, AllocError>
     })
 }
 
-/// `folder` has no switches.
-pub(crate) fn folder_table(alloc: Global) -> SwitchTable
-    ensures { result ≡ folder_table_of }
+/// The switches of `folder`.
+pub(crate) fn folder_table(alloc: Global) -> Result<SwitchTable, AllocError>
+    ensures { IfOk result (λ table. table ≡ folder_table_of) }
 {
-    SwitchTable {
-        switches: List::new(alloc),
+    let mut switches = List::new(alloc);
+    push_switch(alloc, &mut switches, "pack", Kind::Flag)?;
+    push_switch(alloc, &mut switches, "nopack", Kind::Flag)?;
+    Ok(SwitchTable {
+        switches,
         components: false,
-    }
+    })
 }
 
 /// The switches of `rmm`.

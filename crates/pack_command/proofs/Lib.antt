@@ -9,5 +9,7 @@ pub mod PackLets
 pub mod PackMinds
 pub mod PackMoves
 pub mod PackPledged
+pub mod PackSays
 pub mod PlacesGiven
+pub mod SaysEnded
 pub mod Stood

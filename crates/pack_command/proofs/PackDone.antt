@@ -26,7 +26,7 @@ use Rattle.opened_folders.proofs.Speaking.{keeps_both}
 use Rattle.refile_command.proofs.RefileMoved.{HasHeldNone}
 use Rattle.pack_command.specs.Pack.{opened_packed, pack}
 use Rattle.pack_command.specs.PackDone.{HasPacked}
-use Rattle.pack_command.specs.PackPledge.{pack_pledge}
+use Rattle.pack_command.specs.PackPledge.{TellsPacked, pack_pledge}
 use Rattle.pack_command.specs.declared.job.PackJob.{PackJob}
 use Rattle.pack_command.proofs.PackLets.{packed_kept}
 use Rattle.pack_command.proofs.PackPledged as pledged
@@ -69,7 +69,7 @@ module _ (run : ℕ) (few : run < 2 ^ 128) (path : List ℕ) (job : PackJob) whe
   unfolding pack ◌>>=◌
   pack_done past h none sound =
       keeps_bind (rules_of w) past h plan (after work) (ByActs (Soundly w (okay Began))) (IfOkay Has)
-      (goes_keeps w past own h plan (okay Began) refl sound (goes_lifted w own h (of_plan job.folder) (begun run p (Mail path) job.folder) Began (pledged.begun_sparing run few path job own h none)))
+      (goes_keeps w past own h plan (okay Began) refl sound (goes_lifted w own h (of_plan job.folder) (begun run p (Mail path) job.folder) Began (pledged.begun_sparing run few path job (TellsPacked run path job) own h none)))
       (λ later j r q. go later j r q.0 q.1)
     where
       own : List Deed
@@ -82,16 +82,16 @@ module _ (run : ℕ) (few : run < 2 ^ 128) (path : List ℕ) (job : PackJob) whe
       work o = bind (opened_packed run path job o) (ended p)
 
       Began : List Deed → Hand → Opened → Type 0
-      Began later j o = pledged.Began run few path job own later j o
+      Began later j o = pledged.Began run few path job (TellsPacked run path job) own later j o
 
       go : (later : List Done) (j : Hand) (r : Result Opened CommandFault) → Sound w (acts later) j → okay Began (acts later) j r → Keeps (rules_of w) later j (after work r) (IfOkay Has)
       go later j (Ok o) s b =
           keeps_bind (rules_of w) later j (opened_packed run path job o) (ended p) (ByActs (Soundly w (okay (Of Worked)))) (IfOkay Has)
-          (goes_keeps w later (acts later) j (opened_packed run path job o) (okay (Of Worked)) refl s (pledged.opened_goes run few path job own (acts later) o b.0 b.1 j))
+          (goes_keeps w later (acts later) j (opened_packed run path job o) (okay (Of Worked)) refl s (pledged.opened_goes run few path job (TellsPacked run path job) own (acts later) o b.0 b.1 (λ at_ piece t. t) j))
           (λ last i x q. ended_so (acts later) last i x q.0.numbered (still_so last i x q.0 q.1) (has_so last i x q.1))
         where
           Worked : List Deed → Type 0
-          Worked end = pledged.Worked run few path job own (acts later) o b.0 b.1 end
+          Worked end = pledged.Worked run few path job (TellsPacked run path job) own (acts later) o b.0 b.1 end
 
           still_so : (last : List Done) (i : Hand) (x : Result Unit CommandFault) → Sound w (acts last) i → okay (Of Worked) (acts last) i x → IfOkay (Still (acts later)) last i x
           still_so last i (Ok u) t m = record { settled = m.0; unfailed = t.unfailed }

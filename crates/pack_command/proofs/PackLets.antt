@@ -21,7 +21,7 @@ use Rattle.message_moves.proofs.MovePledged.{LetsTake}
 use Rattle.message_places.specs.declared.moves.Move.{Move}
 use Rattle.message_places.proofs.ArrangedPledged.{moved_kept}
 use Rattle.message_places.proofs.SortingKinds.{sorting_takes}
-use Rattle.opened_folders.specs.FolderPledge.{told_within}
+use Rattle.opened_folders.specs.FolderPledge.{folder_pledge, told_within}
 use Rattle.opened_folders.proofs.FolderPledged.{Begins, seen_kept}
 use Rattle.opened_folders.proofs.WorkPledged as work
 use Rattle.opened_folders.proofs.WorkPledged.{LetsBegin}
@@ -29,7 +29,7 @@ use Rattle.refile_command.specs.RmmPledge.{every_message}
 use Rattle.refile_command.proofs.RmmPledged.{in_up}
 use Rattle.sortm_command.proofs.ArrangedDone.{settled_kept}
 use Rattle.pack_command.specs.PackDone.{AllPacked, HasPacked, MarksWent}
-use Rattle.pack_command.specs.PackPledge.{MakesMarks, PacksSo, TellsPacked, WasWithdrawn, pack_pledge}
+use Rattle.pack_command.specs.PackPledge.{MakesMarks, PacksSo, WasWithdrawn}
 use Rattle.pack_command.specs.Places.{listing_moves}
 use Rattle.pack_command.specs.declared.job.PackJob.{PackJob}
 
@@ -41,8 +41,9 @@ committed_unheld : (q : Place) (name held : List ℕ) → is_committed q name �
 committed_unheld q name held is same other = let e = is_committed_quiet q name is in let f = held_stands held other in absurd (let no : true ≡ false = sym f ∙ (ap (λ z. is_standing z) (sym same) ∙ e) in cc (no))
 
 module _ (run : ℕ) (few : run < 2 ^ 128) (path : List ℕ) (job : PackJob) where
-  abbrev w : Pledge
-  w = pack_pledge run path job
+  -- what it pledges, if this is what it may tell
+  abbrev pub packing : (List Deed → List ℕ → Type 0) → Pledge
+  packing Tells = folder_pledge run path job.folder (MakesMarks run path job) (Sorting path job.folder every_message) Tells (PacksSo run path job)
 
   abbrev p : Place
   p = Folder path job.folder
@@ -83,15 +84,15 @@ module _ (run : ℕ) (few : run < 2 ^ 128) (path : List ℕ) (job : PackJob) whe
   makes_kept listing m new own s a any (inr (ends, moved, same)) = inr (ends, moved_kept run few p (listing_moves listing) ends own s a tt moved, same)
 
   -- the folder may be begun
-  abbrev pub begins : Begins w path job.folder
-  begins = work.begins run few path job.folder (MakesMarks run path job) (Sorting path job.folder every_message) (TellsPacked run path job) (PacksSo run path job) lets makes_kept
+  abbrev pub begins : (Tells : List Deed → List ℕ → Type 0) → Begins (packing Tells) path job.folder
+  begins Tells = work.begins run few path job.folder (MakesMarks run path job) (Sorting path job.folder every_message) Tells (PacksSo run path job) lets makes_kept
 
   -- a message is taken that is to get another number, and that no sequence has any more
   taken_number : (n k : ℕ) (number : List ℕ) → IsMsgNum n → entry_text (Number n) ≡ number → kind_of number ≡ Number k → n ≡ k
   taken_number n k number ok from kind = let same : Number n ≡ Number k = sym (kind_of-entry_text (Number n) ok) ∙ (ap kind_of from ∙ kind) in cc (same)
 
-  pub takes_one : (n : ℕ) (own : List Deed) → IsMsgNum n → WasWithdrawn run path job n own → LetsTake w p n own
-  takes_one n own ok freed = record {
+  pub takes_one : (Tells : List Deed → List ℕ → Type 0) (n : ℕ) (own : List Deed) → IsMsgNum n → WasWithdrawn run path job n own → LetsTake (packing Tells) p n own
+  takes_one Tells n own ok freed = record {
     makes = sorting_takes path job.folder every_message run n own ok (in_up 1 999999 n ok.0 (let l = ok.1 in omega (arith, l)));
     may = (
       (λ number held k e kind h. subst (λ z. WasWithdrawn run path job z own) (taken_number n k number ok (let from : entry_text (Number n) ≡ number = cc (e) in from) kind) freed),

@@ -80,12 +80,13 @@ use Rattle.pack_command.specs.PackPledge.{MakesMarks, PacksSo, TellsPacked, pack
 use Rattle.pack_command.specs.Places.{listing_moves}
 use Rattle.pack_command.specs.declared.job.PackJob.{PackJob}
 use Rattle.pack_command.proofs.PackLets as letting
-use Rattle.pack_command.proofs.PackLets.{all_kept, lets, makes_kept, packed_kept, takes_one}
+use Rattle.pack_command.proofs.PackLets.{all_kept, lets, makes_kept, packed_kept, packing, takes_one}
 use Rattle.pack_command.proofs.PackMoves.{meant_good, moving_distinct, moving_good}
 
-module _ (run : ℕ) (few : run < 2 ^ 128) (path : List ℕ) (job : PackJob) where
+-- whatever it may tell
+module _ (run : ℕ) (few : run < 2 ^ 128) (path : List ℕ) (job : PackJob) (Tells : List Deed → List ℕ → Type 0) where
   abbrev w : Pledge
-  w = pack_pledge run path job
+  w = packing run few path job Tells
 
   abbrev p : Place
   p = Folder path job.folder
@@ -135,7 +136,7 @@ module _ (run : ℕ) (few : run < 2 ^ 128) (path : List ℕ) (job : PackJob) whe
 
     -- what stands after it
     abbrev Stood : List Deed → List Deed → Type 0
-    Stood own later = Stands w few p (letting.begins run few path job).serves path apart (letting.begins run few path job).mail job.folder old new Made made_kept entries_pledged own later
+    Stood own later = Stands w few p (letting.begins run few path job Tells).serves path apart (letting.begins run few path job Tells).mail job.folder old new Made made_kept entries_pledged own later
 
     abbrev Commits : List Deed → Outcome Unit
     Commits own later j u = Made later × Stood own later
@@ -143,7 +144,7 @@ module _ (run : ℕ) (few : run < 2 ^ 128) (path : List ℕ) (job : PackJob) whe
     commit_goes : (own : List Deed) (h : Hand) (base : List ℕ) → Made own → HasLock p own → IsBase run p sequences_name base own → Goes w own h (changed_sequences run p mail job.folder old new) (okay (Commits own))
     commit_goes own h base f lock is =
         lasting w Made made_kept own h (changed_sequences run p mail job.folder old new) (Of (Stood own)) f
-        (stands_go w few p (letting.begins run few path job).serves path apart (letting.begins run few path job).mail job.folder old new Made made_kept entries_pledged own h base f (may_replace own base f lock is))
+        (stands_go w few p (letting.begins run few path job Tells).serves path apart (letting.begins run few path job Tells).mail job.folder old new Made made_kept entries_pledged own h base f (may_replace own base f lock is))
 
   -- the work on a folder that was begun
   module _ (begin own : List Deed) (o : Opened) (b : HasBegun w begin path job.folder own o) (none : HasHeldNone run p own) where
@@ -163,12 +164,12 @@ module _ (run : ℕ) (few : run < 2 ^ 128) (path : List ℕ) (job : PackJob) whe
     freed = withdrawn takes m
 
     -- what stands once they have moved to these numbers
-    record Packed (ends : List ℕ) (later : List Deed) : Type 0 where
-      settled : AreSettled own → AreSettled later
-      seen : HaveSeen run p mail o.listing b.text b.context later
-      done : AllPacked run path job o.listing m ends later
+    pub record Packed (ends : List ℕ) (later : List Deed) : Type 0 where
+      pub settled : AreSettled own → AreSettled later
+      pub seen : HaveSeen run p mail o.listing b.text b.context later
+      pub done : AllPacked run path job o.listing m ends later
 
-    abbrev Packs : Outcome (List ℕ)
+    abbrev pub Packs : Outcome (List ℕ)
     Packs later j ends = Packed ends later
 
     -- what lasts while they move
@@ -196,8 +197,8 @@ module _ (run : ℕ) (few : run < 2 ^ 128) (path : List ℕ) (job : PackJob) whe
 
     lets_arrange : LetsArrange w p takes ms Moving
     lets_arrange =
-        lets_places w few p takes ms Moving good_moving (letting.begins run few path job).settles
-        (λ later n e f. takes_one run few path job n later (in_good takes good_moving n e) (record { listing = o.listing; text = b.text; context = b.context; seen = f.seen; one = e; freed = f.withdrawn_so }))
+        lets_places w few p takes ms Moving good_moving (letting.begins run few path job Tells).settles
+        (λ later n e f. takes_one run few path job Tells n later (in_good takes good_moving n e) (record { listing = o.listing; text = b.text; context = b.context; seen = f.seen; one = e; freed = f.withdrawn_so }))
 
     keep : PlacesKeep run p takes ms (LeavesBase p sequences_name) Moving
     keep = record { kept = moving_on; take = λ n e same named. held_named n (in_good takes good_moving n e) named; give = λ n k e ok. tt; drop = λ n e. tt; safe = tt }
@@ -217,7 +218,7 @@ module _ (run : ℕ) (few : run < 2 ^ 128) (path : List ℕ) (job : PackJob) whe
         (arranged_settles run few p takes good_moving ms among (last_in o.listing) before h))
 
     -- the folder as it was opened
-    abbrev opened : Opened
+    abbrev pub opened : Opened
     opened = opened_of p job.folder o.listing m o.ends
 
     -- no sequence has them
@@ -275,7 +276,7 @@ module _ (run : ℕ) (few : run < 2 ^ 128) (path : List ℕ) (job : PackJob) whe
         }))))
 
     -- where none moves nothing is done
-    by_moves : (l : List Move) → ms ≡ l → (h : Hand) → Goes w own h (moved_if run mail opened l) (okay Packs)
+    pub by_moves : (l : List Move) → ms ≡ l → (h : Hand) → Goes w own h (moved_if run mail opened l) (okay Packs)
     by_moves [] e h = goes_return w own h [] (okay Packs) (record {
       settled = λ x. x;
       seen = b.seen;
@@ -283,7 +284,7 @@ module _ (run : ℕ) (few : run < 2 ^ 128) (path : List ℕ) (job : PackJob) whe
     })
     by_moves (x ∷ l) e h = subst (λ z. Goes w own h (marked_moved run mail opened z) (okay Packs)) e (marked_goes h)
 
-    same_opened : o ≡ opened
+    pub same_opened : o ≡ opened
     same_opened = λ i. opened_of (b.place i) (b.name i) o.listing (b.sequences i) o.ends
 
     packed_so : (ends : List ℕ) (later : List Deed) → Packed ends later → HasPacked run path job later
@@ -293,29 +294,33 @@ module _ (run : ℕ) (few : run < 2 ^ 128) (path : List ℕ) (job : PackJob) whe
     abbrev pub Worked : List Deed → Type 0
     Worked later = (AreSettled own → AreSettled later) × HasPacked run path job later
 
-    line_goes : (ends : List ℕ) (later : List Deed) (h : Hand) → Packed ends later → Goes w later h (lines_said (line_after job o.listing m ends ∷ [])) (okay (λ last i u. last ≡ later))
+    -- it may tell the line of the folder as it is then
+    abbrev TellsLine : Type 0
+    TellsLine = (at_ : List Deed) (piece : List ℕ) → TellsPacked run path job at_ piece → Tells at_ piece
+
+    line_goes : TellsLine → (ends : List ℕ) (later : List Deed) (h : Hand) → Packed ends later → Goes w later h (lines_said (line_after job o.listing m ends ∷ [])) (okay (λ last i u. last ≡ later))
     unfolding lines_said packed_so
-    line_goes ends later h f =
-        goes_say w later h of_sink (okay (λ last i u. last ≡ later)) (line_after job o.listing m ends) (λ told. lines_said []) (λ s. (packed_so ends later f, refl)) (goes_return w later h tt (okay (λ last i u. last ≡ later)) refl)
+    line_goes tells ends later h f =
+        goes_say w later h of_sink (okay (λ last i u. last ≡ later)) (line_after job o.listing m ends) (λ told. lines_said []) (λ s. tells later (line_after job o.listing m ends) (packed_so ends later f, refl)) (goes_return w later h tt (okay (λ last i u. last ≡ later)) refl)
 
     become_current : (ends : List ℕ) (later : List Deed) (h : Hand) → Packed ends later → Goes w later h (made_current run path job.folder) (okay (Of Worked))
     become_current ends later h f =
         goes_more w later h (made_current run path job.folder) (okay (λ end i v. HasPacked run path job end × (AreSettled later → AreSettled end))) (okay (Of Worked))
         (okay_more (λ end i v. HasPacked run path job end × (AreSettled later → AreSettled end)) (Of Worked) (λ end i v g. ((λ s. g.1 (f.settled s)), g.0)))
         (lasting w (HasPacked run path job) (packed_kept run few path job) later h (made_current run path job.folder) (Of (λ end. AreSettled later → AreSettled end)) (packed_so ends later f)
-        (current_goes run few path job.folder (MakesMarks run path job) (Sorting path job.folder every_message) (TellsPacked run path job) (PacksSo run path job) (lets run few path job) (makes_kept run few path job) later h o.listing b.text b.context f.seen))
+        (current_goes run few path job.folder (MakesMarks run path job) (Sorting path job.folder every_message) Tells (PacksSo run path job) (lets run few path job) (makes_kept run few path job) later h o.listing b.text b.context f.seen))
 
-    at_opened : (h : Hand) → Goes w own h (opened_packed run path job opened) (okay (Of Worked))
+    at_opened : TellsLine → (h : Hand) → Goes w own h (opened_packed run path job opened) (okay (Of Worked))
     unfolding opened_packed
-    at_opened h =
+    at_opened tells h =
         goes_then w own h (lifted (of_plan job.folder) (moved_if run mail opened ms)) (λ ends. lines_said (line_after job o.listing m ends ∷ []) >>= (λ told. made_current run path job.folder)) Packs (Of Worked)
         (goes_lifted w own h (of_plan job.folder) (moved_if run mail opened ms) Packs (by_moves ms refl h))
         (λ later j ends f.
-        goes_then w later j (lines_said (line_after job o.listing m ends ∷ [])) (λ told. made_current run path job.folder) (λ last i u. last ≡ later) (Of Worked) (line_goes ends later j f)
+        goes_then w later j (lines_said (line_after job o.listing m ends ∷ [])) (λ told. made_current run path job.folder) (λ last i u. last ≡ later) (Of Worked) (line_goes tells ends later j f)
         (λ last i u e. goes_at w last later i (made_current run path job.folder) (okay (Of Worked)) e (become_current ends later i f)))
 
-    pub opened_goes : (h : Hand) → Goes w own h (opened_packed run path job o) (okay (Of Worked))
-    opened_goes h = subst (λ x. Goes w own h (opened_packed run path job x) (okay (Of Worked))) (sym same_opened) (at_opened h)
+    pub opened_goes : TellsLine → (h : Hand) → Goes w own h (opened_packed run path job o) (okay (Of Worked))
+    opened_goes tells h = subst (λ x. Goes w own h (opened_packed run path job x) (okay (Of Worked))) (sym same_opened) (at_opened tells h)
 
   -- the folder is begun, and the run holds nothing aside itself
   abbrev pub Began : List Deed → Outcome Opened
@@ -326,17 +331,27 @@ module _ (run : ℕ) (few : run < 2 ^ 128) (path : List ℕ) (job : PackJob) whe
       goes_more w own h (begun run p mail job.folder) (okay (λ later j o. HasHeldNone run p later × HasBegun w own path job.folder later o)) (okay (Began own))
       (okay_more (λ later j o. HasHeldNone run p later × HasBegun w own path job.folder later o) (Began own) (λ later j o f. (f.1, f.0)))
       (keeping w (Spares run few path job.folder) (HasHeldNone run p) (none_kept run few path job.folder) own h (begun run p mail job.folder) (λ later j o. HasBegun w own path job.folder later o) (asks_begun (Spares run few path job.folder) run p mail (begins_sparing run few path job.folder) job.folder) none
-      (begun_goes w few path job.folder (letting.begins run few path job) own h))
+      (begun_goes w few path job.folder (letting.begins run few path job Tells) own h))
+
+module _ (run : ℕ) (few : run < 2 ^ 128) (path : List ℕ) (job : PackJob) where
+  abbrev promised : Pledge
+  promised = pack_pledge run path job
+
+  abbrev Tells_ : List Deed → List ℕ → Type 0
+  Tells_ = TellsPacked run path job
+
+  abbrev folder : Place
+  folder = Folder path job.folder
 
   -- `folder -pack` keeps the rules of its pledge, where its run has used none of its held names before
-  pub pack_keeps : (past : List Done) (h : Hand) → HasHeldNone run p (acts past) → Sound w (acts past) h → Keeps (rules_of w) past h (pack run path job) (IfOkay (Still (acts past)))
+  pub pack_keeps : (past : List Done) (h : Hand) → HasHeldNone run folder (acts past) → Sound promised (acts past) h → Keeps (rules_of promised) past h (pack run path job) (IfOkay (Still (acts past)))
   unfolding pack
   pack_keeps past h none sound =
-      opened_keeps run few path job.folder (MakesMarks run path job) (Sorting path job.folder every_message) (TellsPacked run path job) (PacksSo run path job) (lets run few path job) (makes_kept run few path job) (HasHeldNone run p) (begun run p mail job.folder)
+      opened_keeps run few path job.folder (MakesMarks run path job) (Sorting path job.folder every_message) (TellsPacked run path job) (PacksSo run path job) (lets run few path job) (makes_kept run few path job) (HasHeldNone run folder) (begun run folder (Mail path) job.folder)
       (opened_packed run path job) past
       (λ later o b i s.
-      goes_more w later i (opened_packed run path job o) (okay (Of (Worked (acts past) later o b.0 b.1))) (okay (Of (λ end. AreSettled later → AreSettled end)))
-      (okay_more (Of (Worked (acts past) later o b.0 b.1)) (Of (λ end. AreSettled later → AreSettled end)) (λ end k v g. g.0)) (opened_goes (acts past) later o b.0 b.1 i)) h sound (begun_sparing (acts past) h none)
+      goes_more promised later i (opened_packed run path job o) (okay (Of (Worked run few path job Tells_ (acts past) later o b.0 b.1))) (okay (Of (λ end. AreSettled later → AreSettled end)))
+      (okay_more (Of (Worked run few path job Tells_ (acts past) later o b.0 b.1)) (Of (λ end. AreSettled later → AreSettled end)) (λ end k v g. g.0)) (opened_goes run few path job Tells_ (acts past) later o b.0 b.1 (λ at_ piece t. t) i)) h sound (begun_sparing run few path job Tells_ (acts past) h none)
 
-  pub pack_promises : (x y : State) (result : Result Unit CommandFault) → Follows run command_cause (pack run path job) x y result → Promises w x y
-  pack_promises x y result f = keeps_pledge w command_cause (pack run path job) x y result (IfOkay (Still [])) (pack_keeps [] x.hand (λ n ok. tt) (record { numbered = tt; unfailed = λ z. elim z [ ] })) f
+  pub pack_promises : (x y : State) (result : Result Unit CommandFault) → Follows run command_cause (pack run path job) x y result → Promises promised x y
+  pack_promises x y result f = keeps_pledge promised command_cause (pack run path job) x y result (IfOkay (Still [])) (pack_keeps [] x.hand (λ n ok. tt) (record { numbered = tt; unfailed = λ z. elim z [ ] })) f

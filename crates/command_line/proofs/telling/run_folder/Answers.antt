@@ -6,7 +6,7 @@ use Rattle.file_plans.proofs.Following.{no_room, lift_ok}
 use Rattle.step_plans.specs.CommandFaults.{command_cause}
 use Rattle.command_words.specs.Ended.{plain, ended_cause}
 use Rattle.command_words.specs.TellWords.{tell_said}
-use Rattle.command_line.specs.Command.{tell_begun, tell_by}
+use Rattle.command_line.specs.Command.{task_begun, tell_by}
 use Rattle.command_line.proofs.Plans.{ends_off, plain_same, refused_words, words_on}
 use Rattle.command_line.proofs.Refusals.{tell_refuses}
 use Rattle.command_line.proofs.telling.run_folder.Goals as goal
@@ -21,16 +21,16 @@ returns-in_err-words g c = (
 pub returns-in_err-path : goal.returns-in_err-path
 returns-in_err-path g c = (fresh, no_room _ c.from_residual-in_err-path.ensures refl)
 
-pub returns-in_err-begin_folder : goal.returns-in_err-begin_folder
-returns-in_err-begin_folder g c = (
-  c.begin_folder.new.hand.kept,
+pub returns-in_err-begin_task : goal.returns-in_err-begin_task
+returns-in_err-begin_task g c = (
+  c.begin_task.new.hand.kept,
   words_on (tell_by c.args.run c.args.profile.now) (tell_said c.args.profile.now (map chars (map string_bytes c.args.words.now))) c.in_ok-words.words c.in_ok-words.ensures
-      (ends_off plain _ plain_same (rw (c.new-hand.ensures.run, c.new-hand.ensures.kept) at c.in_err-begin_folder.ensures) c.from_residual-in_err-begin_folder.ensures),
+      (ends_off plain _ plain_same (rw (c.new-hand.ensures.run, c.new-hand.ensures.kept) at c.in_err-begin_task.ensures) c.from_residual-in_err-begin_task.ensures),
 )
 
 pub returns : goal.returns
 returns g c = (
-  c.begin_folder.new.hand.kept,
+  c.begin_task.new.hand.kept,
   words_on (tell_by c.args.run c.args.profile.now) (tell_said c.args.profile.now (map chars (map string_bytes c.args.words.now))) c.in_ok-words.words c.in_ok-words.ensures
-      (lift_ok c.args.run command_cause ended_cause plain (tell_begun c.args.run c.args.profile.now c.in_ok-words.words) _ _ tt (rw (c.new-hand.ensures.run, c.new-hand.ensures.kept) at c.in_ok-begin_folder.ensures)),
+      (lift_ok c.args.run command_cause ended_cause plain (task_begun c.args.run c.args.profile.now c.in_ok-words.words c.in_ok-words.words.pack) _ _ tt (rw (c.new-hand.ensures.run, c.new-hand.ensures.kept) at c.in_ok-begin_task.ensures)),
 )
