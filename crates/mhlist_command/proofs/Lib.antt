@@ -1,5 +1,9 @@
 pub mod ListAlone
+pub mod ListEnds
 pub mod ListGiven
 pub mod ListPledged
+pub mod ListRefused
+pub mod ListSays
+pub mod MessagesRead
 pub mod RowsGiven
 pub mod Turns

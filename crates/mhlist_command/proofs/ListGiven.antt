@@ -1,7 +1,6 @@
 -- What `mhlist` gives alone: what it comes to on the mailbox that it finds.
-use Rattle.std.proofs.Common.{◌≡◌, ◌<◌, ◌^◌, ◌++◌, ◌∷◌, [], ℕ, ◌==◌, ◌||◌, Bool, true, false, List, Option, Some, None, Result, Ok, Err, refl, sym, ◌∙◌, ap, subst}
+use Rattle.std.proofs.Common.{◌≡◌, ◌<◌, ◌^◌, ◌++◌, ◌∷◌, [], ℕ, Bool, true, false, List, Option, Some, None, Result, Ok, Err, refl, sym, ◌∙◌, ap, subst}
 use Rattle.std.specs.Prelude.{decimal, is_some, if◌then◌else◌}
-use Rattle.std.proofs.lemmas.Bool.Decides.{Decides-eqb}
 use Rattle.mh_base.specs.Entries.{entry_text}
 use Rattle.mh_base.specs.Folders.{is_folder_name}
 use Rattle.mh_base.specs.declared.entry.Entry.TheVariants.{Sequences}
@@ -50,17 +49,8 @@ use Rattle.part_rows.specs.Rows.{header}
 use Rattle.mhlist_command.specs.Listing.{all_listed, chosen_seen, header_said, mhlist}
 use Rattle.mhlist_command.specs.ListOutcome.{chosen_from, chosen_work, first_refused, looked_work, mhlist_work, numbers_work, rows_among, unless_stopped}
 use Rattle.mhlist_command.specs.declared.job.ListJob.{ListJob}
-use Rattle.mhlist_command.proofs.RowsGiven.{AllGiven, AllStand, IsRefusal, Stands, Told, all_gives, ends_some, lines_then}
-
-first_listed : (n : ℕ) (ns : List ℕ) → lists (n ∷ ns) n ≡ true
-first_listed n ns = ap (λ b. b || lists ns n) ((Decides-eqb n n).1 refl)
-
-other_listed : (m n : ℕ) (ns : List ℕ) → lists ns n ≡ true → lists (m ∷ ns) n ≡ true
-other_listed m n ns e = go (m == n)
-  where
-    go : (b : Bool) → b || lists ns n ≡ true
-    go true = refl
-    go false = e
+use Rattle.mhlist_command.proofs.MessagesRead.{first_listed, other_listed}
+use Rattle.mhlist_command.proofs.RowsGiven.{AllGiven, AllStand, IsRefusal, Stands, Told, all_gives, header_some, lines_then}
 
 -- a message that the folder has stands in its contents
 stands_of : (c : Contents) (q : Place) (n : ℕ) → is_some ((folder_at c q).messages n) ≡ true → Stands c q n
@@ -75,10 +65,6 @@ stands_of c q n e = let w = within (is_message_number n) (c.texts q (decimal n))
 all_stand : (c : Contents) (q : Place) (numbers : List ℕ) → ((n : ℕ) → lists numbers n ≡ true → is_some ((folder_at c q).messages n) ≡ true) → AllStand c q numbers
 all_stand c q [] f = tt
 all_stand c q (n ∷ numbers) f = (stands_of c q n (f n (first_listed n numbers)), all_stand c q numbers (λ k e. f k (other_listed n k numbers e)))
-
-header_some : header ≡ [] → ⊥
-unfolding header
-header_some e = ends_some _ e
 
 -- the header, and then what follows
 header_gives : (v : View) (h : Hand) (rest : List ℕ) → Gives (by_view true) v h (header ++ rest) header_said (Told v h rest)

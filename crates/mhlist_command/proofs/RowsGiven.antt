@@ -29,7 +29,7 @@ use Rattle.told_folders.specs.Plans.{lines_said}
 use Rattle.told_folders.specs.Tasks.{AreSome}
 use Rattle.part_rows.specs.Choices.{first_missing, listed}
 use Rattle.part_rows.specs.PartViews.{PartView, parts_of}
-use Rattle.part_rows.specs.Rows.{columns_of_part, part_row, row_of, rows_of, without_spaces_behind}
+use Rattle.part_rows.specs.Rows.{columns_of_part, header, part_row, row_of, rows_of, without_spaces_behind}
 use Rattle.std.specs.Str.{encode_utf8_all}
 use Rattle.mhlist_command.specs.Listing.{all_listed, listed_by, no_part, one_listed, rows_said, said_unless}
 use Rattle.mhlist_command.specs.ListOutcome.{first_of, first_refused, refused_text, rows_among, text_of, unless_refused}
@@ -39,9 +39,14 @@ pub ends_some : (a : List ℕ) → (a ++ 10 ∷ []) ≡ [] → ⊥
 ends_some [] q = cc
 ends_some (x ∷ a) q = cc
 
-some_rows : (n : ℕ) (parts : List PartView) → AreSome (map (part_row n) parts)
+-- and so each row does
+pub some_rows : (n : ℕ) (parts : List PartView) → AreSome (map (part_row n) parts)
 some_rows n [] = tt
 some_rows n (p ∷ parts) = (ends_some (without_spaces_behind (encode_utf8_all (row_of (columns_of_part n p)))), some_rows n parts)
+
+pub header_some : header ≡ [] → ⊥
+unfolding header
+header_some e = ends_some _ e
 
 -- lines are said, and the rest is left
 abbrev pub Told : View → Hand → List ℕ → View → Hand → List ℕ → Result Unit CommandFault → Type 0

@@ -1,3 +1,4 @@
+pub mod ListAnswers
 pub mod ListOutcome
 pub mod ListPledge
 pub mod Listing

@@ -64,9 +64,14 @@ all_listed wanted place (n ∷ ns) = do
   listed ← one_listed wanted place n
   all_listed wanted place ns
 
--- the messages that the words choose, by the folder's names, the text of its sequences, of its listed messages alone, and the context
+-- the messages that words choose of a folder, by its names, the text of its sequences, of its listed messages alone, and the context
+abbrev pub chosen_by : List ℕ → List (List ℕ) → List ℕ → List (List ℕ) → List ℕ → List NamedValue → Result (List ℕ) CommandFault
+chosen_by folder specs negation names text entries =
+    chosen_in (folder_with negation (numbers_of (listed_runs names)) (marks_of (sequences_listed names text entries folder))) specs
+
+-- those that the job's words choose
 abbrev pub chosen_seen : ListJob → List (List ℕ) → List ℕ → List NamedValue → Result (List ℕ) CommandFault
-chosen_seen job names text entries = chosen_in (folder_with job.negation (numbers_of (listed_runs names)) (marks_of (sequences_listed names text entries job.folder))) job.specs
+chosen_seen job names text entries = chosen_by job.folder job.specs job.negation names text entries
 
 -- `mhlist`: the folder is listed and its sequences are read; the line above the rows is said, and then the rows of the chosen messages; and the folder
 -- becomes the current one

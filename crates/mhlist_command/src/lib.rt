@@ -6,4 +6,5 @@ mod looking;
 mod rows;
 
 pub use job::ListJob;
-pub use looking::mhlist;
+pub use looking::{chosen_messages, mhlist};
+pub use rows::{message_gone, no_part};

@@ -6,7 +6,7 @@ ghost use Rattle.mh_looks.specs.Scan.{entries_seen};
 ghost use Rattle.told_folders.specs.ToldAlone.{TellsIfUnfaulted};
 ghost use Rattle.mhlist_command.specs.ListOutcome.{mhlist_work};
 ghost use Rattle.mhlist_command.specs.ListPledge.{PromisesSteps};
-ghost use Rattle.mhlist_command.specs.Listing.{chosen_seen, mhlist as mhlist_plan};
+ghost use Rattle.mhlist_command.specs.Listing.{chosen_by, mhlist as mhlist_plan};
 ghost use Rattle.mhlist_command.specs.Values.{AreValue};
 
 use crate::ListJob;
@@ -15,30 +15,26 @@ use command_stages::{
     choose, folder_place, list_folder, make_current, numbers, read_sequences_text,
 };
 use folder_files::Files;
-use mh_base::{Bytes, MsgNum, NameList, Sink};
+use mh_base::{Bytes, FolderName, MsgNum, NameList, Sink, TextList};
 use std::alloc::Global;
 use step_plans::{CommandFault, Hand};
 use told_folders::{listed, sequences_listed};
 
-/// The messages that the words choose.
-fn chosen(
+/// The messages that words choose of a folder, by its names and the text of its sequences.
+pub fn chosen_messages(
     alloc: Global,
     hand: &Hand,
-    job: &ListJob,
+    folder: &FolderName,
+    specs: &TextList,
+    negation: &[u8],
     names: &NameList,
     text: &Bytes,
 ) -> Result<Vec<MsgNum>, CommandFault>
-    ensures { AreValue (chosen_seen job.now names.now text.now (entries_seen hand.now.kept.context)) result }
+    ensures { AreValue (chosen_by folder.now specs.now negation.now names.now text.now (entries_seen hand.now.kept.context)) result }
 {
     let listing = listed(alloc, names)?;
-    let sequences = sequences_listed(alloc, hand, &job.folder, text.as_slice(), &listing)?;
-    let set = choose(
-        alloc,
-        &job.specs,
-        &listing,
-        &sequences,
-        job.negation.as_slice(),
-    )?;
+    let sequences = sequences_listed(alloc, hand, folder, text.as_slice(), &listing)?;
+    let set = choose(alloc, specs, &listing, &sequences, negation)?;
     Ok(numbers(alloc, &set)?)
 }
 
@@ -60,7 +56,15 @@ pub fn mhlist<F: Files, O: Sink>(
     let place = folder_place(alloc, hand, &job.folder)?;
     let names = list_folder(alloc, hand.run(), files, &place, &job.folder)?;
     let text = read_sequences_text(alloc, hand.run(), files, &place)?;
-    let found = chosen(alloc, hand, job, &names, &text)?;
+    let found = chosen_messages(
+        alloc,
+        hand,
+        &job.folder,
+        &job.specs,
+        job.negation.as_slice(),
+        &names,
+        &text,
+    )?;
     say_header(alloc, out)?;
     list_all(
         alloc,

@@ -27,15 +27,19 @@ pub(crate) fn say_header<O: Sink>(alloc: Global, out: &mut O) -> Result<(), Comm
 }
 
 /// The refusal of a part that is not there.
-fn no_part(alloc: Global, path: &PartPath) -> Result<CommandFault, AllocError>
+pub fn no_part(alloc: Global, path: &PartPath) -> Result<CommandFault, AllocError>
     ensures { IfOk result (λ fault. fault ≡ no_part_of path.now) }
 {
     let word = shown_path(alloc, path)?;
     Ok(CommandFault::Refused(Refusal::NoPart(word)))
 }
 
-/// The refusal of a message that is not there any more.
-fn meddled(alloc: Global, place: &Place, number: MsgNum) -> Result<CommandFault, AllocError>
+/// How a command ends where a message is not there any more.
+pub fn message_gone(
+    alloc: Global,
+    place: &Place,
+    number: MsgNum,
+) -> Result<CommandFault, AllocError>
     ensures { IfOk result (λ fault. fault ≡ CommandFault.Meddled place.now (entry_text (Entry.Number number))) }
 {
     let name = entry_name(alloc, &Entry::Number(number))?;
@@ -79,7 +83,7 @@ fn list<O: Sink>(
             length,
             limit: LIMIT,
         })),
-        Reading::Gone => Err(meddled(alloc, place, number)?),
+        Reading::Gone => Err(message_gone(alloc, place, number)?),
     }
 }
 

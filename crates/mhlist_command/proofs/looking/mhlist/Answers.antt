@@ -25,14 +25,14 @@ unfolding mhlist
 returns-in_err-found-clause-plan g c =
     go _ (whole (rw (c.in_ok-place.ensures, c.run.ensures) at (c.in_ok-names.ensures c.args.hand.now.kept)))
     (go _ (whole (rw (c.in_ok-place.ensures, c.run-2.ensures) at (c.in_ok-text.ensures c.args.hand.now.kept)))
-    (seen_off _ (λ h. chosen_seen c.args.job.now c.in_ok-names.names c.in_ok-text.text (entries_seen h.context)) _ _ c.in_err-found.ensures c.from_residual-in_err-found.ensures))
+    (seen_off _ (λ h. chosen_seen c.args.job.now c.in_ok-names.names c.in_ok-text.text (entries_seen h.context)) _ _ (rw c.as_slice.ensures at c.in_err-found.ensures) c.from_residual-in_err-found.ensures))
 
 pub returns-in_err-say_header-clause-plan : goal.returns-in_err-say_header-clause-plan
 unfolding mhlist
 returns-in_err-say_header-clause-plan g c =
     go _ (whole (rw (c.in_ok-place.ensures, c.run.ensures) at (c.in_ok-names.ensures c.args.hand.now.kept)))
     (go _ (whole (rw (c.in_ok-place.ensures, c.run-2.ensures) at (c.in_ok-text.ensures c.args.hand.now.kept)))
-    (seen_on _ (λ h. chosen_seen c.args.job.now c.in_ok-names.names c.in_ok-text.text (entries_seen h.context)) _ c.in_ok-found.ensures
+    (seen_on _ (λ h. chosen_seen c.args.job.now c.in_ok-names.names c.in_ok-text.text (entries_seen h.context)) _ (rw c.as_slice.ensures at c.in_ok-found.ensures)
     (stop _ (c.in_err-say_header.ensures c.args.hand.now.run c.args.hand.now.kept (g.F.Files.state c.read_sequences_text.new.files)) c.from_residual-in_err-say_header.ensures)))
 
 pub returns-in_err-list_all-clause-plan : goal.returns-in_err-list_all-clause-plan
@@ -40,18 +40,18 @@ unfolding mhlist
 returns-in_err-list_all-clause-plan g c =
     go _ (whole (rw (c.in_ok-place.ensures, c.run.ensures) at (c.in_ok-names.ensures c.args.hand.now.kept)))
     (go _ (whole (rw (c.in_ok-place.ensures, c.run-2.ensures) at (c.in_ok-text.ensures c.args.hand.now.kept)))
-    (seen_on _ (λ h. chosen_seen c.args.job.now c.in_ok-names.names c.in_ok-text.text (entries_seen h.context)) _ c.in_ok-found.ensures
+    (seen_on _ (λ h. chosen_seen c.args.job.now c.in_ok-names.names c.in_ok-text.text (entries_seen h.context)) _ (rw c.as_slice.ensures at c.in_ok-found.ensures)
     (go _ (c.in_ok-say_header.ensures c.args.hand.now.run c.args.hand.now.kept (g.F.Files.state c.read_sequences_text.new.files))
-    (stop _ (rw (c.in_ok-place.ensures, c.run-3.ensures, c.as_slice.ensures, c.as_slice-2.ensures.value) at (c.in_err-list_all.ensures c.args.hand.now.kept)) c.from_residual-in_err-list_all.ensures))))
+    (stop _ (rw (c.in_ok-place.ensures, c.run-3.ensures, c.as_slice-2.ensures, c.as_slice-3.ensures.value) at (c.in_err-list_all.ensures c.args.hand.now.kept)) c.from_residual-in_err-list_all.ensures))))
 
 pub returns-clause-plan : goal.returns-clause-plan
 unfolding mhlist
 returns-clause-plan g c =
     go _ (whole (rw (c.in_ok-place.ensures, c.run.ensures) at (c.in_ok-names.ensures c.args.hand.now.kept)))
     (go _ (whole (rw (c.in_ok-place.ensures, c.run-2.ensures) at (c.in_ok-text.ensures c.args.hand.now.kept)))
-    (seen_on _ (λ h. chosen_seen c.args.job.now c.in_ok-names.names c.in_ok-text.text (entries_seen h.context)) _ c.in_ok-found.ensures
+    (seen_on _ (λ h. chosen_seen c.args.job.now c.in_ok-names.names c.in_ok-text.text (entries_seen h.context)) _ (rw c.as_slice.ensures at c.in_ok-found.ensures)
     (go _ (c.in_ok-say_header.ensures c.args.hand.now.run c.args.hand.now.kept (g.F.Files.state c.read_sequences_text.new.files))
-    (go _ (rw (c.in_ok-place.ensures, c.run-3.ensures, c.as_slice.ensures, c.as_slice-2.ensures.value) at (c.in_ok-list_all.ensures c.args.hand.now.kept)) (whole c.make_current.ensures.plan)))))
+    (go _ (rw (c.in_ok-place.ensures, c.run-3.ensures, c.as_slice-2.ensures, c.as_slice-3.ensures.value) at (c.in_ok-list_all.ensures c.args.hand.now.kept)) (whole c.make_current.ensures.plan)))))
 
 pub returns-in_err-place-clause-steps : goal.returns-in_err-place-clause-steps
 returns-in_err-place-clause-steps g c = λ few. list_promises _ few _ _ _ _ _ (returns-in_err-place-clause-plan g c)
