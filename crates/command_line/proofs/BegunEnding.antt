@@ -80,6 +80,15 @@ use Rattle.sortm_command.proofs.SortDone.{Has as HasSorted, sortm_done}
 use Rattle.sortm_command.proofs.SortEnds.{sortm_ends}
 use Rattle.sort_words.specs.declared.words.SortWords.{SortWords}
 use Rattle.sort_words.proofs.Said.{sort_refuses}
+use Rattle.mhlist_command.specs.ListAnswers.{IsNoPart, ShowsListing as ShowsPartsListing, TellsFirstRows, TellsRows}
+use Rattle.mhlist_command.specs.Listing.{mhlist}
+use Rattle.mhlist_command.specs.declared.job.ListJob.{ListJob}
+use Rattle.mhlist_command.proofs.ListEnds.{Looks as PartsLook, list_comes}
+use Rattle.mhlist_command.proofs.ListRefused.{Refuses as PartsRefuse, list_refuses}
+use Rattle.mhlist_command.proofs.ListSays.{list_says}
+use Rattle.list_words.specs.ListWords.{list_said}
+use Rattle.list_words.specs.declared.words.ListWords.{ListWords}
+use Rattle.list_words.proofs.Said.{list_refuses as list_words_refuse}
 use Rattle.inc_command.specs.Inc.{inc}
 use Rattle.inc_command.specs.IncAnswers.{ShowsInc, ShowsIncorporating}
 use Rattle.refile_command.specs.Rmm.{rmm}
@@ -100,9 +109,9 @@ use Rattle.command_words.specs.declared.mark.MarkWords.{MarkWords}
 use Rattle.command_words.specs.declared.pick.PickWords.{PickWords}
 use Rattle.command_words.specs.declared.rmm.RmmWords.{RmmWords}
 use Rattle.sort_words.specs.SortWords.{sort_said}
-use Rattle.command_line.specs.BegunCauses.{IsPickOn, PicksBy, ShowsAnnoWords, ShowsNoting, ShowsEarly, ShowsFault, ShowsIncJob, ShowsMark, ShowsMarking, ShowsNamed, ShowsOnFolder, ShowsPick, ShowsPickJob, ShowsRemoving, ShowsRmm, TakesInBy, TellsNoneBy, TellsOnFolder, long_context, long_profile, wrong_stored, ShowsPacking, ShowsTask, ShowsTell, ShowsTelling, ShowsSortWords, ShowsSorting}
+use Rattle.command_line.specs.BegunCauses.{IsPickOn, PicksBy, ShowsAnnoWords, ShowsNoting, ShowsEarly, ShowsFault, ShowsIncJob, ShowsMark, ShowsMarking, ShowsNamed, ShowsOnFolder, ShowsPick, ShowsPickJob, ShowsRemoving, ShowsRmm, TakesInBy, TellsNoneBy, TellsOnFolder, long_context, long_profile, wrong_stored, ShowsPacking, ShowsTask, ShowsTell, ShowsTelling, IsListOn, ListsBy, ShowsListWords, ShowsListingParts, ShowsSortWords, ShowsSorting}
 use Rattle.command_line.specs.Causes.{ShowsCommandFault}
-use Rattle.command_line.specs.Command.{anno_begun, anno_by, anno_job, annotated_by, command, command_by, context_entered, folder_found, inc_begun, inc_by, mark_begun, mark_by, mark_job, pick_begun, pick_by, pick_job, picked_by, rmm_begun, rmm_by, rmm_job, word_by, pack_begun, pack_job, task_begun, tell_begun, tell_by, tell_job, sort_begun, sort_by, sort_job}
+use Rattle.command_line.specs.Command.{anno_begun, anno_by, anno_job, annotated_by, command, command_by, context_entered, folder_found, inc_begun, inc_by, mark_begun, mark_by, mark_job, pick_begun, pick_by, pick_job, picked_by, rmm_begun, rmm_by, rmm_job, word_by, pack_begun, pack_job, task_begun, tell_begun, tell_by, tell_job, list_begun, list_by, list_job, sort_begun, sort_by, sort_job}
 use Rattle.command_line.specs.CommandNames.{shows_ends, command_of, named}
 use Rattle.command_line.specs.CommandPledge.{entries_by}
 use Rattle.command_line.specs.Incorporating.{IncAsked, job_by, job_writing}
@@ -110,7 +119,7 @@ use Rattle.command_line.specs.Looking.{look_found, written_by}
 use Rattle.command_line.specs.Profile.{folder_of, path_of, profile_name}
 use Rattle.command_line.specs.WordCauses.{IsRefusedByWords, inc_file}
 use Rattle.command_line.specs.declared.name.CommandName.{CommandName}
-use Rattle.command_line.specs.declared.name.CommandName.TheVariants.{Anno, Folder as FolderCommand, Inc, Mark, Pick, Refile, Rmm, Scan, Sortm}
+use Rattle.command_line.specs.declared.name.CommandName.TheVariants.{Anno, Folder as FolderCommand, Inc, Mark, Mhlist, Pick, Refile, Rmm, Scan, Sortm}
 use Rattle.command_line.specs.declared.caller.Caller.{Caller}
 use Rattle.command_line.proofs.Ending.{scan_shows}
 use Rattle.command_line.proofs.IncEnding.{BehindLook, TakesIn, ToldSo, inc_comes}
@@ -475,7 +484,7 @@ module _ (run : ℕ) (few : run < 2 ^ 128) (caller : Caller) (words_ : List (Lis
         none_on : (b : Answer) (folder : List ℕ) → folder_of words.folder (entries_by b) profile ≡ Ok folder → (text : List ℕ) (own : List Deed)
             → Behind a b own → TellsNoneBy run path (pick_job folder words profile) (entries_by b) text own words.marks → Spoken text own
         none_on b folder there text own f t =
-            inr (inr (record {
+            inr (inr (inl (record {
               profile = a;
               context = b;
               newer = f.0;
@@ -484,7 +493,7 @@ module _ (run : ℕ) (few : run < 2 ^ 128) (caller : Caller) (words_ : List (Lis
               by_words = subst (λ ws. PicksBy caller profile (entries_by b) ws (pick_job folder words profile)) (sym is_words)
                   (name, subst (λ m. IsPickOn profile (entries_by b) (pick_job folder words profile) m) (sym said) (folder, there, refl));
               told = t;
-            }))
+            })))
 
         module _ (past : List runs.Deed) (folder : List ℕ) (b : Answer) (is : acts past ≡ after_context path a b) (there : folder_of words.folder (entries_by b) profile ≡ Ok folder) (clean : NoneFailed (acts past)) (silent : said_of past ≡ []) where
           abbrev picking : PickJob
@@ -697,6 +706,89 @@ module _ (run : ℕ) (few : run < 2 ^ 128) (caller : Caller) (words_ : List (Lis
             go later j (Ok folder) q = sortm_keeps later j folder q.1.1.0 q.1.1.1 q.1.1.2 q.1.1.3 q.1.0 q.0
             go later j (Err e) q = stops_plainly later j e q.0 (early e (acts later) q.1.1 q.1.0)
 
+      -- `mhlist`
+      module _ (name : named word ≡ Some Mhlist) (words : ListWords) (said : list_said profile (map chars rest) ≡ Ok words) where
+        list_on : (b : Answer) (folder : List ℕ) → folder_of words.folder (entries_by b) profile ≡ Ok folder → (r : Result (List ℕ) CommandFault) (own : List Deed)
+            → Behind a b own × ShowsListingParts run path (list_job folder words profile) (entries_by b) r own → ShowsOnFolder run caller words_ r own
+        list_on b folder there r own s =
+            on_folder word rest is_words b folder r own s.0
+            (subst (λ n. ShowsNamed run caller profile (entries_by b) folder r own rest n) (sym name)
+            (subst (λ m. ShowsListWords run profile (entries_by b) folder r own m) (sym said) (there, s.1)))
+
+        -- it tells the rows of the messages that it has read
+        rows_on : (b : Answer) (folder : List ℕ) → folder_of words.folder (entries_by b) profile ≡ Ok folder → (text : List ℕ) (own : List Deed)
+            → Behind a b own × TellsFirstRows path (list_job folder words profile) (entries_by b) text own → Spoken text own
+        rows_on b folder there text own t =
+            inr (inr (inr (record {
+              profile = a;
+              context = b;
+              newer = t.0.0;
+              begun = t.0.1;
+              job = list_job folder words profile;
+              by_words = subst (λ ws. ListsBy profile (entries_by b) ws (list_job folder words profile)) (sym is_words)
+                  (name, subst (λ m. IsListOn profile (entries_by b) (list_job folder words profile) m) (sym said) (folder, there, refl));
+              told = t.1;
+            })))
+
+        module _ (past : List runs.Deed) (folder : List ℕ) (b : Answer) (is : acts past ≡ after_context path a b) (there : folder_of words.folder (entries_by b) profile ≡ Ok folder) (clean : NoneFailed (acts past)) (silent : said_of past ≡ []) where
+          abbrev listing_job : ListJob
+          listing_job = list_job folder words profile
+
+          abbrev knows : Hand
+          knows = knowing (entries_by b) fresh
+
+          not_made : WasMade (Mail path) (temp_name run knows.next) (acts past) → ⊥
+          not_made w = none_made (Mail path) (temp_name run knows.next) path a b (subst (λ o. WasMade (Mail path) (temp_name run knows.next) o) is w)
+
+          T : List ℕ → List Deed → Type 0
+          T text own = Behind a b own × TellsFirstRows path listing_job (entries_by b) text own
+
+          Says : List runs.Deed → Hand → Result Unit CommandFault → Type 0
+          Says later i r = IfOkay (λ last k u. Behind a b (acts last) × TellsRows path listing_job (entries_by b) (said_of last) (acts last)) later i r
+
+          LookedSo : Outcome (Result Unit CommandFault)
+          LookedSo later i r = PartsLook run path listing_job knows (numbered_there a b knows refl) later i r × PartsRefuse run path listing_job knows later i r
+
+          LookedBehind : Outcome (Result Unit CommandFault)
+          LookedBehind later i r = Behind a b later × LookedSo later i r
+
+          LooksClean : Outcome (Result Unit CommandFault)
+          LooksClean later i r = NoneFailed later × LookedBehind later i r
+
+          -- as a command that looks, or since a part is missing
+          parts_shown : (e : CommandFault) (own : List Deed) → Behind a b own → ScanShows run path folder e own ⊎ IsNoPart e → ShowsPartsListing path listing_job (entries_by b) e own → NoneFailed own → IsEndedBy Shows e own
+          parts_shown e own f (inl s) l unfailed =
+              looked e own (scan_shows run path folder e own s) (λ z. inr (inr (list_on b folder there (Err e) own (f, (inl z, l))))) unfailed
+          parts_shown e own f (inr lacks) l unfailed =
+              subst (λ z. IsEndedBy Shows z own) (sym lacks.1)
+              (at_once (inr (inr (list_on b folder there (Err (fault.Refused (refusal.NoPart lacks.0))) own (f, (inr (lacks.0, refl), subst (λ z. ShowsPartsListing path listing_job (entries_by b) z own) lacks.1 l))))) unfailed)
+
+          mhlist_keeps : Keeps Speech past knows (mhlist run path listing_job) Plainly
+          unfolding Says LooksClean LookedBehind LookedSo T
+          mhlist_keeps =
+              keeps_more Speech past knows (mhlist run path listing_job) (λ later i r. Says later i r × OfActs LooksClean later i r) Plainly more
+              (keeps_both Speech anything past knows (mhlist run path listing_job) Says (OfActs LooksClean)
+              (speaks_more T Spoken (rows_on b folder there) past knows (mhlist run path listing_job) Says (list_says run few path listing_job knows (Behind a b) (behind_kept a b) past silent ([], is) (clean_there a run b (acts past) knows is refl clean).numbered clean))
+              (comes_keeps past (acts past) knows (mhlist run path listing_job) LooksClean refl
+              (comes_clean (acts past) knows (mhlist run path listing_job) LookedBehind clean
+              (comes_framed AnyStep (Behind a b) (behind_kept a b) (acts past) knows (mhlist run path listing_job) LookedSo (asks_any (mhlist run path listing_job)) ([], is)
+              (comes_both (acts past) knows (mhlist run path listing_job) (PartsLook run path listing_job knows (numbered_there a b knows refl)) (PartsRefuse run path listing_job knows)
+              (list_comes run path listing_job knows (numbered_there a b knows refl) (acts past) not_made) (list_refuses run path listing_job knows (acts past) not_made))))))
+            where
+              more : (later : List runs.Deed) (i : Hand) (r : Result Unit CommandFault) → Says later i r × OfActs LooksClean later i r → Plainly later i r
+              more later i (Ok u) s = list_on b folder there (Ok (said_of later)) (acts later) s.0
+              more later i (Err e) s = parts_shown e (acts later) s.1.1.0 s.1.1.1.0 s.1.1.1.1 s.1.0
+
+        list_begun_keeps : (past : List runs.Deed) → acts past ≡ after_profile a → NoneFailed (acts past) → said_of past ≡ [] → Keeps Speech past fresh (list_begun run profile words) Plainly
+        unfolding list_begun ◌>>=◌
+        list_begun_keeps past is clean silent =
+            keeps_bind Speech past fresh (folder_found profile words.folder) (after (λ folder. mhlist run path (list_job folder words profile))) _ Plainly (folder_keeps words.folder past is clean silent) go
+          where
+            go : (later : List runs.Deed) (j : Hand) (r : Result (List ℕ) CommandFault) → (said_of later ≡ []) × OfActs (Finds words.folder) later j r → Keeps Speech later j (after (λ folder. mhlist run path (list_job folder words profile)) r) Plainly
+            go later j (Ok folder) q =
+                subst (λ i. Keeps Speech later i (mhlist run path (list_job folder words profile)) Plainly) (sym q.1.1.2) (mhlist_keeps later folder q.1.1.0 q.1.1.1 q.1.1.3 q.1.0 q.0)
+            go later j (Err e) q = stops_plainly later j e q.0 (early e (acts later) q.1.1 q.1.0)
+
       -- `inc`
       module _ (name : named word ≡ Some Inc) (asked : IncAsked) (said : job_by caller profile (inc_said profile (map chars rest)) ≡ Ok asked) where
         inc_on : (b : Answer) (spoken : Standing → Writing) (r : Result (List ℕ) CommandFault) (own : List Deed)
@@ -819,6 +911,12 @@ module _ (run : ℕ) (few : run < 2 ^ 128) (caller : Caller) (words_ : List (Lis
           go (Ok words) said = plain_keeps past fresh (sort_begun run profile words) (sort_begun_keeps word rest is_words name words said past is clean silent)
           go (Err x) said = stops past fresh x silent
               (refused_shown a x past is (sort_refuses profile (map chars rest) x said) (refused_by caller words_ a word rest is_words (Some Sortm) name x.fault (refusal_of (sort_said profile (map chars rest)) x said)) clean)
+      by_word word rest is_words (Some Mhlist) name begins = go (list_said profile (map chars rest)) refl
+        where
+          go : (r : Result ListWords Ended) → list_said profile (map chars rest) ≡ r → Keeps Speech past fresh (list_by run profile r) EndsBy
+          go (Ok words) said = plain_keeps past fresh (list_begun run profile words) (list_begun_keeps word rest is_words name words said past is clean silent)
+          go (Err x) said = stops past fresh x silent
+              (refused_shown a x past is (list_words_refuse profile (map chars rest) x said) (refused_by caller words_ a word rest is_words (Some Mhlist) name x.fault (refusal_of (list_said profile (map chars rest)) x said)) clean)
 
       by_words : (words : List (List ℕ)) → words_ ≡ words → shows_ends (command_of words) ≡ true → Keeps Speech past fresh (command_by run caller profile words) EndsBy
       by_words [] is_words begins = cc (begins)

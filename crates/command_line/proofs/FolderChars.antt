@@ -59,6 +59,11 @@ use Rattle.sort_words.specs.SortWords.{sort_line, sort_said}
 use Rattle.sort_words.specs.Table.{sort_table}
 use Rattle.sort_words.specs.Keys.{wrong_names as wrong_fields}
 use Rattle.sort_words.specs.declared.words.SortWords.{SortWords}
+use Rattle.list_words.specs.ListWords as list_words
+use Rattle.list_words.specs.ListWords.{list_line, list_said}
+use Rattle.list_words.specs.Parts.{wrong_parts}
+use Rattle.list_words.specs.Table.{list_table}
+use Rattle.list_words.specs.declared.words.ListWords.{ListWords}
 use Rattle.command_line.specs.Profile.{folder_of, inbox_of, stored_of, value_or}
 
 -- bytes as they are shown are characters
@@ -509,3 +514,31 @@ pub sort_chars : (profile : List NamedValue) (words : List (List ℕ)) (said : S
 sort_chars profile words said f e =
     subst SortChars e (sort_items_chars (sort_line profile words) (read_in sort_table 0 (sort_line profile words))
     (read_textual sort_table 0 (sort_line profile words) (texts_both (profile_words (codes "sortm") profile) words (shown_texts (words_in (unwrap_or (value_of (codes "sortm") profile) []))) f)))
+
+-- `mhlist`
+abbrev ListChars : Result ListWords Ended → Type 0
+ListChars (Ok w) = HasChars w.folder
+ListChars (Err e) = Unit {0}
+
+list_folder_chars : (items : List Item) (word : Option (List ℕ)) → HasChars word → ListChars (list_words.with_folder items (folder_named word))
+list_folder_chars items None f = tt
+list_folder_chars items (Some word) f = go (is_folder_name (without_plus word))
+  where
+    go : (b : Bool) → ListChars (list_words.with_folder items (some_named (if b then Ok (without_plus word) else Err (fault.Refused (refusal.BadFolder word)))))
+    go true = plus_chars word f
+    go false = tt
+
+list_one_chars : (words : List (List ℕ)) (items : List Item) (r : Result (Option (List ℕ)) Wrong) → OneChars r → ListChars (list_words.folder_said words items r)
+list_one_chars words items (Ok word) f = list_folder_chars items word f
+list_one_chars words items (Err wrong) f = tt
+
+list_items_chars : (words : List (List ℕ)) (r : Result (List Item) Wrong) → Textual r → ListChars (list_words.items_said words r)
+list_items_chars words (Ok items) f =
+    list_one_chars words items (unless_bad (first_of (wrong_parts items)) (one_folder (folders items)))
+    (bad_chars (first_of (wrong_parts items)) (one_folder (folders items)) (one_chars (folders items) (folder_texts items f)))
+list_items_chars words (Err wrong) f = tt
+
+pub list_chars : (profile : List NamedValue) (words : List (List ℕ)) (said : ListWords) → AreTexts words → list_said profile words ≡ Ok said → HasChars said.folder
+list_chars profile words said f e =
+    subst ListChars e (list_items_chars (list_line profile words) (read_in list_table 0 (list_line profile words))
+    (read_textual list_table 0 (list_line profile words) (texts_both (profile_words (codes "mhlist") profile) words (shown_texts (words_in (unwrap_or (value_of (codes "mhlist") profile) []))) f)))

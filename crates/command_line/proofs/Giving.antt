@@ -79,13 +79,18 @@ use Rattle.anno_words.specs.declared.words.AnnoWords.{AnnoWords}
 use Rattle.sort_words.specs.declared.words.SortWords.{SortWords}
 use Rattle.anno_words.proofs.Said.{anno_refuses, anno_valid}
 use Rattle.sort_words.proofs.Said.{sort_refuses, sort_valid}
-use Rattle.command_line.specs.Command.{anno_begun, anno_by, anno_job, annotated_by, context_seen, context_entered, folder_found, inc_begun, inc_by, job_of, mark_job, scan_begun, scan_by, mark_begun, mark_by, pick_begun, pick_by, pick_job, picked_by, refile_begun, refile_by, refile_job, rmm_begun, rmm_by, rmm_job, word_by, command_by, command, pack_begun, pack_job, task_begun, tell_begun, tell_by, tell_job, sort_begun, sort_by, sort_job}
+use Rattle.mhlist_command.specs.Listing.{mhlist}
+use Rattle.mhlist_command.proofs.ListGiven.{list_works}
+use Rattle.list_words.specs.ListWords.{list_said}
+use Rattle.list_words.specs.declared.words.ListWords.{ListWords}
+use Rattle.list_words.proofs.Said.{list_refuses, list_valid}
+use Rattle.command_line.specs.Command.{anno_begun, anno_by, anno_job, annotated_by, context_seen, context_entered, folder_found, inc_begun, inc_by, job_of, mark_job, scan_begun, scan_by, mark_begun, mark_by, pick_begun, pick_by, pick_job, picked_by, refile_begun, refile_by, refile_job, rmm_begun, rmm_by, rmm_job, word_by, command_by, command, pack_begun, pack_job, task_begun, tell_begun, tell_by, tell_job, list_begun, list_by, list_job, sort_begun, sort_by, sort_job}
 use Rattle.command_line.specs.CommandNames.{begins_folders, command_of, makes_folders, named}
 use Rattle.command_line.specs.Incorporating.{IncAsked, job_by, job_writing}
-use Rattle.command_line.specs.Outcomes.{anno_words_work, annos, FolderWork, inc_job_work, incs, plainly, of_stage, in_folder, with_context, scans, scan_words_work, on_folder, writing, written_there, marks, mark_words_work, picks, pick_words_work, refiles, refile_words_work, rmms, rmm_words_work, word_work, named_work, with_profile, work_by, work_of, alone_meeting, packs, tasks, tell_words_work, tells, sort_words_work, sorts}
+use Rattle.command_line.specs.Outcomes.{anno_words_work, annos, FolderWork, inc_job_work, incs, plainly, of_stage, in_folder, with_context, scans, scan_words_work, on_folder, writing, written_there, marks, mark_words_work, picks, pick_words_work, refiles, refile_words_work, rmms, rmm_words_work, word_work, named_work, with_profile, work_by, work_of, alone_meeting, packs, tasks, tell_words_work, tells, list_words_work, lists, sort_words_work, sorts}
 use Rattle.command_line.specs.Profile.{folder_of, path_of, profile_name}
 use Rattle.command_line.specs.declared.name.CommandName.{CommandName}
-use Rattle.command_line.specs.declared.name.CommandName.TheVariants.{Anno, Folder as FolderCommand, Inc, Mark, Pick, Refile, Rmm, Scan, Sortm}
+use Rattle.command_line.specs.declared.name.CommandName.TheVariants.{Anno, Folder as FolderCommand, Inc, Mark, Mhlist, Pick, Refile, Rmm, Scan, Sortm}
 use Rattle.command_line.specs.declared.caller.Caller.{Caller}
 use Rattle.command_line.proofs.Refusals.{IsRefusal, folder_refuses, job_refuses, mark_refuses, refile_refuses, rmm_refuses, asked_refuses, tell_refuses}
 use Rattle.command_line.proofs.LookGives.{fresh_alike, look_gives}
@@ -441,6 +446,18 @@ sort_stage run c few homes profile words valid v h same unmet begun =
     (homes_at run ((mailbox_in c).folders (Folder (path_of profile) folder))) (homes (Folder (path_of profile) folder)) v.numbers (after_read v (Mail (path_of profile)) context_name) (knowing (entries_in text) h)
     (record { has = (same, refl); fresh = λ x. begun.names (path_of profile) folder x; unmet = λ x is_held. unmet (Folder (path_of profile) folder) x; hand = refl }))
 
+-- `mhlist` alone, from the context on
+list_stage : (run : ℕ) (c : Contents) → run < 2 ^ 128 → AreAllHomes run c → (profile : List NamedValue) (words : ListWords) → IsValid words.folder → (v : View) (h : Hand) (same : v.contents ≡ c) → (unmet : (p : Place) (x : List ℕ) → v.met p x ≡ false) → (begun : IsBegun v)
+    → Gives (by_view true) v h (stage true c profile words.folder v h same (λ e. begun) (lists (mailbox_in c) profile words)).text (list_begun run profile words) (WorkEnds (stage true c profile words.folder v h same (λ e. begun) (lists (mailbox_in c) profile words)))
+unfolding list_begun
+list_stage run c few homes profile words valid v h same unmet begun =
+    stage_gives true c profile words.folder v h same (λ e. begun) (lists (mailbox_in c) profile words) WorkEnds (mark_refused c) (λ folder. mhlist run (path_of profile) (list_job folder words profile))
+    (λ text folder reads is.
+    let short = read_short (c.texts (Mail (path_of profile)) context_name) text reads in
+    list_works run (path_of profile) (list_job folder words profile) few (acted_valid words.folder (entries_in text) profile folder valid is) c (entries_in text) (ap entries_in short.1) short.0
+    (homes_at run ((mailbox_in c).folders (Folder (path_of profile) folder))) (homes (Folder (path_of profile) folder)) v.numbers (after_read v (Mail (path_of profile)) context_name) (knowing (entries_in text) h)
+    (record { has = (same, refl); fresh = λ x. begun.names (path_of profile) folder x; unmet = λ x is_held. unmet (Folder (path_of profile) folder) x; hand = refl }) same refl refl)
+
 -- `inc` alone, from the context on
 
 module _ (run : ℕ) (c : Contents) (few : run < 2 ^ 128) (bare : IsBare c) (profile : List NamedValue) (asked : IncAsked) (valid : is_folder_name asked.folder ≡ true)
@@ -612,6 +629,21 @@ module _ (alone : Bool) (run : ℕ) (c : Contents) (few : run < 2 ^ 128) (homes 
         subst (λ b. Gives (by_view b) z fresh (sort_words_work (alone_meeting run) box profile (sort_said profile words)).text (sort_by run profile (sort_said profile words)) (CommandEnds b (sort_words_work (alone_meeting run) box profile (sort_said profile words)))) (sym only)
         (sort_words_true (homes only) (sort_said profile words) (λ said e. sort_valid profile words said e) (λ e is. sort_refuses profile words e is))
 
+    list_words_true : AreAllHomes run c → (value : Result ListWords Ended) → ((words : ListWords) → value ≡ Ok words → IsValid words.folder) → ((e : Ended) → value ≡ Err e → IsRefusal e.fault)
+        → Gives (by_view true) z fresh (list_words_work box profile value).text (list_by run profile value) (CommandEnds true (list_words_work box profile value))
+    unfolding Gives lifted mailbox_in
+    list_words_true there (Ok words) valid r =
+        gives_bind (by_view true) z fresh (list_words_work box profile (Ok words)).text (list_begun run profile words) (λ q. Return (converted plain q)) (WorkEnds (stage true c profile words.folder z fresh same (λ e. begun) (lists box profile words)))
+        (CommandEnds true (list_words_work box profile (Ok words)))
+        (list_stage run c few there profile words (valid words refl) z fresh same unmet begun)
+        (λ y j left q e. mark_ends (stage true c profile words.folder z fresh same (λ e. begun) (lists box profile words)) y j left q e)
+    list_words_true there (Err e) valid r = let is = r e refl in plain_refused true c e is.0 z fresh [] is.1 refl same
+
+    list_words_give : alone ≡ true → (caller : Caller) (words : List (List ℕ)) → Gives (by_view alone) z fresh (list_words_work box profile (list_said profile words)).text (list_by run profile (list_said profile words)) (CommandEnds alone (list_words_work box profile (list_said profile words)))
+    list_words_give only caller words =
+        subst (λ b. Gives (by_view b) z fresh (list_words_work box profile (list_said profile words)).text (list_by run profile (list_said profile words)) (CommandEnds b (list_words_work box profile (list_said profile words)))) (sym only)
+        (list_words_true (homes only) (list_said profile words) (λ said e. list_valid profile words said e) (λ e is. list_refuses profile words e is))
+
     refile_words_true : IsBare c → (value : Result RefileWords Ended) → ((words : RefileWords) → value ≡ Ok words → IsValid words.source) → ((e : Ended) → value ≡ Err e → IsRefusal e.fault)
         → Gives (by_view true) z fresh (refile_words_work (alone_meeting run) box profile value).text (refile_by run profile value) (CommandEnds true (refile_words_work (alone_meeting run) box profile value))
     unfolding Gives lifted mailbox_in
@@ -655,6 +687,7 @@ module _ (alone : Bool) (run : ℕ) (c : Contents) (few : run < 2 ^ 128) (homes 
     by_word caller word words (Some FolderCommand) only bare = tell_words_give (only refl) (map chars words)
     by_word caller word words (Some Anno) only bare = anno_words_give (only refl) caller (map chars words)
     by_word caller word words (Some Sortm) only bare = sort_words_give (only refl) caller (map chars words)
+    by_word caller word words (Some Mhlist) only bare = list_words_give (only refl) caller (map chars words)
 
     by_name : (caller : Caller) (words : List (List ℕ)) → (begins_folders (command_of words) ≡ true → alone ≡ true) → (makes_folders (command_of words) ≡ true → IsBare c) → Gives (by_view alone) z fresh (named_work (alone_meeting run) box caller profile words).text (command_by run caller profile words) (CommandEnds alone (named_work (alone_meeting run) box caller profile words))
     unfolding Gives

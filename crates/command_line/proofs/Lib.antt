@@ -8,9 +8,11 @@ pub mod FormatRefuses
 pub mod Giving
 pub mod IncEnding
 pub mod IncKept
+pub mod ListMarks
 pub mod LookFound
 pub mod LookGives
 pub mod Looked
+pub mod LooksMarks
 pub mod MarksKept
 pub mod MindingPlans
 pub mod MindsMarks

@@ -66,6 +66,8 @@ use Rattle.command_words.specs.declared.rmm.RmmWords.{RmmWords}
 use Rattle.command_words.proofs.SaidFolder.{IsValid}
 use Rattle.anno_words.proofs.Said.{anno_annotates, anno_valid}
 use Rattle.sort_words.proofs.Said.{sort_valid}
+use Rattle.list_words.proofs.Said.{list_valid}
+use Rattle.list_words.specs.ListWords.{list_said}
 use Rattle.sort_words.specs.SortWords.{sort_said}
 use Rattle.command_line.specs.Command.{annotated_by, command, mark_by, mark_job, picked_by, rmm_by, rmm_job, word_by, tell_by, tell_job}
 use Rattle.command_line.specs.CommandMarks.{IsTextName, KeepsCommandMarks, KeepsWhere}
@@ -73,15 +75,17 @@ use Rattle.command_line.specs.CommandNames.{begins_folders, command_of, named}
 use Rattle.command_line.specs.CommandPledge.{entries_by, marks_pledge, on_named, rmm_on_named, rmms_pledge, task_pledge, tell_on_named, tells_pledge}
 use Rattle.command_line.specs.Profile.{folder_of, path_of, profile_name}
 use Rattle.command_line.specs.declared.name.CommandName.{CommandName}
-use Rattle.command_line.specs.declared.name.CommandName.TheVariants.{Anno, Folder as FolderCommand, Inc, Mark, Pick, Refile, Rmm, Scan, Sortm}
+use Rattle.command_line.specs.declared.name.CommandName.TheVariants.{Anno, Folder as FolderCommand, Inc, Mark, Mhlist, Pick, Refile, Rmm, Scan, Sortm}
 use Rattle.command_line.specs.declared.caller.Caller.{Caller}
 use Rattle.command_line.proofs.IncKept.{inc_kept}
 use Rattle.command_line.proofs.MindingPlans.{Minding, NothingMore, minding_kept, minding_where, minds_own, minds_with, ok_one, sound_so}
 use Rattle.command_line.proofs.MindsMarks.{command_keeps_sequences, minds_sequences}
 use Rattle.command_line.proofs.Pledging.{Answered, answers, context_keeps, context_step, known_sound, mark_acts, mark_onward, mark_words_keep, named_onward, on_context, onward_by, plan_by, profile_step, rmm_acts, rmm_onward, rmm_words_keep, two_readings, word_onward, task_acts, tell_acts, tell_onward, tell_words_keep}
 use Rattle.command_line.proofs.AnnoMarks.{anno_minding}
+use Rattle.command_line.proofs.ListMarks.{list_minding}
+use Rattle.command_line.proofs.LooksMarks.{looks_mind as tell_looks_mind}
 use Rattle.command_line.proofs.SortMarks.{sort_minding}
-use Rattle.command_line.proofs.FolderChars.{AreUtf8, HasChars, acted_chars, anno_chars, chars_texts, mark_chars, pick_chars, refile_chars, rmm_chars, tell_chars, sort_chars}
+use Rattle.command_line.proofs.FolderChars.{AreUtf8, HasChars, acted_chars, anno_chars, chars_texts, mark_chars, pick_chars, refile_chars, rmm_chars, tell_chars, list_chars, sort_chars}
 use Rattle.command_line.proofs.PackMarks.{pack_minding, tell_plan}
 use Rattle.command_line.proofs.PickMarks.{pick_minding}
 use Rattle.command_line.proofs.RefileMarks.{refile_minding}
@@ -115,33 +119,6 @@ module _ (run : ℕ) (path : List ℕ) (job : MarkJob) (valid : is_folder_name j
   looks_mind = record {
     public = λ mail folder sequence own s may. (minds_sequences run path).public mail folder sequence own s (looks_may own s may);
     private = λ mail folder sequence own s may. (minds_sequences run path).private mail folder sequence own s (looks_may own s may);
-  }
-
--- so may a `folder` without words
-module _ (run : ℕ) (path : List ℕ) (job : FolderJob) (valid : is_folder_name job.folder ≡ true) where
-  tell_looks_marked : (own : List Deed) (s : Step) → Marks (look_pledge run path (task_with [] job)) own s → Marks (scan_pledge run path) own s
-  tell_looks_marked own (step.List p) m = tt
-  tell_looks_marked own (step.Read p n limit) m = tt
-  tell_looks_marked own (step.MakeFolder p) m = tt
-  tell_looks_marked own (step.Create p n b) m = tt
-  tell_looks_marked own (step.SyncFile p n) m = tt
-  tell_looks_marked own (step.SyncFolder p) m = tt
-  tell_looks_marked own (step.Link p a b) m = tt
-  tell_looks_marked own (step.Rename p temp name) m = λ is. let k = m is in record { old = k.old; new = k.new; is_base = k.is_base; created = k.created; made = (job.folder, valid, k.made.0, k.made.1) }
-  tell_looks_marked own (step.Unlink p a) m = tt
-  tell_looks_marked own (step.Lock p) m = tt
-  tell_looks_marked own (step.Unlock p) m = tt
-  tell_looks_marked own (step.ReadFile f limit) m = tt
-  tell_looks_marked own (step.ReadDrop f from most) m = tt
-  tell_looks_marked own (step.CutDrop f length_) m = tt
-
-  tell_looks_may : (own : List Deed) (s : Step) → MayAsk (look_pledge run path (task_with [] job)) own s → MayAsk (scan_pledge run path) own s
-  tell_looks_may own s m = record { is_own = m.is_own; marks = tell_looks_marked own s m.marks; steps = λ no. tt }
-
-  tell_looks_mind : MindsSequences (look_pledge run path (task_with [] job))
-  tell_looks_mind = record {
-    public = λ mail folder sequence own s may. (minds_sequences run path).public mail folder sequence own s (tell_looks_may own s may);
-    private = λ mail folder sequence own s may. (minds_sequences run path).private mail folder sequence own s (tell_looks_may own s may);
   }
 
 module _ (run : ℕ) (few : run < 2 ^ 128) (profile : List NamedValue) (h : Hand) where
@@ -280,7 +257,7 @@ module _ (run : ℕ) (few : run < 2 ^ 128) (profile : List NamedValue) (h : Hand
             minds = subst (λ v. MindsSequencesOf IsTextName (with_step (tell_on_named run profile words v) NoMore)) (sym is)
                 (subst (λ k. MindsSequencesOf IsTextName (with_step (task_pledge run profile words folder k) NoMore)) (sym as_is)
                 (subst (λ o. MindsSequencesOf IsTextName (with_step (tell_pledge_by run path (tell_job folder words profile) o) NoMore)) (sym none)
-                (minds_with (look_pledge run path (task_with [] (tell_job folder words profile))) NoMore (tell_looks_mind run path (tell_job folder words profile) real))));
+                (minds_with (look_pledge run path (task_with [] (tell_job folder words profile))) NoMore (tell_looks_mind run path (task_with [] (tell_job folder words profile)) real))));
             Q = _;
             keeps = tell_words_keep run few profile h b (Ok words);
           }
@@ -422,6 +399,12 @@ module _ (run : ℕ) (few : run < 2 ^ 128) (caller : Caller) (word : List ℕ) (
       subst (λ z. Minding run NothingMore h (Ask profile_step (λ c. rest_by (context_step profile) (word_by run caller profile word words z) (word_onward run profile caller word words z) b))) (sym is)
       (sort_minding run few profile h b (sort_said profile (map chars words)) (λ said e. (sort_valid profile (map chars words) said e, sort_chars profile (map chars words) said (chars_texts words texts) e)))
 
+  list_named : (profile : List NamedValue) (name : Option CommandName) → name ≡ Some Mhlist → Minding run NothingMore h (Ask profile_step (λ c. rest_by (context_step profile) (word_by run caller profile word words name) (word_onward run profile caller word words name) b))
+  unfolding word_onward
+  list_named profile name is =
+      subst (λ z. Minding run NothingMore h (Ask profile_step (λ c. rest_by (context_step profile) (word_by run caller profile word words z) (word_onward run profile caller word words z) b))) (sym is)
+      (list_minding run few profile h b (list_said profile (map chars words)) (λ said e. (list_valid profile (map chars words) said e, list_chars profile (map chars words) said (chars_texts words texts) e)))
+
   mark_read : (r : Reading) → named word ≡ Some Mark → Minding run NothingMore h (plan_by run few caller all r b)
   unfolding onward_by named_onward lifted bind ◌>>=◌
   mark_read (reading.Content bytes) is = mark_named (entries_in bytes) (named word) is
@@ -463,6 +446,12 @@ module _ (run : ℕ) (few : run < 2 ^ 128) (caller : Caller) (word : List ℕ) (
   sort_read (reading.Content bytes) is = sort_named (entries_in bytes) (named word) is
   sort_read (reading.Long l) is = long_minding NothingMore l
   sort_read reading.Gone is = sort_named (entries_in []) (named word) is
+
+  list_read : (r : Reading) → named word ≡ Some Mhlist → Minding run NothingMore h (plan_by run few caller all r b)
+  unfolding onward_by named_onward lifted bind ◌>>=◌
+  list_read (reading.Content bytes) is = list_named (entries_in bytes) (named word) is
+  list_read (reading.Long l) is = long_minding NothingMore l
+  list_read reading.Gone is = list_named (entries_in []) (named word) is
 
 -- a call that follows a command keeps the marks of messages
 module _ (run : ℕ) (few : run < 2 ^ 128) (caller : Caller) (x y : State) (result : Result Unit Ended) where
@@ -526,6 +515,15 @@ module _ (run : ℕ) (few : run < 2 ^ 128) (caller : Caller) (x y : State) (resu
           minding_kept run ended_cause (plan_by run few caller (word ∷ words) (reading_of t.first) t.second) x y result m
           (follows_so run ended_cause (command run caller (word ∷ words)) (plan_by run few caller (word ∷ words) (reading_of t.first) t.second) x y result f t.runs) (start_same run ended_cause (command run caller (word ∷ words)) x y result f)
 
+  list_kept : (word : List ℕ) (words : List (List ℕ)) → AreUtf8 words → named word ≡ Some Mhlist → Follows run ended_cause (command run caller (word ∷ words)) x y result → KeepsSequencesOf IsTextName run x.files.story y.files.story
+  list_kept word words texts is f = go (answers run few caller (word ∷ words) x y result f)
+    where
+      go : Answered run few caller (word ∷ words) x.hand y.hand (deeds_in f.went.log) (exit_of ended_cause result) → KeepsSequencesOf IsTextName run x.files.story y.files.story
+      go t =
+          let m = list_read run few caller word words texts x.hand t.second (reading_of t.first) is in
+          minding_kept run ended_cause (plan_by run few caller (word ∷ words) (reading_of t.first) t.second) x y result m
+          (follows_so run ended_cause (command run caller (word ∷ words)) (plan_by run few caller (word ∷ words) (reading_of t.first) t.second) x y result f t.runs) (start_same run ended_cause (command run caller (word ∷ words)) x y result f)
+
   by_name : (word : List ℕ) (words : List (List ℕ)) → AreUtf8 words → Follows run ended_cause (command run caller (word ∷ words)) x y result → (name : Option CommandName) → named word ≡ name → KeepsCommandMarks name run x.files.story y.files.story
   by_name word words texts f None is = command_keeps_sequences run few caller (word ∷ words) (ap begins_folders is) x y result f
   by_name word words texts f (Some Inc) is = inc_kept run few caller x y result word words texts is f
@@ -537,6 +535,7 @@ module _ (run : ℕ) (few : run < 2 ^ 128) (caller : Caller) (x y : State) (resu
   by_name word words texts f (Some FolderCommand) is = tell_kept word words texts is f
   by_name word words texts f (Some Anno) is = anno_kept word words texts is f
   by_name word words texts f (Some Sortm) is = sort_kept word words texts is f
+  by_name word words texts f (Some Mhlist) is = list_kept word words texts is f
 
   pub command_keeps_marks : (words : List (List ℕ)) → AreUtf8 words → Follows run ended_cause (command run caller words) x y result → KeepsCommandMarks (command_of words) run x.files.story y.files.story
   command_keeps_marks [] texts f = command_keeps_sequences run few caller [] refl x y result f

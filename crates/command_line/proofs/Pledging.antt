@@ -51,6 +51,10 @@ use Rattle.anno_words.proofs.Said.{anno_annotates}
 use Rattle.sortm_command.specs.Sort.{sortm}
 use Rattle.sortm_command.proofs.SortPledged.{sortm_keeps}
 use Rattle.sort_words.specs.declared.words.SortWords.{SortWords}
+use Rattle.mhlist_command.specs.Listing.{mhlist}
+use Rattle.mhlist_command.proofs.ListPledged.{list_keeps}
+use Rattle.list_words.specs.ListWords.{list_said}
+use Rattle.list_words.specs.declared.words.ListWords.{ListWords}
 use Rattle.folder_command.specs.Folder.{folder as tell, pledge_by as tell_pledge_by}
 use Rattle.folder_command.proofs.FolderPledged.{folder_keeps}
 use Rattle.pack_command.specs.Pack.{pack}
@@ -81,13 +85,13 @@ use Rattle.refile_command.specs.declared.job.RefileJob.{RefileJob}
 use Rattle.refile_command.proofs.RefileMoved.{HasHeldNone}
 use Rattle.refile_command.proofs.RefilePledged.{EndsRefiled, refile_keeps}
 use Rattle.refile_command.proofs.RmmPledged.{rmm_keeps}
-use Rattle.command_line.specs.Command.{anno_begun, anno_by, anno_job, annotated_by, command, command_by, context_entered, context_seen, folder_found, inc_begun, inc_by, job_of, mark_begun, mark_by, mark_job, no_command, pick_begun, pick_by, pick_job, picked_by, refile_begun, refile_by, refile_job, rmm_begun, rmm_by, rmm_job, scan_begun, scan_by, word_by, pack_begun, pack_job, task_begun, tell_begun, tell_by, tell_job, sort_begun, sort_by, sort_job}
+use Rattle.command_line.specs.Command.{anno_begun, anno_by, anno_job, annotated_by, command, command_by, context_entered, context_seen, folder_found, inc_begun, inc_by, job_of, mark_begun, mark_by, mark_job, no_command, pick_begun, pick_by, pick_job, picked_by, refile_begun, refile_by, refile_job, rmm_begun, rmm_by, rmm_job, scan_begun, scan_by, word_by, pack_begun, pack_job, task_begun, tell_begun, tell_by, tell_job, list_begun, list_by, list_job, sort_begun, sort_by, sort_job}
 use Rattle.command_line.specs.CommandNames.{command_of, named}
-use Rattle.command_line.specs.CommandPledge.{IsDone, KeepsPledge, TellsAsked, anno_on_named, annos_pledge, asked_pledge, command_pledge, entries_by, incs_pledge, marks_pledge, on_named, path_by, pick_on_named, picks_pledge, refile_on_named, refiles_pledge, rmm_on_named, rmms_pledge, text_of, word_pledge, task_pledge, tell_on_named, tells_pledge, sort_on_named, sorts_pledge}
+use Rattle.command_line.specs.CommandPledge.{IsDone, KeepsPledge, TellsAsked, anno_on_named, annos_pledge, asked_pledge, command_pledge, entries_by, incs_pledge, marks_pledge, on_named, path_by, pick_on_named, picks_pledge, refile_on_named, refiles_pledge, rmm_on_named, rmms_pledge, text_of, word_pledge, task_pledge, tell_on_named, tells_pledge, list_on_named, lists_pledge, sort_on_named, sorts_pledge}
 use Rattle.command_line.specs.Incorporating.{IncAsked, job_by, job_writing}
 use Rattle.command_line.specs.Profile.{folder_of, path_of, profile_name}
 use Rattle.command_line.specs.declared.name.CommandName.{CommandName}
-use Rattle.command_line.specs.declared.name.CommandName.TheVariants.{Anno, Folder as FolderCommand, Inc, Mark, Pick, Refile, Rmm, Scan, Sortm}
+use Rattle.command_line.specs.declared.name.CommandName.TheVariants.{Anno, Folder as FolderCommand, Inc, Mark, Mhlist, Pick, Refile, Rmm, Scan, Sortm}
 use Rattle.command_line.specs.declared.caller.Caller.{Caller}
 use Rattle.command_line.proofs.LookFound.{acts_looked, keeps_telling, look_done, look_keeps, look_writes, looked_once, looked_only, looked_settled, writes_kept}
 use Rattle.command_line.proofs.SaidFolder.{acted_valid, asked_valid}
@@ -157,6 +161,9 @@ module _ (run : ℕ) (profile : List NamedValue) where
   abbrev pub sort_acts : SortWords → List ℕ → Commanded Unit
   sort_acts words folder = sortm run (path_of profile) (sort_job folder words profile)
 
+  abbrev pub list_acts : ListWords → List ℕ → Commanded Unit
+  list_acts words folder = mhlist run (path_of profile) (list_job folder words profile)
+
   unfoldable pub scan_onward : (value : Result ScanAsked Ended) → Onward (context_step profile) (scan_by run profile value)
   unfolding scan_begun
   scan_onward (Ok words) = inr (λ b. on_context profile words.folder (scan_acts words) (reading_of b), context_asked profile words.folder (scan_acts words))
@@ -201,6 +208,11 @@ module _ (run : ℕ) (profile : List NamedValue) where
   sort_onward (Ok words) = inr (λ b. on_context profile words.folder (sort_acts words) (reading_of b), context_asked profile words.folder (sort_acts words))
   sort_onward (Err e) = inl (Err e, refl)
 
+  unfoldable pub list_onward : (value : Result ListWords Ended) → Onward (context_step profile) (list_by run profile value)
+  unfolding list_begun
+  list_onward (Ok words) = inr (λ b. on_context profile words.folder (list_acts words) (reading_of b), context_asked profile words.folder (list_acts words))
+  list_onward (Err e) = inl (Err e, refl)
+
   unfoldable pub inc_onward : (value : Result IncAsked Ended) → Onward (context_step profile) (inc_by run profile value)
   unfolding inc_begun
   inc_onward (Ok asked) = inr (λ b. on_entries (inc_acts asked) (reading_of b), entries_asked profile (inc_acts asked))
@@ -217,6 +229,7 @@ module _ (run : ℕ) (profile : List NamedValue) where
   word_onward caller word words (Some FolderCommand) = tell_onward (tell_said profile (map chars words))
   word_onward caller word words (Some Anno) = anno_onward (annotated_by caller profile (map chars words))
   word_onward caller word words (Some Sortm) = sort_onward (sort_said profile (map chars words))
+  word_onward caller word words (Some Mhlist) = list_onward (list_said profile (map chars words))
 
   unfoldable pub named_onward : (caller : Caller) (words : List (List ℕ)) → Onward (context_step profile) (command_by run caller profile words)
   named_onward caller [] = inl (Err (no_command None), refl)
@@ -512,6 +525,36 @@ module _ (run : ℕ) (few : run < 2 ^ 128) (profile : List NamedValue) (h : Hand
       w = sort_on_named run profile words (folder_of words.folder (entries_by b) profile)
   sort_words_keep b (Err e) = keeps_ended look Home profile_name LIMIT_BYTES h (Err e) (IfOkay (Finished (Some Sortm) path)) (λ c. tt)
 
+  -- `mhlist`
+  mhlist_done : (a b : Answer) (later : List Done) (j : Hand) (r : Result Unit CommandFault) → IfOkay (Still (acts (two_readings profile a b))) later j r → IfOkay (Finished (Some Mhlist) path) later j r
+  mhlist_done a b later j (Ok u) f = record { is_done = f.settled (two_settled profile a b); unfailed = f.unfailed }
+  mhlist_done a b later j (Err e) f = tt
+
+  module _ (words : ListWords) (a b : Answer) (es : List NamedValue) (folder : List ℕ) where
+    abbrev ListKeeps : Pledge → Type 0
+    ListKeeps w = Sound w (acts (two_readings profile a b)) h → Keeps (rules_of w) (two_readings profile a b) (knowing es h) (list_acts run profile words folder) (IfOkay (Finished (Some Mhlist) path))
+
+    listed_so : ListKeeps (list_on_named run profile words (Ok folder))
+    listed_so sound =
+        let w = list_on_named run profile words (Ok folder) in
+        keeps_more (rules_of w) (two_readings profile a b) (knowing es h) (list_acts run profile words folder) (IfOkay (Still (acts (two_readings profile a b)))) (IfOkay (Finished (Some Mhlist) path)) (mhlist_done a b)
+        (list_keeps run few path (list_job folder words profile) (two_readings profile a b) (knowing es h) (known_sound w (acts (two_readings profile a b)) h es sound))
+
+    listed_at : folder_of words.folder es profile ≡ Ok folder → ListKeeps (list_on_named run profile words (folder_of words.folder es profile))
+    listed_at is = subst (λ v. ListKeeps (list_on_named run profile words v)) (sym is) listed_so
+
+  pub list_words_keep : (b : Answer) (value : Result ListWords Ended)
+      → Keeps (rules_of (lists_pledge run profile (entries_by b) value)) [] h (Ask profile_step (λ c. rest_by (context_step profile) (list_by run profile value) (list_onward run profile value) b)) (IfOkay (Finished (Some Mhlist) path))
+  unfolding list_onward
+  list_words_keep b (Ok words) =
+      keeps_after w Home (Mail path) profile_name context_name LIMIT_BYTES h (on_context profile words.folder (list_acts run profile words) (reading_of b)) (IfOkay (Finished (Some Mhlist) path))
+      (λ c d sound. context_keeps w (two_readings profile c d) h sound profile words.folder (list_acts run profile words) (Finished (Some Mhlist) path) (reading_of b)
+      (λ folder is. listed_at words c d (entries_by b) folder is sound))
+    where
+      w : Pledge
+      w = list_on_named run profile words (folder_of words.folder (entries_by b) profile)
+  list_words_keep b (Err e) = keeps_ended look Home profile_name LIMIT_BYTES h (Err e) (IfOkay (Finished (Some Mhlist) path)) (λ c. tt)
+
   -- `refile`
   refile_done : (job : RefileJob) (a b : Answer) (later : List Done) (j : Hand) (r : Result Unit CommandFault) → IfOkay (EndsRefiled run few path job (acts (two_readings profile a b))) later j r → IfOkay (Finished (Some Refile) path) later j r
   refile_done job a b later j (Ok u) f = record { is_done = f.0.settled (two_settled profile a b); unfailed = f.0.unfailed }
@@ -589,6 +632,7 @@ module _ (run : ℕ) (few : run < 2 ^ 128) (profile : List NamedValue) (h : Hand
   word_keeps caller b word words (Some FolderCommand) = tell_words_keep b (tell_said profile (map chars words))
   word_keeps caller b word words (Some Anno) = anno_words_keep b (annotated_by caller profile (map chars words)) (λ said e. anno_annotates caller.clock.moment caller.clock.offset profile (map chars words) said e)
   word_keeps caller b word words (Some Sortm) = sort_words_keep b (sort_said profile (map chars words))
+  word_keeps caller b word words (Some Mhlist) = list_words_keep b (list_said profile (map chars words))
 
   named_keeps : (caller : Caller) (b : Answer) (words : List (List ℕ))
       → Keeps (rules_of (command_pledge run caller words profile (entries_by b))) [] h (Ask profile_step (λ c. rest_by (context_step profile) (command_by run caller profile words) (named_onward run profile caller words) b)) (IfOkay (Finished (command_of words) path))
@@ -665,6 +709,14 @@ pledge_run run caller (word ∷ words) profile context = go (named word)
         by (Err e) = refl
     sorts_by (Err e) = refl
 
+    lists_by : (value : Result ListWords Ended) → (lists_pledge run profile context value).run ≡ run
+    lists_by (Ok said) = by (folder_of said.folder context profile)
+      where
+        by : (value : Result (List ℕ) CommandFault) → (list_on_named run profile said value).run ≡ run
+        by (Ok folder) = refl
+        by (Err e) = refl
+    lists_by (Err e) = refl
+
     refiles_by : (value : Result RefileWords Ended) → (refiles_pledge run profile context value).run ≡ run
     refiles_by (Ok said) = by (folder_of said.source context profile)
       where
@@ -688,6 +740,7 @@ pledge_run run caller (word ∷ words) profile context = go (named word)
     go (Some FolderCommand) = tells_by (tell_said profile (map chars words))
     go (Some Anno) = notes_by (annotated_by caller profile (map chars words))
     go (Some Sortm) = sorts_by (sort_said profile (map chars words))
+    go (Some Mhlist) = lists_by (list_said profile (map chars words))
 
 module _ (run : ℕ) (few : run < 2 ^ 128) (caller : Caller) (words : List (List ℕ)) where
   -- the command, by what reading the profile gave

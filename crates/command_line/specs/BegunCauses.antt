@@ -33,6 +33,8 @@ use Rattle.pack_command.specs.PackAnswers.{ShowsPack}
 use Rattle.pack_command.specs.PackPledge.{TellsPacked}
 use Rattle.pack_command.specs.declared.job.PackJob.{PackJob}
 use Rattle.inc_command.specs.IncAnswers.{IsTextOfNew, ShowsIncorporating}
+use Rattle.mhlist_command.specs.ListAnswers.{IsNoPart, ShowsListing as ShowsPartsListing, TellsFirstRows, TellsRows}
+use Rattle.mhlist_command.specs.declared.job.ListJob.{ListJob}
 use Rattle.message_lines.specs.MessageText.{Writing}
 use Rattle.message_lines.specs.declared.standing.Standing.{Standing}
 use Rattle.refile_command.specs.RefileAnswers.{ShowsRefile}
@@ -52,10 +54,12 @@ use Rattle.command_words.specs.declared.pick.PickWords.{PickWords}
 use Rattle.command_words.specs.declared.refile.RefileWords.{RefileWords}
 use Rattle.command_words.specs.declared.rmm.RmmWords.{RmmWords}
 use Rattle.sort_words.specs.SortWords.{sort_said}
+use Rattle.list_words.specs.ListWords.{list_said}
+use Rattle.list_words.specs.declared.words.ListWords.{ListWords}
 use Rattle.command_line.specs.Causes.{IsWrongStored, ShowsCommandFault}
 use Rattle.anno_words.specs.declared.words.AnnoWords.{AnnoWords}
 use Rattle.sort_words.specs.declared.words.SortWords.{SortWords}
-use Rattle.command_line.specs.Command.{anno_job, annotated_by, mark_job, pack_job, pick_job, picked_by, refile_job, rmm_job, tell_job, sort_job}
+use Rattle.command_line.specs.Command.{anno_job, annotated_by, list_job, mark_job, pack_job, pick_job, picked_by, refile_job, rmm_job, tell_job, sort_job}
 use Rattle.command_line.specs.CommandNames.{named}
 use Rattle.command_line.specs.CommandPledge.{entries_by, path_by}
 use Rattle.command_line.specs.Incorporating.{IncAsked, job_by, job_writing}
@@ -63,7 +67,7 @@ use Rattle.command_line.specs.Looking.{WritesAs}
 use Rattle.command_line.specs.Profile.{folder_of, path_of, profile_name}
 use Rattle.command_line.specs.WordCauses.{IsRefusedByWords}
 use Rattle.command_line.specs.declared.name.CommandName.{CommandName}
-use Rattle.command_line.specs.declared.name.CommandName.TheVariants.{Anno, Folder as FolderCommand, Inc, Mark, Pick, Refile, Rmm, Scan, Sortm}
+use Rattle.command_line.specs.declared.name.CommandName.TheVariants.{Anno, Folder as FolderCommand, Inc, Mark, Mhlist, Pick, Refile, Rmm, Scan, Sortm}
 use Rattle.command_line.specs.declared.caller.Caller.{Caller}
 
 -- what shows how it ended before it came to a folder, once the words are read
@@ -155,6 +159,12 @@ abbrev pub ShowsSorting : ℕ → List ℕ → SortJob → Result (List ℕ) Com
 ShowsSorting run path job (Ok said) own = HasSortedChosen run path job own × (said ≡ [])
 ShowsSorting run path job (Err e) own = ShowsSort run path job e own
 
+-- `mhlist` on this folder: at its end it told the parts of the messages that the job's words choose, by what it read and by these entries of the context; or
+-- it is refused as a command that looks, or since a message lacks a part, and its words, or the part that is missing, by what it read
+abbrev pub ShowsListingParts : ℕ → List ℕ → ListJob → List NamedValue → Result (List ℕ) CommandFault → List Deed → Type 0
+ShowsListingParts run path job context (Ok said) own = TellsRows path job context said own
+ShowsListingParts run path job context (Err e) own = (ShowsCommandFault run e own ⊎ IsNoPart e) × ShowsPartsListing path job context e own
+
 -- `refile` from this folder: at its end it had brought each message that the job's words choose to all folders that they
 -- name, and said nothing; or this shows its fault
 abbrev pub ShowsRefiling : ℕ → List ℕ → RefileJob → Result (List ℕ) CommandFault → List Deed → Type 0
@@ -209,6 +219,14 @@ ShowsSortWords run profile context folder r own (Ok words) =
     × ShowsSorting run (path_of profile) (sort_job folder words profile) r own
 ShowsSortWords run profile context folder r own (Err x) = ⊥
 
+-- of `mhlist`
+abbrev pub ShowsListWords : ℕ → List NamedValue → List NamedValue → List ℕ → Result (List ℕ) CommandFault → List Deed
+    → Result ListWords Ended → Type 0
+ShowsListWords run profile context folder r own (Ok words) =
+    (folder_of words.folder context profile ≡ Ok folder)
+    × ShowsListingParts run (path_of profile) (list_job folder words profile) context r own
+ShowsListWords run profile context folder r own (Err x) = ⊥
+
 -- and of `refile`, with the folder that messages leave or are copied from
 abbrev pub ShowsRefileWords : ℕ → List NamedValue → List NamedValue → List ℕ → Result (List ℕ) CommandFault → List Deed
     → Result RefileWords Ended → Type 0
@@ -246,6 +264,8 @@ ShowsNamed run caller profile context folder r own words (Some Anno) =
     ShowsAnnoWords run profile context folder r own (annotated_by caller profile (map chars words))
 ShowsNamed run caller profile context folder r own words (Some Sortm) =
     ShowsSortWords run profile context folder r own (sort_said profile (map chars words))
+ShowsNamed run caller profile context folder r own words (Some Mhlist) =
+    ShowsListWords run profile context folder r own (list_said profile (map chars words))
 
 -- by the command that the first word names
 abbrev pub ShowsWords : ℕ → Caller → List NamedValue → List NamedValue → List ℕ → Result (List ℕ) CommandFault → List Deed
@@ -329,9 +349,36 @@ pub record TellsNoMatch (run : ℕ) (caller : Caller) (words : List (List ℕ)) 
   pub by_words : PicksBy caller (entries_by profile) (entries_by context) words job
   pub told : TellsNoneBy run (path_by profile) job (entries_by context) text own job.marks
 
+-- the words of `mhlist`, the context or the profile name a folder, and this is its job there
+abbrev pub IsListOn : List NamedValue → List NamedValue → ListJob → Result ListWords Ended → Type 0
+IsListOn profile context job (Ok words) =
+    (folder : List ℕ) × (folder_of words.folder context profile ≡ Ok folder) × (job ≡ list_job folder words profile)
+IsListOn profile context job (Err x) = ⊥
+
+-- the words name `mhlist`, and this is its job by them
+abbrev pub ListsBy : List NamedValue → List NamedValue → List (List ℕ) → ListJob → Type 0
+ListsBy profile context [] job = ⊥
+ListsBy profile context (word ∷ words) job =
+    (named word ≡ Some Mhlist) × IsListOn profile context job (list_said profile (map chars words))
+
+-- `mhlist` tells while it goes on: the call read the profile and the context, and this is the text of the header and of the rows of the first messages
+-- that its words choose, which it has read
+pub record TellsParts (run : ℕ) (caller : Caller) (words : List (List ℕ)) (text : List ℕ) (own : List Deed) : Type 0 where
+  pub profile : Answer
+  pub context : Answer
+  pub newer : List Deed
+  pub begun :
+      own
+      ≡ newer
+      ++ did (Read (Mail (path_by profile)) context_name LIMIT_BYTES) context
+      ∷ did (Read Home profile_name LIMIT_BYTES) profile ∷ []
+  pub job : ListJob
+  pub by_words : ListsBy (entries_by profile) (entries_by context) words job
+  pub told : TellsFirstRows (path_by profile) job (entries_by context) text own
+
 -- by what these deeds show, this is the text of the command on its folder: that of the sequences that `mark` made or read,
--- where it lists; what `folder` tells; that of the messages that `pick` found, or that it found none; or what `inc` has told so far
+-- where it lists; what `folder` tells; that of the messages that `pick` found, or that it found none; what `inc` has told so far; or what `mhlist` has
 abbrev pub TellsOnFolder : ℕ → Caller → List (List ℕ) → List ℕ → List Deed → Type 0
 TellsOnFolder run caller words text own =
     ShowsOnFolder run caller words (Ok text) own
-    ⊎ (TellsNewMail run caller words text own ⊎ TellsNoMatch run caller words text own)
+    ⊎ (TellsNewMail run caller words text own ⊎ (TellsNoMatch run caller words text own ⊎ TellsParts run caller words text own))

@@ -27,6 +27,8 @@ use Rattle.folder_command.specs.declared.job.FolderJob.{FolderJob}
 use Rattle.pack_command.specs.Pack.{pack}
 use Rattle.pack_command.specs.declared.job.PackJob.{PackJob}
 use Rattle.inc_command.specs.Inc.{inc}
+use Rattle.mhlist_command.specs.Listing.{mhlist}
+use Rattle.mhlist_command.specs.declared.job.ListJob.{ListJob}
 use Rattle.refile_command.specs.Refile.{refile}
 use Rattle.refile_command.specs.Rmm.{rmm}
 use Rattle.refile_command.specs.declared.job.RefileJob.{RefileJob}
@@ -49,13 +51,15 @@ use Rattle.anno_words.specs.AnnoWords.{anno_said}
 use Rattle.anno_words.specs.declared.words.AnnoWords.{AnnoWords}
 use Rattle.sort_words.specs.SortWords.{sort_said}
 use Rattle.sort_words.specs.declared.words.SortWords.{SortWords}
+use Rattle.list_words.specs.ListWords.{list_said}
+use Rattle.list_words.specs.declared.words.ListWords.{ListWords}
 use Rattle.command_line.specs.CommandNames.{named}
 use Rattle.command_line.specs.Incorporating.{IncAsked, job_by, job_writing}
 use Rattle.command_line.specs.Looking.{ScanAsked, look_found, scan_asked, unseen_known}
 use Rattle.command_line.specs.Profile.{folder_of, negation_of, path_of, profile_name}
 use Rattle.command_line.specs.declared.caller.Caller.{Caller}
 use Rattle.command_line.specs.declared.name.CommandName.{CommandName}
-use Rattle.command_line.specs.declared.name.CommandName.TheVariants.{Anno, Folder as FolderCommand, Inc, Mark, Pick, Refile, Rmm, Scan, Sortm}
+use Rattle.command_line.specs.declared.name.CommandName.TheVariants.{Anno, Folder as FolderCommand, Inc, Mark, Mhlist, Pick, Refile, Rmm, Scan, Sortm}
 
 -- the context is read, and the run knows its entries
 unfoldable pub context_seen : List NamedValue → Commanded Unit
@@ -189,6 +193,18 @@ abbrev pub sort_by : ℕ → List NamedValue → Result SortWords Ended → Endi
 sort_by run profile (Ok words) = lifted plain (sort_begun run profile words)
 sort_by run profile (Err e) = Return (Err e)
 
+abbrev pub list_job : List ℕ → ListWords → List NamedValue → ListJob
+list_job folder words profile = record { folder = folder; specs = words.specs; parts = words.parts; negation = negation_of profile }
+
+unfoldable pub list_begun : ℕ → List NamedValue → ListWords → Commanded Unit
+list_begun run profile words = do
+  folder ← folder_found profile words.folder
+  mhlist run (path_of profile) (list_job folder words profile)
+
+abbrev pub list_by : ℕ → List NamedValue → Result ListWords Ended → Ending Unit
+list_by run profile (Ok words) = lifted plain (list_begun run profile words)
+list_by run profile (Err e) = Return (Err e)
+
 -- the source is the folder that is acted on, and becomes the current one where the words name it
 abbrev pub refile_job : List ℕ → RefileWords → List NamedValue → RefileJob
 refile_job folder words profile = record {
@@ -237,6 +253,7 @@ word_by run caller profile word words (Some Rmm) = rmm_by run profile (rmm_said 
 word_by run caller profile word words (Some FolderCommand) = tell_by run profile (tell_said profile (map chars words))
 word_by run caller profile word words (Some Anno) = anno_by run profile (annotated_by caller profile (map chars words))
 word_by run caller profile word words (Some Sortm) = sort_by run profile (sort_said profile (map chars words))
+word_by run caller profile word words (Some Mhlist) = list_by run profile (list_said profile (map chars words))
 
 abbrev pub command_by : ℕ → Caller → List NamedValue → List (List ℕ) → Ending Unit
 command_by run caller profile [] = Return (Err (no_command None))

@@ -1,7 +1,7 @@
 -- The commands that there are, by name.
 use Rattle.std.specs.Prelude.{ℕ, Bool, true, false, List, [], ◌∷◌, Option, None, Some, bytes_eq, codes, if◌then◌else◌}
 use Rattle.command_line.specs.declared.name.CommandName.{CommandName}
-use Rattle.command_line.specs.declared.name.CommandName.TheVariants.{Anno, Folder as FolderCommand, Inc, Mark, Pick, Refile, Rmm, Scan, Sortm}
+use Rattle.command_line.specs.declared.name.CommandName.TheVariants.{Anno, Folder as FolderCommand, Inc, Mark, Mhlist, Pick, Refile, Rmm, Scan, Sortm}
 
 -- the command of this name
 abbrev pub named : List ℕ → Option CommandName
@@ -14,14 +14,15 @@ named word =
     else (if bytes_eq word (codes "pick") then Some Pick
     else (if bytes_eq word (codes "folder") then Some FolderCommand
     else (if bytes_eq word (codes "anno") then Some Anno
-    else (if bytes_eq word (codes "sortm") then Some Sortm else None))))))))
+    else (if bytes_eq word (codes "sortm") then Some Sortm
+    else (if bytes_eq word (codes "mhlist") then Some Mhlist else None)))))))))
 
 -- the command that the words of a call name
 abbrev pub command_of : List (List ℕ) → Option CommandName
 command_of [] = None
 command_of (word ∷ words) = named word
 
--- it begins a folder, by its words at least
+-- it begins a folder, by its words at least; or it looks at one, and what it tells and what shows its ends is said by its own steps
 abbrev pub begins_folders : Option CommandName → Bool
 begins_folders None = false
 begins_folders (Some Inc) = true
@@ -33,6 +34,7 @@ begins_folders (Some Rmm) = true
 begins_folders (Some FolderCommand) = true
 begins_folders (Some Anno) = true
 begins_folders (Some Sortm) = true
+begins_folders (Some Mhlist) = true
 
 -- it makes its folder where that is missing
 abbrev pub makes_folders : Option CommandName → Bool
@@ -46,6 +48,7 @@ makes_folders (Some Rmm) = false
 makes_folders (Some FolderCommand) = false
 makes_folders (Some Anno) = false
 makes_folders (Some Sortm) = false
+makes_folders (Some Mhlist) = false
 
 -- what shows how it ended is said with one folder at most that is let go; of `refile`, which lets several go, apart
 abbrev pub shows_ends : Option CommandName → Bool
@@ -59,3 +62,4 @@ shows_ends (Some Rmm) = true
 shows_ends (Some FolderCommand) = true
 shows_ends (Some Anno) = true
 shows_ends (Some Sortm) = true
+shows_ends (Some Mhlist) = true

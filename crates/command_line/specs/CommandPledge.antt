@@ -23,6 +23,7 @@ use Rattle.mark_command.specs.MarkPledge.{pledge_by}
 use Rattle.pick_command.specs.PickPledge.{pledge_by as pick_pledge_by}
 use Rattle.anno_command.specs.AnnoPledge.{anno_pledge}
 use Rattle.sortm_command.specs.SortPledge.{sortm_pledge}
+use Rattle.mhlist_command.specs.ListPledge.{list_pledge}
 use Rattle.folder_command.specs.Folder.{pledge_by as tell_pledge_by}
 use Rattle.pack_command.specs.PackPledge.{pack_pledge}
 use Rattle.message_lines.specs.MessageText.{Writing}
@@ -44,13 +45,15 @@ use Rattle.command_words.specs.declared.rmm.RmmWords.{RmmWords}
 use Rattle.anno_words.specs.declared.words.AnnoWords.{AnnoWords}
 use Rattle.sort_words.specs.declared.words.SortWords.{SortWords}
 use Rattle.sort_words.specs.SortWords.{sort_said}
-use Rattle.command_line.specs.Command.{anno_job, annotated_by, mark_job, pack_job, pick_job, picked_by, refile_job, rmm_job, tell_job, sort_job}
+use Rattle.list_words.specs.ListWords.{list_said}
+use Rattle.list_words.specs.declared.words.ListWords.{ListWords}
+use Rattle.command_line.specs.Command.{anno_job, annotated_by, list_job, mark_job, pack_job, pick_job, picked_by, refile_job, rmm_job, tell_job, sort_job}
 use Rattle.command_line.specs.CommandNames.{command_of, named}
 use Rattle.command_line.specs.Incorporating.{IncAsked, job_by, job_writing}
 use Rattle.command_line.specs.Looking.{WritesAs}
 use Rattle.command_line.specs.Profile.{folder_of, path_of, profile_name}
 use Rattle.command_line.specs.declared.name.CommandName.{CommandName}
-use Rattle.command_line.specs.declared.name.CommandName.TheVariants.{Anno, Folder as FolderCommand, Inc, Mark, Pick, Refile, Rmm, Scan, Sortm}
+use Rattle.command_line.specs.declared.name.CommandName.TheVariants.{Anno, Folder as FolderCommand, Inc, Mark, Mhlist, Pick, Refile, Rmm, Scan, Sortm}
 use Rattle.command_line.specs.declared.caller.Caller.{Caller}
 
 -- the text that was read; the empty one where there is none
@@ -133,6 +136,15 @@ abbrev pub sorts_pledge : ℕ → List NamedValue → List NamedValue → Result
 sorts_pledge run profile context (Ok words) = sort_on_named run profile words (folder_of words.folder context profile)
 sorts_pledge run profile context (Err e) = scan_pledge run (path_of profile)
 
+-- of `mhlist`
+abbrev pub list_on_named : ℕ → List NamedValue → ListWords → Result (List ℕ) CommandFault → Pledge
+list_on_named run profile words (Ok folder) = list_pledge run (path_of profile) (list_job folder words profile)
+list_on_named run profile words (Err e) = scan_pledge run (path_of profile)
+
+abbrev pub lists_pledge : ℕ → List NamedValue → List NamedValue → Result ListWords Ended → Pledge
+lists_pledge run profile context (Ok words) = list_on_named run profile words (folder_of words.folder context profile)
+lists_pledge run profile context (Err e) = scan_pledge run (path_of profile)
+
 -- and of `refile`
 abbrev pub refile_on_named : ℕ → List NamedValue → RefileWords → Result (List ℕ) CommandFault → Pledge
 refile_on_named run profile words (Ok folder) = refile_pledge run (path_of profile) (refile_job folder words profile)
@@ -174,6 +186,7 @@ word_pledge run caller profile context words (Some Rmm) = rmms_pledge run profil
 word_pledge run caller profile context words (Some FolderCommand) = tells_pledge run profile context (tell_said profile (map chars words))
 word_pledge run caller profile context words (Some Anno) = annos_pledge run profile context (annotated_by caller profile (map chars words))
 word_pledge run caller profile context words (Some Sortm) = sorts_pledge run profile context (sort_said profile (map chars words))
+word_pledge run caller profile context words (Some Mhlist) = lists_pledge run profile context (list_said profile (map chars words))
 
 -- what a command pledges, by the user's name, its words, the entries of the profile and those of the context
 abbrev pub command_pledge : ℕ → Caller → List (List ℕ) → List NamedValue → List NamedValue → Pledge
@@ -193,6 +206,7 @@ IsDone (Some Rmm) path own = AreSettled own
 IsDone (Some FolderCommand) path own = AreSettled own
 IsDone (Some Anno) path own = AreSettled own
 IsDone (Some Sortm) path own = AreSettled own
+IsDone (Some Mhlist) path own = AreSettled own
 
 -- the call began with the profile, which names the path of a mail directory, and with the context of that; it kept the pledge that these and
 -- its words make

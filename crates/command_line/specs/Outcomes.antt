@@ -23,6 +23,7 @@ use Rattle.anno_command.specs.AnnoOutcome.{anno_work}
 use Rattle.sortm_command.specs.SortOutcome.{sort_work}
 use Rattle.folder_command.specs.Folder.{folder_work}
 use Rattle.pack_command.specs.PackOutcome.{pack_work}
+use Rattle.mhlist_command.specs.ListOutcome.{mhlist_work}
 use Rattle.inc_command.specs.IncOutcome.{inc_work, with_folder_made}
 use Rattle.refile_command.specs.MadeFolder.{or_empty}
 use Rattle.refile_command.specs.RefileOutcome.{refile_work}
@@ -43,14 +44,16 @@ use Rattle.command_words.specs.declared.rmm.RmmWords.{RmmWords}
 use Rattle.anno_words.specs.declared.words.AnnoWords.{AnnoWords}
 use Rattle.sort_words.specs.declared.words.SortWords.{SortWords}
 use Rattle.sort_words.specs.SortWords.{sort_said}
-use Rattle.command_line.specs.Command.{anno_job, annotated_by, job_of, mark_job, no_command, pack_job, pick_job, picked_by, refile_job, rmm_job, tell_job, sort_job}
+use Rattle.list_words.specs.ListWords.{list_said}
+use Rattle.list_words.specs.declared.words.ListWords.{ListWords}
+use Rattle.command_line.specs.Command.{anno_job, annotated_by, job_of, list_job, mark_job, no_command, pack_job, pick_job, picked_by, refile_job, rmm_job, tell_job, sort_job}
 use Rattle.command_line.specs.CommandNames.{named}
 use Rattle.command_line.specs.Incorporating.{IncAsked, job_by, job_writing}
 use Rattle.command_line.specs.Looking.{InFile, Known, ScanAsked, Telling, scan_asked, written_with}
 use Rattle.command_line.specs.Profile.{folder_of, path_of, profile_name}
 use Rattle.command_line.specs.declared.caller.Caller.{Caller}
 use Rattle.command_line.specs.declared.name.CommandName.{CommandName}
-use Rattle.command_line.specs.declared.name.CommandName.TheVariants.{Anno, Folder as FolderCommand, Inc, Mark, Pick, Refile, Rmm, Scan, Sortm}
+use Rattle.command_line.specs.declared.name.CommandName.TheVariants.{Anno, Folder as FolderCommand, Inc, Mark, Mhlist, Pick, Refile, Rmm, Scan, Sortm}
 
 abbrev pub plainly : Result Unit CommandFault → Result Unit Ended
 plainly (Ok u) = Ok u
@@ -177,6 +180,14 @@ abbrev pub sort_words_work : Meeting → Mailbox → List NamedValue → Result 
 sort_words_work g m profile (Ok words) = of_stage (on_folder m profile words.folder (sorts g m profile words))
 sort_words_work g m profile (Err e) = refused_at m e
 
+-- `mhlist`, which looks alone
+abbrev pub lists : Mailbox → List NamedValue → ListWords → FolderWork
+lists m profile words context folder = mhlist_work (path_of profile) context (list_job folder words profile) m
+
+abbrev pub list_words_work : Mailbox → List NamedValue → Result ListWords Ended → Work Ended
+list_words_work m profile (Ok words) = of_stage (on_folder m profile words.folder (lists m profile words))
+list_words_work m profile (Err e) = refused_at m e
+
 -- `refile`: so too in each folder that it begins; one that is missing is empty
 abbrev pub refiles : Meeting → Mailbox → List NamedValue → RefileWords → FolderWork
 refiles g m profile words context folder =
@@ -210,6 +221,7 @@ word_work g m caller profile word words (Some Rmm) = rmm_words_work g m profile 
 word_work g m caller profile word words (Some FolderCommand) = tell_words_work g m profile (tell_said profile (map chars words))
 word_work g m caller profile word words (Some Anno) = anno_words_work g m profile (annotated_by caller profile (map chars words))
 word_work g m caller profile word words (Some Sortm) = sort_words_work g m profile (sort_said profile (map chars words))
+word_work g m caller profile word words (Some Mhlist) = list_words_work m profile (list_said profile (map chars words))
 
 abbrev pub named_work : Meeting → Mailbox → Caller → List NamedValue → List (List ℕ) → Work Ended
 named_work g m caller profile [] = refused_at m (no_command None)

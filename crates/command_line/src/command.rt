@@ -13,6 +13,7 @@ ghost use Rattle.command_line.specs.Profile.{profile_name as profile_name_of};
 use crate::Caller;
 use crate::annotating::run_anno;
 use crate::incorporating::run_inc;
+use crate::listing::run_mhlist;
 use crate::marking::run_mark;
 use crate::name::CommandName;
 use crate::picking::run_pick;
@@ -71,6 +72,7 @@ fn run_word<F: Files, O: Sink>(
         Some(CommandName::Folder) => run_folder(alloc, run, files, out, profile, rest),
         Some(CommandName::Anno) => run_anno(alloc, run, files, profile, caller, rest),
         Some(CommandName::Sortm) => run_sortm(alloc, run, files, profile, rest),
+        Some(CommandName::Mhlist) => run_mhlist(alloc, run, files, out, profile, rest),
         None => {
             let word = Bytes::from_slice(alloc, word.as_bytes())?;
             Err(no_command(Some(word)))

@@ -6,6 +6,7 @@ mod caller;
 mod command;
 mod current;
 mod incorporating;
+mod listing;
 mod look;
 mod marking;
 mod name;

@@ -14,6 +14,7 @@ pub enum CommandName {
     Folder,
     Anno,
     Sortm,
+    Mhlist,
 }
 
 impl CommandName {
@@ -39,6 +40,8 @@ impl CommandName {
             Some(CommandName::Anno)
         } else if word == "sortm" {
             Some(CommandName::Sortm)
+        } else if word == "mhlist" {
+            Some(CommandName::Mhlist)
         } else {
             None
         }

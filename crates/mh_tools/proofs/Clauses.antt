@@ -46,7 +46,7 @@ use Rattle.command_words.specs.Ended.{ended_cause}
 use Rattle.command_line.specs.CommandNames.{begins_folders, command_of, makes_folders}
 use Rattle.command_line.specs.Outcomes.{work_of}
 use Rattle.command_line.specs.declared.name.CommandName.{CommandName}
-use Rattle.command_line.specs.declared.name.CommandName.TheVariants.{Anno, Folder as FolderCommand, Inc, Mark, Pick, Refile, Rmm, Scan, Sortm}
+use Rattle.command_line.specs.declared.name.CommandName.TheVariants.{Anno, Folder as FolderCommand, Inc, Mark, Mhlist, Pick, Refile, Rmm, Scan, Sortm}
 use Rattle.command_words.specs.declared.ended.Ended.{Ended}
 use Rattle.command_line.proofs.BegunEnding.{run_ends_by, run_tells}
 use Rattle.command_line.proofs.Ending.{EndsAs, ShowsLooked, run_ends}
@@ -113,6 +113,7 @@ looks_made (Some Rmm) looks made = cc (made)
 looks_made (Some FolderCommand) looks made = cc (made)
 looks_made (Some Anno) looks made = cc (made)
 looks_made (Some Sortm) looks made = cc (made)
+looks_made (Some Mhlist) looks made = cc (made)
 
 verdict_at : (s t : Status) → s ≡ t → IsVerdict t → IsVerdict s
 verdict_at s t e v = rw e v
