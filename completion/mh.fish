@@ -20,6 +20,8 @@ function __mh_switches
             echo "-component -text -date -nodate"
         case sortm
             echo "-datefield -textfield"
+        case mhlist
+            echo "-part"
     end
 end
 
@@ -45,9 +47,9 @@ end
 function __mh_words
     set -l before (commandline -opc)
     if not set -q before[2]
-        string split ' ' -- "inc scan folder pick mark refile rmm anno sortm help --help --version"
+        string split ' ' -- "inc scan folder pick mark refile rmm anno sortm mhlist help --help --version"
     else if test $before[2] = help
-        string split ' ' -- "inc scan folder pick mark refile rmm anno sortm errors"
+        string split ' ' -- "inc scan folder pick mark refile rmm anno sortm mhlist errors"
     else
         switch (commandline -ct)
             case '-*'

@@ -5,6 +5,7 @@ mod errors;
 mod folder;
 mod inc;
 mod mark;
+mod mhlist;
 mod overview;
 mod pick;
 mod refile;
@@ -34,6 +35,7 @@ fn command_page(word: &str) -> Option<&'static str> {
         "folder" => Some(folder::PAGE),
         "inc" => Some(inc::PAGE),
         "mark" => Some(mark::PAGE),
+        "mhlist" => Some(mhlist::PAGE),
         "pick" => Some(pick::PAGE),
         "refile" => Some(refile::PAGE),
         "rmm" => Some(rmm::PAGE),

@@ -36,6 +36,7 @@ its status tells how it ended:
                                       take its messages in once more
    mail drop has changed              another program took mail out of it
    no such file                       of a name that was given, as to -form
+   no such part                       mh mhlist shows which there are
 
 2  fault: a file, the input or the output could not be read or written. Nothing
    that stood is lost; run the command again when it is mended
