@@ -5,4 +5,5 @@ mod parts;
 mod table;
 mod words;
 
+pub use parts::part;
 pub use words::{ListWords, list_words};

@@ -10,7 +10,7 @@ use mime_tree::{PartPath, PathFault};
 use std::alloc::{AllocError, Global};
 
 /// The path that a word is, if it is one.
-fn part(alloc: Global, word: &Text) -> Result<Option<PartPath>, AllocError>
+pub fn part(alloc: Global, word: &Text) -> Result<Option<PartPath>, AllocError>
     ensures { IfOk result (λ part. part ≡ path_of word.now) }
 {
     match PartPath::read(alloc, word) {

@@ -1,0 +1,3 @@
+pub mod StoreWords
+pub mod Table
+pub mod Values
