@@ -1,2 +1,4 @@
+pub mod FileGiven
 pub mod FilesOf
+pub mod NameKinds
 pub mod Turns

@@ -1,2 +1,4 @@
 pub mod Files
+pub mod StoreAlone
+pub mod StoreOutcome
 pub mod Storing
