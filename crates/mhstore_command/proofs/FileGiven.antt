@@ -1,15 +1,15 @@
 -- What the storing of a file makes of contents alone.
-use Rattle.std.proofs.Common.{◌≡◌, ◌<◌, ◌^◌, ◌∷◌, ℕ, Bool, true, false, List, Option, Some, None, Result, Ok, Err, refl, sym, ◌∙◌, ap, subst, bytes_eq, nat_lt}
+use Rattle.std.proofs.Common.{◌≡◌, ◌<◌, ◌^◌, ℕ, Bool, true, false, List, Some, None, Result, Ok, Err, refl, sym, ◌∙◌, ap, subst, bytes_eq, nat_lt}
 use Rattle.std.specs.Prelude.{is_some}
 use Rattle.mh_base.specs.Entries.{kind_of}
 use Rattle.mh_base.specs.Numbers.{number_of}
-use Rattle.folder_files.specs.Named.{is_held, is_temp}
+use Rattle.folder_files.specs.Named.{is_temp}
 use Rattle.folder_files.specs.declared.place.Place.{Place}
 use Rattle.folder_files.specs.declared.place.Place.TheVariants.{Work}
 use Rattle.folder_files.specs.declared.step.Answer.TheVariants as answer
 use Rattle.folder_files.specs.declared.step.Step.TheVariants as step
-use Rattle.folder_files.proofs.Names.{bytes_self, not_both}
-use Rattle.file_plans.specs.Contents.{Contents, link_answer, with_text}
+use Rattle.folder_files.proofs.Names.{bytes_self}
+use Rattle.file_plans.specs.Contents.{Contents, with_text}
 use Rattle.file_plans.specs.Giving.{Gives}
 use Rattle.file_plans.specs.Plan.{Hand, Return, ◌>>=◌}
 use Rattle.file_plans.specs.Views.{View, by_view, fits_view, number_put, view_after}

@@ -1,12 +1,12 @@
 -- The name of a part's file begins with a digit and has a dot, so that it is no name of the mailbox's own kinds.
-use Rattle.std.proofs.Common.{◌≡◌, ◌<◌, ◌^◌, ◌++◌, ◌∷◌, [], ℕ, zero, suc, false, Some, None, List, length, take, get_or, refl, sym, ◌∙◌, ap, subst, append_assoc, arith}
+use Rattle.std.proofs.Common.{◌≡◌, ◌<◌, ◌^◌, ◌++◌, ◌∷◌, [], ℕ, zero, suc, false, None, List, length, take, get_or, refl, sym, ◌∙◌, ap, subst, append_assoc, arith}
 use Rattle.std.specs.Prelude.{decimal, map}
 use Rattle.std.specs.Char.{digit_value}
 use Rattle.std.specs.Str.{encode_utf8_all}
 use Rattle.std.specs.Str.Parse.{AllDigits}
 use Rattle.std.proofs.lemmas.Fmt.{decimal_is_IsNumeral, first_decimal, length-decimal-le}
 use Rattle.mh_base.specs.Entries.{IsKind, entry_text, kind_of}
-use Rattle.mh_base.specs.Numbers.{IsMsgNum, decimal_of, number_of}
+use Rattle.mh_base.specs.Numbers.{IsMsgNum, number_of}
 use Rattle.mh_base.specs.declared.entry.Entry.{Entry}
 use Rattle.mh_base.specs.declared.entry.Entry.TheVariants.{Backup, Held, LockFile, Number, Other, Sequences, Temp}
 use Rattle.mh_base.proofs.Decimals.{decimal_of_none}

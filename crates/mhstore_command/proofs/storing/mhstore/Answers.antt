@@ -3,6 +3,7 @@ use Rattle.file_plans.proofs.Following.{go, no_room, stop, whole}
 use Rattle.mh_looks.specs.Scan.{entries_seen}
 use Rattle.command_stages.proofs.Values.{seen_off, seen_on}
 use Rattle.mhstore_command.specs.Storing.{chosen_seen, mhstore}
+use Rattle.mhstore_command.proofs.StoreAlone.{store_alone}
 use Rattle.mhstore_command.proofs.storing.mhstore.Goals as goal
 
 pub returns-in_err-place-clause-plan : goal.returns-in_err-place-clause-plan
@@ -40,3 +41,21 @@ returns-clause-plan g c =
     (go _ (whole (rw (c.in_ok-place.ensures, c.run-2.ensures) at (c.in_ok-text.ensures c.args.hand.now.kept)))
     (seen_on _ (λ h. chosen_seen c.args.job.now c.in_ok-names.names c.in_ok-text.text (entries_seen h.context)) _ (rw c.as_slice.ensures at c.in_ok-found.ensures)
     (go _ (rw (c.in_ok-place.ensures, c.as_slice-2.ensures.value) at c.in_ok-store_all.ensures.plan) (whole (rw (c.in_ok-store_all.ensures.same.0, c.in_ok-store_all.ensures.same.1) at c.make_current.ensures.plan)))))
+
+pub returns-in_err-place-clause-alone : goal.returns-in_err-place-clause-alone
+returns-in_err-place-clause-alone g c = store_alone _ _ _ _ _ _ _ _ _ _ (returns-in_err-place-clause-plan g c)
+
+pub returns-in_err-names-clause-alone : goal.returns-in_err-names-clause-alone
+returns-in_err-names-clause-alone g c = store_alone _ _ _ _ _ _ _ _ _ _ (returns-in_err-names-clause-plan g c)
+
+pub returns-in_err-text-clause-alone : goal.returns-in_err-text-clause-alone
+returns-in_err-text-clause-alone g c = store_alone _ _ _ _ _ _ _ _ _ _ (returns-in_err-text-clause-plan g c)
+
+pub returns-in_err-found-clause-alone : goal.returns-in_err-found-clause-alone
+returns-in_err-found-clause-alone g c = store_alone _ _ _ _ _ _ _ _ _ _ (returns-in_err-found-clause-plan g c)
+
+pub returns-in_err-store_all-clause-alone : goal.returns-in_err-store_all-clause-alone
+returns-in_err-store_all-clause-alone g c = store_alone _ _ _ _ _ _ _ _ _ _ (returns-in_err-store_all-clause-plan g c)
+
+pub returns-clause-alone : goal.returns-clause-alone
+returns-clause-alone g c = store_alone _ _ _ _ _ _ _ _ _ _ (returns-clause-plan g c)
