@@ -1,4 +1,5 @@
 pub mod FileGiven
+pub mod FilePledged
 pub mod FilesOf
 pub mod NameKinds
 pub mod PartsGiven

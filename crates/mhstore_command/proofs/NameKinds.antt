@@ -1,5 +1,5 @@
 -- The name of a part's file begins with a digit and has a dot, so that it is no name of the mailbox's own kinds.
-use Rattle.std.proofs.Common.{◌≡◌, ◌<◌, ◌^◌, ◌++◌, ◌∷◌, [], ℕ, zero, suc, false, None, List, length, take, get_or, refl, sym, ◌∙◌, ap, subst, append_assoc, arith}
+use Rattle.std.proofs.Common.{◌≡◌, ◌<◌, ◌^◌, ◌++◌, ◌∷◌, [], ℕ, zero, suc, true, false, None, List, length, take, get_or, refl, sym, ◌∙◌, ap, subst, append_assoc, arith}
 use Rattle.std.specs.Prelude.{decimal, map}
 use Rattle.std.specs.Char.{digit_value}
 use Rattle.std.specs.Str.{encode_utf8_all}
@@ -11,7 +11,7 @@ use Rattle.mh_base.specs.declared.entry.Entry.{Entry}
 use Rattle.mh_base.specs.declared.entry.Entry.TheVariants.{Backup, Held, LockFile, Number, Other, Sequences, Temp}
 use Rattle.mh_base.proofs.Decimals.{decimal_of_none}
 use Rattle.mh_base.proofs.EntryKinds.{kind_is}
-use Rattle.folder_files.specs.Named.{is_temp}
+use Rattle.folder_files.specs.Named.{is_other, is_temp}
 use Rattle.part_rows.specs.FileNames.{name_byte, name_of, whole_name}
 use Rattle.part_rows.specs.PathTexts.{dotted}
 
@@ -83,3 +83,6 @@ module _ (n : ℕ) (is : IsMsgNum n) where
 
   pub file_lasting : (path subtype : List ℕ) → is_temp (kind_of (name_of n path subtype)) ≡ false
   file_lasting path subtype = rw (file_kind path subtype) refl
+
+  pub file_other : (path subtype : List ℕ) → is_other (kind_of (name_of n path subtype)) ≡ true
+  file_other path subtype = rw (file_kind path subtype) refl

@@ -6,7 +6,7 @@ use Rattle.mh_base.specs.Entries.{entry_text, kind_of}
 use Rattle.mh_base.specs.Numbers.{IsMsgNum, number_of}
 use Rattle.mh_base.specs.declared.entry.Entry.TheVariants.{Number}
 use Rattle.mh_profile.specs.declared.named_value.NamedValue.{NamedValue}
-use Rattle.folder_files.specs.Named.{is_temp}
+use Rattle.folder_files.specs.Named.{is_other, is_temp}
 use Rattle.folder_files.specs.Steps.{read_file_answer}
 use Rattle.folder_files.specs.declared.place.Place.{Place}
 use Rattle.folder_files.specs.declared.place.Place.TheVariants as place
@@ -49,7 +49,7 @@ use Rattle.mhstore_command.specs.StoreOutcome.{file_work, files_work, message_wo
 use Rattle.mhstore_command.specs.Storing.{all_filed, all_stored, filed_unless, one_filed, one_stored, parts_filed, stored_by, told_by}
 use Rattle.mhstore_command.specs.declared.job.StoreJob.{StoreJob}
 use Rattle.mhstore_command.proofs.FileGiven.{Stores, stores_give}
-use Rattle.mhstore_command.proofs.NameKinds.{file_lasting, file_unnumbered}
+use Rattle.mhstore_command.proofs.NameKinds.{file_lasting, file_other, file_unnumbered}
 use Rattle.mhstore_command.proofs.PartsGiven.{At, PartEnds, PartGives, text_then, then_gives}
 
 -- a new file in the current directory is one in the mailbox
@@ -79,9 +79,10 @@ line_some : (a : List ℕ) → (a ++ 10 ∷ []) ≡ [] → ⊥
 line_some [] e = cc
 line_some (x ∷ a) e = cc
 
--- a file whose name lasts and is no number, and whose line says something
+-- a file whose name is none of the mailbox's own kinds, and whose line says something
 pub record IsFine (f : StoredFile) : Type 0 where
   pub lasting : is_temp (kind_of f.name) ≡ false
+  pub other : is_other (kind_of f.name) ≡ true
   pub unnumbered : number_of f.name ≡ None
   pub some : f.line ≢ []
 
@@ -89,10 +90,10 @@ abbrev pub AreFine : List StoredFile → Type 0
 AreFine [] = Unit {0}
 AreFine (f ∷ fs) = IsFine f × AreFine fs
 
-fine_parts : (n : ℕ) → IsMsgNum n → (parts : List PartView) → AreFine (map (file_of n) parts)
+pub fine_parts : (n : ℕ) → IsMsgNum n → (parts : List PartView) → AreFine (map (file_of n) parts)
 unfolding line_for
 fine_parts n is [] = tt
-fine_parts n is (p ∷ parts) = (record { lasting = file_lasting n is p.path p.subtype; unnumbered = file_unnumbered n is p.path p.subtype; some = line_is (file_of n p).name }, fine_parts n is parts)
+fine_parts n is (p ∷ parts) = (record { lasting = file_lasting n is p.path p.subtype; other = file_other n is p.path p.subtype; unnumbered = file_unnumbered n is p.path p.subtype; some = line_is (file_of n p).name }, fine_parts n is parts)
   where
     line_is : (name : List ℕ) → line_for n p.path name ≢ []
     line_is name e = line_some (codes "storing message " ++ decimal n ++ codes " part " ++ path_text p.path ++ codes " as file " ++ name) e

@@ -1,4 +1,5 @@
 pub mod Files
 pub mod StoreAlone
 pub mod StoreOutcome
+pub mod StorePledge
 pub mod Storing
