@@ -6,7 +6,7 @@ use Rattle.mh_base.specs.declared.entry.Entry.{Entry}
 use Rattle.mh_base.specs.declared.entry.Entry.TheVariants as entry
 use Rattle.folder_files.specs.Careful.{Clears, Creates, Stores, WasReady, WasSynced, clears, creates, links, replaces}
 use Rattle.folder_files.specs.Deeds.{Deed, Once, did, now, on}
-use Rattle.folder_files.specs.Histories.{Changes, IsLockable, IsOrderly}
+use Rattle.folder_files.specs.Histories.{IsLockable}
 use Rattle.folder_files.specs.Named.{is_other, is_temp, is_temp_of}
 use Rattle.folder_files.specs.declared.place.Place.{Place}
 use Rattle.folder_files.specs.declared.place.Place.TheVariants.{Mail, Work}

@@ -5,5 +5,6 @@ pub mod NameKinds
 pub mod PartsGiven
 pub mod StoreAlone
 pub mod StoreGiven
+pub mod StorePledged
 pub mod Turns
 pub mod WholeGiven

@@ -1,5 +1,5 @@
 -- The pledge of `mhstore`.
-use Rattle.std.specs.Prelude.{◌≡◌, ◌⊎◌, ◌++◌, ◌<◌, ◌^◌, ℕ, true, false, List, ◌∷◌}
+use Rattle.std.specs.Prelude.{◌≡◌, ◌⊎◌, ◌++◌, ◌<◌, ◌^◌, ℕ, true, List, ◌∷◌}
 use Rattle.mh_base.specs.Entries.{entry_text, kind_of}
 use Rattle.mh_base.specs.declared.entry.Entry.TheVariants.{Number}
 use Rattle.folder_files.specs.Careful.{IsRead, WasReady}

@@ -3,6 +3,7 @@ ghost use Rattle.std.specs.Prelude.{◌≡◌};
 ghost use Rattle.file_plans.specs.Follows.{Follows, by_out};
 ghost use Rattle.step_plans.specs.CommandFaults.{command_cause};
 ghost use Rattle.mhstore_command.specs.StoreAlone.{StoresIfUnfaulted};
+ghost use Rattle.mhstore_command.specs.StorePledge.{PromisesSteps};
 ghost use Rattle.mhstore_command.specs.Storing.{all_stored, mhstore as mhstore_plan, one_stored, stored_by};
 
 use crate::StoreJob;
@@ -89,6 +90,7 @@ pub fn mhstore<F: Files, O: Sink>(
 ) -> Result<(), CommandFault>
     ensures plan { Follows hand.old.run command_cause (mhstore_plan hand.old.run hand.old.mail job.now) (by_out hand.old.kept (F.state files.old) (O.state out.old)) (by_out hand.new.kept (F.state files.new) (O.state out.new)) result }
     ensures alone { StoresIfUnfaulted hand.old.run hand.old.mail job.now hand.old.kept result (F.state files.old) (F.state files.new) (O.state out.old) (O.state out.new) }
+    ensures steps { PromisesSteps hand.old.run hand.old.mail job.now (by_out hand.old.kept (F.state files.old) (O.state out.old)) (by_out hand.new.kept (F.state files.new) (O.state out.new)) }
     ensures run { hand.new.run ≡ hand.old.run }
     ensures mail { hand.new.mail ≡ hand.old.mail }
 {

@@ -4,6 +4,7 @@ use Rattle.mh_looks.specs.Scan.{entries_seen}
 use Rattle.command_stages.proofs.Values.{seen_off, seen_on}
 use Rattle.mhstore_command.specs.Storing.{chosen_seen, mhstore}
 use Rattle.mhstore_command.proofs.StoreAlone.{store_alone}
+use Rattle.mhstore_command.proofs.StorePledged.{store_promises}
 use Rattle.mhstore_command.proofs.storing.mhstore.Goals as goal
 
 pub returns-in_err-place-clause-plan : goal.returns-in_err-place-clause-plan
@@ -59,3 +60,21 @@ returns-in_err-store_all-clause-alone g c = store_alone _ _ _ _ _ _ _ _ _ _ (ret
 
 pub returns-clause-alone : goal.returns-clause-alone
 returns-clause-alone g c = store_alone _ _ _ _ _ _ _ _ _ _ (returns-clause-plan g c)
+
+pub returns-in_err-place-clause-steps : goal.returns-in_err-place-clause-steps
+returns-in_err-place-clause-steps g c = λ few. store_promises _ few _ _ _ _ _ (returns-in_err-place-clause-plan g c)
+
+pub returns-in_err-names-clause-steps : goal.returns-in_err-names-clause-steps
+returns-in_err-names-clause-steps g c = λ few. store_promises _ few _ _ _ _ _ (returns-in_err-names-clause-plan g c)
+
+pub returns-in_err-text-clause-steps : goal.returns-in_err-text-clause-steps
+returns-in_err-text-clause-steps g c = λ few. store_promises _ few _ _ _ _ _ (returns-in_err-text-clause-plan g c)
+
+pub returns-in_err-found-clause-steps : goal.returns-in_err-found-clause-steps
+returns-in_err-found-clause-steps g c = λ few. store_promises _ few _ _ _ _ _ (returns-in_err-found-clause-plan g c)
+
+pub returns-in_err-store_all-clause-steps : goal.returns-in_err-store_all-clause-steps
+returns-in_err-store_all-clause-steps g c = λ few. store_promises _ few _ _ _ _ _ (returns-in_err-store_all-clause-plan g c)
+
+pub returns-clause-steps : goal.returns-clause-steps
+returns-clause-steps g c = λ few. store_promises _ few _ _ _ _ _ (returns-clause-plan g c)
