@@ -1,3 +1,4 @@
+pub mod FileEnds
 pub mod FileGiven
 pub mod FilePledged
 pub mod FilesOf
