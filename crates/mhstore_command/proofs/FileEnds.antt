@@ -6,8 +6,10 @@ use Rattle.mh_base.specs.declared.entry.Entry.TheVariants.{Temp}
 use Rattle.mh_base.proofs.EntryKinds.{kind_of-entry_text}
 use Rattle.folder_files.specs.Careful.{WasMade, WasReady}
 use Rattle.folder_files.specs.Deeds.{Deed, Once, did, last, now, on, still}
-use Rattle.folder_files.specs.Named.{is_temp_of}
-use Rattle.folder_files.specs.declared.place.Place.TheVariants.{Work}
+use Rattle.folder_files.specs.Named.{is_temp_of, is_work}
+use Rattle.folder_files.specs.Places.{same_place}
+use Rattle.folder_files.specs.declared.place.Place.{Place}
+use Rattle.folder_files.specs.declared.place.Place.TheVariants.{Folder, Home, Mail, Work}
 use Rattle.folder_files.specs.declared.step.Answer.{Answer}
 use Rattle.folder_files.specs.declared.step.Answer.TheVariants as answer
 use Rattle.folder_files.specs.declared.step.Step.{Step}
@@ -16,6 +18,7 @@ use Rattle.file_plans.specs.Asking.{entered_of, link}
 use Rattle.file_plans.specs.Plan.{Hand, Plan, Return, after, ask, bind, lifted, ◌>>=◌}
 use Rattle.file_plans.specs.declared.answers.Entered.{Entered}
 use Rattle.file_plans.specs.declared.answers.Entered.TheVariants as entered
+use Rattle.step_plans.specs.Endings.{HasMet}
 use Rattle.step_plans.specs.Hands.{named, named_by, temp_name, used}
 use Rattle.step_plans.specs.Locking.{removed}
 use Rattle.step_plans.specs.PlanFaults.{Planned, of_stop}
@@ -27,7 +30,7 @@ use Rattle.step_plans.proofs.Going.{Outcome, all_numbered}
 use Rattle.step_plans.proofs.Stepping.{on_new}
 use Rattle.opened_folders.specs.Endings.{HasMetIn, IsLastName, IsMeddledIn, last_gone, met_gone as met_gone_in}
 use Rattle.opened_folders.proofs.CleanRuns.{Clean, clean_more, never_made}
-use Rattle.opened_folders.proofs.NamesKept.{last_kept, met_in_kept, putting}
+use Rattle.opened_folders.proofs.NamesKept.{IsTaking, last_kept, met_in_kept, met_kept, putting}
 use Rattle.part_rows.specs.FileNames.{StoredFile}
 use Rattle.mhstore_command.specs.Files.{file_added, file_replaced, file_stored, if_free, linked, linked_by}
 use Rattle.mhstore_command.specs.StoreAnswers.{IsMeddledHere, fresh_taken, met_gone}
@@ -54,6 +57,52 @@ at own now_ j i q Q e f g = rw (e, f) g
 
 is_temp_by : (run k : ℕ) (temp : List ℕ) → kind_of temp ≡ Temp run k → is_temp_of run (kind_of temp) ≡ true
 is_temp_by run k temp e = rw e (grind (arith, nat_tests))
+
+-- the step is made in the current directory
+abbrev is_here : Step → Bool
+is_here (step.List p) = is_work p
+is_here (step.Read p n limit) = is_work p
+is_here (step.MakeFolder p) = is_work p
+is_here (step.Create p n b) = is_work p
+is_here (step.SyncFile p n) = is_work p
+is_here (step.SyncFolder p) = is_work p
+is_here (step.Link p a b) = is_work p
+is_here (step.Rename p a b) = is_work p
+is_here (step.Unlink p a) = is_work p
+is_here (step.Lock p) = is_work p
+is_here (step.Unlock p) = is_work p
+is_here (step.ReadFile f limit) = false
+is_here (step.ReadDrop f from most) = false
+is_here (step.CutDrop f n) = false
+
+not_here : (p q : Place) → q ≡ p → is_work q ≡ true → same_place Work p ≡ false → ⊥
+not_here p q same here other = go q here (subst (λ z. same_place Work z ≡ false) (sym same) other)
+  where
+    go : (r : Place) → is_work r ≡ true → same_place Work r ≡ false → ⊥
+    go Home e f = cc (e)
+    go Work e f = cc (f)
+    go (Mail path) e f = cc (e)
+    go (Folder path name) e f = cc (e)
+
+here_takes : (q : Place) (s : Step) → is_here s ≡ true → same_place Work q ≡ false → IsTaking q s → ⊥
+here_takes q (step.List p) here other t = t
+here_takes q (step.Read p n limit) here other t = t
+here_takes q (step.MakeFolder p) here other t = t
+here_takes q (step.Create p n b) here other t = t
+here_takes q (step.SyncFile p n) here other t = t
+here_takes q (step.SyncFolder p) here other t = t
+here_takes q (step.Link p a b) here other t = t
+here_takes q (step.Rename p a b) here other t = not_here q p t here other
+here_takes q (step.Unlink p a) here other t = not_here q p t here other
+here_takes q (step.Lock p) here other t = t
+here_takes q (step.Unlock p) here other t = t
+here_takes q (step.ReadFile f limit) here other t = t
+here_takes q (step.ReadDrop f from most) here other t = t
+here_takes q (step.CutDrop f n) here other t = t
+
+-- what the run met elsewhere stays so
+other_kept : (q : Place) (x : List ℕ) (s : Step) (a : Answer) (own : List Deed) → same_place Work q ≡ false → is_here s ≡ true → HasMet q x own → HasMet q x (did s a ∷ own)
+other_kept q x s a own other here met = met_kept q x s a own (here_takes q s here other) met
 
 module _ (run : ℕ) (few : run < 2 ^ 128) where
   -- the run's next name
@@ -153,6 +202,7 @@ module _ (run : ℕ) (few : run < 2 ^ 128) where
       pub newer : List Deed
       pub is : later ≡ newer ++ own
       pub stored : (base : List Deed) → HasStoredAs run f.name f.content (newer ++ base)
+      pub apart : (q : Place) (x : List ℕ) (base : List Deed) → same_place Work q ≡ false → HasMet q x base → HasMet q x (newer ++ base)
 
     -- one of its name was met by these
     pub record Met (own later : List Deed) : Type 0 where
@@ -223,6 +273,11 @@ module _ (run : ℕ) (few : run < 2 ^ 128) where
             newer = did (step.SyncFolder Work) answer.Done ∷ did (step.Unlink Work temp) answer.Done ∷ did (step.Link Work temp f.name) answer.Done ∷ did (step.SyncFile Work temp) answer.Done ∷ did (step.Create Work temp f.content) answer.Done ∷ [];
             is = is;
             stored = λ older. now (refl, on (now (record { temp = temp; is_own = temp_own; gave = inl refl; ready = ready older })));
+            apart = λ q x older other met.
+                other_kept q x (step.SyncFolder Work) answer.Done _ other refl
+                (other_kept q x (step.Unlink Work temp) answer.Done _ other refl
+                (other_kept q x (step.Link Work temp f.name) answer.Done _ other refl
+                (other_kept q x (step.SyncFile Work temp) answer.Done _ other refl (other_kept q x (step.Create Work temp f.content) answer.Done older other refl met))));
           },
         )
 
@@ -270,6 +325,10 @@ module _ (run : ℕ) (few : run < 2 ^ 128) where
             newer = did (step.SyncFolder Work) answer.Done ∷ did (step.Rename Work temp f.name) answer.Done ∷ did (step.SyncFile Work temp) answer.Done ∷ did (step.Create Work temp f.content) answer.Done ∷ [];
             is = is;
             stored = λ older. now (refl, now (record { temp = temp; is_own = temp_own; gave = inr refl; ready = ready older }));
+            apart = λ q x older other met.
+                other_kept q x (step.SyncFolder Work) answer.Done _ other refl
+                (other_kept q x (step.Rename Work temp f.name) answer.Done _ other refl
+                (other_kept q x (step.SyncFile Work temp) answer.Done _ other refl (other_kept q x (step.Create Work temp f.content) answer.Done older other refl met)));
           },
         )
 

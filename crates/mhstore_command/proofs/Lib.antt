@@ -5,7 +5,9 @@ pub mod FilesOf
 pub mod NameKinds
 pub mod PartsGiven
 pub mod StoreAlone
+pub mod StoreEnds
 pub mod StoreGiven
 pub mod StorePledged
+pub mod StoreStands
 pub mod Turns
 pub mod WholeGiven
