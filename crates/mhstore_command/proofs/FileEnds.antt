@@ -1,11 +1,11 @@
 -- How the storing of a file ends, and what shows it.
-use Rattle.std.proofs.Common.{◌≡◌, ◌⊎◌, inl, inr, ◌≤◌, ◌<◌, ◌^◌, ◌+◌, ◌++◌, ◌∷◌, [], ℕ, Bool, true, false, List, Result, Ok, Err, refl, sym, ◌∙◌, ap, subst, nat_lt, arith}
+use Rattle.std.proofs.Common.{◌≡◌, ◌⊎◌, inl, inr, ◌<◌, ◌^◌, ◌++◌, ◌∷◌, [], ℕ, Bool, true, false, List, Result, Ok, Err, refl, sym, ◌∙◌, ap, subst, nat_lt, arith}
 use Rattle.std.proofs.lemmas.Bool.Decides.{Decides-ltb, nat_tests}
 use Rattle.mh_base.specs.Entries.{kind_of}
 use Rattle.mh_base.specs.declared.entry.Entry.TheVariants.{Temp}
 use Rattle.mh_base.proofs.EntryKinds.{kind_of-entry_text}
 use Rattle.folder_files.specs.Careful.{WasMade, WasReady}
-use Rattle.folder_files.specs.Deeds.{Deed, Once, did, last, now, on, still}
+use Rattle.folder_files.specs.Deeds.{Deed, did, last, now, on}
 use Rattle.folder_files.specs.Named.{is_temp_of, is_work}
 use Rattle.folder_files.specs.Places.{same_place}
 use Rattle.folder_files.specs.declared.place.Place.{Place}
@@ -15,7 +15,7 @@ use Rattle.folder_files.specs.declared.step.Answer.TheVariants as answer
 use Rattle.folder_files.specs.declared.step.Step.{Step}
 use Rattle.folder_files.specs.declared.step.Step.TheVariants as step
 use Rattle.file_plans.specs.Asking.{entered_of, link}
-use Rattle.file_plans.specs.Plan.{Hand, Plan, Return, after, ask, bind, lifted, ◌>>=◌}
+use Rattle.file_plans.specs.Plan.{Hand, Return, ask, bind, lifted, ◌>>=◌}
 use Rattle.file_plans.specs.declared.answers.Entered.{Entered}
 use Rattle.file_plans.specs.declared.answers.Entered.TheVariants as entered
 use Rattle.step_plans.specs.Endings.{HasMet}
@@ -25,16 +25,16 @@ use Rattle.step_plans.specs.PlanFaults.{Planned, of_stop}
 use Rattle.step_plans.specs.Replacing.{created, entered_once, held_to, made_safe, renamed, replaced, synced, written}
 use Rattle.step_plans.specs.declared.fault.PlanFault.{PlanFault}
 use Rattle.step_plans.specs.declared.fault.PlanFault.TheVariants as fault
-use Rattle.step_plans.proofs.Coming.{Comes, On, comes_create, comes_more, comes_rename, comes_sync_file, comes_sync_folder, comes_then, comes_to, comes_unlink}
+use Rattle.step_plans.proofs.Coming.{Comes, comes_create, comes_more, comes_rename, comes_sync_file, comes_sync_folder, comes_then, comes_to, comes_unlink}
 use Rattle.step_plans.proofs.Going.{Outcome, all_numbered}
 use Rattle.step_plans.proofs.Stepping.{on_new}
-use Rattle.opened_folders.specs.Endings.{HasMetIn, IsLastName, IsMeddledIn, last_gone, met_gone as met_gone_in}
+use Rattle.opened_folders.specs.Endings.{HasMetIn, IsLastName, last_gone, met_gone as met_gone_in}
 use Rattle.opened_folders.proofs.CleanRuns.{Clean, clean_more, never_made}
 use Rattle.opened_folders.proofs.NamesKept.{IsTaking, last_kept, met_in_kept, met_kept, putting}
 use Rattle.part_rows.specs.FileNames.{StoredFile}
 use Rattle.mhstore_command.specs.Files.{file_added, file_replaced, file_stored, if_free, linked, linked_by}
 use Rattle.mhstore_command.specs.StoreAnswers.{IsMeddledHere, fresh_taken, met_gone}
-use Rattle.mhstore_command.specs.StorePledge.{HasStoredAs, IsStoredAs}
+use Rattle.mhstore_command.specs.StorePledge.{HasStoredAs}
 use Rattle.mhstore_command.proofs.FilePledged.{made_ready}
 
 -- what shows each fault of a plan in the current directory

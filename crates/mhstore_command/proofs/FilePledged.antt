@@ -91,9 +91,10 @@ is_temp_by run n temp e = rw e (grind (arith, nat_tests))
 unlocked : (own : List Deed) (q : Place) → IsLockable q → q ≡ Work → ⊥
 unlocked own q l e = subst IsLockable e l
 
-module _ (run : ℕ) (few : run < 2 ^ 128) (path : List ℕ) (job : StoreJob) where
-  abbrev v : Pledge
-  v = store_pledge run path job
+-- whatever it may tell
+module _ (run : ℕ) (few : run < 2 ^ 128) (path : List ℕ) (job : StoreJob) (tells : List Deed → List ℕ → Type 0) where
+  abbrev pub v : Pledge
+  v = record (store_pledge run path job) { may_tell = tells }
 
   pub serves_context : Serves v (Mail path)
   serves_context = record { serves = λ own kind s k m. inl (k, m); make = λ own. tt; create = λ own temp bytes is. tt; clear = λ own temp is. tt }

@@ -8,6 +8,7 @@ pub mod StoreAlone
 pub mod StoreEnds
 pub mod StoreGiven
 pub mod StorePledged
+pub mod StoreSays
 pub mod StoreStands
 pub mod Turns
 pub mod WholeGiven

@@ -1,7 +1,7 @@
 -- How `mhstore` ends, and what shows it.
-use Rattle.std.proofs.Common.{◌≡◌, ◌⊎◌, inl, inr, ◌<◌, ◌^◌, ◌++◌, ◌∷◌, [], ℕ, Bool, true, false, List, Option, Some, None, Result, Ok, Err, refl, sym, ◌∙◌, ap, subst, append_assoc}
+use Rattle.std.proofs.Common.{◌≡◌, ◌⊎◌, inl, inr, ◌<◌, ◌^◌, ◌++◌, ◌∷◌, [], ℕ, Bool, true, false, List, Option, Some, None, Result, Ok, Err, refl, sym, subst}
 use Rattle.mh_base.specs.Entries.{entry_text}
-use Rattle.mh_base.specs.declared.entry.Entry.TheVariants.{Number, Sequences}
+use Rattle.mh_base.specs.declared.entry.Entry.TheVariants.{Sequences}
 use Rattle.mh_profile.specs.declared.named_value.NamedValue.{NamedValue}
 use Rattle.mh_sequences.specs.Runs.{numbers_of}
 use Rattle.mh_sequences.specs.Sequences.{Marked}
@@ -9,7 +9,7 @@ use Rattle.msg_ranges.specs.Selection.{marks_of}
 use Rattle.msg_ranges.proofs.Rising.{lists}
 use Rattle.folder_files.specs.Deeds.{Deed, did, last}
 use Rattle.folder_files.specs.declared.place.Place.{Place}
-use Rattle.folder_files.specs.declared.place.Place.TheVariants.{Folder, Mail, Work}
+use Rattle.folder_files.specs.declared.place.Place.TheVariants.{Folder, Mail}
 use Rattle.folder_files.specs.declared.refusal.Refusal.{Refusal}
 use Rattle.folder_files.specs.declared.refusal.Refusal.TheVariants as refusal
 use Rattle.folder_files.specs.declared.step.Answer.{Answer}
@@ -43,7 +43,7 @@ use Rattle.part_rows.specs.Choices.{first_missing}
 use Rattle.part_rows.specs.FileNames.{StoredFile, files_of}
 use Rattle.part_rows.specs.PartViews.{parts_of}
 use Rattle.part_rows.specs.PathTexts.{path_text}
-use Rattle.mhlist_command.specs.ListAnswers.{IsRefusedByListing, ReadMessage, reading_of}
+use Rattle.mhlist_command.specs.ListAnswers.{IsRefusedByListing, ReadMessage}
 use Rattle.mhlist_command.specs.Listing.{no_part}
 use Rattle.mhlist_command.proofs.ListEnds.{listed_text}
 use Rattle.mhlist_command.proofs.MessagesRead.{first_listed, lines_come, name_of, other_listed}
@@ -51,7 +51,7 @@ use Rattle.mhstore_command.specs.Files.{file_stored}
 use Rattle.mhstore_command.specs.StoreAnswers.{HasStored, IsNoStoring, MeetsFile, ShowsRefused, ShowsStoring, files_in, listing_of}
 use Rattle.mhstore_command.specs.Storing.{all_filed, all_stored, chosen_seen, filed_unless, mhstore, one_filed, one_stored, stored_by, told_by}
 use Rattle.mhstore_command.specs.declared.job.StoreJob.{StoreJob}
-use Rattle.mhstore_command.proofs.FileEnds.{Filed, Met, ShowsHere, So, Stores, stores_come}
+use Rattle.mhstore_command.proofs.FileEnds.{ShowsHere, So, Stores, stores_come}
 use Rattle.mhstore_command.proofs.StoreStands.{Stored, all_files, file_more, further, message_more}
 
 module _ (run : ℕ) (few : run < 2 ^ 128) (mail : List ℕ) (job : StoreJob) (entries : List NamedValue) where

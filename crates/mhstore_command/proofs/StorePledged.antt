@@ -55,7 +55,7 @@ use Rattle.part_rows.specs.PartViews.{parts_of}
 use Rattle.mhlist_command.specs.Listing.{no_part}
 use Rattle.mhlist_command.proofs.MessagesRead.{first_listed, other_listed}
 use Rattle.mhstore_command.specs.Files.{file_stored}
-use Rattle.mhstore_command.specs.StorePledge.{HasStoredAs, IsPartRead, store_pledge}
+use Rattle.mhstore_command.specs.StorePledge.{HasStoredAs, IsPartRead, TellsStored, store_pledge}
 use Rattle.mhstore_command.specs.Storing.{all_filed, all_stored, chosen_seen, filed_unless, mhstore, one_filed, one_stored, stored_by, told_by}
 use Rattle.mhstore_command.specs.declared.job.StoreJob.{StoreJob}
 use Rattle.mhstore_command.proofs.FilePledged.{After, Stored, more_after, none_after, once_after, part_after, serves_context, stored_goes}
@@ -90,11 +90,11 @@ module _ (run : ℕ) (few : run < 2 ^ 128) (path : List ℕ) (job : StoreJob) wh
   file_goes : (f : StoredFile) → is_other (kind_of f.name) ≡ true → (own : List Deed) (h : Hand) → IsPartRead path job f own → Goes v own h (one_filed run job f) (okay (Later own))
   unfolding one_filed
   file_goes f other own h part =
-      goes_then v own h (lifted (of_plan job.folder) (file_stored run job.clobber f.name f.content)) (λ free. told_by f.name f.line free) (Stored run few path job f other own) (Later own)
-      (goes_lifted v own h (of_plan job.folder) (file_stored run job.clobber f.name f.content) (Stored run few path job f other own) (stored_goes run few path job f other own h part))
+      goes_then v own h (lifted (of_plan job.folder) (file_stored run job.clobber f.name f.content)) (λ free. told_by f.name f.line free) (Stored run few path job (TellsStored run path job) f other own) (Later own)
+      (goes_lifted v own h (of_plan job.folder) (file_stored run job.clobber f.name f.content) (Stored run few path job (TellsStored run path job) f other own) (stored_goes run few path job (TellsStored run path job) f other own h part))
       (λ later j free s. told f own later j free part (by later j free s))
     where
-      by : (later : List Deed) (j : Hand) (free : Bool) → Stored run few path job f other own later j free → After own later × (free ≡ true → HasStoredAs run f.name f.content later)
+      by : (later : List Deed) (j : Hand) (free : Bool) → Stored run few path job (TellsStored run path job) f other own later j free → After own later × (free ≡ true → HasStoredAs run f.name f.content later)
       by later j true s = (s.0, λ e. s.1)
       by later j false s = (s, λ e. absurd (cc (e)))
 
@@ -177,7 +177,7 @@ module _ (run : ℕ) (few : run < 2 ^ 128) (path : List ℕ) (job : StoreJob) wh
   noted_goes own h listed =
       goes_then v own h (lifted (of_plan job.folder) (commit_context run (Mail path) current)) _ (Of (Known v own (Mail path) current h)) (StillBy own)
       (goes_lifted v own h (of_plan job.folder) (commit_context run (Mail path) current) (Of (Known v own (Mail path) current h))
-      (commit_goes v few path (serves_context run few path job) current AnyStep (HasListed place) listed_pledged own h listed))
+      (commit_goes v few path (serves_context run few path job (TellsStored run path job)) current AnyStep (HasListed place) listed_pledged own h listed))
       (λ later j u k. goes_return v later j tt (okay (StillBy own)) k.settled_still)
 
   noted_after : (own later : List Deed) (h : Hand) → (AreSettled own → AreSettled later) → HasListed place later → Goes v later h (made_current run path job.folder) (okay (StillBy own))

@@ -1,12 +1,9 @@
 -- What a run has read and stored so far, and what a further message or file makes of it.
 use Rattle.std.proofs.Common.{◌≡◌, ◌++◌, ◌∷◌, [], ℕ, List, Ok, refl, sym, ◌∙◌, ap, subst, append_assoc, append-nil}
-use Rattle.std.specs.List.{flat_map}
 use Rattle.mh_profile.specs.declared.named_value.NamedValue.{NamedValue}
 use Rattle.folder_files.specs.Deeds.{Deed, Once, did, now, on}
 use Rattle.folder_files.specs.declared.place.Place.{Place}
 use Rattle.folder_files.specs.declared.place.Place.TheVariants.{Folder}
-use Rattle.folder_files.specs.declared.step.Answer.{Answer}
-use Rattle.folder_files.specs.declared.step.Step.{Step}
 use Rattle.file_plans.proofs.Framing.{AnyStep}
 use Rattle.step_plans.proofs.Lasting.{KeptBy}
 use Rattle.part_rows.specs.FileNames.{StoredFile, files_of}
