@@ -48,7 +48,7 @@ use Rattle.mhlist_command.proofs.MessagesRead.{All, AreRead, Stopped, all_comes,
 abbrev pub looks_job : ListJob → ScanJob
 looks_job job = told_looks.looks_job (task_of job)
 
-listed_text : (n : ℕ) (names : List (List ℕ)) → has_number n names ≡ true → has_text (name_of n) names ≡ true
+pub listed_text : (n : ℕ) (names : List (List ℕ)) → has_number n names ≡ true → has_text (name_of n) names ≡ true
 unfolding entry_text
 listed_text n names e = (both (is_message_number n) (has_text (decimal n) names) (sym (has_number_text n names) ∙ e)).1
 

@@ -62,7 +62,7 @@ stands_of c q n e = let w = within (is_message_number n) (c.texts q (decimal n))
     within true None e = cc (e)
     within false o e = cc (e)
 
-all_stand : (c : Contents) (q : Place) (numbers : List ℕ) → ((n : ℕ) → lists numbers n ≡ true → is_some ((folder_at c q).messages n) ≡ true) → AllStand c q numbers
+pub all_stand : (c : Contents) (q : Place) (numbers : List ℕ) → ((n : ℕ) → lists numbers n ≡ true → is_some ((folder_at c q).messages n) ≡ true) → AllStand c q numbers
 all_stand c q [] f = tt
 all_stand c q (n ∷ numbers) f = (stands_of c q n (f n (first_listed n numbers)), all_stand c q numbers (λ k e. f k (other_listed n k numbers e)))
 

@@ -113,7 +113,7 @@ module _ (place : Place) (wanted : List (List ℕ)) where
       more text whole later j (Err e) q = later_stopped n text ns own e later whole q
 
 -- one message more
-numbers_more : (ms : List ReadMessage) (m : ReadMessage) (left : List ℕ) → numbers_in (ms ++ m ∷ []) ++ left ≡ numbers_in ms ++ m.number ∷ left
+pub numbers_more : (ms : List ReadMessage) (m : ReadMessage) (left : List ℕ) → numbers_in (ms ++ m ∷ []) ++ left ≡ numbers_in ms ++ m.number ∷ left
 numbers_more [] m left = refl
 numbers_more (k ∷ ms) m left = ap (λ z. k.number ∷ z) (numbers_more ms m left)
 
@@ -121,7 +121,7 @@ reading_more : (place : Place) (ms : List ReadMessage) (m : ReadMessage) (own : 
 reading_more place [] m own = refl
 reading_more place (k ∷ ms) m own = reading_more place ms m (reading_of place k ∷ own)
 
-whole_more : (wanted : List (List ℕ)) (ms : List ReadMessage) (m : ReadMessage) → AreWhole wanted ms → IsWhole wanted m.text → AreWhole wanted (ms ++ m ∷ [])
+pub whole_more : (wanted : List (List ℕ)) (ms : List ReadMessage) (m : ReadMessage) → AreWhole wanted ms → IsWhole wanted m.text → AreWhole wanted (ms ++ m ∷ [])
 whole_more wanted [] m all whole = (whole, tt)
 whole_more wanted (k ∷ ms) m all whole = (all.0, whole_more wanted ms m all.1 whole)
 

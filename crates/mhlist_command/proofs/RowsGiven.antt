@@ -68,7 +68,7 @@ AllStand c place [] = Unit {0}
 AllStand c place (n ∷ ns) = Stands c place n × AllStand c place ns
 
 -- what an answer says of a message that is there
-abbrev Says : List ℕ → Answer → Type 0
+abbrev pub Says : List ℕ → Answer → Type 0
 Says b (answer.Content bytes) = (bytes ≡ b) × (nat_lt LIMIT_BYTES (length b) ≡ false)
 Says b (answer.Long l) = (l ≡ length b) × (nat_lt LIMIT_BYTES (length b) ≡ true)
 Says b answer.Gone = ⊥
@@ -80,7 +80,7 @@ Says b answer.Busy = Unit {0}
 Says b answer.Grown = Unit {0}
 Says b answer.Failed = Unit {0}
 
-says_it : (b : List ℕ) (a : Answer) → a ≡ read_file_answer LIMIT_BYTES (Some b) → Says b a
+pub says_it : (b : List ℕ) (a : Answer) → a ≡ read_file_answer LIMIT_BYTES (Some b) → Says b a
 says_it b a e = go (nat_lt LIMIT_BYTES (length b)) refl e
   where
     go : (v : Bool) → nat_lt LIMIT_BYTES (length b) ≡ v → a ≡ (if v then answer.Long (length b) else answer.Content b) → Says b a

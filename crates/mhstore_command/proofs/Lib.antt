@@ -1,0 +1,14 @@
+pub mod FileEnds
+pub mod FileGiven
+pub mod FilePledged
+pub mod FilesOf
+pub mod NameKinds
+pub mod PartsGiven
+pub mod StoreAlone
+pub mod StoreEnds
+pub mod StoreGiven
+pub mod StorePledged
+pub mod StoreSays
+pub mod StoreStands
+pub mod Turns
+pub mod WholeGiven
