@@ -89,6 +89,14 @@ use Rattle.mhlist_command.proofs.ListSays.{list_says}
 use Rattle.list_words.specs.ListWords.{list_said}
 use Rattle.list_words.specs.declared.words.ListWords.{ListWords}
 use Rattle.list_words.proofs.Said.{list_refuses as list_words_refuse}
+use Rattle.mhstore_command.specs.StoreAnswers.{IsNoStoring, ShowsRefused, ShowsStoring, TellsFiles, TellsFirstFiles}
+use Rattle.mhstore_command.specs.Storing.{mhstore}
+use Rattle.mhstore_command.specs.declared.job.StoreJob.{StoreJob}
+use Rattle.mhstore_command.proofs.StoreEnds.{Ends as StoreEnd, store_comes}
+use Rattle.mhstore_command.proofs.StoreSays.{store_says}
+use Rattle.store_words.specs.StoreWords.{store_said}
+use Rattle.store_words.specs.declared.words.StoreWords.{StoreWords}
+use Rattle.store_words.proofs.Said.{store_refuses as store_words_refuse}
 use Rattle.inc_command.specs.Inc.{inc}
 use Rattle.inc_command.specs.IncAnswers.{ShowsInc, ShowsIncorporating}
 use Rattle.refile_command.specs.Rmm.{rmm}
@@ -109,9 +117,9 @@ use Rattle.command_words.specs.declared.mark.MarkWords.{MarkWords}
 use Rattle.command_words.specs.declared.pick.PickWords.{PickWords}
 use Rattle.command_words.specs.declared.rmm.RmmWords.{RmmWords}
 use Rattle.sort_words.specs.SortWords.{sort_said}
-use Rattle.command_line.specs.BegunCauses.{IsPickOn, PicksBy, ShowsAnnoWords, ShowsNoting, ShowsEarly, ShowsFault, ShowsIncJob, ShowsMark, ShowsMarking, ShowsNamed, ShowsOnFolder, ShowsPick, ShowsPickJob, ShowsRemoving, ShowsRmm, TakesInBy, TellsNoneBy, TellsOnFolder, long_context, long_profile, wrong_stored, ShowsPacking, ShowsTask, ShowsTell, ShowsTelling, IsListOn, ListsBy, ShowsListWords, ShowsListingParts, ShowsSortWords, ShowsSorting}
+use Rattle.command_line.specs.BegunCauses.{IsPickOn, PicksBy, ShowsAnnoWords, ShowsNoting, ShowsEarly, ShowsFault, ShowsIncJob, ShowsMark, ShowsMarking, ShowsNamed, ShowsOnFolder, ShowsPick, ShowsPickJob, ShowsRemoving, ShowsRmm, TakesInBy, TellsNoneBy, TellsOnFolder, long_context, long_profile, wrong_stored, ShowsPacking, ShowsTask, ShowsTell, ShowsTelling, IsListOn, ListsBy, ShowsListWords, ShowsListingParts, ShowsSortWords, ShowsSorting, IsStoreOn, ShowsStoreWords, ShowsStoringParts, StoresBy}
 use Rattle.command_line.specs.Causes.{ShowsCommandFault}
-use Rattle.command_line.specs.Command.{anno_begun, anno_by, anno_job, annotated_by, command, command_by, context_entered, folder_found, inc_begun, inc_by, mark_begun, mark_by, mark_job, pick_begun, pick_by, pick_job, picked_by, rmm_begun, rmm_by, rmm_job, word_by, pack_begun, pack_job, task_begun, tell_begun, tell_by, tell_job, list_begun, list_by, list_job, sort_begun, sort_by, sort_job}
+use Rattle.command_line.specs.Command.{anno_begun, anno_by, anno_job, annotated_by, command, command_by, context_entered, folder_found, inc_begun, inc_by, mark_begun, mark_by, mark_job, pick_begun, pick_by, pick_job, picked_by, rmm_begun, rmm_by, rmm_job, word_by, pack_begun, pack_job, task_begun, tell_begun, tell_by, tell_job, list_begun, list_by, list_job, sort_begun, sort_by, sort_job, store_begun, store_by, store_job}
 use Rattle.command_line.specs.CommandNames.{shows_ends, command_of, named}
 use Rattle.command_line.specs.CommandPledge.{entries_by}
 use Rattle.command_line.specs.Incorporating.{IncAsked, job_by, job_writing}
@@ -119,7 +127,7 @@ use Rattle.command_line.specs.Looking.{look_found, written_by}
 use Rattle.command_line.specs.Profile.{folder_of, path_of, profile_name}
 use Rattle.command_line.specs.WordCauses.{IsRefusedByWords, inc_file}
 use Rattle.command_line.specs.declared.name.CommandName.{CommandName}
-use Rattle.command_line.specs.declared.name.CommandName.TheVariants.{Anno, Folder as FolderCommand, Inc, Mark, Mhlist, Pick, Refile, Rmm, Scan, Sortm}
+use Rattle.command_line.specs.declared.name.CommandName.TheVariants.{Anno, Folder as FolderCommand, Inc, Mark, Mhlist, Mhstore, Pick, Refile, Rmm, Scan, Sortm}
 use Rattle.command_line.specs.declared.caller.Caller.{Caller}
 use Rattle.command_line.proofs.Ending.{scan_shows}
 use Rattle.command_line.proofs.IncEnding.{BehindLook, TakesIn, ToldSo, inc_comes}
@@ -719,7 +727,7 @@ module _ (run : ℕ) (few : run < 2 ^ 128) (caller : Caller) (words_ : List (Lis
         rows_on : (b : Answer) (folder : List ℕ) → folder_of words.folder (entries_by b) profile ≡ Ok folder → (text : List ℕ) (own : List Deed)
             → Behind a b own × TellsFirstRows path (list_job folder words profile) (entries_by b) text own → Spoken text own
         rows_on b folder there text own t =
-            inr (inr (inr (record {
+            inr (inr (inr (inl (record {
               profile = a;
               context = b;
               newer = t.0.0;
@@ -728,7 +736,7 @@ module _ (run : ℕ) (few : run < 2 ^ 128) (caller : Caller) (words_ : List (Lis
               by_words = subst (λ ws. ListsBy profile (entries_by b) ws (list_job folder words profile)) (sym is_words)
                   (name, subst (λ m. IsListOn profile (entries_by b) (list_job folder words profile) m) (sym said) (folder, there, refl));
               told = t.1;
-            })))
+            }))))
 
         module _ (past : List runs.Deed) (folder : List ℕ) (b : Answer) (is : acts past ≡ after_context path a b) (there : folder_of words.folder (entries_by b) profile ≡ Ok folder) (clean : NoneFailed (acts past)) (silent : said_of past ≡ []) where
           abbrev listing_job : ListJob
@@ -787,6 +795,96 @@ module _ (run : ℕ) (few : run < 2 ^ 128) (caller : Caller) (words_ : List (Lis
             go : (later : List runs.Deed) (j : Hand) (r : Result (List ℕ) CommandFault) → (said_of later ≡ []) × OfActs (Finds words.folder) later j r → Keeps Speech later j (after (λ folder. mhlist run path (list_job folder words profile)) r) Plainly
             go later j (Ok folder) q =
                 subst (λ i. Keeps Speech later i (mhlist run path (list_job folder words profile)) Plainly) (sym q.1.1.2) (mhlist_keeps later folder q.1.1.0 q.1.1.1 q.1.1.3 q.1.0 q.0)
+            go later j (Err e) q = stops_plainly later j e q.0 (early e (acts later) q.1.1 q.1.0)
+
+      -- `mhstore`
+      module _ (name : named word ≡ Some Mhstore) (words : StoreWords) (said : store_said profile (map chars rest) ≡ Ok words) where
+        store_on : (b : Answer) (folder : List ℕ) → folder_of words.folder (entries_by b) profile ≡ Ok folder → (r : Result (List ℕ) CommandFault) (own : List Deed)
+            → Behind a b own × ShowsStoringParts run path (store_job folder words profile) (entries_by b) r own → ShowsOnFolder run caller words_ r own
+        store_on b folder there r own s =
+            on_folder word rest is_words b folder r own s.0
+            (subst (λ n. ShowsNamed run caller profile (entries_by b) folder r own rest n) (sym name)
+            (subst (λ m. ShowsStoreWords run profile (entries_by b) folder r own m) (sym said) (there, s.1)))
+
+        -- it tells the lines of the files that it has stored
+        lines_on : (b : Answer) (folder : List ℕ) → folder_of words.folder (entries_by b) profile ≡ Ok folder → (text : List ℕ) (own : List Deed)
+            → Behind a b own × TellsFirstFiles run path (store_job folder words profile) (entries_by b) text own → Spoken text own
+        lines_on b folder there text own t =
+            inr (inr (inr (inr (record {
+              profile = a;
+              context = b;
+              newer = t.0.0;
+              begun = t.0.1;
+              job = store_job folder words profile;
+              by_words = subst (λ ws. StoresBy profile (entries_by b) ws (store_job folder words profile)) (sym is_words)
+                  (name, subst (λ m. IsStoreOn profile (entries_by b) (store_job folder words profile) m) (sym said) (folder, there, refl));
+              told = t.1;
+            }))))
+
+        module _ (past : List runs.Deed) (folder : List ℕ) (b : Answer) (is : acts past ≡ after_context path a b) (there : folder_of words.folder (entries_by b) profile ≡ Ok folder) (clean : NoneFailed (acts past)) (silent : said_of past ≡ []) where
+          abbrev storing_job : StoreJob
+          storing_job = store_job folder words profile
+
+          abbrev told_hand : Hand
+          told_hand = knowing (entries_by b) fresh
+
+          store_clean : Clean run (acts past) told_hand
+          store_clean = clean_there a run b (acts past) told_hand is refl clean
+
+          StoreTexts : List ℕ → List Deed → Type 0
+          StoreTexts text own = Behind a b own × TellsFirstFiles run path storing_job (entries_by b) text own
+
+          StoreSays_ : List runs.Deed → Hand → Result Unit CommandFault → Type 0
+          StoreSays_ later i r = IfOkay (λ last k u. Behind a b (acts last) × TellsFiles run path storing_job (entries_by b) (said_of last) (acts last)) later i r
+
+          StoredSo : Outcome (Result Unit CommandFault)
+          StoredSo later i r = StoreEnd run few path storing_job told_hand later i r
+
+          StoredBehind : Outcome (Result Unit CommandFault)
+          StoredBehind later i r = Behind a b later × StoredSo later i r
+
+          StoredClean : Outcome (Result Unit CommandFault)
+          StoredClean later i r = NoneFailed later × StoredBehind later i r
+
+          -- as a command that looks; since a part is missing or a file is there; or as the storing of a file
+          storing_shown : (e : CommandFault) (own : List Deed) → Behind a b own → ScanShows run path folder e own ⊎ (IsNoStoring e ⊎ ShowsStoring run e own) → ShowsRefused run path storing_job (entries_by b) e own → NoneFailed own → IsEndedBy Shows e own
+          storing_shown e own f (inl s) l unfailed =
+              looked e own (scan_shows run path folder e own s) (λ z. inr (inr (store_on b folder there (Err e) own (f, (inl z, l))))) unfailed
+          storing_shown e own f (inr (inl (inl lacks))) l unfailed =
+              subst (λ z. IsEndedBy Shows z own) (sym lacks.1)
+              (at_once (inr (inr (store_on b folder there (Err (fault.Refused (refusal.NoPart lacks.0))) own (f, (inr (inl (inl (lacks.0, refl))), subst (λ z. ShowsRefused run path storing_job (entries_by b) z own) lacks.1 l))))) unfailed)
+          storing_shown e own f (inr (inl (inr meets))) l unfailed =
+              subst (λ z. IsEndedBy Shows z own) (sym meets.1)
+              (at_once (inr (inr (store_on b folder there (Err (fault.Refused (refusal.WouldReplace meets.0))) own (f, (inr (inl (inr (meets.0, refl))), subst (λ z. ShowsRefused run path storing_job (entries_by b) z own) meets.1 l))))) unfailed)
+          storing_shown (fault.Refused r) own f (inr (inr s)) l unfailed = absurd s
+          storing_shown (fault.Faulted which) own f (inr (inr s)) l unfailed = absurd s
+          storing_shown (fault.Locked q) own f (inr (inr s)) l unfailed = absurd s
+          storing_shown (fault.Meddled q x) own f (inr (inr s)) l unfailed = (inr (inr (store_on b folder there (Err (fault.Meddled q x)) own (f, (inr (inr s), l)))), unfailed)
+          storing_shown fault.Memory own f (inr (inr s)) l unfailed = tt
+
+          mhstore_keeps : Keeps Speech past told_hand (mhstore run path storing_job) Plainly
+          unfolding StoreSays_ StoredClean StoredBehind StoredSo StoreTexts
+          mhstore_keeps =
+              keeps_more Speech past told_hand (mhstore run path storing_job) (λ later i r. StoreSays_ later i r × OfActs StoredClean later i r) Plainly more
+              (keeps_both Speech anything past told_hand (mhstore run path storing_job) StoreSays_ (OfActs StoredClean)
+              (speaks_more StoreTexts Spoken (lines_on b folder there) past told_hand (mhstore run path storing_job) StoreSays_ (store_says run few path storing_job told_hand (Behind a b) (behind_kept a b) past silent ([], is) store_clean))
+              (comes_keeps past (acts past) told_hand (mhstore run path storing_job) StoredClean refl
+              (comes_clean (acts past) told_hand (mhstore run path storing_job) StoredBehind clean
+              (comes_framed AnyStep (Behind a b) (behind_kept a b) (acts past) told_hand (mhstore run path storing_job) StoredSo (asks_any (mhstore run path storing_job)) ([], is)
+              (store_comes run few path storing_job told_hand (acts past) store_clean)))))
+            where
+              more : (later : List runs.Deed) (i : Hand) (r : Result Unit CommandFault) → StoreSays_ later i r × OfActs StoredClean later i r → Plainly later i r
+              more later i (Ok u) s = store_on b folder there (Ok (said_of later)) (acts later) s.0
+              more later i (Err e) s = storing_shown e (acts later) s.1.1.0 s.1.1.1.0 s.1.1.1.1 s.1.0
+
+        store_begun_keeps : (past : List runs.Deed) → acts past ≡ after_profile a → NoneFailed (acts past) → said_of past ≡ [] → Keeps Speech past fresh (store_begun run profile words) Plainly
+        unfolding store_begun ◌>>=◌
+        store_begun_keeps past is clean silent =
+            keeps_bind Speech past fresh (folder_found profile words.folder) (after (λ folder. mhstore run path (store_job folder words profile))) _ Plainly (folder_keeps words.folder past is clean silent) go
+          where
+            go : (later : List runs.Deed) (j : Hand) (r : Result (List ℕ) CommandFault) → (said_of later ≡ []) × OfActs (Finds words.folder) later j r → Keeps Speech later j (after (λ folder. mhstore run path (store_job folder words profile)) r) Plainly
+            go later j (Ok folder) q =
+                subst (λ i. Keeps Speech later i (mhstore run path (store_job folder words profile)) Plainly) (sym q.1.1.2) (mhstore_keeps later folder q.1.1.0 q.1.1.1 q.1.1.3 q.1.0 q.0)
             go later j (Err e) q = stops_plainly later j e q.0 (early e (acts later) q.1.1 q.1.0)
 
       -- `inc`
@@ -917,6 +1015,12 @@ module _ (run : ℕ) (few : run < 2 ^ 128) (caller : Caller) (words_ : List (Lis
           go (Ok words) said = plain_keeps past fresh (list_begun run profile words) (list_begun_keeps word rest is_words name words said past is clean silent)
           go (Err x) said = stops past fresh x silent
               (refused_shown a x past is (list_words_refuse profile (map chars rest) x said) (refused_by caller words_ a word rest is_words (Some Mhlist) name x.fault (refusal_of (list_said profile (map chars rest)) x said)) clean)
+      by_word word rest is_words (Some Mhstore) name begins = go (store_said profile (map chars rest)) refl
+        where
+          go : (r : Result StoreWords Ended) → store_said profile (map chars rest) ≡ r → Keeps Speech past fresh (store_by run profile r) EndsBy
+          go (Ok words) said = plain_keeps past fresh (store_begun run profile words) (store_begun_keeps word rest is_words name words said past is clean silent)
+          go (Err x) said = stops past fresh x silent
+              (refused_shown a x past is (store_words_refuse profile (map chars rest) x said) (refused_by caller words_ a word rest is_words (Some Mhstore) name x.fault (refusal_of (store_said profile (map chars rest)) x said)) clean)
 
       by_words : (words : List (List ℕ)) → words_ ≡ words → shows_ends (command_of words) ≡ true → Keeps Speech past fresh (command_by run caller profile words) EndsBy
       by_words [] is_words begins = cc (begins)

@@ -64,6 +64,11 @@ use Rattle.list_words.specs.ListWords.{list_line, list_said}
 use Rattle.list_words.specs.Parts.{wrong_parts}
 use Rattle.list_words.specs.Table.{list_table}
 use Rattle.list_words.specs.declared.words.ListWords.{ListWords}
+use Rattle.store_words.specs.StoreWords as store_words
+use Rattle.store_words.specs.StoreWords.{store_line, store_said}
+use Rattle.store_words.specs.Values.{wrong_values as wrong_stored_values}
+use Rattle.store_words.specs.Table.{store_table}
+use Rattle.store_words.specs.declared.words.StoreWords.{StoreWords}
 use Rattle.command_line.specs.Profile.{folder_of, inbox_of, stored_of, value_or}
 
 -- bytes as they are shown are characters
@@ -542,3 +547,31 @@ pub list_chars : (profile : List NamedValue) (words : List (List ℕ)) (said : L
 list_chars profile words said f e =
     subst ListChars e (list_items_chars (list_line profile words) (read_in list_table 0 (list_line profile words))
     (read_textual list_table 0 (list_line profile words) (texts_both (profile_words (codes "mhlist") profile) words (shown_texts (words_in (unwrap_or (value_of (codes "mhlist") profile) []))) f)))
+
+-- `mhstore`
+abbrev StoreChars : Result StoreWords Ended → Type 0
+StoreChars (Ok w) = HasChars w.folder
+StoreChars (Err e) = Unit {0}
+
+store_folder_chars : (items : List Item) (word : Option (List ℕ)) → HasChars word → StoreChars (store_words.with_folder items (folder_named word))
+store_folder_chars items None f = tt
+store_folder_chars items (Some word) f = go (is_folder_name (without_plus word))
+  where
+    go : (b : Bool) → StoreChars (store_words.with_folder items (some_named (if b then Ok (without_plus word) else Err (fault.Refused (refusal.BadFolder word)))))
+    go true = plus_chars word f
+    go false = tt
+
+store_one_chars : (words : List (List ℕ)) (items : List Item) (r : Result (Option (List ℕ)) Wrong) → OneChars r → StoreChars (store_words.folder_said words items r)
+store_one_chars words items (Ok word) f = store_folder_chars items word f
+store_one_chars words items (Err wrong) f = tt
+
+store_items_chars : (words : List (List ℕ)) (r : Result (List Item) Wrong) → Textual r → StoreChars (store_words.items_said words r)
+store_items_chars words (Ok items) f =
+    store_one_chars words items (unless_bad (first_of (wrong_stored_values items)) (one_folder (folders items)))
+    (bad_chars (first_of (wrong_stored_values items)) (one_folder (folders items)) (one_chars (folders items) (folder_texts items f)))
+store_items_chars words (Err wrong) f = tt
+
+pub store_chars : (profile : List NamedValue) (words : List (List ℕ)) (said : StoreWords) → AreTexts words → store_said profile words ≡ Ok said → HasChars said.folder
+store_chars profile words said f e =
+    subst StoreChars e (store_items_chars (store_line profile words) (read_in store_table 0 (store_line profile words))
+    (read_textual store_table 0 (store_line profile words) (texts_both (profile_words (codes "mhstore") profile) words (shown_texts (words_in (unwrap_or (value_of (codes "mhstore") profile) []))) f)))

@@ -84,13 +84,19 @@ use Rattle.mhlist_command.proofs.ListGiven.{list_works}
 use Rattle.list_words.specs.ListWords.{list_said}
 use Rattle.list_words.specs.declared.words.ListWords.{ListWords}
 use Rattle.list_words.proofs.Said.{list_refuses, list_valid}
-use Rattle.command_line.specs.Command.{anno_begun, anno_by, anno_job, annotated_by, context_seen, context_entered, folder_found, inc_begun, inc_by, job_of, mark_job, scan_begun, scan_by, mark_begun, mark_by, pick_begun, pick_by, pick_job, picked_by, refile_begun, refile_by, refile_job, rmm_begun, rmm_by, rmm_job, word_by, command_by, command, pack_begun, pack_job, task_begun, tell_begun, tell_by, tell_job, list_begun, list_by, list_job, sort_begun, sort_by, sort_job}
-use Rattle.command_line.specs.CommandNames.{begins_folders, command_of, makes_folders, named}
+use Rattle.mhstore_command.specs.ClearWork.{HasClearWork}
+use Rattle.mhstore_command.specs.Storing.{mhstore}
+use Rattle.mhstore_command.proofs.WholeGiven.{store_gives}
+use Rattle.store_words.specs.StoreWords.{store_said}
+use Rattle.store_words.specs.declared.words.StoreWords.{StoreWords}
+use Rattle.store_words.proofs.Said.{store_refuses, store_valid}
+use Rattle.command_line.specs.Command.{anno_begun, anno_by, anno_job, annotated_by, context_seen, context_entered, folder_found, inc_begun, inc_by, job_of, mark_job, scan_begun, scan_by, mark_begun, mark_by, pick_begun, pick_by, pick_job, picked_by, refile_begun, refile_by, refile_job, rmm_begun, rmm_by, rmm_job, word_by, command_by, command, pack_begun, pack_job, task_begun, tell_begun, tell_by, tell_job, list_begun, list_by, list_job, sort_begun, sort_by, sort_job, store_begun, store_by, store_job}
+use Rattle.command_line.specs.CommandNames.{begins_folders, command_of, makes_folders, named, stores_files}
 use Rattle.command_line.specs.Incorporating.{IncAsked, job_by, job_writing}
-use Rattle.command_line.specs.Outcomes.{anno_words_work, annos, FolderWork, inc_job_work, incs, plainly, of_stage, in_folder, with_context, scans, scan_words_work, on_folder, writing, written_there, marks, mark_words_work, picks, pick_words_work, refiles, refile_words_work, rmms, rmm_words_work, word_work, named_work, with_profile, work_by, work_of, alone_meeting, packs, tasks, tell_words_work, tells, list_words_work, lists, sort_words_work, sorts}
+use Rattle.command_line.specs.Outcomes.{anno_words_work, annos, FolderWork, inc_job_work, incs, plainly, of_stage, in_folder, with_context, scans, scan_words_work, on_folder, writing, written_there, marks, mark_words_work, picks, pick_words_work, refiles, refile_words_work, rmms, rmm_words_work, word_work, named_work, with_profile, work_by, work_of, alone_meeting, packs, tasks, tell_words_work, tells, list_words_work, lists, sort_words_work, sorts, store_words_work, stores}
 use Rattle.command_line.specs.Profile.{folder_of, path_of, profile_name}
 use Rattle.command_line.specs.declared.name.CommandName.{CommandName}
-use Rattle.command_line.specs.declared.name.CommandName.TheVariants.{Anno, Folder as FolderCommand, Inc, Mark, Mhlist, Pick, Refile, Rmm, Scan, Sortm}
+use Rattle.command_line.specs.declared.name.CommandName.TheVariants.{Anno, Folder as FolderCommand, Inc, Mark, Mhlist, Mhstore, Pick, Refile, Rmm, Scan, Sortm}
 use Rattle.command_line.specs.declared.caller.Caller.{Caller}
 use Rattle.command_line.proofs.Refusals.{IsRefusal, folder_refuses, job_refuses, mark_refuses, refile_refuses, rmm_refuses, asked_refuses, tell_refuses}
 use Rattle.command_line.proofs.LookGives.{fresh_alike, look_gives}
@@ -458,6 +464,17 @@ list_stage run c few homes profile words valid v h same unmet begun =
     (homes_at run ((mailbox_in c).folders (Folder (path_of profile) folder))) (homes (Folder (path_of profile) folder)) v.numbers (after_read v (Mail (path_of profile)) context_name) (knowing (entries_in text) h)
     (record { has = (same, refl); fresh = λ x. begun.names (path_of profile) folder x; unmet = λ x is_held. unmet (Folder (path_of profile) folder) x; hand = refl }) same refl refl)
 
+-- `mhstore` alone, from the context on, where the current directory lets it
+store_stage : (run : ℕ) (c : Contents) → run < 2 ^ 128 → HasClearWork run c → (profile : List NamedValue) (words : StoreWords) → IsValid words.folder → (v : View) (h : Hand) (same : v.contents ≡ c) → h.next ≡ 0 → (begun : IsBegun v)
+    → Gives (by_view true) v h (stage true c profile words.folder v h same (λ e. begun) (stores (mailbox_in c) profile words)).text (store_begun run profile words) (WorkEnds (stage true c profile words.folder v h same (λ e. begun) (stores (mailbox_in c) profile words)))
+unfolding store_begun
+store_stage run c few clear profile words valid v h same none begun =
+    stage_gives true c profile words.folder v h same (λ e. begun) (stores (mailbox_in c) profile words) WorkEnds (mark_refused c) (λ folder. mhstore run (path_of profile) (store_job folder words profile))
+    (λ text folder reads is.
+    let short = read_short (c.texts (Mail (path_of profile)) context_name) text reads in
+    store_gives run few (path_of profile) (store_job folder words profile) (acted_valid words.folder (entries_in text) profile folder valid is) c (entries_in text) (ap entries_in short.1) short.0
+    v.numbers (after_read v (Mail (path_of profile)) context_name) (knowing (entries_in text) h) same refl refl clear.there (λ x from below. clear.free x below))
+
 -- `inc` alone, from the context on
 
 module _ (run : ℕ) (c : Contents) (few : run < 2 ^ 128) (bare : IsBare c) (profile : List NamedValue) (asked : IncAsked) (valid : is_folder_name asked.folder ≡ true)
@@ -644,6 +661,21 @@ module _ (alone : Bool) (run : ℕ) (c : Contents) (few : run < 2 ^ 128) (homes 
         subst (λ b. Gives (by_view b) z fresh (list_words_work box profile (list_said profile words)).text (list_by run profile (list_said profile words)) (CommandEnds b (list_words_work box profile (list_said profile words)))) (sym only)
         (list_words_true (homes only) (list_said profile words) (λ said e. list_valid profile words said e) (λ e is. list_refuses profile words e is))
 
+    store_words_true : HasClearWork run c → (value : Result StoreWords Ended) → ((words : StoreWords) → value ≡ Ok words → IsValid words.folder) → ((e : Ended) → value ≡ Err e → IsRefusal e.fault)
+        → Gives (by_view true) z fresh (store_words_work box profile value).text (store_by run profile value) (CommandEnds true (store_words_work box profile value))
+    unfolding Gives lifted mailbox_in
+    store_words_true clear (Ok words) valid r =
+        gives_bind (by_view true) z fresh (store_words_work box profile (Ok words)).text (store_begun run profile words) (λ q. Return (converted plain q)) (WorkEnds (stage true c profile words.folder z fresh same (λ e. begun) (stores box profile words)))
+        (CommandEnds true (store_words_work box profile (Ok words)))
+        (store_stage run c few clear profile words (valid words refl) z fresh same refl begun)
+        (λ y j left q e. mark_ends (stage true c profile words.folder z fresh same (λ e. begun) (stores box profile words)) y j left q e)
+    store_words_true clear (Err e) valid r = let is = r e refl in plain_refused true c e is.0 z fresh [] is.1 refl same
+
+    store_words_give : alone ≡ true → HasClearWork run c → (caller : Caller) (words : List (List ℕ)) → Gives (by_view alone) z fresh (store_words_work box profile (store_said profile words)).text (store_by run profile (store_said profile words)) (CommandEnds alone (store_words_work box profile (store_said profile words)))
+    store_words_give only clear caller words =
+        subst (λ b. Gives (by_view b) z fresh (store_words_work box profile (store_said profile words)).text (store_by run profile (store_said profile words)) (CommandEnds b (store_words_work box profile (store_said profile words)))) (sym only)
+        (store_words_true clear (store_said profile words) (λ said e. store_valid profile words said e) (λ e is. store_refuses profile words e is))
+
     refile_words_true : IsBare c → (value : Result RefileWords Ended) → ((words : RefileWords) → value ≡ Ok words → IsValid words.source) → ((e : Ended) → value ≡ Err e → IsRefusal e.fault)
         → Gives (by_view true) z fresh (refile_words_work (alone_meeting run) box profile value).text (refile_by run profile value) (CommandEnds true (refile_words_work (alone_meeting run) box profile value))
     unfolding Gives lifted mailbox_in
@@ -675,27 +707,28 @@ module _ (alone : Bool) (run : ℕ) (c : Contents) (few : run < 2 ^ 128) (homes 
         subst (λ b. Gives (by_view b) z fresh (inc_job_work (alone_meeting run) box profile (job_by caller profile (inc_said profile words))).text (inc_by run profile (job_by caller profile (inc_said profile words))) (CommandEnds b (inc_job_work (alone_meeting run) box profile (job_by caller profile (inc_said profile words))))) (sym only)
         (inc_words_true bare (job_by caller profile (inc_said profile words)) (λ job e. job_valid caller profile words job e) (λ e is. job_refuses caller profile words e is))
 
-    by_word : (caller : Caller) (word : List ℕ) (words : List (List ℕ)) (name : Option CommandName) → (begins_folders name ≡ true → alone ≡ true) → (makes_folders name ≡ true → IsBare c) → Gives (by_view alone) z fresh (word_work (alone_meeting run) box caller profile word words name).text (word_by run caller profile word words name) (CommandEnds alone (word_work (alone_meeting run) box caller profile word words name))
+    by_word : (caller : Caller) (word : List ℕ) (words : List (List ℕ)) (name : Option CommandName) → (begins_folders name ≡ true → alone ≡ true) → (makes_folders name ≡ true → IsBare c) → (stores_files name ≡ true → HasClearWork run c) → Gives (by_view alone) z fresh (word_work (alone_meeting run) box caller profile word words name).text (word_by run caller profile word words name) (CommandEnds alone (word_work (alone_meeting run) box caller profile word words name))
     unfolding Gives
-    by_word caller word words None only bare = (refl, inl (refl, λ a. ap mailbox_in same))
-    by_word caller word words (Some Inc) only bare = inc_words_give (only refl) (bare refl) caller (map chars words)
-    by_word caller word words (Some Scan) only bare = scan_words_give (scan_asked caller (scan_said profile (map chars words))) (λ e is. asked_refuses caller profile (map chars words) e is)
-    by_word caller word words (Some Mark) only bare = mark_words_give (only refl) (map chars words)
-    by_word caller word words (Some Pick) only bare = pick_words_give (only refl) caller (map chars words)
-    by_word caller word words (Some Refile) only bare = refile_words_give (only refl) (bare refl) (map chars words)
-    by_word caller word words (Some Rmm) only bare = rmm_words_give (only refl) (map chars words)
-    by_word caller word words (Some FolderCommand) only bare = tell_words_give (only refl) (map chars words)
-    by_word caller word words (Some Anno) only bare = anno_words_give (only refl) caller (map chars words)
-    by_word caller word words (Some Sortm) only bare = sort_words_give (only refl) caller (map chars words)
-    by_word caller word words (Some Mhlist) only bare = list_words_give (only refl) caller (map chars words)
+    by_word caller word words None only bare clear = (refl, inl (refl, λ a. ap mailbox_in same))
+    by_word caller word words (Some Inc) only bare clear = inc_words_give (only refl) (bare refl) caller (map chars words)
+    by_word caller word words (Some Scan) only bare clear = scan_words_give (scan_asked caller (scan_said profile (map chars words))) (λ e is. asked_refuses caller profile (map chars words) e is)
+    by_word caller word words (Some Mark) only bare clear = mark_words_give (only refl) (map chars words)
+    by_word caller word words (Some Pick) only bare clear = pick_words_give (only refl) caller (map chars words)
+    by_word caller word words (Some Refile) only bare clear = refile_words_give (only refl) (bare refl) (map chars words)
+    by_word caller word words (Some Rmm) only bare clear = rmm_words_give (only refl) (map chars words)
+    by_word caller word words (Some FolderCommand) only bare clear = tell_words_give (only refl) (map chars words)
+    by_word caller word words (Some Anno) only bare clear = anno_words_give (only refl) caller (map chars words)
+    by_word caller word words (Some Sortm) only bare clear = sort_words_give (only refl) caller (map chars words)
+    by_word caller word words (Some Mhlist) only bare clear = list_words_give (only refl) caller (map chars words)
+    by_word caller word words (Some Mhstore) only bare clear = store_words_give (only refl) (clear refl) caller (map chars words)
 
-    by_name : (caller : Caller) (words : List (List ℕ)) → (begins_folders (command_of words) ≡ true → alone ≡ true) → (makes_folders (command_of words) ≡ true → IsBare c) → Gives (by_view alone) z fresh (named_work (alone_meeting run) box caller profile words).text (command_by run caller profile words) (CommandEnds alone (named_work (alone_meeting run) box caller profile words))
+    by_name : (caller : Caller) (words : List (List ℕ)) → (begins_folders (command_of words) ≡ true → alone ≡ true) → (makes_folders (command_of words) ≡ true → IsBare c) → (stores_files (command_of words) ≡ true → HasClearWork run c) → Gives (by_view alone) z fresh (named_work (alone_meeting run) box caller profile words).text (command_by run caller profile words) (CommandEnds alone (named_work (alone_meeting run) box caller profile words))
     unfolding Gives
-    by_name caller [] only bare = (refl, inl (refl, λ a. ap mailbox_in same))
-    by_name caller (word ∷ words) only bare = by_word caller word words (named word) only bare
+    by_name caller [] only bare clear = (refl, inl (refl, λ a. ap mailbox_in same))
+    by_name caller (word ∷ words) only bare clear = by_word caller word words (named word) only bare clear
 
   -- the whole; beside others, of commands that look
-  module _ (caller : Caller) (words : List (List ℕ)) (only : begins_folders (command_of words) ≡ true → alone ≡ true) (bare : makes_folders (command_of words) ≡ true → IsBare c) where
+  module _ (caller : Caller) (words : List (List ℕ)) (only : begins_folders (command_of words) ≡ true → alone ≡ true) (bare : makes_folders (command_of words) ≡ true → IsBare c) (clear : stores_files (command_of words) ≡ true → HasClearWork run c) where
     abbrev pub whole_work : Work Ended
     whole_work = work_of run caller words box
 
@@ -712,7 +745,7 @@ module _ (alone : Bool) (run : ℕ) (c : Contents) (few : run < 2 ^ 128) (homes 
       after_profile z j left (Ok text) t =
           let w = works_by (Ok text) (profile_at (Ok text) t.value) in
           rw (t.view, t.hand, t.rest) (subst (λ x. Gives (by_view alone) (after_read v Home profile_name) fresh x.text (command_by run caller (entries_in text) words) (CommandEnds alone x)) (sym w)
-          (by_name (entries_in text) (after_read v Home profile_name) same (λ p x. first.unmet p x) (begun_first v first) caller words only bare))
+          (by_name (entries_in text) (after_read v Home profile_name) same (λ p x. first.unmet p x) (begun_first v first) caller words only bare clear))
       after_profile z j left (Err e) t =
           let is = profile_at (Err e) t.value in
           let w = works_by (Err e) is in

@@ -29,6 +29,7 @@ pub mod SaidInc
 pub mod SaidPick
 pub mod SortMarks
 pub mod StepsWith
+pub mod StoreMarks
 pub mod SuffixesApart
 pub mod Texts
 pub mod ToldApart

@@ -68,6 +68,8 @@ use Rattle.anno_words.proofs.Said.{anno_annotates, anno_valid}
 use Rattle.sort_words.proofs.Said.{sort_valid}
 use Rattle.list_words.proofs.Said.{list_valid}
 use Rattle.list_words.specs.ListWords.{list_said}
+use Rattle.store_words.proofs.Said.{store_valid}
+use Rattle.store_words.specs.StoreWords.{store_said}
 use Rattle.sort_words.specs.SortWords.{sort_said}
 use Rattle.command_line.specs.Command.{annotated_by, command, mark_by, mark_job, picked_by, rmm_by, rmm_job, word_by, tell_by, tell_job}
 use Rattle.command_line.specs.CommandMarks.{IsTextName, KeepsCommandMarks, KeepsWhere}
@@ -75,7 +77,7 @@ use Rattle.command_line.specs.CommandNames.{begins_folders, command_of, named}
 use Rattle.command_line.specs.CommandPledge.{entries_by, marks_pledge, on_named, rmm_on_named, rmms_pledge, task_pledge, tell_on_named, tells_pledge}
 use Rattle.command_line.specs.Profile.{folder_of, path_of, profile_name}
 use Rattle.command_line.specs.declared.name.CommandName.{CommandName}
-use Rattle.command_line.specs.declared.name.CommandName.TheVariants.{Anno, Folder as FolderCommand, Inc, Mark, Mhlist, Pick, Refile, Rmm, Scan, Sortm}
+use Rattle.command_line.specs.declared.name.CommandName.TheVariants.{Anno, Folder as FolderCommand, Inc, Mark, Mhlist, Mhstore, Pick, Refile, Rmm, Scan, Sortm}
 use Rattle.command_line.specs.declared.caller.Caller.{Caller}
 use Rattle.command_line.proofs.IncKept.{inc_kept}
 use Rattle.command_line.proofs.MindingPlans.{Minding, NothingMore, minding_kept, minding_where, minds_own, minds_with, ok_one, sound_so}
@@ -85,7 +87,8 @@ use Rattle.command_line.proofs.AnnoMarks.{anno_minding}
 use Rattle.command_line.proofs.ListMarks.{list_minding}
 use Rattle.command_line.proofs.LooksMarks.{looks_mind as tell_looks_mind}
 use Rattle.command_line.proofs.SortMarks.{sort_minding}
-use Rattle.command_line.proofs.FolderChars.{AreUtf8, HasChars, acted_chars, anno_chars, chars_texts, mark_chars, pick_chars, refile_chars, rmm_chars, tell_chars, list_chars, sort_chars}
+use Rattle.command_line.proofs.StoreMarks.{store_minding}
+use Rattle.command_line.proofs.FolderChars.{AreUtf8, HasChars, acted_chars, anno_chars, chars_texts, mark_chars, pick_chars, refile_chars, rmm_chars, tell_chars, list_chars, sort_chars, store_chars}
 use Rattle.command_line.proofs.PackMarks.{pack_minding, tell_plan}
 use Rattle.command_line.proofs.PickMarks.{pick_minding}
 use Rattle.command_line.proofs.RefileMarks.{refile_minding}
@@ -405,6 +408,12 @@ module _ (run : ℕ) (few : run < 2 ^ 128) (caller : Caller) (word : List ℕ) (
       subst (λ z. Minding run NothingMore h (Ask profile_step (λ c. rest_by (context_step profile) (word_by run caller profile word words z) (word_onward run profile caller word words z) b))) (sym is)
       (list_minding run few profile h b (list_said profile (map chars words)) (λ said e. (list_valid profile (map chars words) said e, list_chars profile (map chars words) said (chars_texts words texts) e)))
 
+  store_named : (profile : List NamedValue) (name : Option CommandName) → name ≡ Some Mhstore → Minding run NothingMore h (Ask profile_step (λ c. rest_by (context_step profile) (word_by run caller profile word words name) (word_onward run profile caller word words name) b))
+  unfolding word_onward
+  store_named profile name is =
+      subst (λ z. Minding run NothingMore h (Ask profile_step (λ c. rest_by (context_step profile) (word_by run caller profile word words z) (word_onward run profile caller word words z) b))) (sym is)
+      (store_minding run few profile h b (store_said profile (map chars words)) (λ said e. (store_valid profile (map chars words) said e, store_chars profile (map chars words) said (chars_texts words texts) e)))
+
   mark_read : (r : Reading) → named word ≡ Some Mark → Minding run NothingMore h (plan_by run few caller all r b)
   unfolding onward_by named_onward lifted bind ◌>>=◌
   mark_read (reading.Content bytes) is = mark_named (entries_in bytes) (named word) is
@@ -452,6 +461,12 @@ module _ (run : ℕ) (few : run < 2 ^ 128) (caller : Caller) (word : List ℕ) (
   list_read (reading.Content bytes) is = list_named (entries_in bytes) (named word) is
   list_read (reading.Long l) is = long_minding NothingMore l
   list_read reading.Gone is = list_named (entries_in []) (named word) is
+
+  store_read : (r : Reading) → named word ≡ Some Mhstore → Minding run NothingMore h (plan_by run few caller all r b)
+  unfolding onward_by named_onward lifted bind ◌>>=◌
+  store_read (reading.Content bytes) is = store_named (entries_in bytes) (named word) is
+  store_read (reading.Long l) is = long_minding NothingMore l
+  store_read reading.Gone is = store_named (entries_in []) (named word) is
 
 -- a call that follows a command keeps the marks of messages
 module _ (run : ℕ) (few : run < 2 ^ 128) (caller : Caller) (x y : State) (result : Result Unit Ended) where
@@ -524,6 +539,15 @@ module _ (run : ℕ) (few : run < 2 ^ 128) (caller : Caller) (x y : State) (resu
           minding_kept run ended_cause (plan_by run few caller (word ∷ words) (reading_of t.first) t.second) x y result m
           (follows_so run ended_cause (command run caller (word ∷ words)) (plan_by run few caller (word ∷ words) (reading_of t.first) t.second) x y result f t.runs) (start_same run ended_cause (command run caller (word ∷ words)) x y result f)
 
+  store_kept : (word : List ℕ) (words : List (List ℕ)) → AreUtf8 words → named word ≡ Some Mhstore → Follows run ended_cause (command run caller (word ∷ words)) x y result → KeepsSequencesOf IsTextName run x.files.story y.files.story
+  store_kept word words texts is f = go (answers run few caller (word ∷ words) x y result f)
+    where
+      go : Answered run few caller (word ∷ words) x.hand y.hand (deeds_in f.went.log) (exit_of ended_cause result) → KeepsSequencesOf IsTextName run x.files.story y.files.story
+      go t =
+          let m = store_read run few caller word words texts x.hand t.second (reading_of t.first) is in
+          minding_kept run ended_cause (plan_by run few caller (word ∷ words) (reading_of t.first) t.second) x y result m
+          (follows_so run ended_cause (command run caller (word ∷ words)) (plan_by run few caller (word ∷ words) (reading_of t.first) t.second) x y result f t.runs) (start_same run ended_cause (command run caller (word ∷ words)) x y result f)
+
   by_name : (word : List ℕ) (words : List (List ℕ)) → AreUtf8 words → Follows run ended_cause (command run caller (word ∷ words)) x y result → (name : Option CommandName) → named word ≡ name → KeepsCommandMarks name run x.files.story y.files.story
   by_name word words texts f None is = command_keeps_sequences run few caller (word ∷ words) (ap begins_folders is) x y result f
   by_name word words texts f (Some Inc) is = inc_kept run few caller x y result word words texts is f
@@ -536,6 +560,7 @@ module _ (run : ℕ) (few : run < 2 ^ 128) (caller : Caller) (x y : State) (resu
   by_name word words texts f (Some Anno) is = anno_kept word words texts is f
   by_name word words texts f (Some Sortm) is = sort_kept word words texts is f
   by_name word words texts f (Some Mhlist) is = list_kept word words texts is f
+  by_name word words texts f (Some Mhstore) is = store_kept word words texts is f
 
   pub command_keeps_marks : (words : List (List ℕ)) → AreUtf8 words → Follows run ended_cause (command run caller words) x y result → KeepsCommandMarks (command_of words) run x.files.story y.files.story
   command_keeps_marks [] texts f = command_keeps_sequences run few caller [] refl x y result f

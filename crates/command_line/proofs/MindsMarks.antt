@@ -2,7 +2,7 @@
 use Rattle.std.proofs.Common.{◌≡◌, inl, inr, ◌<◌, ◌^◌, ◌∷◌, [], ℕ, false, List, Option, Some, None, Result, refl, sym, ◌∙◌, ap, subst}
 use Rattle.mh_profile.specs.Names.{is_attribute}
 use Rattle.mh_profile.specs.declared.named_value.NamedValue.{NamedValue}
-use Rattle.folder_files.specs.Commands.{IsMadeIn}
+use Rattle.folder_files.specs.Commands.{IsMadeIn, Noting}
 use Rattle.folder_files.specs.Deeds.{Deed}
 use Rattle.folder_files.specs.Histories.{Changes}
 use Rattle.folder_files.specs.Story.{GrowsBy, Story}
@@ -40,7 +40,7 @@ use Rattle.command_line.specs.CommandNames.{begins_folders, command_of, named}
 use Rattle.command_line.specs.CommandPledge.{command_pledge, entries_by, path_by, word_pledge}
 use Rattle.command_line.specs.Profile.{path_of}
 use Rattle.command_line.specs.declared.name.CommandName.{CommandName}
-use Rattle.command_line.specs.declared.name.CommandName.TheVariants.{Anno, Folder as FolderCommand, Inc, Mark, Mhlist, Pick, Refile, Rmm, Scan, Sortm}
+use Rattle.command_line.specs.declared.name.CommandName.TheVariants.{Anno, Folder as FolderCommand, Inc, Mark, Mhlist, Mhstore, Pick, Refile, Rmm, Scan, Sortm}
 use Rattle.command_line.specs.declared.caller.Caller.{Caller}
 use Rattle.command_words.specs.Ended.{ended_cause}
 use Rattle.command_words.specs.declared.ended.Ended.{Ended}
@@ -51,7 +51,7 @@ use Rattle.command_line.proofs.Pledging.{Answered, End, answers, follows_pledged
 other_place : (mail path folder : List ℕ) (p : Place) → Mail mail ≡ p → Folder path folder ≡ p → ⊥
 other_place mail path folder p e f = cc
 
-mail_changes : (mail path folder : List ℕ) (s : Step) → IsMadeIn (Mail mail) s → Changes (Folder path folder) s → ⊥
+pub mail_changes : (mail path folder : List ℕ) (s : Step) → IsMadeIn (Mail mail) s → Changes (Folder path folder) s → ⊥
 mail_changes mail path folder (step.List p) m c = c
 mail_changes mail path folder (step.Read p n limit) m c = c
 mail_changes mail path folder (step.MakeFolder p) m c = c
@@ -67,11 +67,9 @@ mail_changes mail path folder (step.ReadFile f limit) m c = c
 mail_changes mail path folder (step.ReadDrop f from most) m c = c
 mail_changes mail path folder (step.CutDrop f length_) m c = c
 
-module _ (run : ℕ) (mail : List ℕ) where
-  no_change : (before : List Deed) (s : Step) (path folder : List ℕ) → IsOwnStep run (scan_pledge run mail).manner before s → Changes (Folder path folder) s → ⊥
-  no_change before s path folder (only_looks l) c = look_changes (Folder path folder) s l c
-  no_change before s path folder (careful f kind k makes orderly) c = mail_changes mail path folder s makes.1 c
-
+-- a command that changes no folder, and of the context the current folder alone
+module _ (w : Pledge) (mail : List ℕ) (no_change : (before : List Deed) (s : Step) (path folder : List ℕ) → IsOwnStep w.run w.manner before s → Changes (Folder path folder) s → ⊥)
+    (current : (before : List Deed) (p : Place) (name old new : List ℕ) → w.may_mark before p name old new → MarksCurrent mail before p name old new) where
   -- the current folder is no sequence's
   plain_name : is_attribute current_name ≡ false
   plain_name = refl
@@ -83,34 +81,42 @@ module _ (run : ℕ) (mail : List ℕ) where
       ap (λ z. says_private folder sequence z n) m.3.2 ∙ marks_same folder sequence current_name _ old n plain_name valid.0.0 valid.0.1
 
   -- a commit of the context marks what its base marks
-  marked_at : (path folder sequence temp : List ℕ) (before : List Deed) → MayAsk (scan_pledge run mail) before (step.Rename (Mail path) temp (private_marks path folder sequence).name) → IsMarked (scan_pledge run mail) (Mail path) temp (private_marks path folder sequence).name before
+  marked_at : (path folder sequence temp : List ℕ) (before : List Deed) → MayAsk w before (step.Rename (Mail path) temp (private_marks path folder sequence).name) → IsMarked w (Mail path) temp (private_marks path folder sequence).name before
   marked_at path folder sequence temp before may = may.marks (private_committed path folder sequence)
 
-  keeps_private : (path folder sequence temp : List ℕ) (before : List Deed) → MayAsk (scan_pledge run mail) before (step.Rename (Mail path) temp (private_marks path folder sequence).name) → KeepsMarks run (private_marks path folder sequence) temp before
+  keeps_private : (path folder sequence temp : List ℕ) (before : List Deed) → MayAsk w before (step.Rename (Mail path) temp (private_marks path folder sequence).name) → KeepsMarks w.run (private_marks path folder sequence) temp before
   keeps_private path folder sequence temp before may =
       let m = marked_at path folder sequence temp before may in
-      (m.old, m.new, m.is_base, m.created, λ n. same_marks folder sequence m.old m.new before (Mail path) (private_marks path folder sequence).name n m.made)
+      (m.old, m.new, m.is_base, m.created, λ n. same_marks folder sequence m.old m.new before (Mail path) (private_marks path folder sequence).name n (current before (Mail path) (private_marks path folder sequence).name m.old m.new m.made))
 
-  minds_commit : (path folder sequence temp : List ℕ) (before : List Deed) → MayAsk (scan_pledge run mail) before (step.Rename (Mail path) temp (private_marks path folder sequence).name)
-      → Minds run (private_marks path folder sequence) (by_text run (private_marks path folder sequence)) before (step.Rename (Mail path) temp (private_marks path folder sequence).name)
+  minds_commit : (path folder sequence temp : List ℕ) (before : List Deed) → MayAsk w before (step.Rename (Mail path) temp (private_marks path folder sequence).name)
+      → Minds w.run (private_marks path folder sequence) (by_text w.run (private_marks path folder sequence)) before (step.Rename (Mail path) temp (private_marks path folder sequence).name)
   minds_commit path folder sequence temp before may =
       let m = marked_at path folder sequence temp before may in
-      pledged_minds (scan_pledge run mail) (private_marks path folder sequence) (by_text run (private_marks path folder sequence)) temp before m (λ n. same_marks folder sequence m.old m.new before (Mail path) (private_marks path folder sequence).name n m.made)
+      pledged_minds w (private_marks path folder sequence) (by_text w.run (private_marks path folder sequence)) temp before m (λ n. same_marks folder sequence m.old m.new before (Mail path) (private_marks path folder sequence).name n (current before (Mail path) (private_marks path folder sequence).name m.old m.new m.made))
 
-  may_private : (path folder sequence : List ℕ) (before : List Deed) (s : Step) → MayAsk (scan_pledge run mail) before s → MindfulApart (private_marks path folder sequence) run before s
+  may_private : (path folder sequence : List ℕ) (before : List Deed) (s : Step) → MayAsk w before s → MindfulApart (private_marks path folder sequence) w.run before s
   may_private path folder sequence before s may (inl c) = absurd (no_change before s path folder may.is_own c)
   may_private path folder sequence before s may (inr c) =
-      subst (λ z. Minds run (private_marks path folder sequence) (by_text run (private_marks path folder sequence)) before z) (sym c.1) (minds_commit path folder sequence c.0 before (subst (λ z. MayAsk (scan_pledge run mail) before z) c.1 may))
+      subst (λ z. Minds w.run (private_marks path folder sequence) (by_text w.run (private_marks path folder sequence)) before z) (sym c.1) (minds_commit path folder sequence c.0 before (subst (λ z. MayAsk w before z) c.1 may))
 
-  may_consider : (path folder sequence : List ℕ) (before : List Deed) (s : Step) → MayAsk (scan_pledge run mail) before s → Considerate (private_marks path folder sequence) run before s
-  may_consider path folder sequence before s may temp e = inr (keeps_private path folder sequence temp before (subst (λ z. MayAsk (scan_pledge run mail) before z) e may))
+  may_consider : (path folder sequence : List ℕ) (before : List Deed) (s : Step) → MayAsk w before s → Considerate (private_marks path folder sequence) w.run before s
+  may_consider path folder sequence before s may temp e = inr (keeps_private path folder sequence temp before (subst (λ z. MayAsk w before z) e may))
 
-  -- each step that `scan` may ask for minds the marks of all sequences
-  pub minds_sequences : MindsSequences (scan_pledge run mail)
-  minds_sequences = record {
+  -- each step that it may ask for minds the marks of all sequences
+  pub minds_all : MindsSequences w
+  minds_all = record {
     public = λ path folder sequence before s may c. absurd (no_change before s path folder may.is_own c);
     private = λ path folder sequence before s may. (may_private path folder sequence before s may, may_consider path folder sequence before s may);
   }
+
+-- `scan` is one
+pub noting_changes : (run : ℕ) (mail : List ℕ) (before : List Deed) (s : Step) (path folder : List ℕ) → IsOwnStep run (Noting mail) before s → Changes (Folder path folder) s → ⊥
+noting_changes run mail before s path folder (only_looks l) c = look_changes (Folder path folder) s l c
+noting_changes run mail before s path folder (careful f kind k makes orderly) c = mail_changes mail path folder s makes.1 c
+
+pub minds_sequences : (run : ℕ) (mail : List ℕ) → MindsSequences (scan_pledge run mail)
+minds_sequences run mail = minds_all (scan_pledge run mail) mail (noting_changes run mail) (λ before p name old new m. m)
 
 -- a command that looks pledges so
 pledge_looks : (run : ℕ) (caller : Caller) (words : List (List ℕ)) (profile context : List NamedValue) → (begins_folders (command_of words) ≡ false) → command_pledge run caller words profile context ≡ scan_pledge run (path_of profile)
@@ -129,6 +135,7 @@ pledge_looks run caller (word ∷ words) profile context other = go (named word)
     go (Some Anno) other = cc (other)
     go (Some Sortm) other = cc (other)
     go (Some Mhlist) other = cc (other)
+    go (Some Mhstore) other = cc (other)
 
 -- the own steps of a call's story, where its plan keeps the rules of a pledge
 pub keeps_may : {T E : Type 0} (w : Pledge) (cause : E → Cause) (plan : Plan (Result T E)) (x y : State) (result : Result T E) (Q : List Done → Hand → Result T E → Type 0) → Keeps (rules_of w) [] x.hand plan Q → (f : Follows w.run cause plan x y result) → StoryMay w x.files.story y.files.story

@@ -55,6 +55,10 @@ use Rattle.mhlist_command.specs.Listing.{mhlist}
 use Rattle.mhlist_command.proofs.ListPledged.{list_keeps}
 use Rattle.list_words.specs.ListWords.{list_said}
 use Rattle.list_words.specs.declared.words.ListWords.{ListWords}
+use Rattle.mhstore_command.specs.Storing.{mhstore}
+use Rattle.mhstore_command.proofs.StorePledged.{store_keeps}
+use Rattle.store_words.specs.StoreWords.{store_said}
+use Rattle.store_words.specs.declared.words.StoreWords.{StoreWords}
 use Rattle.folder_command.specs.Folder.{folder as tell, pledge_by as tell_pledge_by}
 use Rattle.folder_command.proofs.FolderPledged.{folder_keeps}
 use Rattle.pack_command.specs.Pack.{pack}
@@ -85,13 +89,13 @@ use Rattle.refile_command.specs.declared.job.RefileJob.{RefileJob}
 use Rattle.refile_command.proofs.RefileMoved.{HasHeldNone}
 use Rattle.refile_command.proofs.RefilePledged.{EndsRefiled, refile_keeps}
 use Rattle.refile_command.proofs.RmmPledged.{rmm_keeps}
-use Rattle.command_line.specs.Command.{anno_begun, anno_by, anno_job, annotated_by, command, command_by, context_entered, context_seen, folder_found, inc_begun, inc_by, job_of, mark_begun, mark_by, mark_job, no_command, pick_begun, pick_by, pick_job, picked_by, refile_begun, refile_by, refile_job, rmm_begun, rmm_by, rmm_job, scan_begun, scan_by, word_by, pack_begun, pack_job, task_begun, tell_begun, tell_by, tell_job, list_begun, list_by, list_job, sort_begun, sort_by, sort_job}
+use Rattle.command_line.specs.Command.{anno_begun, anno_by, anno_job, annotated_by, command, command_by, context_entered, context_seen, folder_found, inc_begun, inc_by, job_of, mark_begun, mark_by, mark_job, no_command, pick_begun, pick_by, pick_job, picked_by, refile_begun, refile_by, refile_job, rmm_begun, rmm_by, rmm_job, scan_begun, scan_by, word_by, pack_begun, pack_job, task_begun, tell_begun, tell_by, tell_job, list_begun, list_by, list_job, sort_begun, sort_by, sort_job, store_begun, store_by, store_job}
 use Rattle.command_line.specs.CommandNames.{command_of, named}
-use Rattle.command_line.specs.CommandPledge.{IsDone, KeepsPledge, TellsAsked, anno_on_named, annos_pledge, asked_pledge, command_pledge, entries_by, incs_pledge, marks_pledge, on_named, path_by, pick_on_named, picks_pledge, refile_on_named, refiles_pledge, rmm_on_named, rmms_pledge, text_of, word_pledge, task_pledge, tell_on_named, tells_pledge, list_on_named, lists_pledge, sort_on_named, sorts_pledge}
+use Rattle.command_line.specs.CommandPledge.{IsDone, KeepsPledge, TellsAsked, anno_on_named, annos_pledge, asked_pledge, command_pledge, entries_by, incs_pledge, marks_pledge, on_named, path_by, pick_on_named, picks_pledge, refile_on_named, refiles_pledge, rmm_on_named, rmms_pledge, text_of, word_pledge, task_pledge, tell_on_named, tells_pledge, list_on_named, lists_pledge, sort_on_named, sorts_pledge, store_on_named, stores_pledge}
 use Rattle.command_line.specs.Incorporating.{IncAsked, job_by, job_writing}
 use Rattle.command_line.specs.Profile.{folder_of, path_of, profile_name}
 use Rattle.command_line.specs.declared.name.CommandName.{CommandName}
-use Rattle.command_line.specs.declared.name.CommandName.TheVariants.{Anno, Folder as FolderCommand, Inc, Mark, Mhlist, Pick, Refile, Rmm, Scan, Sortm}
+use Rattle.command_line.specs.declared.name.CommandName.TheVariants.{Anno, Folder as FolderCommand, Inc, Mark, Mhlist, Mhstore, Pick, Refile, Rmm, Scan, Sortm}
 use Rattle.command_line.specs.declared.caller.Caller.{Caller}
 use Rattle.command_line.proofs.LookFound.{acts_looked, keeps_telling, look_done, look_keeps, look_writes, looked_once, looked_only, looked_settled, writes_kept}
 use Rattle.command_line.proofs.SaidFolder.{acted_valid, asked_valid}
@@ -164,6 +168,9 @@ module _ (run : ℕ) (profile : List NamedValue) where
   abbrev pub list_acts : ListWords → List ℕ → Commanded Unit
   list_acts words folder = mhlist run (path_of profile) (list_job folder words profile)
 
+  abbrev pub store_acts : StoreWords → List ℕ → Commanded Unit
+  store_acts words folder = mhstore run (path_of profile) (store_job folder words profile)
+
   unfoldable pub scan_onward : (value : Result ScanAsked Ended) → Onward (context_step profile) (scan_by run profile value)
   unfolding scan_begun
   scan_onward (Ok words) = inr (λ b. on_context profile words.folder (scan_acts words) (reading_of b), context_asked profile words.folder (scan_acts words))
@@ -213,6 +220,11 @@ module _ (run : ℕ) (profile : List NamedValue) where
   list_onward (Ok words) = inr (λ b. on_context profile words.folder (list_acts words) (reading_of b), context_asked profile words.folder (list_acts words))
   list_onward (Err e) = inl (Err e, refl)
 
+  unfoldable pub store_onward : (value : Result StoreWords Ended) → Onward (context_step profile) (store_by run profile value)
+  unfolding store_begun
+  store_onward (Ok words) = inr (λ b. on_context profile words.folder (store_acts words) (reading_of b), context_asked profile words.folder (store_acts words))
+  store_onward (Err e) = inl (Err e, refl)
+
   unfoldable pub inc_onward : (value : Result IncAsked Ended) → Onward (context_step profile) (inc_by run profile value)
   unfolding inc_begun
   inc_onward (Ok asked) = inr (λ b. on_entries (inc_acts asked) (reading_of b), entries_asked profile (inc_acts asked))
@@ -230,6 +242,7 @@ module _ (run : ℕ) (profile : List NamedValue) where
   word_onward caller word words (Some Anno) = anno_onward (annotated_by caller profile (map chars words))
   word_onward caller word words (Some Sortm) = sort_onward (sort_said profile (map chars words))
   word_onward caller word words (Some Mhlist) = list_onward (list_said profile (map chars words))
+  word_onward caller word words (Some Mhstore) = store_onward (store_said profile (map chars words))
 
   unfoldable pub named_onward : (caller : Caller) (words : List (List ℕ)) → Onward (context_step profile) (command_by run caller profile words)
   named_onward caller [] = inl (Err (no_command None), refl)
@@ -555,6 +568,36 @@ module _ (run : ℕ) (few : run < 2 ^ 128) (profile : List NamedValue) (h : Hand
       w = list_on_named run profile words (folder_of words.folder (entries_by b) profile)
   list_words_keep b (Err e) = keeps_ended look Home profile_name LIMIT_BYTES h (Err e) (IfOkay (Finished (Some Mhlist) path)) (λ c. tt)
 
+  -- `mhstore`
+  mhstore_done : (a b : Answer) (later : List Done) (j : Hand) (r : Result Unit CommandFault) → IfOkay (Still (acts (two_readings profile a b))) later j r → IfOkay (Finished (Some Mhstore) path) later j r
+  mhstore_done a b later j (Ok u) f = record { is_done = f.settled (two_settled profile a b); unfailed = f.unfailed }
+  mhstore_done a b later j (Err e) f = tt
+
+  module _ (words : StoreWords) (a b : Answer) (es : List NamedValue) (folder : List ℕ) where
+    abbrev StoreKeeps : Pledge → Type 0
+    StoreKeeps w = Sound w (acts (two_readings profile a b)) h → Keeps (rules_of w) (two_readings profile a b) (knowing es h) (store_acts run profile words folder) (IfOkay (Finished (Some Mhstore) path))
+
+    stored_so : StoreKeeps (store_on_named run profile words (Ok folder))
+    stored_so sound =
+        let w = store_on_named run profile words (Ok folder) in
+        keeps_more (rules_of w) (two_readings profile a b) (knowing es h) (store_acts run profile words folder) (IfOkay (Still (acts (two_readings profile a b)))) (IfOkay (Finished (Some Mhstore) path)) (mhstore_done a b)
+        (store_keeps run few path (store_job folder words profile) (two_readings profile a b) (knowing es h) (known_sound w (acts (two_readings profile a b)) h es sound))
+
+    stored_at : folder_of words.folder es profile ≡ Ok folder → StoreKeeps (store_on_named run profile words (folder_of words.folder es profile))
+    stored_at is = subst (λ v. StoreKeeps (store_on_named run profile words v)) (sym is) stored_so
+
+  pub store_words_keep : (b : Answer) (value : Result StoreWords Ended)
+      → Keeps (rules_of (stores_pledge run profile (entries_by b) value)) [] h (Ask profile_step (λ c. rest_by (context_step profile) (store_by run profile value) (store_onward run profile value) b)) (IfOkay (Finished (Some Mhstore) path))
+  unfolding store_onward
+  store_words_keep b (Ok words) =
+      keeps_after w Home (Mail path) profile_name context_name LIMIT_BYTES h (on_context profile words.folder (store_acts run profile words) (reading_of b)) (IfOkay (Finished (Some Mhstore) path))
+      (λ c d sound. context_keeps w (two_readings profile c d) h sound profile words.folder (store_acts run profile words) (Finished (Some Mhstore) path) (reading_of b)
+      (λ folder is. stored_at words c d (entries_by b) folder is sound))
+    where
+      w : Pledge
+      w = store_on_named run profile words (folder_of words.folder (entries_by b) profile)
+  store_words_keep b (Err e) = keeps_ended look Home profile_name LIMIT_BYTES h (Err e) (IfOkay (Finished (Some Mhstore) path)) (λ c. tt)
+
   -- `refile`
   refile_done : (job : RefileJob) (a b : Answer) (later : List Done) (j : Hand) (r : Result Unit CommandFault) → IfOkay (EndsRefiled run few path job (acts (two_readings profile a b))) later j r → IfOkay (Finished (Some Refile) path) later j r
   refile_done job a b later j (Ok u) f = record { is_done = f.0.settled (two_settled profile a b); unfailed = f.0.unfailed }
@@ -633,6 +676,7 @@ module _ (run : ℕ) (few : run < 2 ^ 128) (profile : List NamedValue) (h : Hand
   word_keeps caller b word words (Some Anno) = anno_words_keep b (annotated_by caller profile (map chars words)) (λ said e. anno_annotates caller.clock.moment caller.clock.offset profile (map chars words) said e)
   word_keeps caller b word words (Some Sortm) = sort_words_keep b (sort_said profile (map chars words))
   word_keeps caller b word words (Some Mhlist) = list_words_keep b (list_said profile (map chars words))
+  word_keeps caller b word words (Some Mhstore) = store_words_keep b (store_said profile (map chars words))
 
   named_keeps : (caller : Caller) (b : Answer) (words : List (List ℕ))
       → Keeps (rules_of (command_pledge run caller words profile (entries_by b))) [] h (Ask profile_step (λ c. rest_by (context_step profile) (command_by run caller profile words) (named_onward run profile caller words) b)) (IfOkay (Finished (command_of words) path))
@@ -717,6 +761,14 @@ pledge_run run caller (word ∷ words) profile context = go (named word)
         by (Err e) = refl
     lists_by (Err e) = refl
 
+    stores_by : (value : Result StoreWords Ended) → (stores_pledge run profile context value).run ≡ run
+    stores_by (Ok said) = by (folder_of said.folder context profile)
+      where
+        by : (value : Result (List ℕ) CommandFault) → (store_on_named run profile said value).run ≡ run
+        by (Ok folder) = refl
+        by (Err e) = refl
+    stores_by (Err e) = refl
+
     refiles_by : (value : Result RefileWords Ended) → (refiles_pledge run profile context value).run ≡ run
     refiles_by (Ok said) = by (folder_of said.source context profile)
       where
@@ -741,6 +793,7 @@ pledge_run run caller (word ∷ words) profile context = go (named word)
     go (Some Anno) = notes_by (annotated_by caller profile (map chars words))
     go (Some Sortm) = sorts_by (sort_said profile (map chars words))
     go (Some Mhlist) = lists_by (list_said profile (map chars words))
+    go (Some Mhstore) = stores_by (store_said profile (map chars words))
 
 module _ (run : ℕ) (few : run < 2 ^ 128) (caller : Caller) (words : List (List ℕ)) where
   -- the command, by what reading the profile gave

@@ -35,6 +35,8 @@ use Rattle.pack_command.specs.declared.job.PackJob.{PackJob}
 use Rattle.inc_command.specs.IncAnswers.{IsTextOfNew, ShowsIncorporating}
 use Rattle.mhlist_command.specs.ListAnswers.{IsNoPart, ShowsListing as ShowsPartsListing, TellsFirstRows, TellsRows}
 use Rattle.mhlist_command.specs.declared.job.ListJob.{ListJob}
+use Rattle.mhstore_command.specs.StoreAnswers.{IsNoStoring, ShowsRefused, ShowsStoring, TellsFiles, TellsFirstFiles}
+use Rattle.mhstore_command.specs.declared.job.StoreJob.{StoreJob}
 use Rattle.message_lines.specs.MessageText.{Writing}
 use Rattle.message_lines.specs.declared.standing.Standing.{Standing}
 use Rattle.refile_command.specs.RefileAnswers.{ShowsRefile}
@@ -56,10 +58,12 @@ use Rattle.command_words.specs.declared.rmm.RmmWords.{RmmWords}
 use Rattle.sort_words.specs.SortWords.{sort_said}
 use Rattle.list_words.specs.ListWords.{list_said}
 use Rattle.list_words.specs.declared.words.ListWords.{ListWords}
+use Rattle.store_words.specs.StoreWords.{store_said}
+use Rattle.store_words.specs.declared.words.StoreWords.{StoreWords}
 use Rattle.command_line.specs.Causes.{IsWrongStored, ShowsCommandFault}
 use Rattle.anno_words.specs.declared.words.AnnoWords.{AnnoWords}
 use Rattle.sort_words.specs.declared.words.SortWords.{SortWords}
-use Rattle.command_line.specs.Command.{anno_job, annotated_by, list_job, mark_job, pack_job, pick_job, picked_by, refile_job, rmm_job, tell_job, sort_job}
+use Rattle.command_line.specs.Command.{anno_job, annotated_by, list_job, mark_job, pack_job, pick_job, picked_by, refile_job, rmm_job, tell_job, sort_job, store_job}
 use Rattle.command_line.specs.CommandNames.{named}
 use Rattle.command_line.specs.CommandPledge.{entries_by, path_by}
 use Rattle.command_line.specs.Incorporating.{IncAsked, job_by, job_writing}
@@ -67,7 +71,7 @@ use Rattle.command_line.specs.Looking.{WritesAs}
 use Rattle.command_line.specs.Profile.{folder_of, path_of, profile_name}
 use Rattle.command_line.specs.WordCauses.{IsRefusedByWords}
 use Rattle.command_line.specs.declared.name.CommandName.{CommandName}
-use Rattle.command_line.specs.declared.name.CommandName.TheVariants.{Anno, Folder as FolderCommand, Inc, Mark, Mhlist, Pick, Refile, Rmm, Scan, Sortm}
+use Rattle.command_line.specs.declared.name.CommandName.TheVariants.{Anno, Folder as FolderCommand, Inc, Mark, Mhlist, Mhstore, Pick, Refile, Rmm, Scan, Sortm}
 use Rattle.command_line.specs.declared.caller.Caller.{Caller}
 
 -- what shows how it ended before it came to a folder, once the words are read
@@ -165,6 +169,14 @@ abbrev pub ShowsListingParts : ℕ → List ℕ → ListJob → List NamedValue 
 ShowsListingParts run path job context (Ok said) own = TellsRows path job context said own
 ShowsListingParts run path job context (Err e) own = (ShowsCommandFault run e own ⊎ IsNoPart e) × ShowsPartsListing path job context e own
 
+-- `mhstore` on this folder: at its end it had stored the files of the messages that the job's words choose, by what it read and by these entries of the
+-- context, and it told their lines; or it is refused as a command that looks, since a message lacks a part, or since a file is there, and by what it read and
+-- stored; or a file could not be stored, which this shows
+abbrev pub ShowsStoringParts : ℕ → List ℕ → StoreJob → List NamedValue → Result (List ℕ) CommandFault → List Deed → Type 0
+ShowsStoringParts run path job context (Ok said) own = TellsFiles run path job context said own
+ShowsStoringParts run path job context (Err e) own =
+    (ShowsCommandFault run e own ⊎ (IsNoStoring e ⊎ ShowsStoring run e own)) × ShowsRefused run path job context e own
+
 -- `refile` from this folder: at its end it had brought each message that the job's words choose to all folders that they
 -- name, and said nothing; or this shows its fault
 abbrev pub ShowsRefiling : ℕ → List ℕ → RefileJob → Result (List ℕ) CommandFault → List Deed → Type 0
@@ -227,6 +239,14 @@ ShowsListWords run profile context folder r own (Ok words) =
     × ShowsListingParts run (path_of profile) (list_job folder words profile) context r own
 ShowsListWords run profile context folder r own (Err x) = ⊥
 
+-- of `mhstore`
+abbrev pub ShowsStoreWords : ℕ → List NamedValue → List NamedValue → List ℕ → Result (List ℕ) CommandFault → List Deed
+    → Result StoreWords Ended → Type 0
+ShowsStoreWords run profile context folder r own (Ok words) =
+    (folder_of words.folder context profile ≡ Ok folder)
+    × ShowsStoringParts run (path_of profile) (store_job folder words profile) context r own
+ShowsStoreWords run profile context folder r own (Err x) = ⊥
+
 -- and of `refile`, with the folder that messages leave or are copied from
 abbrev pub ShowsRefileWords : ℕ → List NamedValue → List NamedValue → List ℕ → Result (List ℕ) CommandFault → List Deed
     → Result RefileWords Ended → Type 0
@@ -266,6 +286,8 @@ ShowsNamed run caller profile context folder r own words (Some Sortm) =
     ShowsSortWords run profile context folder r own (sort_said profile (map chars words))
 ShowsNamed run caller profile context folder r own words (Some Mhlist) =
     ShowsListWords run profile context folder r own (list_said profile (map chars words))
+ShowsNamed run caller profile context folder r own words (Some Mhstore) =
+    ShowsStoreWords run profile context folder r own (store_said profile (map chars words))
 
 -- by the command that the first word names
 abbrev pub ShowsWords : ℕ → Caller → List NamedValue → List NamedValue → List ℕ → Result (List ℕ) CommandFault → List Deed
@@ -376,9 +398,38 @@ pub record TellsParts (run : ℕ) (caller : Caller) (words : List (List ℕ)) (t
   pub by_words : ListsBy (entries_by profile) (entries_by context) words job
   pub told : TellsFirstRows (path_by profile) job (entries_by context) text own
 
+-- the words of `mhstore`, the context or the profile name a folder, and this is its job there
+abbrev pub IsStoreOn : List NamedValue → List NamedValue → StoreJob → Result StoreWords Ended → Type 0
+IsStoreOn profile context job (Ok words) =
+    (folder : List ℕ) × (folder_of words.folder context profile ≡ Ok folder) × (job ≡ store_job folder words profile)
+IsStoreOn profile context job (Err x) = ⊥
+
+-- the words name `mhstore`, and this is its job by them
+abbrev pub StoresBy : List NamedValue → List NamedValue → List (List ℕ) → StoreJob → Type 0
+StoresBy profile context [] job = ⊥
+StoresBy profile context (word ∷ words) job =
+    (named word ≡ Some Mhstore) × IsStoreOn profile context job (store_said profile (map chars words))
+
+-- `mhstore` tells while it goes on: the call read the profile and the context, and this is the text of the lines of the first files that it is to store,
+-- which it has stored
+pub record TellsFilesStored (run : ℕ) (caller : Caller) (words : List (List ℕ)) (text : List ℕ) (own : List Deed) : Type 0 where
+  pub profile : Answer
+  pub context : Answer
+  pub newer : List Deed
+  pub begun :
+      own
+      ≡ newer
+      ++ did (Read (Mail (path_by profile)) context_name LIMIT_BYTES) context
+      ∷ did (Read Home profile_name LIMIT_BYTES) profile ∷ []
+  pub job : StoreJob
+  pub by_words : StoresBy (entries_by profile) (entries_by context) words job
+  pub told : TellsFirstFiles run (path_by profile) job (entries_by context) text own
+
 -- by what these deeds show, this is the text of the command on its folder: that of the sequences that `mark` made or read,
--- where it lists; what `folder` tells; that of the messages that `pick` found, or that it found none; what `inc` has told so far; or what `mhlist` has
+-- where it lists; what `folder` tells; that of the messages that `pick` found, or that it found none; or what `inc`, `mhlist` or
+-- `mhstore` has told so far
 abbrev pub TellsOnFolder : ℕ → Caller → List (List ℕ) → List ℕ → List Deed → Type 0
 TellsOnFolder run caller words text own =
     ShowsOnFolder run caller words (Ok text) own
-    ⊎ (TellsNewMail run caller words text own ⊎ (TellsNoMatch run caller words text own ⊎ TellsParts run caller words text own))
+    ⊎ (TellsNewMail run caller words text own ⊎ (TellsNoMatch run caller words text own
+    ⊎ (TellsParts run caller words text own ⊎ TellsFilesStored run caller words text own)))

@@ -29,6 +29,8 @@ use Rattle.pack_command.specs.declared.job.PackJob.{PackJob}
 use Rattle.inc_command.specs.Inc.{inc}
 use Rattle.mhlist_command.specs.Listing.{mhlist}
 use Rattle.mhlist_command.specs.declared.job.ListJob.{ListJob}
+use Rattle.mhstore_command.specs.Storing.{mhstore}
+use Rattle.mhstore_command.specs.declared.job.StoreJob.{StoreJob}
 use Rattle.refile_command.specs.Refile.{refile}
 use Rattle.refile_command.specs.Rmm.{rmm}
 use Rattle.refile_command.specs.declared.job.RefileJob.{RefileJob}
@@ -53,13 +55,15 @@ use Rattle.sort_words.specs.SortWords.{sort_said}
 use Rattle.sort_words.specs.declared.words.SortWords.{SortWords}
 use Rattle.list_words.specs.ListWords.{list_said}
 use Rattle.list_words.specs.declared.words.ListWords.{ListWords}
+use Rattle.store_words.specs.StoreWords.{store_said}
+use Rattle.store_words.specs.declared.words.StoreWords.{StoreWords}
 use Rattle.command_line.specs.CommandNames.{named}
 use Rattle.command_line.specs.Incorporating.{IncAsked, job_by, job_writing}
 use Rattle.command_line.specs.Looking.{ScanAsked, look_found, scan_asked, unseen_known}
 use Rattle.command_line.specs.Profile.{folder_of, negation_of, path_of, profile_name}
 use Rattle.command_line.specs.declared.caller.Caller.{Caller}
 use Rattle.command_line.specs.declared.name.CommandName.{CommandName}
-use Rattle.command_line.specs.declared.name.CommandName.TheVariants.{Anno, Folder as FolderCommand, Inc, Mark, Mhlist, Pick, Refile, Rmm, Scan, Sortm}
+use Rattle.command_line.specs.declared.name.CommandName.TheVariants.{Anno, Folder as FolderCommand, Inc, Mark, Mhlist, Mhstore, Pick, Refile, Rmm, Scan, Sortm}
 
 -- the context is read, and the run knows its entries
 unfoldable pub context_seen : List NamedValue → Commanded Unit
@@ -205,6 +209,18 @@ abbrev pub list_by : ℕ → List NamedValue → Result ListWords Ended → Endi
 list_by run profile (Ok words) = lifted plain (list_begun run profile words)
 list_by run profile (Err e) = Return (Err e)
 
+abbrev pub store_job : List ℕ → StoreWords → List NamedValue → StoreJob
+store_job folder words profile = record { folder = folder; specs = words.specs; parts = words.parts; clobber = words.clobber; negation = negation_of profile }
+
+unfoldable pub store_begun : ℕ → List NamedValue → StoreWords → Commanded Unit
+store_begun run profile words = do
+  folder ← folder_found profile words.folder
+  mhstore run (path_of profile) (store_job folder words profile)
+
+abbrev pub store_by : ℕ → List NamedValue → Result StoreWords Ended → Ending Unit
+store_by run profile (Ok words) = lifted plain (store_begun run profile words)
+store_by run profile (Err e) = Return (Err e)
+
 -- the source is the folder that is acted on, and becomes the current one where the words name it
 abbrev pub refile_job : List ℕ → RefileWords → List NamedValue → RefileJob
 refile_job folder words profile = record {
@@ -254,6 +270,7 @@ word_by run caller profile word words (Some FolderCommand) = tell_by run profile
 word_by run caller profile word words (Some Anno) = anno_by run profile (annotated_by caller profile (map chars words))
 word_by run caller profile word words (Some Sortm) = sort_by run profile (sort_said profile (map chars words))
 word_by run caller profile word words (Some Mhlist) = list_by run profile (list_said profile (map chars words))
+word_by run caller profile word words (Some Mhstore) = store_by run profile (store_said profile (map chars words))
 
 abbrev pub command_by : ℕ → Caller → List NamedValue → List (List ℕ) → Ending Unit
 command_by run caller profile [] = Return (Err (no_command None))

@@ -1,7 +1,7 @@
 -- The commands that there are, by name.
 use Rattle.std.specs.Prelude.{ℕ, Bool, true, false, List, [], ◌∷◌, Option, None, Some, bytes_eq, codes, if◌then◌else◌}
 use Rattle.command_line.specs.declared.name.CommandName.{CommandName}
-use Rattle.command_line.specs.declared.name.CommandName.TheVariants.{Anno, Folder as FolderCommand, Inc, Mark, Mhlist, Pick, Refile, Rmm, Scan, Sortm}
+use Rattle.command_line.specs.declared.name.CommandName.TheVariants.{Anno, Folder as FolderCommand, Inc, Mark, Mhlist, Mhstore, Pick, Refile, Rmm, Scan, Sortm}
 
 -- the command of this name
 abbrev pub named : List ℕ → Option CommandName
@@ -15,7 +15,8 @@ named word =
     else (if bytes_eq word (codes "folder") then Some FolderCommand
     else (if bytes_eq word (codes "anno") then Some Anno
     else (if bytes_eq word (codes "sortm") then Some Sortm
-    else (if bytes_eq word (codes "mhlist") then Some Mhlist else None)))))))))
+    else (if bytes_eq word (codes "mhlist") then Some Mhlist
+    else (if bytes_eq word (codes "mhstore") then Some Mhstore else None))))))))))
 
 -- the command that the words of a call name
 abbrev pub command_of : List (List ℕ) → Option CommandName
@@ -35,6 +36,7 @@ begins_folders (Some FolderCommand) = true
 begins_folders (Some Anno) = true
 begins_folders (Some Sortm) = true
 begins_folders (Some Mhlist) = true
+begins_folders (Some Mhstore) = true
 
 -- it makes its folder where that is missing
 abbrev pub makes_folders : Option CommandName → Bool
@@ -49,6 +51,22 @@ makes_folders (Some FolderCommand) = false
 makes_folders (Some Anno) = false
 makes_folders (Some Sortm) = false
 makes_folders (Some Mhlist) = false
+makes_folders (Some Mhstore) = false
+
+-- it stores files in the current directory
+abbrev pub stores_files : Option CommandName → Bool
+stores_files None = false
+stores_files (Some Inc) = false
+stores_files (Some Scan) = false
+stores_files (Some Mark) = false
+stores_files (Some Pick) = false
+stores_files (Some Refile) = false
+stores_files (Some Rmm) = false
+stores_files (Some FolderCommand) = false
+stores_files (Some Anno) = false
+stores_files (Some Sortm) = false
+stores_files (Some Mhlist) = false
+stores_files (Some Mhstore) = true
 
 -- what shows how it ended is said with one folder at most that is let go; of `refile`, which lets several go, apart
 abbrev pub shows_ends : Option CommandName → Bool
@@ -63,3 +81,4 @@ shows_ends (Some FolderCommand) = true
 shows_ends (Some Anno) = true
 shows_ends (Some Sortm) = true
 shows_ends (Some Mhlist) = true
+shows_ends (Some Mhstore) = true

@@ -24,6 +24,7 @@ use Rattle.sortm_command.specs.SortOutcome.{sort_work}
 use Rattle.folder_command.specs.Folder.{folder_work}
 use Rattle.pack_command.specs.PackOutcome.{pack_work}
 use Rattle.mhlist_command.specs.ListOutcome.{mhlist_work}
+use Rattle.mhstore_command.specs.StoreOutcome.{mhstore_work}
 use Rattle.inc_command.specs.IncOutcome.{inc_work, with_folder_made}
 use Rattle.refile_command.specs.MadeFolder.{or_empty}
 use Rattle.refile_command.specs.RefileOutcome.{refile_work}
@@ -46,14 +47,16 @@ use Rattle.sort_words.specs.declared.words.SortWords.{SortWords}
 use Rattle.sort_words.specs.SortWords.{sort_said}
 use Rattle.list_words.specs.ListWords.{list_said}
 use Rattle.list_words.specs.declared.words.ListWords.{ListWords}
-use Rattle.command_line.specs.Command.{anno_job, annotated_by, job_of, list_job, mark_job, no_command, pack_job, pick_job, picked_by, refile_job, rmm_job, tell_job, sort_job}
+use Rattle.store_words.specs.StoreWords.{store_said}
+use Rattle.store_words.specs.declared.words.StoreWords.{StoreWords}
+use Rattle.command_line.specs.Command.{anno_job, annotated_by, job_of, list_job, mark_job, no_command, pack_job, pick_job, picked_by, refile_job, rmm_job, tell_job, sort_job, store_job}
 use Rattle.command_line.specs.CommandNames.{named}
 use Rattle.command_line.specs.Incorporating.{IncAsked, job_by, job_writing}
 use Rattle.command_line.specs.Looking.{InFile, Known, ScanAsked, Telling, scan_asked, written_with}
 use Rattle.command_line.specs.Profile.{folder_of, path_of, profile_name}
 use Rattle.command_line.specs.declared.caller.Caller.{Caller}
 use Rattle.command_line.specs.declared.name.CommandName.{CommandName}
-use Rattle.command_line.specs.declared.name.CommandName.TheVariants.{Anno, Folder as FolderCommand, Inc, Mark, Mhlist, Pick, Refile, Rmm, Scan, Sortm}
+use Rattle.command_line.specs.declared.name.CommandName.TheVariants.{Anno, Folder as FolderCommand, Inc, Mark, Mhlist, Mhstore, Pick, Refile, Rmm, Scan, Sortm}
 
 abbrev pub plainly : Result Unit CommandFault → Result Unit Ended
 plainly (Ok u) = Ok u
@@ -188,6 +191,14 @@ abbrev pub list_words_work : Mailbox → List NamedValue → Result ListWords En
 list_words_work m profile (Ok words) = of_stage (on_folder m profile words.folder (lists m profile words))
 list_words_work m profile (Err e) = refused_at m e
 
+-- `mhstore`, which stores files in the current directory besides
+abbrev pub stores : Mailbox → List NamedValue → StoreWords → FolderWork
+stores m profile words context folder = mhstore_work (path_of profile) context (store_job folder words profile) m
+
+abbrev pub store_words_work : Mailbox → List NamedValue → Result StoreWords Ended → Work Ended
+store_words_work m profile (Ok words) = of_stage (on_folder m profile words.folder (stores m profile words))
+store_words_work m profile (Err e) = refused_at m e
+
 -- `refile`: so too in each folder that it begins; one that is missing is empty
 abbrev pub refiles : Meeting → Mailbox → List NamedValue → RefileWords → FolderWork
 refiles g m profile words context folder =
@@ -222,6 +233,7 @@ word_work g m caller profile word words (Some FolderCommand) = tell_words_work g
 word_work g m caller profile word words (Some Anno) = anno_words_work g m profile (annotated_by caller profile (map chars words))
 word_work g m caller profile word words (Some Sortm) = sort_words_work g m profile (sort_said profile (map chars words))
 word_work g m caller profile word words (Some Mhlist) = list_words_work m profile (list_said profile (map chars words))
+word_work g m caller profile word words (Some Mhstore) = store_words_work m profile (store_said profile (map chars words))
 
 abbrev pub named_work : Meeting → Mailbox → Caller → List NamedValue → List (List ℕ) → Work Ended
 named_work g m caller profile [] = refused_at m (no_command None)

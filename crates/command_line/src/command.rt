@@ -21,6 +21,7 @@ use crate::refiling::run_refile;
 use crate::removing::run_rmm;
 use crate::scanning::run_scan;
 use crate::sorting::run_sortm;
+use crate::storing::run_mhstore;
 use crate::telling::run_folder;
 use command_stages::read_text;
 use command_words::Ended;
@@ -73,6 +74,7 @@ fn run_word<F: Files, O: Sink>(
         Some(CommandName::Anno) => run_anno(alloc, run, files, profile, caller, rest),
         Some(CommandName::Sortm) => run_sortm(alloc, run, files, profile, rest),
         Some(CommandName::Mhlist) => run_mhlist(alloc, run, files, out, profile, rest),
+        Some(CommandName::Mhstore) => run_mhstore(alloc, run, files, out, profile, rest),
         None => {
             let word = Bytes::from_slice(alloc, word.as_bytes())?;
             Err(no_command(Some(word)))

@@ -16,6 +16,7 @@ mod refiling;
 mod removing;
 mod scanning;
 mod sorting;
+mod storing;
 mod telling;
 
 pub use caller::{Caller, Clock};

@@ -15,6 +15,7 @@ pub enum CommandName {
     Anno,
     Sortm,
     Mhlist,
+    Mhstore,
 }
 
 impl CommandName {
@@ -42,6 +43,8 @@ impl CommandName {
             Some(CommandName::Sortm)
         } else if word == "mhlist" {
             Some(CommandName::Mhlist)
+        } else if word == "mhstore" {
+            Some(CommandName::Mhstore)
         } else {
             None
         }

@@ -43,10 +43,10 @@ use Rattle.refile_command.specs.RefileAnswers.{IsEndedFirst}
 use Rattle.command_line.specs.BegunCauses.{ShowsFault, ShowsOnFolder}
 use Rattle.command_line.specs.Command.{command}
 use Rattle.command_words.specs.Ended.{ended_cause}
-use Rattle.command_line.specs.CommandNames.{begins_folders, command_of, makes_folders}
+use Rattle.command_line.specs.CommandNames.{begins_folders, command_of, makes_folders, stores_files}
 use Rattle.command_line.specs.Outcomes.{work_of}
 use Rattle.command_line.specs.declared.name.CommandName.{CommandName}
-use Rattle.command_line.specs.declared.name.CommandName.TheVariants.{Anno, Folder as FolderCommand, Inc, Mark, Mhlist, Pick, Refile, Rmm, Scan, Sortm}
+use Rattle.command_line.specs.declared.name.CommandName.TheVariants.{Anno, Folder as FolderCommand, Inc, Mark, Mhlist, Mhstore, Pick, Refile, Rmm, Scan, Sortm}
 use Rattle.command_words.specs.declared.ended.Ended.{Ended}
 use Rattle.command_line.proofs.BegunEnding.{run_ends_by, run_tells}
 use Rattle.command_line.proofs.Ending.{EndsAs, ShowsLooked, run_ends}
@@ -60,7 +60,8 @@ use Rattle.mh_tools.proofs.Told.{adds_none, fault_undone}
 use Rattle.mh_tools.proofs.BareWorlds.{story_bare}
 use Rattle.mh_tools.specs.AnswersAlone.{HasOutcome, IsUnfaulted, HasOutcomeAlone, AloneIfTold, AnswersAlone}
 use Rattle.mh_tools.specs.AnswersAsOne.{AnswersAsOne}
-use Rattle.mh_tools.specs.Calls.{Call, LooksOnly, MakesFolder, begins, ends, MadeBy}
+use Rattle.mhstore_command.specs.ClearWork.{HasClearWork}
+use Rattle.mh_tools.specs.Calls.{Call, LooksOnly, MakesFolder, StoresFiles, begins, ends, MadeBy}
 use Rattle.mh_tools.specs.FollowsItsPlan.{TellsStatus, FollowsItsPlan}
 use Rattle.mh_tools.specs.IsCaused.{IsCaused, IsShown, IsShownBegun, IsShownRefiled, MayBegin, Refiles}
 use Rattle.mh_tools.specs.KeepsMail.{KeepsMail, KeepsMarks}
@@ -114,6 +115,22 @@ looks_made (Some FolderCommand) looks made = cc (made)
 looks_made (Some Anno) looks made = cc (made)
 looks_made (Some Sortm) looks made = cc (made)
 looks_made (Some Mhlist) looks made = cc (made)
+looks_made (Some Mhstore) looks made = cc (made)
+
+-- nor does it store files
+looks_stored : (name : Option CommandName) → begins_folders name ≡ false → stores_files name ≡ true → ⊥
+looks_stored None looks stored = cc (stored)
+looks_stored (Some Inc) looks stored = cc (stored)
+looks_stored (Some Scan) looks stored = cc (stored)
+looks_stored (Some Mark) looks stored = cc (stored)
+looks_stored (Some Pick) looks stored = cc (stored)
+looks_stored (Some Refile) looks stored = cc (stored)
+looks_stored (Some Rmm) looks stored = cc (stored)
+looks_stored (Some FolderCommand) looks stored = cc (stored)
+looks_stored (Some Anno) looks stored = cc (stored)
+looks_stored (Some Sortm) looks stored = cc (stored)
+looks_stored (Some Mhlist) looks stored = cc (stored)
+looks_stored (Some Mhstore) looks stored = cc (looks)
 
 verdict_at : (s t : Status) → s ≡ t → IsVerdict t → IsVerdict s
 verdict_at s t e v = rw e v
@@ -279,7 +296,7 @@ module _ (c : Call) (plan : FollowsItsPlan c) where
     seen : LooksOnly c → (d : Contents) → AgreesWith d steps → GaveSeen plan.left (work (mailbox_in d)).text (said_of (deeds_in went.log)) exit (CommandEnds false (work (mailbox_in d)))
     seen looks d agrees =
         seen_gave (command run (caller_of c.setting) c.words) fresh plan.left (deeds_in went.log) exit (work (mailbox_in d)).text (CommandEnds false (work (mailbox_in d))) d agrees went.runs
-        (command_gives false run d few (λ e. absurd (cc (e))) (caller_of c.setting) c.words (λ is. sym looks ∙ is) (λ made. absurd (looks_made (command_of c.words) looks made)) (first_view d (numbers_put steps []) (is_first_met steps)) refl (command_first run (caller_of c.setting) c.words looks d (numbers_put steps []) fresh plan.left (deeds_in went.log) exit went.runs))
+        (command_gives false run d few (λ e. absurd (cc (e))) (caller_of c.setting) c.words (λ is. sym looks ∙ is) (λ made. absurd (looks_made (command_of c.words) looks made)) (λ stored. absurd (looks_stored (command_of c.words) looks stored)) (first_view d (numbers_put steps []) (is_first_met steps)) refl (command_first run (caller_of c.setting) c.words looks d (numbers_put steps []) fresh plan.left (deeds_in went.log) exit went.runs))
 
     -- what an end says of the work
     ends_verdict : (alone : Bool) (w : Work Ended) (z : View) (j : Hand) (left : List ℕ) (r : Result Unit Ended) → IsVerdict (ended_status r) → CommandEnds alone w z j left r → (left ≡ []) × DecidesEnd alone w z r
@@ -452,13 +469,13 @@ module _ (c : Call) (plan : FollowsItsPlan c) where
 
       alone_told : (old new : Story) → Grows run old new (filed_in went.log) → AreMade run (Some old) (Some new) steps → HasOutcomeAlone c old new
       unfolding outcome_of
-      alone_told old new grows made_ = λ added asked start possible alone.
+      alone_told old new grows made_ = λ added asked start possible alone clear.
           let never : Made IsFailed (own run (past_of (events_since old new))) → ⊥ = λ failed. unfaulted.files (went.failed_cause (made_failed (deeds_in went.log) (rw (← made_) at failed))) in
           let first = first_of (length old.history) added in
           let d = contents_of (world_at new first) in
           let w = work (mailbox_in d) in
           let g = alone_gave (λ p x. false) run old new added (command run (caller_of c.setting) c.words) fresh plan.left (deeds_in went.log) exit w.text (CommandEnds true w) (lone_changes run old new (filed_in went.log) added grows asked start possible alone never) (sym made_) went.runs
-          (command_gives true run d few (λ e p. homes_there run d p) (caller_of c.setting) c.words (λ is. refl) (λ makes. story_bare new first) (first_view d (puts_in (deeds_in went.log)) (λ p x. false)) refl (record { seen = refl; unmet = λ p x. refl })) in
+          (command_gives true run d few (λ e p. homes_there run d p) (caller_of c.setting) c.words (λ is. refl) (λ makes. story_bare new first) clear (first_view d (puts_in (deeds_in went.log)) (λ p x. false)) refl (record { seen = refl; unmet = λ p x. refl })) in
           subst (λ m. (c.status ≡ NoMemory) ⊎ HasOutcome (answered (work m)) (mailbox_at new (first + length added)) c) (sym (mailbox_is (world_at new first)))
           (by_end w g.view plan.left (mailbox_at new (first + length added)) (ap mailbox_in g.contents ∙ sym (mailbox_is (world_at new (first + length added)))) g.gave outcome refl)
 
@@ -470,10 +487,10 @@ module _ (c : Call) (plan : FollowsItsPlan c) where
         by_story None (Some new) grows made_ unfaulted e = absurd grows
         by_story (Some old) None grows made_ unfaulted e = absurd grows
         by_story (Some old) (Some new) grows made_ unfaulted (inl is) = alone_told unfaulted is old new grows made_
-        by_story (Some old) (Some new) grows made_ unfaulted (inr is) = λ added asked start possible alone. inl is
+        by_story (Some old) (Some new) grows made_ unfaulted (inr is) = λ added asked start possible alone clear. inl is
 
     -- where one mailbox answers all steps
-    module _ (d z : Contents) (bare : MakesFolder c → IsBare d) (fits : FitPast by_contents d steps z) where
+    module _ (d z : Contents) (bare : MakesFolder c → IsBare d) (clear : StoresFiles c → HasClearWork c.setting.run d) (fits : FitPast by_contents d steps z) where
       abbrev first : View
       first = first_view d (puts_in (deeds_in went.log)) (λ p x. false)
 
@@ -483,7 +500,7 @@ module _ (c : Call) (plan : FollowsItsPlan c) where
       gave : giving.Gave fitted.0 plan.left (work (mailbox_in d)).text (said_of (deeds_in went.log)) exit (CommandEnds true (work (mailbox_in d)))
       gave =
           run_gives (by_view true) first fitted.0 fresh plan.left (work (mailbox_in d)).text (command run (caller_of c.setting) c.words) (deeds_in went.log) exit (CommandEnds true (work (mailbox_in d)))
-          (command_gives true run d few (λ e p. homes_there run d p) (caller_of c.setting) c.words (λ is. refl) bare first refl (record { seen = refl; unmet = λ p x. refl })) fitted.2 went.runs
+          (command_gives true run d few (λ e p. homes_there run d p) (caller_of c.setting) c.words (λ is. refl) bare clear first refl (record { seen = refl; unmet = λ p x. refl })) fitted.2 went.runs
 
       -- another run's lock and a name that was changed meanwhile are not answered
       never : (r : Result Unit Ended) (k : CommandFault) (s : Status) → outcome ≡ r → ended_status r ≡ s → (s ≡ Done → ⊥) → ((f : CommandFault) → fault_status f ≡ s → f ≡ k) → command_cause k ≡ OfPlan
@@ -506,8 +523,8 @@ module _ (c : Call) (plan : FollowsItsPlan c) where
           deeds = steps;
           made = made;
           prefix = λ m n a. subst (λ k. AddsPart c.before.out.told c.after.out.told (work k).text) a.shown
-              (let g = gave a.contents a.left a.bare a.answers in (said_of (deeds_in went.log), g.left, g.prefix, said_adds));
-          verdict = λ m n a v. subst (λ k. HasOutcome (answered (work k)) n c) a.shown (verdict_on a.contents a.left a.bare a.answers n a.made v);
-          unlocked = λ m n a place q. never a.contents a.left a.bare a.answers outcome (fault.Locked place) (Locked place) refl (settle (Locked place) q (λ e. cc (e))) (λ e. cc (e)) (λ f e. fault_locked f place e) refl (λ left x e. e refl);
-          unmeddled = λ m n a place name q. never a.contents a.left a.bare a.answers outcome (fault.Meddled place name) (Meddled place name) refl (settle (Meddled place name) q (λ e. cc (e))) (λ e. cc (e)) (λ f e. fault_meddled f place name e) refl (λ left x e. e refl);
+              (let g = gave a.contents a.left a.bare a.clear a.answers in (said_of (deeds_in went.log), g.left, g.prefix, said_adds));
+          verdict = λ m n a v. subst (λ k. HasOutcome (answered (work k)) n c) a.shown (verdict_on a.contents a.left a.bare a.clear a.answers n a.made v);
+          unlocked = λ m n a place q. never a.contents a.left a.bare a.clear a.answers outcome (fault.Locked place) (Locked place) refl (settle (Locked place) q (λ e. cc (e))) (λ e. cc (e)) (λ f e. fault_locked f place e) refl (λ left x e. e refl);
+          unmeddled = λ m n a place name q. never a.contents a.left a.bare a.clear a.answers outcome (fault.Meddled place name) (Meddled place name) refl (settle (Meddled place name) q (λ e. cc (e))) (λ e. cc (e)) (λ f e. fault_meddled f place name e) refl (λ left x e. e refl);
         }

@@ -5,9 +5,11 @@ use Rattle.mh_base.specs.Streams.{Adds}
 use Rattle.folder_files.specs.Histories.{IsAlone}
 use Rattle.folder_files.specs.Story.{Story, IsPossible}
 use Rattle.folder_files.specs.Worlds.{IsStart}
-use Rattle.file_plans.specs.Alone.{first_of, mailbox_at}
+use Rattle.file_plans.specs.Alone.{first_of, mailbox_at, world_at}
+use Rattle.file_plans.specs.Contents.{contents_of}
 use Rattle.file_plans.specs.Mailboxes.{Mailbox}
-use Rattle.mh_tools.specs.Calls.{Call}
+use Rattle.mhstore_command.specs.ClearWork.{HasClearWork}
+use Rattle.mh_tools.specs.Calls.{Call, StoresFiles}
 use Rattle.mh_tools.specs.Outcome.{Outcome, outcome_of}
 use Rattle.mh_tools.specs.Status.{IsVerdict}
 use Rattle.mh_tools.specs.declared.status.Status.TheVariants.{NoMemory}
@@ -27,12 +29,14 @@ pub record IsUnfaulted (c : Call) : Type 0 where
   pub out : Rose c.before.out.faults c.after.out.faults → ⊥
 
 -- Where the history began at a start, nothing else happened between the call's first step and its last, no other run had a lock at the first, the
--- story was a possible one, and no count rose: the call has the outcome of its words on the mailbox at its first step, or wants memory. Nothing else
+-- story was a possible one, and no count rose, and for a call that stores files the current directory was there and no file of it had a temporary name of
+-- the run: the call has the outcome of its words on the mailbox at its first step, or wants memory. Nothing else
 -- is answered then.
 abbrev pub HasOutcomeAlone : Call → Story → Story → Type 0
 HasOutcomeAlone c old new =
     (added : List ℕ) → new.asked ≡ old.asked ++ added → IsStart new.start → IsPossible old → IsAlone c.setting.run new.start new.history added →
     let first = first_of (length old.history) added in
+    (StoresFiles c → HasClearWork c.setting.run (contents_of (world_at new first))) →
     (c.status ≡ NoMemory) ⊎ HasOutcome (outcome_of c.words (mailbox_at new first) c.setting c.before.input.left) (mailbox_at new (first + length added)) c
 
 -- the same, where a story is told

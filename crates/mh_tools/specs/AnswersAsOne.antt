@@ -8,13 +8,15 @@ use Rattle.file_plans.specs.Contents.{Contents, by_contents, mailbox_in}
 use Rattle.file_plans.specs.Mailboxes.{Mailbox}
 use Rattle.opened_folders.specs.Making.{IsBare}
 use Rattle.mh_tools.specs.AnswersAlone.{HasOutcome}
-use Rattle.mh_tools.specs.Calls.{Call, MadeBy, MakesFolder}
+use Rattle.mhstore_command.specs.ClearWork.{HasClearWork}
+use Rattle.mh_tools.specs.Calls.{Call, MadeBy, MakesFolder, StoresFiles}
 use Rattle.mh_tools.specs.Status.{IsVerdict}
 use Rattle.mh_tools.specs.TellsWhatItSaw.{outcome_on}
 use Rattle.mh_tools.specs.declared.status.Status.TheVariants.{Locked, Meddled}
 
 -- Each of these steps that did not fail was answered as this mailbox answers it to a call that runs alone, after what the steps before it
--- made of it; all of them made it the second one. Where the call makes its folder, one that is missing there is empty once it is made.
+-- made of it; all of them made it the second one. Where the call makes its folder, one that is missing there is empty once it is made; and where it
+-- stores files, the current directory is there, and no file of it has a temporary name of the run.
 pub record AreAnsweredBy (c : Call) (before after : Mailbox) (deeds : List Deed) : Type 0 where
   pub contents : Contents
   pub shown : mailbox_in contents ≡ before
@@ -22,6 +24,7 @@ pub record AreAnsweredBy (c : Call) (before after : Mailbox) (deeds : List Deed)
   pub made : mailbox_in left ≡ after
   pub answers : FitPast by_contents contents deeds left
   pub bare : MakesFolder c → IsBare contents
+  pub clear : StoresFiles c → HasClearWork c.setting.run contents
 
 -- Where one mailbox answers all own steps of the call so: the output gained a prefix of what the call answers on it alone. Done and a refusal
 -- are the ones that it answers there, with the whole output, the error line, and the mailbox that its own steps made. Neither is another run's

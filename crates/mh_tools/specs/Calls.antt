@@ -6,7 +6,7 @@ use Rattle.folder_files.specs.Story.{FilesState}
 use Rattle.file_plans.specs.Follows.{State, all}
 use Rattle.file_plans.specs.Plan.{Hand}
 use Rattle.file_plans.specs.Sightings.{AreMade}
-use Rattle.command_line.specs.CommandNames.{begins_folders, command_of, makes_folders}
+use Rattle.command_line.specs.CommandNames.{begins_folders, command_of, makes_folders, stores_files}
 use Rattle.mh_tools.specs.Setting.{SettingParts}
 use Rattle.mh_tools.specs.declared.status.Status.{Status}
 
@@ -49,3 +49,7 @@ LooksOnly c = begins_folders (command_of c.words) ≡ false
 -- they name one that makes its folder
 abbrev pub MakesFolder : Call → Type 0
 MakesFolder c = makes_folders (command_of c.words) ≡ true
+
+-- they name one that stores files in the current directory
+abbrev pub StoresFiles : Call → Type 0
+StoresFiles c = stores_files (command_of c.words) ≡ true

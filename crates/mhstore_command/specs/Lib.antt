@@ -1,3 +1,4 @@
+pub mod ClearWork
 pub mod Files
 pub mod StoreAlone
 pub mod StoreAnswers
