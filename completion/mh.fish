@@ -22,6 +22,8 @@ function __mh_switches
             echo "-datefield -textfield"
         case mhlist
             echo "-part"
+        case mhstore
+            echo "-part -clobber"
     end
 end
 
@@ -47,9 +49,9 @@ end
 function __mh_words
     set -l before (commandline -opc)
     if not set -q before[2]
-        string split ' ' -- "inc scan folder pick mark refile rmm anno sortm mhlist help --help --version"
+        string split ' ' -- "inc scan folder pick mark refile rmm anno sortm mhlist mhstore help --help --version"
     else if test $before[2] = help
-        string split ' ' -- "inc scan folder pick mark refile rmm anno sortm mhlist errors"
+        string split ' ' -- "inc scan folder pick mark refile rmm anno sortm mhlist mhstore errors"
     else
         switch (commandline -ct)
             case '-*'

@@ -11,7 +11,7 @@ from pathlib import Path
 
 PROGRAM, ROOM = sys.argv[1], Path(sys.argv[2])
 TOP = Path(__file__).resolve().parent.parent.parent
-COMMANDS = ["anno", "folder", "inc", "mark", "mhlist", "pick", "refile", "rmm", "scan", "sortm"]
+COMMANDS = ["anno", "folder", "inc", "mark", "mhlist", "mhstore", "pick", "refile", "rmm", "scan", "sortm"]
 passed = failed = 0
 
 
@@ -34,7 +34,7 @@ def tables():
     files = [it for crate in below for it in (TOP / f"crates/{crate}/src").glob("table*.rt") if crate.endswith("_words")]
     found = {}
     for name, body in re.findall(r"fn (\w+)_table\(.*?\n\{(.*?)\n\}", "\n".join(it.read_text() for it in files), re.S):
-        found[{"sort": "sortm", "list": "mhlist"}.get(name, name)] = set(re.findall(r'push_switch\(alloc, &mut switches, "(\w+)"', body))
+        found[{"sort": "sortm", "list": "mhlist", "store": "mhstore"}.get(name, name)] = set(re.findall(r'push_switch\(alloc, &mut switches, "(\w+)"', body))
     return found
 
 
@@ -133,7 +133,7 @@ def help_pages():
 
 
 # lines of commands that aren't there yet
-LATER = {"bad draft at line", "file exists"}
+LATER = {"bad draft at line"}
 
 
 def errors():

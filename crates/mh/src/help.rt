@@ -6,6 +6,7 @@ mod folder;
 mod inc;
 mod mark;
 mod mhlist;
+mod mhstore;
 mod overview;
 mod pick;
 mod refile;
@@ -36,6 +37,7 @@ fn command_page(word: &str) -> Option<&'static str> {
         "inc" => Some(inc::PAGE),
         "mark" => Some(mark::PAGE),
         "mhlist" => Some(mhlist::PAGE),
+        "mhstore" => Some(mhstore::PAGE),
         "pick" => Some(pick::PAGE),
         "refile" => Some(refile::PAGE),
         "rmm" => Some(rmm::PAGE),

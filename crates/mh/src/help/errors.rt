@@ -37,6 +37,7 @@ its status tells how it ended:
    mail drop has changed              another program took mail out of it
    no such file                       of a name that was given, as to -form
    no such part                       mh mhlist shows which there are
+   file exists                        -clobber always replaces it
 
 2  fault: a file, the input or the output could not be read or written. Nothing
    that stood is lost; run the command again when it is mended
