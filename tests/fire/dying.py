@@ -104,6 +104,11 @@ def sortm(rng, numbers, large):
     return Case(["sortm", f"+{SOURCE}", *as_words(chosen), "-textfield", "subject"], chosen, [SOURCE], "sortm")
 
 
+def pack(rng, numbers, large):
+    """Messages are numbered anew; those that stand at their places already stay."""
+    return Case(["folder", f"+{SOURCE}", "-pack"], [n for place, n in enumerate(numbers, 1) if n != place], [SOURCE], "pack")
+
+
 # The commands that change something. A later command is one entry more, with a kind of its own in `stands` where none of these fits it.
 COMMANDS = {
     "inc": inc,
@@ -122,7 +127,11 @@ COMMANDS = {
     "folder": folder,
     "anno": anno,
     "sortm": sortm,
+    "folder -pack": pack,
 }
+
+# The kinds by which messages get other numbers in their folder.
+MOVING = ("sortm", "pack")
 
 
 def ranged(rng, numbers):
@@ -250,7 +259,7 @@ def stands(scene, look, case):
     if case.kind == "inc":
         comes = set(scene.after.texts()) - set(before.texts())
         return moved(before, look, SOURCE, ()) + newcomers(before, look, case.into, comes) + taken_in(look, SOURCE, before.drop)
-    if case.kind == "sortm":
+    if case.kind in MOVING:
         return (moved(before, look, SOURCE, case.chosen) + newcomers(before, look, case.into, comes, case.chosen)
                 + sorted_whole(before, look, SOURCE, case.chosen))
     leaves = case.kind in ("refile", "rmm", "unlink", "anno")
@@ -268,6 +277,8 @@ def stands(scene, look, case):
 
 def slots(case):
     """The numbers that may lead to another message."""
+    if case.kind == "pack":
+        return {(SOURCE, n) for n in range(min(case.chosen, default=0), 2 * max(case.chosen, default=0))}
     return {(SOURCE, n) for n in case.chosen} if case.kind == "sortm" else ()
 
 
@@ -280,7 +291,7 @@ def books(scene, looks, out, settled):
     if settled:
         bad += left_aside(look, look.numbers)
     for folder in look.numbers:
-        if scene.case.kind == "sortm" and folder == SOURCE:
+        if scene.case.kind in MOVING and folder == SOURCE:
             bad += marks_went(scene.before, look, folder, scene.case.chosen, [MENDED])
         else:
             bad += sequences_kept(scene.before, scene.after, look, folder, settled, [MENDED])
@@ -323,12 +334,17 @@ def ordered(look, numbers):
     return [] if keys == sorted(keys) else [f"the messages {numbers} do not stand in order"]
 
 
+def packed(before, look):
+    """The numbers are those from 1 on; and where no message stands twice they are in the order that they had."""
+    numbers, texts = sorted(look.numbers[SOURCE]), [before.numbers[SOURCE][n] for n in sorted(before.numbers[SOURCE])]
+    bad = [] if numbers == list(range(1, len(numbers) + 1)) else [f"the numbers are {numbers}"]
+    return bad + (["the messages are not in their order"] if len(numbers) == len(texts) and [look.numbers[SOURCE][n] for n in numbers] != texts else [])
+
+
 def ended(scene, look, end):
     """What the command run again must have come to. A message may stand twice then where it went."""
     case = scene.case
     leaves = case.kind in ("refile", "rmm", "unlink")
-    if case.kind == "sortm":
-        leaves = False
     bad = moved(scene.before, end, SOURCE, case.chosen if leaves else ())
     if case.kind == "inc":
         there, were = list(end.numbers[SOURCE].values()), list(look.numbers[SOURCE].values())
@@ -339,9 +355,10 @@ def ended(scene, look, end):
     elif case.kind in ("refile", "link"):
         texts = [scene.before.numbers[SOURCE][n] for n in case.chosen]
         bad += [f"a message is not in {folder}" for folder in case.into for text in texts if text not in end.numbers[folder].values()]
-    if case.kind == "sortm":
-        return (moved(scene.before, end, SOURCE, case.chosen) + sorted_whole(scene.before, end, SOURCE, case.chosen)
-                + marks_went(scene.before, end, SOURCE, case.chosen, [MENDED]) + ordered(end, sorted(case.chosen & set(end.numbers[SOURCE]))))
+    if case.kind in MOVING:
+        bad = (moved(scene.before, end, SOURCE, case.chosen) + sorted_whole(scene.before, end, SOURCE, case.chosen)
+               + marks_went(scene.before, end, SOURCE, case.chosen, [MENDED]))
+        return bad + (packed(scene.before, end) if case.kind == "pack" else ordered(end, sorted(case.chosen & set(end.numbers[SOURCE]))))
     if case.kind == "anno":
         bad = moved(scene.before, end, SOURCE, case.chosen) + noted_whole(scene.before, end, SOURCE, case.chosen)
         bad += [f"message {n} has no line" for n in case.chosen if not end.numbers[SOURCE].get(n, b"").startswith(NOTE)]
@@ -407,4 +424,6 @@ def undisturbed(scene):
     """The command ends well where nobody kills it, and the rules hold of what it leaves."""
     bad = [] if scene.status == 0 else [f"status {scene.status}: {scene.err}"]
     bad += renumbered([scene.before, scene.after], slots(scene.case)) + stands(scene, scene.after, scene.case)
+    if scene.case.kind == "pack":
+        bad += packed(scene.before, scene.after)
     return bad + left_aside(scene.after, scene.after.numbers)

@@ -28,7 +28,7 @@ PIECES = {
                 b"x" * 300],
     "profile": [b"Path: ", b"Mail", b"MailDrop: drop", b"Inbox: ", b"Unseen-Sequence: ", b"Sequence-Negation: not", b"scan: -width 20",
                 b"inc: -silent", b"mark: -list", b"rmm: 1", b"refile: +a",
-                b"pick: -subject x", b"folder: 1", b"anno: -component x", b"-format %(msg)", b":", b"\n", b"\n ", b" ", b"\0", b"\xff", b"cur", b"all", b"x" * 300],
+                b"pick: -subject x", b"folder: 1", b"folder: -pack", b"mhlist: -part 1", b"mhstore: -clobber always", b"anno: -component x", b"-format %(msg)", b":", b"\n", b"\n ", b" ", b"\0", b"\xff", b"cur", b"all", b"x" * 300],
     "format": [b"%(", b"%{", b"%<", b"%?", b"%|", b"%>", b"%;", b"%%", b"\\", b"\\n", b"}", b")", b"(", b"{", b" ", b"%4(msg)",
                b"%{subject}", b"%<{from}x%|y%>", b"%020(size)", b"%-9(msg)",
                b"%99999999999(msg)", b"9223372036854775807", b"-9223372036854775808", b"%(divide 0)", b"%(modulo 0)",
@@ -43,7 +43,7 @@ PIECES = {
              b":+999999", b"x" * 300, b"+inbox", b"+a", b"+a.b", b"+..", b"@a", b"", b"99999999999999999999", b"--", b"-sequence",
              b"-nopublic", b"-list", b"-zero", b"-delete", b"-unlink",
              b"-link", b"-src", b"-width", b"-format", b"-subject", b"-lbrace", b"-rbrace", b"-not", b"-or", b"-and", b"-before",
-             b"-search", b"--x-y"],
+             b"-search", b"--x-y", b"-pack", b"-part", b"1.2", b"-clobber", b"always"],
 }
 
 
@@ -107,7 +107,8 @@ class Case:
 def some_command(rng):
     """A command that reads all that is there."""
     return rng.choice([["scan"], ["scan", "+inbox"], ["scan", "todo"], ["scan", "nottodo", "mine"], ["mark", "-list"],
-                       ["folder"], ["folder", "todo"], ["folder", "+inbox", "2-3"],
+                       ["folder"], ["folder", "todo"], ["folder", "+inbox", "2-3"], ["folder", "-pack"],
+                       ["mhlist"], ["mhlist", "all"], ["mhlist", "todo", "-part", "1"], ["mhstore"], ["mhstore", "all", "-clobber", "always"], ["mhstore", "2", "-part", "1.2"],
                        ["sortm"], ["sortm", "todo", "-textfield", "subject"], ["anno", "-component", "Noted"], ["anno", "todo", "-component", "Noted", "-text", "under fire", "-nodate"],
                        ["mark", "1", "-sequence", "todo"],
                        ["mark", "+inbox", "all", "-delete", "-sequence", "todo"], ["mark", "2", "-sequence", "mine", "-nopublic"],
@@ -182,7 +183,7 @@ def hostile_pattern(rng):
 def hostile_words(rng):
     """Words that name messages, folders and switches."""
     case = Case(rng)
-    case.words = [rng.choice(["scan", "mark", "pick", "rmm", "refile", "inc", "folder", "anno", "sortm"])]
+    case.words = [rng.choice(["scan", "mark", "pick", "rmm", "refile", "inc", "folder", "anno", "sortm", "mhlist", "mhstore"])]
     for _ in range(rng.choice([1, 1, 1, 2, 3, 5])):
         case.words.append(word(rng, "word", rng.choice([b"1-3", b"last:2", b"todo:next", b"+inbox", b"cur"])))
     case.words = ["drop" if before == "-file" else it for before, it in zip([""] + case.words, case.words)]

@@ -33,6 +33,12 @@ def turned(box):
             f.write(message(other, 2))
 
 
+def gapped(box):
+    """The same, without message 1."""
+    tiny(box)
+    os.remove(f"{box.mail}/inbox/1")
+
+
 def left_by_the_dead(box):
     """The same, where a dead run holds messages 2 and 3 aside, of which 3 is taken, and left temporary names."""
     tiny(box)
@@ -58,6 +64,8 @@ TRACES = [
     ("scan", tiny, ["scan", "+inbox", "1"]),
     ("folder", tiny, ["folder", "+inbox"]),
     ("folder-message", tiny, ["folder", "+inbox", "2-3"]),
+    ("folder-pack", gapped, ["folder", "+inbox", "-pack"]),
+    ("mhlist", tiny, ["mhlist", "+inbox", "2"]),
     ("sortm", turned, ["sortm", "+inbox", "-textfield", "subject"]),
     ("anno", tiny, ["anno", "+inbox", "1", "3", "-component", "Noted", "-text", "so", "-nodate"]),
     ("mend", left_by_the_dead, ["mark", "+inbox", "1", "-sequence", "x"]),
