@@ -1,5 +1,6 @@
 pub mod Counts
 pub mod Entries
+pub mod FailingInput
 pub mod Folders
 pub mod Memory
 pub mod Names
