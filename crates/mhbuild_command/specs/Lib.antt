@@ -1,0 +1,3 @@
+pub mod Building
+pub mod Composed
+pub mod Parsed
