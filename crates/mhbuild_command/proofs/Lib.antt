@@ -1,2 +1,7 @@
+mod BuildGiven
+mod BuiltAlone
 mod Composing
 mod Ends
+mod InputHeard
+mod NamedGiven
+mod ReplacedGiven

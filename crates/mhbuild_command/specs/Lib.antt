@@ -1,3 +1,5 @@
+pub mod BuildAlone
 pub mod Building
+pub mod BuildOutcome
 pub mod Composed
 pub mod Parsed

@@ -1,5 +1,5 @@
 // The text of the draft, by its name or from the input.
-ghost use Rattle.std.specs.Prelude.{ℕ};
+ghost use Rattle.std.specs.Prelude.{◌≡◌, ℕ, IfSome};
 ghost use Rattle.mh_base.specs.Streams.{SinkState};
 ghost use Rattle.file_plans.specs.Plan.{Hand};
 ghost use Rattle.file_plans.specs.Follows.{Follows, all};
@@ -20,7 +20,8 @@ pub(crate) fn read_text<F: Files, I: Source>(
     input: &mut I,
     draft: &Option<DraftName>,
 ) -> Result<Bytes, CommandFault>
-    ensures { (h : Hand) (o : SinkState) → Follows run command_cause (draft_text draft.now) (all h (F.state files.old) (I.state input.old) o) (all h (F.state files.new) (I.state input.new) o) result }
+    ensures plan { (h : Hand) (o : SinkState) → Follows run command_cause (draft_text draft.now) (all h (F.state files.old) (I.state input.old) o) (all h (F.state files.new) (I.state input.new) o) result }
+    ensures input { IfSome draft.now (λ _. I.state input.new ≡ I.state input.old) }
 {
     match draft {
         None => hear_all(alloc, input),
