@@ -1,4 +1,5 @@
 mod BuildGiven
+mod BuildPledged
 mod BuiltAlone
 mod Composing
 mod Ends

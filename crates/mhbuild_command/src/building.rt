@@ -5,6 +5,7 @@ ghost use Rattle.file_plans.specs.Plan.{Hand as Kept, lifted, say as say_plan};
 ghost use Rattle.file_plans.specs.Follows.{Follows, all, by_out};
 ghost use Rattle.step_plans.specs.CommandFaults.{command_cause, of_sink};
 ghost use Rattle.mhbuild_command.specs.BuildAlone.{TellsIfUnfaulted};
+ghost use Rattle.mhbuild_command.specs.BuildPledge.{PromisesSteps};
 ghost use Rattle.mhbuild_command.specs.Building.{message_done, mhbuild as mhbuild_plan};
 
 use crate::BuildJob;
@@ -55,6 +56,7 @@ pub fn mhbuild<F: Files, I: Source, O: Sink>(
 ) -> Result<(), CommandFault>
     ensures plan { Follows hand.old.run command_cause (mhbuild_plan hand.old.run hand.old.mail job.now) (all hand.old.kept (F.state files.old) (I.state input.old) (O.state out.old)) (all hand.new.kept (F.state files.new) (I.state input.new) (O.state out.new)) result }
     ensures alone { TellsIfUnfaulted hand.old.run hand.old.mail job.now hand.old.kept result (F.state files.old) (F.state files.new) (I.state input.old) (I.state input.new) (O.state out.old) (O.state out.new) }
+    ensures steps { PromisesSteps hand.old.run hand.old.mail job.now (all hand.old.kept (F.state files.old) (I.state input.old) (O.state out.old)) (all hand.new.kept (F.state files.new) (I.state input.new) (O.state out.new)) }
     ensures input { IfSome job.now.draft (λ _. I.state input.new ≡ I.state input.old) }
     ensures run { hand.new.run ≡ hand.old.run }
     ensures mail { hand.new.mail ≡ hand.old.mail }

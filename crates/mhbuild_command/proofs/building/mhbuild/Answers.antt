@@ -1,5 +1,6 @@
 use Rattle.file_plans.proofs.Following.{beside, go, stop, whole}
 use Rattle.mhbuild_command.specs.Building.{mhbuild}
+use Rattle.mhbuild_command.proofs.BuildPledged.{build_promises}
 use Rattle.mhbuild_command.proofs.BuiltAlone.{build_alone}
 use Rattle.mhbuild_command.proofs.building.mhbuild.Goals as goal
 
@@ -27,3 +28,12 @@ returns-in_err-message-clause-alone g c = build_alone _ _ _ _ _ _ _ _ _ _ _ _ (r
 
 pub returns-clause-alone : goal.returns-clause-alone
 returns-clause-alone g c = build_alone _ _ _ _ _ _ _ _ _ _ _ _ (returns-clause-plan g c)
+
+pub returns-in_err-text-clause-steps : goal.returns-in_err-text-clause-steps
+returns-in_err-text-clause-steps g c = λ few valid. build_promises _ few _ _ valid _ _ _ (returns-in_err-text-clause-plan g c)
+
+pub returns-in_err-message-clause-steps : goal.returns-in_err-message-clause-steps
+returns-in_err-message-clause-steps g c = λ few valid. build_promises _ few _ _ valid _ _ _ (returns-in_err-message-clause-plan g c)
+
+pub returns-clause-steps : goal.returns-clause-steps
+returns-clause-steps g c = λ few valid. build_promises _ few _ _ valid _ _ _ (returns-clause-plan g c)
