@@ -10,6 +10,7 @@ use Rattle.folder_files.specs.declared.place.Place.TheVariants.{Folder}
 use Rattle.folder_files.specs.declared.refusal.Refusal.TheVariants as refusal
 use Rattle.folder_files.specs.declared.step.Answer.{Answer}
 use Rattle.folder_files.specs.declared.step.Answer.TheVariants as answer
+use Rattle.folder_files.specs.declared.step.Step.{Step}
 use Rattle.folder_files.specs.declared.step.Step.TheVariants as step
 use Rattle.file_plans.specs.Asking.{read_file, reading_of}
 use Rattle.file_plans.specs.Plan.{Hand, Plan, Return, ask, bind, lifted, ◌>>=◌}
@@ -19,8 +20,10 @@ use Rattle.file_plans.specs.declared.answers.Reading.TheVariants as reading
 use Rattle.step_plans.specs.CommandFaults.{of_stop}
 use Rattle.step_plans.specs.ContextCommit.{LIMIT_BYTES}
 use Rattle.step_plans.specs.Pledges.{Pledge}
+use Rattle.step_plans.specs.Settled.{AreSettled}
 use Rattle.step_plans.specs.declared.command_fault.CommandFault.{CommandFault}
 use Rattle.step_plans.specs.declared.command_fault.CommandFault.TheVariants as fault
+use Rattle.step_plans.proofs.Facts.{LeavesSettled, settled_kept}
 use Rattle.step_plans.proofs.Going.{Goes, Outcome, goes_more, goes_then, okay, okay_more}
 use Rattle.step_plans.proofs.Stepping.{goes_end, goes_list, goes_read, goes_return, on_read}
 use Rattle.command_stages.specs.Listed.{folder_listed, names_by}
@@ -39,19 +42,20 @@ use Rattle.draft_contents.specs.Shown.{AreGiven, HasReadFile, HasReadMessage, Ha
 use Rattle.draft_contents.specs.Wants.{all_given, file_given, forward_given, want_given}
 use Rattle.draft_contents.specs.declared.forwarding.Forwarding.{Forwarding}
 
--- these deeds, and others after them
+-- these deeds, and others after them that leave no commit without its sync
 pub record Onto (own later : List Deed) : Type 0 where
   pub front : List Deed
   pub is : later ≡ front ++ own
+  pub settled : AreSettled own → AreSettled later
 
 pub onto_none : (own : List Deed) → Onto own own
-onto_none own = record { front = []; is = refl }
+onto_none own = record { front = []; is = refl; settled = λ f. f }
 
-pub onto_one : (own : List Deed) (d : Deed) → Onto own (d ∷ own)
-onto_one own d = record { front = d ∷ []; is = refl }
+pub onto_one : (own : List Deed) (s : Step) (a : Answer) → LeavesSettled s → Onto own (did s a ∷ own)
+onto_one own s a leaves = record { front = did s a ∷ []; is = refl; settled = settled_kept own s a leaves }
 
 pub onto_more : (own later last : List Deed) → Onto own later → Onto later last → Onto own last
-onto_more own later last f g = record { front = g.front ++ f.front; is = g.is ∙ (ap (λ l. g.front ++ l) f.is ∙ sym (append_assoc g.front f.front own)) }
+onto_more own later last f g = record { front = g.front ++ f.front; is = g.is ∙ (ap (λ l. g.front ++ l) f.is ∙ sym (append_assoc g.front f.front own)); settled = λ x. g.settled (f.settled x) }
 
 once_behind : (P : Deed → List Deed → Type 0) (front own : List Deed) → Once P own → Once P (front ++ own)
 once_behind P [] own f = f
@@ -91,19 +95,19 @@ module _ (w : Pledge) where
   file_goes own h path = (
     (λ s. (record { is_own = only_looks tt; marks = tt; steps = λ no. absurd (no tt) }, tt)),
     on_read (λ a. Goes w (did (step.ReadFile path LIMIT_BYTES) a ∷ own) h (file_by path (reading_of a)) (okay (ReadsFile path own)))
-        (λ bytes. (onto_one own _, now refl)) (λ l. tt) tt,
+        (λ bytes. (onto_one own _ _ tt, now refl)) (λ l. tt) tt,
   )
 
   -- a folder is listed, and a text read
   listed_goes : (own : List Deed) (h : Hand) (place : Place) (folder : List ℕ) → Goes w own h (folder_listed place folder) (okay (Adds own))
   unfolding folder_listed
   listed_goes own h place folder =
-      goes_list w own h of_stop (okay (Adds own)) place (names_by folder) (λ names. goes_return w _ h names (okay (Adds own)) (onto_one own _)) (goes_end w _ h (fault.Refused (refusal.NoFolder folder)) (Adds own))
+      goes_list w own h of_stop (okay (Adds own)) place (names_by folder) (λ names. goes_return w _ h names (okay (Adds own)) (onto_one own _ _ tt)) (goes_end w _ h (fault.Refused (refusal.NoFolder folder)) (Adds own))
 
   text_goes : (own : List Deed) (h : Hand) (place : Place) (name : List ℕ) → Goes w own h (text_read place name) (okay (Adds own))
   unfolding text_read
   text_goes own h place name =
-      goes_read w own h of_stop (okay (Adds own)) place name LIMIT_BYTES text_by (λ bytes. goes_return w _ h bytes (okay (Adds own)) (onto_one own _)) (λ l. goes_end w _ h (too_large l) (Adds own)) (goes_return w _ h [] (okay (Adds own)) (onto_one own _))
+      goes_read w own h of_stop (okay (Adds own)) place name LIMIT_BYTES text_by (λ bytes. goes_return w _ h bytes (okay (Adds own)) (onto_one own _ _ tt)) (λ l. goes_end w _ h (too_large l) (Adds own)) (goes_return w _ h [] (okay (Adds own)) (onto_one own _ _ tt))
 
   -- messages are read
   abbrev ReadsMessage : Place → List Deed → Outcome (List ℕ)
@@ -113,7 +117,7 @@ module _ (w : Pledge) where
   unfolding message_read
   message_goes own h place n =
       goes_read w own h of_stop (okay (ReadsMessage place own)) place (entry_text (Number n)) LIMIT_BYTES (message_by place n)
-      (λ bytes. goes_return w _ h bytes (okay (ReadsMessage place own)) (onto_one own _, (n, now refl))) (λ l. goes_end w _ h (too_large l) (ReadsMessage place own))
+      (λ bytes. goes_return w _ h bytes (okay (ReadsMessage place own)) (onto_one own _ _ tt, (n, now refl))) (λ l. goes_end w _ h (too_large l) (ReadsMessage place own))
       (goes_end w _ h (fault.Meddled place (entry_text (Number n))) (ReadsMessage place own))
 
   record Reads (place : Place) (before : List (List ℕ)) (own later : List Deed) (all : List (List ℕ)) : Type 0 where

@@ -5,7 +5,7 @@ use Rattle.std.proofs.lemmas.Bool.Decides.{Decides-ltb, nat_tests}
 use Rattle.mh_base.specs.Entries.{kind_of}
 use Rattle.mh_base.specs.declared.entry.Entry.TheVariants.{Temp}
 use Rattle.folder_files.specs.Careful.{Creates, HasLock, Stores, WasReady, creates, replaces, sets_aside}
-use Rattle.folder_files.specs.Deeds.{Deed, did, now, on}
+use Rattle.folder_files.specs.Deeds.{Deed, HasFailed, did, now, on}
 use Rattle.folder_files.specs.Histories.{IsLockable}
 use Rattle.folder_files.specs.Named.{is_temp_of, original_of}
 use Rattle.folder_files.specs.declared.place.Place.{Place}
@@ -14,21 +14,25 @@ use Rattle.folder_files.specs.declared.step.Answer.TheVariants as answer
 use Rattle.folder_files.specs.declared.step.Step.TheVariants as step
 use Rattle.file_plans.specs.Follows.{Follows, State}
 use Rattle.file_plans.specs.Plan.{Hand, Return, after, bind, hear, lifted, say, ◌>>=◌}
+use Rattle.file_plans.specs.Rules.{IfOkay, Keeps}
+use Rattle.file_plans.specs.Runs.{Deed as Done}
 use Rattle.file_plans.specs.StaysCareful.{careful}
+use Rattle.file_plans.proofs.Acting.{acts}
 use Rattle.step_plans.specs.CommandFaults.{command_cause, of_sink, of_stop as of_command_stop}
 use Rattle.step_plans.specs.ContextCommit.{LIMIT_BYTES}
 use Rattle.step_plans.specs.Hands.{named, named_by, temp_name, used}
 use Rattle.step_plans.specs.PlanFaults.{Planned, of_stop}
 use Rattle.step_plans.specs.Pledges.{Pledge}
 use Rattle.step_plans.specs.Promises.{Promises}
+use Rattle.step_plans.specs.Settled.{AreSettled}
 use Rattle.step_plans.specs.Replacing.{created, entered_once, held_to, made_safe, renamed, synced, written}
 use Rattle.step_plans.specs.declared.command_fault.CommandFault.{CommandFault}
 use Rattle.step_plans.specs.declared.fault.PlanFault.TheVariants as plan
-use Rattle.step_plans.proofs.Facts.{never_made}
-use Rattle.step_plans.proofs.Going.{Goes, Outcome, Sound, goes_lifted, goes_more, goes_then, okay, okay_more}
+use Rattle.step_plans.proofs.Facts.{never_made, settled_kept}
+use Rattle.step_plans.proofs.Going.{ByActs, Goes, Outcome, Sound, Soundly, goes_keeps, goes_lifted, goes_more, goes_then, okay, okay_more}
 use Rattle.step_plans.proofs.Named.{temp_kind}
 use Rattle.step_plans.proofs.Promising.{goes_promises}
-use Rattle.step_plans.proofs.Ruling.{AreNumbered}
+use Rattle.step_plans.proofs.Ruling.{AreNumbered, rules_of}
 use Rattle.step_plans.proofs.Stepping.{goes_create, goes_end, goes_read, goes_rename, goes_return, goes_sync_file, goes_sync_folder}
 use Rattle.command_stages.specs.Texts.{too_large}
 use Rattle.draft_contents.specs.Shown.{AreGiven}
@@ -40,7 +44,9 @@ use Rattle.draft_files.specs.Hearing.{all_heard, heard_behind, heard_by, piece_h
 use Rattle.draft_files.specs.Limits.{within_limit}
 use Rattle.draft_files.specs.Replacing.{draft_replaced, of_work, set_in_place}
 use Rattle.draft_files.proofs.Names.{parts_of}
+use Rattle.opened_folders.proofs.EndedKept.{keeps_more}
 use Rattle.mhbuild_command.specs.BuildAlone.{IsValid}
+use Rattle.mhbuild_command.specs.BuildDone.{HasBuilt, HasPlaced, PlacedBy}
 use Rattle.mhbuild_command.specs.BuildPledge.{HasText, IsBuilt, build_pledge}
 use Rattle.mhbuild_command.specs.Building.{message_done, mhbuild, text_built}
 use Rattle.mhbuild_command.specs.Composed.{composed}
@@ -91,11 +97,11 @@ module _ (run : ℕ) (few : run < 2 ^ 128) (path : List ℕ) (job : BuildJob) (v
       (heard_goes 67108866 [] own h)
   draft_goes own h (Some name) =
       goes_read w own h of_command_stop (okay (Reads (Some name) own)) Work name LIMIT_BYTES (draft_by name)
-      (λ bytes. goes_return w _ h bytes (okay (Reads (Some name) own)) (onto_one own _, now refl)) (λ l. goes_end w _ h (too_large l) (Reads (Some name) own)) (goes_end w _ h (no_file (in_work name)) (Reads (Some name) own))
+      (λ bytes. goes_return w _ h bytes (okay (Reads (Some name) own)) (onto_one own _ _ tt, now refl)) (λ l. goes_end w _ h (too_large l) (Reads (Some name) own)) (goes_end w _ h (no_file (in_work name)) (Reads (Some name) own))
 
   -- the message
-  abbrev Builds : Outcome (List ℕ)
-  Builds later j message = IsBuilt run path job message later
+  abbrev Builds : List Deed → Outcome (List ℕ)
+  Builds own later j message = Onto own later × IsBuilt run path job message later
 
   value_goes : {A : Type 0} (own : List Deed) (h : Hand) (v : Result A CommandFault) → Goes w own h (Return v) (okay (λ later j a. (later ≡ own) × (v ≡ Ok a)))
   value_goes own h (Ok a) = goes_return w own h a (okay (λ later j b. (later ≡ own) × (Ok a ≡ Ok b))) (refl, refl)
@@ -108,27 +114,30 @@ module _ (run : ℕ) (few : run < 2 ^ 128) (path : List ℕ) (job : BuildJob) (v
       go true f = cc (f)
       go false f = cc (f)
 
-  text_goes : (own : List Deed) (h : Hand) (text : List ℕ) → HasText job.draft text own → Goes w own h (text_built run path job text) (okay Builds)
+  text_goes : (own : List Deed) (h : Hand) (text : List ℕ) → HasText job.draft text own → Goes w own h (text_built run path job text) (okay (Builds own))
   unfolding text_built
   text_goes own h text has =
-      goes_then w own h (Return (parsed text)) _ (λ later j d. (later ≡ own) × (parsed text ≡ Ok d)) Builds (value_goes own h (parsed text)) (λ later j d k.
-      goes_then w later j (all_given path job.forwarding [] d.wants) (λ givens. Return (within_limit (composed run d givens))) (λ last i all. Gave w path job.forwarding [] d.wants later last all) Builds (all_go w path job.forwarding later j [] d.wants) (λ last i givens r.
-      goes_more w last i (Return (within_limit (composed run d givens))) (okay (λ end z message. (end ≡ last) × (within_limit (composed run d givens) ≡ Ok message))) (okay Builds)
-      (okay_more (λ end z message. (end ≡ last) × (within_limit (composed run d givens) ≡ Ok message)) Builds
-      (λ end z message e. subst (λ l. IsBuilt run path job message l) (sym e.0) (record {
-        text = text;
-        draft = d;
-        givens = givens;
-        has_text = text_onto job.draft text later last r.onto (subst (λ l. HasText job.draft text l) (sym k.0) has);
-        is_draft = k.1;
-        are_given = subst (λ g. AreGiven path job.forwarding d.wants g last) (sym r.are) r.given;
-        is_message = limit_is (composed run d givens) message e.1;
-      }))) (value_goes last i (within_limit (composed run d givens)))))
+      goes_then w own h (Return (parsed text)) _ (λ later j d. (later ≡ own) × (parsed text ≡ Ok d)) (Builds own) (value_goes own h (parsed text)) (λ later j d k.
+      goes_then w later j (all_given path job.forwarding [] d.wants) (λ givens. Return (within_limit (composed run d givens))) (λ last i all. Gave w path job.forwarding [] d.wants later last all) (Builds own) (all_go w path job.forwarding later j [] d.wants) (λ last i givens r.
+      goes_more w last i (Return (within_limit (composed run d givens))) (okay (λ end z message. (end ≡ last) × (within_limit (composed run d givens) ≡ Ok message))) (okay (Builds own))
+      (okay_more (λ end z message. (end ≡ last) × (within_limit (composed run d givens) ≡ Ok message)) (Builds own)
+      (λ end z message e. subst (λ l. Onto own l × IsBuilt run path job message l) (sym e.0) (
+        subst (λ o. Onto o last) k.0 r.onto,
+        record {
+          text = text;
+          draft = d;
+          givens = givens;
+          has_text = text_onto job.draft text later last r.onto (subst (λ l. HasText job.draft text l) (sym k.0) has);
+          is_draft = k.1;
+          are_given = subst (λ g. AreGiven path job.forwarding d.wants g last) (sym r.are) r.given;
+          is_message = limit_is (composed run d givens) message e.1;
+        },
+      ))) (value_goes last i (within_limit (composed run d givens)))))
 
   -- it is said
-  said_goes : (own : List Deed) (h : Hand) (message : List ℕ) → job.draft ≡ None → IsBuilt run path job message own → Goes w own h (lifted of_sink (say message)) (okay (λ later j u. Unit {0}))
+  said_goes : (own : List Deed) (h : Hand) (message : List ℕ) → job.draft ≡ None → IsBuilt run path job message own → Goes w own h (lifted of_sink (say message)) (okay (λ later j u. Unit {0} × (AreSettled own → AreSettled later)))
   unfolding Goes say lifted bind
-  said_goes own h message is b = ((λ s. (is, b)), tt)
+  said_goes own h message is b = ((λ s. (is, b)), (tt, λ f. f))
 
   -- or it takes the draft's place
   never_lockable : (own : List Deed) (q : Place) → IsLockable q → q ≡ Work → HasLock q own
@@ -194,7 +203,7 @@ module _ (run : ℕ) (few : run < 2 ^ 128) (path : List ℕ) (job : BuildJob) (v
   made_ready temp message own = now (refl, now refl)
 
   made_onto : (temp message : List ℕ) (own : List Deed) → Onto own (made temp message own)
-  made_onto temp message own = record { front = did (step.SyncFile Work temp) answer.Done ∷ did (step.Create Work temp message) answer.Done ∷ []; is = refl }
+  made_onto temp message own = onto_more own (did (step.Create Work temp message) answer.Done ∷ own) (made temp message own) (onto_one own (step.Create Work temp message) answer.Done tt) (onto_one (did (step.Create Work temp message) answer.Done ∷ own) (step.SyncFile Work temp) answer.Done tt)
 
   module _ (name : List ℕ) (is_named : job.draft ≡ Some name) (ok : is_draft_name name ≡ true) where
     abbrev original : List ℕ
@@ -221,11 +230,17 @@ module _ (run : ℕ) (few : run < 2 ^ 128) (path : List ℕ) (job : BuildJob) (v
     abbrev set_aside : List ℕ → List ℕ → List Deed → List Deed
     set_aside temp message own = aside_deed ∷ made temp message own
 
+    abbrev set_onto : (temp message : List ℕ) (own : List Deed) → Onto own (set_aside temp message own)
+    set_onto temp message own = onto_more own (made temp message own) (set_aside temp message own) (made_onto temp message own) (onto_one (made temp message own) (step.Rename Work name original) answer.Done refl)
+
+    abbrev taken_deed : List ℕ → Deed
+    taken_deed temp = did (step.Rename Work temp name) answer.Done
+
     taken_goes : (own : List Deed) (h : Hand) (temp message : List ℕ) → is_temp_of run (kind_of temp) ≡ true → IsBuilt run path job message own
-        → Goes w (set_aside temp message own) h (renamed Work temp name) (okay (λ later j u. Unit {0}))
+        → Goes w (set_aside temp message own) h (renamed Work temp name) (okay (Adds (set_aside temp message own) (taken_deed temp)))
     unfolding renamed
     taken_goes own h temp message is b =
-        goes_rename w (set_aside temp message own) h of_stop (okay (λ later j u. Unit {0})) Work temp name (held_to Work temp)
+        goes_rename w (set_aside temp message own) h of_stop (okay (Adds (set_aside temp message own) (taken_deed temp))) Work temp name (held_to Work temp)
         (λ s. (
           record {
             is_own = careful s.unfailed Stores (replaces Work temp name (refl, (parts_of name ok).other, (is, on (now (refl, now (message, refl)))))) (refl, refl) (never_lockable (set_aside temp message own));
@@ -235,47 +250,77 @@ module _ (run : ℕ) (few : run < 2 ^ 128) (path : List ℕ) (job : BuildJob) (v
               inr (record {
                 is_draft = is_named;
                 aside = now refl;
-                safe = record {
-                  message = message;
-                  ready = on (made_ready temp message own);
-                  built = built_onto message own (set_aside temp message own) (onto_more own (made temp message own) (set_aside temp message own) (made_onto temp message own) (onto_one (made temp message own) aside_deed)) b;
-                };
+                safe = record { message = message; ready = on (made_ready temp message own); built = built_onto message own (set_aside temp message own) (set_onto temp message own) b };
               }),
             );
           },
           tt,
         ))
-        (goes_return w _ h tt (okay (λ later j u. Unit {0})) tt) (goes_end w _ h (plan.Meddled Work temp) (λ later j u. Unit {0}))
+        (goes_return w _ h tt (okay (Adds (set_aside temp message own) (taken_deed temp))) refl) (goes_end w _ h (plan.Meddled Work temp) (Adds (set_aside temp message own) (taken_deed temp)))
 
-    synced_goes : (own : List Deed) (h : Hand) (n : List ℕ) → Goes w own h (synced Work n) (okay (λ later j u. Unit {0}))
+    synced_goes : (own : List Deed) (h : Hand) (n : List ℕ) → Goes w own h (synced Work n) (okay (Adds own (did (step.SyncFolder Work) answer.Done)))
     unfolding synced
     synced_goes own h n =
-        goes_sync_folder w own h of_stop (okay (λ later j u. Unit {0})) Work (held_to Work n) (goes_return w _ h tt (okay (λ later j u. Unit {0})) tt) (goes_end w _ h (plan.Meddled Work n) (λ later j u. Unit {0}))
+        goes_sync_folder w own h of_stop (okay (Adds own (did (step.SyncFolder Work) answer.Done))) Work (held_to Work n) (goes_return w _ h tt (okay (Adds own (did (step.SyncFolder Work) answer.Done))) refl)
+        (goes_end w _ h (plan.Meddled Work n) (Adds own (did (step.SyncFolder Work) answer.Done)))
 
-    set_goes : (own : List Deed) (h : Hand) (message : List ℕ) → IsBuilt run path job message own → Goes w own h (set_in_place run name message) (okay (λ later j u. Unit {0}))
+    -- the message has the draft's name, and that is safe
+    abbrev Places : List Deed → Outcome Unit
+    Places own later j u = HasPlaced run path job name later × (AreSettled own → AreSettled later)
+
+    set_goes : (own : List Deed) (h : Hand) (message : List ℕ) → IsBuilt run path job message own → Goes w own h (set_in_place run name message) (okay (Places own))
     unfolding set_in_place
     set_goes own h message b =
-        goes_then w own h (written run Work message) _ (Writes message own) (λ later j u. Unit {0}) (written_goes own h message b) (λ later j temp k.
-        subst (λ l. Goes w l j (renamed Work name original >>= (λ aside. renamed Work temp name >>= (λ moved. synced Work name))) (okay (λ last i u. Unit {0}))) (sym k.0)
-        (goes_then w (made temp message own) j (renamed Work name original) _ (Adds (made temp message own) aside_deed) (λ last i u. Unit {0}) (aside_goes own j temp message b) (λ next i u e.
-        subst (λ l. Goes w l i (renamed Work temp name >>= (λ moved. synced Work name)) (okay (λ last z v. Unit {0}))) (sym e)
-        (goes_then w (set_aside temp message own) i (renamed Work temp name) _ (λ last z v. Unit {0}) (λ last z v. Unit {0}) (taken_goes own i temp message k.1 b) (λ last z v t. synced_goes last z name)))))
+        goes_then w own h (written run Work message) _ (Writes message own) (Places own) (written_goes own h message b) (λ later j temp k.
+        subst (λ l. Goes w l j (renamed Work name original >>= (λ aside. renamed Work temp name >>= (λ moved. synced Work name))) (okay (Places own))) (sym k.0)
+        (goes_then w (made temp message own) j (renamed Work name original) _ (Adds (made temp message own) aside_deed) (Places own) (aside_goes own j temp message b) (λ next i u e.
+        subst (λ l. Goes w l i (renamed Work temp name >>= (λ moved. synced Work name)) (okay (Places own))) (sym e)
+        (goes_then w (set_aside temp message own) i (renamed Work temp name) _ (Adds (set_aside temp message own) (taken_deed temp)) (Places own) (taken_goes own i temp message k.1 b) (λ last z v t.
+        subst (λ l. Goes w l z (synced Work name) (okay (Places own))) (sym t)
+        (goes_more w (taken_deed temp ∷ set_aside temp message own) z (synced Work name) (okay (Adds (taken_deed temp ∷ set_aside temp message own) (did (step.SyncFolder Work) answer.Done))) (okay (Places own))
+        (okay_more (Adds (taken_deed temp ∷ set_aside temp message own) (did (step.SyncFolder Work) answer.Done)) (Places own)
+        (λ end y x q. (record { temp = temp; message = message; older = own; is = q; built = b }, λ f. subst AreSettled (sym q) (all_settled temp message own f))))
+        (synced_goes (taken_deed temp ∷ set_aside temp message own) z name)))))))
+      where
+        all_settled : (temp message : List ℕ) (own : List Deed) → AreSettled own → AreSettled (did (step.SyncFolder Work) answer.Done ∷ (taken_deed temp ∷ set_aside temp message own))
+        all_settled temp message own f =
+            settled_kept (taken_deed temp ∷ set_aside temp message own) (step.SyncFolder Work) answer.Done tt
+            (settled_kept (set_aside temp message own) (step.Rename Work temp name) answer.Done refl ((set_onto temp message own).settled f))
 
-    replaced_goes : (own : List Deed) (h : Hand) (message : List ℕ) → IsBuilt run path job message own → Goes w own h (draft_replaced run name message) (okay (λ later j u. Unit {0}))
+    replaced_goes : (own : List Deed) (h : Hand) (message : List ℕ) → IsBuilt run path job message own → Goes w own h (draft_replaced run name message) (okay (Places own))
     unfolding draft_replaced
     replaced_goes own h message b =
-        goes_then w own h (lifted (of_work name) (set_in_place run name message)) (λ set. Return (Ok tt)) (λ later j u. Unit {0}) (λ later j u. Unit {0})
-        (goes_lifted w own h (of_work name) (set_in_place run name message) (λ later j u. Unit {0}) (set_goes own h message b)) (λ later j u t. goes_return w later j tt (okay (λ last i v. Unit {0})) tt)
+        goes_then w own h (lifted (of_work name) (set_in_place run name message)) (λ set. Return (Ok tt)) (Places own) (Places own)
+        (goes_lifted w own h (of_work name) (set_in_place run name message) (Places own) (set_goes own h message b)) (λ later j u t. goes_return w later j tt (okay (Places own)) t)
 
-  done_goes : (d : Option (List ℕ)) → job.draft ≡ d → (own : List Deed) (h : Hand) (message : List ℕ) → IsBuilt run path job message own → Goes w own h (message_done run d message) (okay (λ later j u. Unit {0}))
+  -- what is done at the end
+  abbrev pub Builds_ : List Deed → Outcome Unit
+  Builds_ own later j u = HasBuilt run path job own later
+
+  abbrev DoneBy : Option (List ℕ) → List Deed → Outcome Unit
+  DoneBy d own later j u = PlacedBy run path job d later × (AreSettled own → AreSettled later)
+
+  done_goes : (d : Option (List ℕ)) → job.draft ≡ d → (own : List Deed) (h : Hand) (message : List ℕ) → IsBuilt run path job message own → Goes w own h (message_done run d message) (okay (DoneBy d own))
   done_goes None is own h message b = said_goes own h message is b
   done_goes (Some name) is own h message b = replaced_goes name is (subst IsValid is valid) own h message b
 
-  build_goes : (own : List Deed) (h : Hand) → Goes w own h (mhbuild run path job) (okay (λ later j u. Unit {0}))
+  build_goes : (own : List Deed) (h : Hand) → Goes w own h (mhbuild run path job) (okay (Builds_ own))
   unfolding mhbuild
   build_goes own h =
-      goes_then w own h (draft_text job.draft) _ (Reads job.draft own) (λ later j u. Unit {0}) (draft_goes own h job.draft) (λ later j text k.
-      goes_then w later j (text_built run path job text) _ Builds (λ last i u. Unit {0}) (text_goes later j text k.1) (λ last i message b. done_goes job.draft refl last i message b))
+      goes_then w own h (draft_text job.draft) _ (Reads job.draft own) (Builds_ own) (draft_goes own h job.draft) (λ later j text k.
+      goes_then w later j (text_built run path job text) _ (Builds later) (Builds_ own) (text_goes later j text k.1) (λ last i message b.
+      goes_more w last i (message_done run job.draft message) (okay (DoneBy job.draft last)) (okay (Builds_ own))
+      (okay_more (DoneBy job.draft last) (Builds_ own) (λ end z u f. record { placed = f.0; settled = λ x. f.1 (b.0.settled (k.0.settled x)) })) (done_goes job.draft refl last i message b.1)))
+
+  built_so : (own : List Deed) (past : List Done) (h : Hand) (r : Result Unit CommandFault) → Sound w (acts past) h → okay (Builds_ own) (acts past) h r → IfOkay (λ later i u. HasBuilt run path job own (acts later) × (HasFailed (acts later) → ⊥)) past h r
+  built_so own past h (Ok u) s f = (f, s.unfailed)
+  built_so own past h (Err e) s f = tt
+
+  -- from whatever was done before
+  pub build_keeps : (past : List Done) (h : Hand) → Sound w (acts past) h → Keeps (rules_of w) past h (mhbuild run path job) (IfOkay (λ later i u. HasBuilt run path job (acts past) (acts later) × (HasFailed (acts later) → ⊥)))
+  build_keeps past h sound =
+      keeps_more (rules_of w) past h (mhbuild run path job) (ByActs (Soundly w (okay (Builds_ (acts past))))) (IfOkay (λ later i u. HasBuilt run path job (acts past) (acts later) × (HasFailed (acts later) → ⊥))) (λ later j r q. built_so (acts past) later j r q.0 q.1)
+      (goes_keeps w past (acts past) h (mhbuild run path job) (okay (Builds_ (acts past))) refl sound (build_goes (acts past) h))
 
   pub build_promises : (x y : State) (result : Result Unit CommandFault) → Follows run command_cause (mhbuild run path job) x y result → Promises w x y
-  build_promises x y result f = goes_promises w command_cause (mhbuild run path job) x y result (okay (λ later j u. Unit {0})) (build_goes [] x.hand) f
+  build_promises x y result f = goes_promises w command_cause (mhbuild run path job) x y result (okay (Builds_ [])) (build_goes [] x.hand) f

@@ -1,5 +1,6 @@
 pub mod BuildAlone
 pub mod Building
+pub mod BuildDone
 pub mod BuildOutcome
 pub mod BuildPledge
 pub mod Composed
