@@ -1,6 +1,7 @@
 mod BuildGiven
-mod BuildPledged
-mod BuiltAlone
+pub mod BuildMinds
+pub mod BuildPledged
+pub mod BuiltAlone
 mod Composing
 mod Ends
 mod InputHeard
