@@ -1,0 +1,2 @@
+pub mod BuildWords
+pub mod Sorts

@@ -1,0 +1,16 @@
+use Rattle.std.proofs.Common.{refl}
+use Rattle.file_plans.proofs.Following.{go_from, no_room, stop_from}
+use Rattle.command_stages.proofs.Causes.{stop_same}
+use Rattle.draft_contents.specs.Messages.{message_read}
+use Rattle.draft_contents.proofs.messages.read_message.Goals as goal
+
+pub returns-in_err-name : goal.returns-in_err-name
+returns-in_err-name g c = λ h. no_room _ c.from_residual.ensures refl
+
+pub returns-in_err-reading : goal.returns-in_err-reading
+unfolding message_read
+returns-in_err-reading g c = λ h. stop_from _ stop_same (rw c.in_ok-name.ensures.value at (c.in_err-reading.ensures h)) c.from_residual-in_err-reading.ensures
+
+pub returns : goal.returns
+unfolding message_read
+returns g c = λ h. go_from _ _ (rw c.in_ok-name.ensures.value at (c.in_ok-reading.ensures h)) (c.message_from.ensures _ _)

@@ -1,0 +1,7 @@
+pub mod BuildAlone
+pub mod Building
+pub mod BuildDone
+pub mod BuildOutcome
+pub mod BuildPledge
+pub mod Composed
+pub mod Parsed
