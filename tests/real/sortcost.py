@@ -65,6 +65,16 @@ def steps(inbox, order):
     return time.monotonic() - start
 
 
+def packs(program, home, inbox, count):
+    """The first of the messages leaves, so that all others get the number below theirs; and once more."""
+    os.remove(f"{inbox}/1")
+    took, memory, status = run([program, "folder", "-pack", "+inbox"], home)
+    good = status == 0 and places(inbox, count - 1) == list(range(2, count + 1))
+    again, _, still = run([program, "folder", "-pack"], home)
+    print(f"folder -pack of {count - 1:,} messages that all move: {took:.2f} s, {memory} MB; once more: {again:.2f} s")
+    return good and still == 0
+
+
 def main(program, room, count):
     """Three folders with the same messages, each put in order in its own way."""
     order = list(range(1, count + 1))
@@ -78,6 +88,7 @@ def main(program, room, count):
     again, _, still = run([program, "sortm", "+inbox"], home)
     print(f"once more, where they are in order: {again:.2f} s")
     good = good and still == 0
+    good = packs(program, home, inbox, count) and good
     for other in ("/usr/bin/mh/sortm", "/usr/local/nmh/bin/sortm"):
         if os.path.exists(other):
             fill(f"{room}/nmh", order)
