@@ -25,14 +25,17 @@ def fill(parts):
     return os.path.getsize(MESSAGE)
 
 
-def run(*words, **more):
+def run(*words):
     """How long a program takes, and what it prints."""
-    start = time.monotonic()
-    ran = subprocess.run(words, env={"HOME": HOME, "PATH": os.environ["PATH"]}, cwd=WORK, stdout=subprocess.PIPE, **more)
-    return time.monotonic() - start, ran.stdout if ran.returncode == 0 else b""
+    with open(f"{ROOM}/out", "wb") as out:
+        start = time.monotonic()
+        status = subprocess.run(words, env={"HOME": HOME}, cwd=WORK, stdout=out).returncode
+        took = time.monotonic() - start
+    with open(f"{ROOM}/out", "rb") as out:
+        return took, out.read() if status == 0 else b""
 
 
-def best(act, times=3):
+def best(act, times=5):
     """The shortest of some runs, and what the last one gave."""
     runs = [act() for _ in range(times)]
     return min(it for it, _ in runs), runs[-1][1]
@@ -45,16 +48,23 @@ def synced(path):
     os.close(fd)
 
 
+def read():
+    """A message, read by another program."""
+    start = time.monotonic()
+    subprocess.run(["cat", MESSAGE], stdout=subprocess.DEVNULL, check=True)
+    return time.monotonic() - start, b""
+
+
 def listed():
     """A message of 60 MB and 1,000 parts, listed and read."""
     line = b"a line of the body that is as long as many lines of mail are\n"
     body = b"\n" + line * (60_000 // len(line))
     size = fill([body] * 1_000)
     took, rows = best(lambda: run(PROGRAM, "mhlist", "+inbox", "1"))
-    cat, text = best(lambda: run("cat", MESSAGE))
+    cat, _ = best(read)
     print(f"mhlist of a message of {size:,} bytes with 1,000 parts: {took:.3f} s; cat of its file: {cat:.3f} s; {took / cat:.2f} times")
     rows = rows.decode().splitlines()
-    return len(text) == size and len(rows) == 1_002 and all(row.endswith(f" {len(body) - 1}") for row in rows[2:]) and rows[-1].split()[1] == "1000"
+    return len(rows) == 1_002 and all(row.endswith(f" {len(body) - 1}") for row in rows[2:]) and rows[-1].split()[1] == "1000"
 
 
 def decoded():
