@@ -197,6 +197,8 @@ row_in "$work" 'the deepest one is stored as it stands' "$home" 0 "storing messa
 row_in "$work" 'codes with junk' "$home" 0 'storing message 2 part 1 as file 2.1.b\nstoring message 2 part 2 as file 2.2.q\n' '' mhstore 2
 same 'what base64 stands for' "$work/2.1.b" 'Hello!A'
 same 'what quoted-printable stands for' "$work/2.2.q" 'Hi!\n=XY\xc3\xa9=\xff=4'
+printf 'Content-Description: \033[31mred\033[0m\007\r\t =?utf-8?q?=1B[2J=0Aa?=\n b\nContent-Type: a/b\n\nx' > "$home/Mail/inbox/8"
+row_in "$work" 'a description that would steer a terminal' "$home" 0 "$heads"'   8 -       a/b                             1 [31mred [0m [2J a b\n' '' mhlist 8
 row_in "$work" 'a message at the limit' "$home" 0 "$heads"'   3 1       text/plain               67108816\n' '' mhlist 3 -part 1
 row_in "$work" 'a message above it' "$home" 1 "$heads" 'mh: too large: 67108865 bytes, limit 67108864\n' mhlist 4
 row_in "$work" 'is not stored either' "$home" 1 '' 'mh: too large: 67108865 bytes, limit 67108864\n' mhstore 4
