@@ -43,6 +43,9 @@ row_in "$work" 'the message itself has no name' "$home" 1 '' 'mh: bad value: -pa
 row_in "$work" 'no messages' "$home" 1 '' 'mh: no such message: 6\n' mhstore 6
 row_in "$work" 'a value of -clobber that is none' "$home" 1 '' 'mh: bad value: -clobber\n' mhstore 5 -clobber ask
 
+row_in "$home/Mail/inbox" 'in the folder itself' "$home" 0 'storing message 7 part - as file 7.plain\n' '' mhstore 7
+row 'a file of a part is no message' "$home" 0 '   5 \n   7 a\n' '' scan
+
 # What stands under a file's name and is no file: nothing is written through a link.
 home=$room/parts_links
 work=$home/work
