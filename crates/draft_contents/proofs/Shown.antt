@@ -1,22 +1,18 @@
 -- What a draft wants is read by steps that look, and what they were answered shows what was given.
-use Rattle.std.proofs.Common.{◌≡◌, ◌≢◌, ◌∷◌, ◌++◌, [], ℕ, List, Option, Result, Ok, Err, refl, sym, ◌∙◌, ap, subst, append_assoc, append-nil}
+use Rattle.std.proofs.Common.{◌≡◌, ◌∷◌, ◌++◌, [], ℕ, List, Result, Ok, Err, refl, sym, ◌∙◌, ap, subst, append_assoc, append-nil}
 use Rattle.mh_base.specs.Entries.{entry_text}
 use Rattle.mh_base.specs.declared.entry.Entry.TheVariants.{Number, Sequences}
 use Rattle.folder_files.specs.Deeds.{Deed, Once, did, now, on}
-use Rattle.folder_files.specs.Rows.{IsReadRow}
 use Rattle.folder_files.specs.declared.place.FilePath.{FilePath}
 use Rattle.folder_files.specs.declared.place.Place.{Place}
 use Rattle.folder_files.specs.declared.place.Place.TheVariants.{Folder}
 use Rattle.folder_files.specs.declared.refusal.Refusal.TheVariants as refusal
 use Rattle.folder_files.specs.declared.step.Answer.{Answer}
-use Rattle.folder_files.specs.declared.step.Answer.TheVariants as answer
 use Rattle.folder_files.specs.declared.step.Step.{Step}
 use Rattle.folder_files.specs.declared.step.Step.TheVariants as step
 use Rattle.file_plans.specs.Asking.{read_file, reading_of}
-use Rattle.file_plans.specs.Plan.{Hand, Plan, Return, ask, bind, lifted, ◌>>=◌}
+use Rattle.file_plans.specs.Plan.{Hand, Return, ask, bind, lifted, ◌>>=◌}
 use Rattle.file_plans.specs.StaysCareful.{only_looks}
-use Rattle.file_plans.specs.declared.answers.Reading.{Reading}
-use Rattle.file_plans.specs.declared.answers.Reading.TheVariants as reading
 use Rattle.step_plans.specs.CommandFaults.{of_stop}
 use Rattle.step_plans.specs.ContextCommit.{LIMIT_BYTES}
 use Rattle.step_plans.specs.Pledges.{Pledge}
@@ -34,7 +30,6 @@ use Rattle.mh_drafts.specs.declared.want.Want.{Want}
 use Rattle.mh_drafts.specs.declared.want.Want.TheVariants as want
 use Rattle.mhbuild_compose.specs.declared.given.Given.{Given}
 use Rattle.mhbuild_compose.specs.declared.given.Given.TheVariants as given
-use Rattle.draft_files.specs.Drafts.{no_file}
 use Rattle.draft_contents.specs.Files.{file_by, file_read}
 use Rattle.draft_contents.specs.Forwards.{chosen_seen, folder_named, folder_word, specs_or_current}
 use Rattle.draft_contents.specs.Messages.{message_by, message_read, messages_given, messages_read}
@@ -69,7 +64,7 @@ messages_onto : (place : Place) (messages : List (List ℕ)) (own later : List D
 messages_onto place [] own later o f = tt
 messages_onto place (message ∷ messages) own later o f = ((f.0.0, once_onto _ own later o f.0.1), messages_onto place messages own later o f.1)
 
-was_onto : (path : List ℕ) (f : Forwarding) (w : Want) (g : Given) (own later : List Deed) → Onto own later → WasGiven path f w g own → WasGiven path f w g later
+pub was_onto : (path : List ℕ) (f : Forwarding) (w : Want) (g : Given) (own later : List Deed) → Onto own later → WasGiven path f w g own → WasGiven path f w g later
 was_onto path f (want.File file) (given.File bytes) own later o k = once_onto _ own later o k
 was_onto path f (want.File file) (given.Messages messages) own later o k = k
 was_onto path f (want.Messages word specs) (given.File bytes) own later o k = k
@@ -80,6 +75,20 @@ are_onto path f [] [] own later o k = tt
 are_onto path f [] (g ∷ givens) own later o k = k
 are_onto path f (w ∷ wants) [] own later o k = k
 are_onto path f (w ∷ wants) (g ∷ givens) own later o k = (was_onto path f w g own later o k.0, are_onto path f wants givens own later o k.1)
+
+-- messages of this folder were read, behind those of before
+pub record Reads (place : Place) (before : List (List ℕ)) (own later : List Deed) (all : List (List ℕ)) : Type 0 where
+  pub onto : Onto own later
+  pub more : List (List ℕ)
+  pub are : all ≡ before ++ more
+  pub read : HasReadMessages place more later
+
+-- what is wanted was given, behind what was given before
+pub record Gave (path : List ℕ) (f : Forwarding) (before : List Given) (wants : List Want) (own later : List Deed) (all : List Given) : Type 0 where
+  pub onto : Onto own later
+  pub more : List Given
+  pub are : all ≡ before ++ more
+  pub given : AreGiven path f wants more later
 
 module _ (w : Pledge) where
   -- a part that looks
@@ -119,12 +128,6 @@ module _ (w : Pledge) where
       goes_read w own h of_stop (okay (ReadsMessage place own)) place (entry_text (Number n)) LIMIT_BYTES (message_by place n)
       (λ bytes. goes_return w _ h bytes (okay (ReadsMessage place own)) (onto_one own _ _ tt, (n, now refl))) (λ l. goes_end w _ h (too_large l) (ReadsMessage place own))
       (goes_end w _ h (fault.Meddled place (entry_text (Number n))) (ReadsMessage place own))
-
-  record Reads (place : Place) (before : List (List ℕ)) (own later : List Deed) (all : List (List ℕ)) : Type 0 where
-    pub onto : Onto own later
-    pub more : List (List ℕ)
-    pub are : all ≡ before ++ more
-    pub read : HasReadMessages place more later
 
   messages_go : (own : List Deed) (h : Hand) (place : Place) (before : List (List ℕ)) (ns : List ℕ) → Goes w own h (messages_read place before ns) (okay (λ later j all. Reads place before own later all))
   unfolding messages_read
@@ -177,21 +180,15 @@ module _ (w : Pledge) where
         named_goes (Ok folder) is = goes_return w own h folder (okay (λ later j name. (later ≡ own) × (folder_named (folder_word f word) ≡ Ok name))) (refl, is)
         named_goes (Err e) is = goes_end w own h e (λ later j folder. (later ≡ own) × (folder_named (folder_word f word) ≡ Ok folder))
 
-    pub record Gave (before : List Given) (wants : List Want) (own later : List Deed) (all : List Given) : Type 0 where
-      pub onto : Onto own later
-      pub more : List Given
-      pub are : all ≡ before ++ more
-      pub given : AreGiven path f wants more later
-
     -- all that is wanted
-    pub all_go : (own : List Deed) (h : Hand) (before : List Given) (wants : List Want) → Goes w own h (all_given path f before wants) (okay (λ later j all. Gave before wants own later all))
+    pub all_go : (own : List Deed) (h : Hand) (before : List Given) (wants : List Want) → Goes w own h (all_given path f before wants) (okay (λ later j all. Gave path f before wants own later all))
     unfolding all_given
-    all_go own h before [] = goes_return w own h before (okay (λ later j all. Gave before [] own later all)) (record { onto = onto_none own; more = []; are = sym (append-nil before); given = tt })
+    all_go own h before [] = goes_return w own h before (okay (λ later j all. Gave path f before [] own later all)) (record { onto = onto_none own; more = []; are = sym (append-nil before); given = tt })
     all_go own h before (want_ ∷ wants) =
-        goes_then w own h (want_given path f want_) (λ g. all_given path f (before ++ g ∷ []) wants) (Gives want_ own) (λ later j all. Gave before (want_ ∷ wants) own later all) (want_goes own h want_)
+        goes_then w own h (want_given path f want_) (λ g. all_given path f (before ++ g ∷ []) wants) (Gives want_ own) (λ later j all. Gave path f before (want_ ∷ wants) own later all) (want_goes own h want_)
         (λ later j g k.
-        goes_more w later j (all_given path f (before ++ g ∷ []) wants) (okay (λ last i all. Gave (before ++ g ∷ []) wants later last all)) (okay (λ last i all. Gave before (want_ ∷ wants) own last all))
-        (okay_more (λ last i all. Gave (before ++ g ∷ []) wants later last all) (λ last i all. Gave before (want_ ∷ wants) own last all)
+        goes_more w later j (all_given path f (before ++ g ∷ []) wants) (okay (λ last i all. Gave path f (before ++ g ∷ []) wants later last all)) (okay (λ last i all. Gave path f before (want_ ∷ wants) own last all))
+        (okay_more (λ last i all. Gave path f (before ++ g ∷ []) wants later last all) (λ last i all. Gave path f before (want_ ∷ wants) own last all)
         (λ last i all r. record {
           onto = onto_more own later last k.0 r.onto;
           more = g ∷ r.more;

@@ -118,7 +118,7 @@ module _ (run : ℕ) (few : run < 2 ^ 128) (path : List ℕ) (job : BuildJob) (v
   unfolding text_built
   text_goes own h text has =
       goes_then w own h (Return (parsed text)) _ (λ later j d. (later ≡ own) × (parsed text ≡ Ok d)) (Builds own) (value_goes own h (parsed text)) (λ later j d k.
-      goes_then w later j (all_given path job.forwarding [] d.wants) (λ givens. Return (within_limit (composed run d givens))) (λ last i all. Gave w path job.forwarding [] d.wants later last all) (Builds own) (all_go w path job.forwarding later j [] d.wants) (λ last i givens r.
+      goes_then w later j (all_given path job.forwarding [] d.wants) (λ givens. Return (within_limit (composed run d givens))) (λ last i all. Gave path job.forwarding [] d.wants later last all) (Builds own) (all_go w path job.forwarding later j [] d.wants) (λ last i givens r.
       goes_more w last i (Return (within_limit (composed run d givens))) (okay (λ end z message. (end ≡ last) × (within_limit (composed run d givens) ≡ Ok message))) (okay (Builds own))
       (okay_more (λ end z message. (end ≡ last) × (within_limit (composed run d givens) ≡ Ok message)) (Builds own)
       (λ end z message e. subst (λ l. Onto own l × IsBuilt run path job message l) (sym e.0) (

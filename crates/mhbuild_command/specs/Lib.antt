@@ -1,4 +1,5 @@
 pub mod BuildAlone
+pub mod BuildAnswers
 pub mod Building
 pub mod BuildDone
 pub mod BuildOutcome
