@@ -52,7 +52,7 @@ pub data MessagesAreNotGiven (negation folder : List ℕ) (specs : List (List �
       → MessagesAreNotGiven negation folder specs entries place (too_large l) (did (Read place name LIMIT_BYTES) (Long l) ∷ older)
   taken_away : {older : List Deed} → (n : ℕ) → HasMet place (entry_text (Number n)) older
       → MessagesAreNotGiven negation folder specs entries place (fault.Meddled place (entry_text (Number n)))
-        (did (Read place (entry_text (Number n)) LIMIT_BYTES) Gone ∷ older)
+      (did (Read place (entry_text (Number n)) LIMIT_BYTES) Gone ∷ older)
 
 -- a word that names no folder is refused, or the messages of the folder that it names are not given
 abbrev pub WantIsNotGiven : List ℕ → Forwarding → List NamedValue → Want → CommandFault → List Deed → Type 0
@@ -60,7 +60,7 @@ WantIsNotGiven path f entries (want.File file) e own = FileIsNotGiven file e own
 WantIsNotGiven path f entries (want.Messages word specs) e own =
     (folder_named (folder_word f word) ≡ Err e)
     ⊎ ((folder : List ℕ) × (folder_named (folder_word f word) ≡ Ok folder)
-      × MessagesAreNotGiven f.negation folder (specs_or_current specs) entries (Folder path folder) e own)
+    × MessagesAreNotGiven f.negation folder (specs_or_current specs) entries (Folder path folder) e own)
 
 -- the first of these were given, and the next is not
 pub record IsNotGiven (path : List ℕ) (f : Forwarding) (entries : List NamedValue) (wants : List Want) (e : CommandFault) (own : List Deed) : Type 0 where

@@ -116,15 +116,15 @@ module _ (run : ℕ) (few : run < 2 ^ 128) (path : List ℕ) (job : BuildJob) (v
           comes_then own h (all_given path job.forwarding [] draft.wants) (λ givens. Return (within_limit (composed run draft givens))) (Wants path job.forwarding h [] draft.wants own) Builds (wants_come path job.forwarding h [] draft.wants own)
           (λ later j givens q. comes_at later later j h (Return (within_limit (composed run draft givens))) Builds refl q.2
           (limit_comes later (composed run draft givens)
-            (record {
-              text = text;
-              draft = draft;
-              givens = givens;
-              has_text = text_onto job.draft text own later q.1.onto has;
-              is_draft = is;
-              are_given = subst (λ g. AreGiven path job.forwarding draft.wants g later) (sym q.0.are) q.0.given;
-              is_message = refl;
-            })
+          (record {
+            text = text;
+            draft = draft;
+            givens = givens;
+            has_text = text_onto job.draft text own later q.1.onto has;
+            is_draft = is;
+            are_given = subst (λ g. AreGiven path job.forwarding draft.wants g later) (sym q.0.are) q.0.given;
+            is_message = refl;
+          })
           (text_onto job.draft text own later q.1.onto has) (q.1.unmade Work (temp_name run h.next) unmade) (nat_lt LIMIT_BYTES (length (composed run draft givens))) refl))
           (λ later j e q. not_given text draft (text_onto job.draft text own later q.0 has) is q.1)
 
