@@ -1,9 +1,10 @@
-//! Rows of calls of the crates of messages: codes, dates, texts, drops, parts, formats and lines. `stdin` names calls and what they are given; `stdout` is what they give.
+//! Rows of calls of the crates of messages: codes, dates, texts, drops, parts, drafts, formats and lines. `stdin` names calls and what they are given; `stdout` is what they give.
 //! docs/ROWS.md tells the lines.
 #![tactic(auto)]
 
 mod codes;
 mod dates;
+mod drafts;
 mod drops;
 mod formats;
 mod lines;

@@ -1,5 +1,5 @@
 // Which call a row makes.
-use crate::{codes, dates, drops, formats, lines, mime, order, parts, texts};
+use crate::{codes, dates, drafts, drops, formats, lines, mime, order, parts, texts};
 use mh_base::Bytes;
 use row_text::{Calls, word};
 use std::alloc::Global;
@@ -14,6 +14,7 @@ fn call_of(alloc: Global, row: &[Bytes], told: &mut Bytes) -> Result<(), Fail> {
         b"drops" => drops::call(alloc, row, told),
         b"mime" => mime::call(alloc, row, told),
         b"parts" => parts::call(alloc, row, told),
+        b"drafts" => drafts::call(alloc, row, told),
         b"formats" => formats::call(alloc, row, told),
         b"order" => order::call(alloc, row, told),
         _ => Err("a call".into()),
