@@ -127,7 +127,7 @@ use Rattle.command_line.specs.Looking.{look_found, written_by}
 use Rattle.command_line.specs.Profile.{folder_of, path_of, profile_name}
 use Rattle.command_line.specs.WordCauses.{IsRefusedByWords, inc_file}
 use Rattle.command_line.specs.declared.name.CommandName.{CommandName}
-use Rattle.command_line.specs.declared.name.CommandName.TheVariants.{Anno, Folder as FolderCommand, Inc, Mark, Mhlist, Mhstore, Pick, Refile, Rmm, Scan, Sortm}
+use Rattle.command_line.specs.declared.name.CommandName.TheVariants.{Anno, Folder as FolderCommand, Inc, Mark, Mhbuild, Mhlist, Mhstore, Pick, Refile, Rmm, Scan, Sortm}
 use Rattle.command_line.specs.declared.caller.Caller.{Caller}
 use Rattle.command_line.proofs.Ending.{scan_shows}
 use Rattle.command_line.proofs.IncEnding.{BehindLook, TakesIn, ToldSo, inc_comes}
@@ -1021,6 +1021,7 @@ module _ (run : ℕ) (few : run < 2 ^ 128) (caller : Caller) (words_ : List (Lis
           go (Ok words) said = plain_keeps past fresh (store_begun run profile words) (store_begun_keeps word rest is_words name words said past is clean silent)
           go (Err x) said = stops past fresh x silent
               (refused_shown a x past is (store_words_refuse profile (map chars rest) x said) (refused_by caller words_ a word rest is_words (Some Mhstore) name x.fault (refusal_of (store_said profile (map chars rest)) x said)) clean)
+      by_word word rest is_words (Some Mhbuild) name begins = cc (begins)
 
       by_words : (words : List (List ℕ)) → words_ ≡ words → shows_ends (command_of words) ≡ true → Keeps Speech past fresh (command_by run caller profile words) EndsBy
       by_words [] is_words begins = cc (begins)

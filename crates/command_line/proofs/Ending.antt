@@ -44,7 +44,7 @@ use Rattle.command_line.specs.Profile.{path_of, profile_name}
 use Rattle.command_line.specs.WordCauses.{IsRefusedByWords, file_in, scan_file, words_file}
 use Rattle.command_line.specs.declared.caller.Caller.{Caller}
 use Rattle.command_line.specs.declared.name.CommandName.{CommandName}
-use Rattle.command_line.specs.declared.name.CommandName.TheVariants.{Anno, Folder as FolderCommand, Inc, Mark, Mhlist, Mhstore, Pick, Refile, Rmm, Scan, Sortm}
+use Rattle.command_line.specs.declared.name.CommandName.TheVariants.{Anno, Folder as FolderCommand, Inc, Mark, Mhbuild, Mhlist, Mhstore, Pick, Refile, Rmm, Scan, Sortm}
 use Rattle.command_line.proofs.BegunParts.{Found, Profile, after_context, after_profile, found_comes, none_made_looked, numbered_there, profile_comes}
 use Rattle.command_line.proofs.LookFound.{Looked, look_comes, look_deeds}
 use Rattle.command_line.proofs.Refusals.{IsRefusal, asked_refuses}
@@ -176,6 +176,7 @@ module _ (run : ℕ) (caller : Caller) (words_ : List (List ℕ)) where
     by_word word rest is (Some Sortm) name other = cc (other)
     by_word word rest is (Some Mhlist) name other = cc (other)
     by_word word rest is (Some Mhstore) name other = cc (other)
+    by_word word rest is (Some Mhbuild) name other = cc (other)
 
     by_words : (words : List (List ℕ)) → words_ ≡ words → begins_folders (command_of words) ≡ false → Comes (after_profile a) fresh (command_by run caller profile words) CommandEnds
     by_words [] is other = comes_to (after_profile a) fresh (Err (no_command None)) CommandEnds (inl (refused_none caller words_ a is))

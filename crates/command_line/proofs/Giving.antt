@@ -1,5 +1,5 @@
 -- What a command gives, alone and beside others: what it comes to on the mailbox that it finds.
-use Rattle.std.proofs.Common.{◌≡◌, ◌⊎◌, inl, inr, ◌<◌, ◌^◌, ℕ, Bool, true, false, List, [], ◌∷◌, Option, Some, None, Result, Ok, Err, length, refl, sym, ◌∙◌, ap, subst}
+use Rattle.std.proofs.Common.{◌≡◌, ◌⊎◌, inl, inr, ◌<◌, ◌^◌, ℕ, Bool, true, false, List, [], ◌∷◌, Option, Some, None, Result, Ok, Err, length, refl, sym, ◌∙◌, ap, subst, arith}
 use Rattle.std.specs.Prelude.{nat_lt, map, if◌then◌else◌}
 use Rattle.std.specs.Str.{chars}
 use Rattle.mh_base.specs.Entries.{entry_text}
@@ -10,7 +10,7 @@ use Rattle.mh_profile.specs.declared.named_value.NamedValue.{NamedValue}
 use Rattle.mh_sequences.proofs.Suffixes.{suffix_clean}
 use Rattle.folder_files.specs.declared.place.FilePath.{FilePath}
 use Rattle.folder_files.specs.declared.place.Place.{Place}
-use Rattle.folder_files.specs.declared.place.Place.TheVariants.{Home, Mail, Folder}
+use Rattle.folder_files.specs.declared.place.Place.TheVariants.{Home, Mail, Folder, Work as WorkPlace}
 use Rattle.folder_files.specs.declared.refusal.Refusal.{Refusal}
 use Rattle.folder_files.specs.declared.refusal.Refusal.TheVariants as refusal
 use Rattle.file_plans.specs.Contents.{Contents, filled, mailbox_in, with_folder}
@@ -21,10 +21,10 @@ use Rattle.file_plans.specs.Views.{Hidden, Unseen, View, nothing_seen, by_view}
 use Rattle.file_plans.proofs.Giving.{gives_bind, gives_then, gives_on}
 use Rattle.file_plans.proofs.Onward.{IsShort}
 use Rattle.step_plans.specs.ContextCommit.{LIMIT_BYTES, context_name}
-use Rattle.step_plans.specs.Hands.{knowing}
+use Rattle.step_plans.specs.Hands.{knowing, temp_name}
 use Rattle.step_plans.specs.declared.command_fault.CommandFault.{CommandFault}
 use Rattle.step_plans.specs.declared.command_fault.CommandFault.TheVariants as fault
-use Rattle.command_stages.specs.Texts.{too_large, text_read}
+use Rattle.command_stages.specs.Texts.{Commanded, too_large, text_read}
 use Rattle.command_stages.specs.Works.{Work, refused_at, readable}
 use Rattle.message_lines.specs.MessageText.{Writing}
 use Rattle.message_lines.specs.declared.standing.Standing.{Standing}
@@ -87,18 +87,25 @@ use Rattle.list_words.proofs.Said.{list_refuses, list_valid}
 use Rattle.mhstore_command.specs.ClearWork.{HasClearWork}
 use Rattle.mhstore_command.specs.Storing.{mhstore}
 use Rattle.mhstore_command.proofs.WholeGiven.{store_gives}
+use Rattle.build_words.specs.BuildWords.{build_said}
+use Rattle.build_words.specs.declared.words.BuildWords.{BuildWords}
+use Rattle.build_words.proofs.Said.{IsValid as IsDraft, build_refuses, build_valid}
+use Rattle.mhbuild_command.specs.Heard.{Heard}
+use Rattle.mhbuild_command.proofs.HeardBuild.{mhbuild_given}
+use Rattle.mhbuild_command.proofs.HeardGiven.{given_gives}
 use Rattle.store_words.specs.StoreWords.{store_said}
 use Rattle.store_words.specs.declared.words.StoreWords.{StoreWords}
 use Rattle.store_words.proofs.Said.{store_refuses, store_valid}
-use Rattle.command_line.specs.Command.{anno_begun, anno_by, anno_job, annotated_by, context_seen, context_entered, folder_found, inc_begun, inc_by, job_of, mark_job, scan_begun, scan_by, mark_begun, mark_by, pick_begun, pick_by, pick_job, picked_by, refile_begun, refile_by, refile_job, rmm_begun, rmm_by, rmm_job, word_by, command_by, command, pack_begun, pack_job, task_begun, tell_begun, tell_by, tell_job, list_begun, list_by, list_job, sort_begun, sort_by, sort_job, store_begun, store_by, store_job}
+use Rattle.command_line.specs.Command.{anno_begun, anno_by, anno_job, annotated_by, build_job, context_seen, context_entered, folder_found, inc_begun, inc_by, job_of, mark_job, scan_begun, scan_by, mark_begun, mark_by, pick_begun, pick_by, pick_job, picked_by, refile_begun, refile_by, refile_job, rmm_begun, rmm_by, rmm_job, pack_begun, pack_job, task_begun, tell_begun, tell_by, tell_job, list_begun, list_by, list_job, sort_begun, sort_by, sort_job, store_begun, store_by, store_job}
 use Rattle.command_line.specs.CommandNames.{begins_folders, command_of, makes_folders, named, stores_files}
 use Rattle.command_line.specs.Incorporating.{IncAsked, job_by, job_writing}
-use Rattle.command_line.specs.Outcomes.{anno_words_work, annos, FolderWork, inc_job_work, incs, plainly, of_stage, in_folder, with_context, scans, scan_words_work, on_folder, writing, written_there, marks, mark_words_work, picks, pick_words_work, refiles, refile_words_work, rmms, rmm_words_work, word_work, named_work, with_profile, work_by, work_of, alone_meeting, packs, tasks, tell_words_work, tells, list_words_work, lists, sort_words_work, sorts, store_words_work, stores}
+use Rattle.command_line.specs.Outcomes.{anno_words_work, annos, FolderWork, inc_job_work, incs, plainly, of_stage, in_folder, with_context, scans, scan_words_work, on_folder, writing, written_there, marks, mark_words_work, picks, pick_words_work, refiles, refile_words_work, rmms, rmm_words_work, word_work, named_work, with_profile, work_by, work_of, alone_meeting, build_words_work, builds, packs, tasks, tell_words_work, tells, list_words_work, lists, sort_words_work, sorts, store_words_work, stores}
 use Rattle.command_line.specs.Profile.{folder_of, path_of, profile_name}
 use Rattle.command_line.specs.declared.name.CommandName.{CommandName}
-use Rattle.command_line.specs.declared.name.CommandName.TheVariants.{Anno, Folder as FolderCommand, Inc, Mark, Mhlist, Mhstore, Pick, Refile, Rmm, Scan, Sortm}
+use Rattle.command_line.specs.declared.name.CommandName.TheVariants.{Anno, Folder as FolderCommand, Inc, Mark, Mhbuild, Mhlist, Mhstore, Pick, Refile, Rmm, Scan, Sortm}
 use Rattle.command_line.specs.declared.caller.Caller.{Caller}
 use Rattle.command_line.proofs.Refusals.{IsRefusal, folder_refuses, job_refuses, mark_refuses, refile_refuses, rmm_refuses, asked_refuses, tell_refuses}
+use Rattle.command_line.proofs.HeardCommand.{build_given, build_given_by, command_given, given_by, word_given}
 use Rattle.command_line.proofs.LookGives.{fresh_alike, look_gives}
 use Rattle.command_line.proofs.SaidInc.{job_valid}
 use Rattle.command_line.proofs.SaidFolder.{acted_valid, mark_valid, refile_words_valid, rmm_words_valid, tell_words_valid}
@@ -475,6 +482,46 @@ store_stage run c few clear profile words valid v h same none begun =
     store_gives run few (path_of profile) (store_job folder words profile) (acted_valid words.folder (entries_in text) profile folder valid is) c (entries_in text) (ap entries_in short.1) short.0
     v.numbers (after_read v (Mail (path_of profile)) context_name) (knowing (entries_in text) h) same refl refl clear.there (λ x from below. clear.free x below))
 
+-- `mhbuild` alone, from the context on, where the current directory lets it and this was heard of the input
+module _ (run : ℕ) (c : Contents) (few : run < 2 ^ 128) (clear : HasClearWork run c) (profile : List NamedValue) (words : BuildWords) (valid : IsDraft words.draft) (heard : Heard)
+    (v : View) (h : Hand) (same : v.contents ≡ c) (none : h.next ≡ 0) (begun : IsBegun v) where
+  abbrev build_mail : Place
+  build_mail = Mail (path_of profile)
+
+  abbrev pub build_stage : Work CommandFault
+  build_stage = builds run heard (mailbox_in c) profile words (readable (c.texts build_mail context_name))
+
+  abbrev build_act : Commanded Unit
+  build_act = Recall (λ i. mhbuild_given heard run (path_of profile) (build_job words (entries_seen i.context) profile))
+
+  abbrev built_work : List ℕ → Work CommandFault
+  built_work text = builds run heard (mailbox_in c) profile words (Ok text)
+
+  built_gives : (text : List ℕ) → Gives (by_view true) (after_read v build_mail context_name) (knowing (entries_in text) h) (built_work text).text build_act (WorkEnds (built_work text))
+  unfolding Gives
+  built_gives text =
+      given_gives v.numbers c (knowing (entries_in text) h) run few (path_of profile) (build_job words (entries_in text) profile) (entries_in text) refl valid clear.there (subst (λ n. c.texts WorkPlace (temp_name run n) ≡ None) (sym none) (clear.free 0 (omega arith))) heard
+      (after_read v build_mail context_name) ((λ e. same), refl)
+
+  pub build_stage_gives : Gives (by_view true) v h build_stage.text (build_given heard run profile words) (WorkEnds build_stage)
+  unfolding build_given
+  build_stage_gives =
+      gives_on (by_view true) v h build_stage.text (context_entered build_mail) (λ entered. build_act) (EntersBy c build_mail v h same begun build_stage.text (path_of profile) refl) (WorkEnds build_stage)
+      (enters_give c build_mail v h same begun build_stage.text (path_of profile) refl)
+      (λ z j left u r. on z j left r.0 r.1)
+      (λ z j left e r. off z j left e r)
+    where
+      on : (z : View) (j : Hand) (left text : List ℕ) → Enters c build_mail v h same begun build_stage.text (path_of profile) refl z j left text → Gives (by_view true) z j left build_act (WorkEnds build_stage)
+      on z j left text r =
+          let w : build_stage ≡ built_work text = ap (builds run heard (mailbox_in c) profile words) r.value in
+          rw (r.view, r.hand, r.rest) (subst (λ x. Gives (by_view true) (after_read v build_mail context_name) (knowing (entries_in text) h) x.text build_act (WorkEnds x)) (sym w) (built_gives text))
+
+      off : (z : View) (j : Hand) (left : List ℕ) (e : CommandFault) → EntersNot c build_mail v h same begun build_stage.text (path_of profile) refl z left e → WorkEnds build_stage z j left (Err e)
+      off z j left e r =
+          let w : build_stage ≡ refused_at (mailbox_in c) e = ap (builds run heard (mailbox_in c) profile words) r.value in
+          let l = unreadable (c.texts build_mail context_name) e r.value in
+          subst (λ x. WorkEnds x z j left (Err e)) (sym w) (mark_refused c e (refusal.TooLarge l.0 LIMIT_BYTES) z j left l.1 (r.rest ∙ ap (λ x. x.text) w) r.contents)
+
 -- `inc` alone, from the context on
 
 module _ (run : ℕ) (c : Contents) (few : run < 2 ^ 128) (bare : IsBare c) (profile : List NamedValue) (asked : IncAsked) (valid : is_folder_name asked.folder ≡ true)
@@ -676,6 +723,22 @@ module _ (alone : Bool) (run : ℕ) (c : Contents) (few : run < 2 ^ 128) (homes 
         subst (λ b. Gives (by_view b) z fresh (store_words_work box profile (store_said profile words)).text (store_by run profile (store_said profile words)) (CommandEnds b (store_words_work box profile (store_said profile words)))) (sym only)
         (store_words_true clear (store_said profile words) (λ said e. store_valid profile words said e) (λ e is. store_refuses profile words e is))
 
+    build_words_true : HasClearWork run c → (heard : Heard) (value : Result BuildWords Ended) → ((words : BuildWords) → value ≡ Ok words → IsDraft words.draft) → ((e : Ended) → value ≡ Err e → IsRefusal e.fault)
+        → Gives (by_view true) z fresh (build_words_work run heard box profile value).text (build_given_by heard run profile value) (CommandEnds true (build_words_work run heard box profile value))
+    unfolding Gives lifted mailbox_in
+    build_words_true clear heard (Ok words) valid r =
+        gives_bind (by_view true) z fresh (build_words_work run heard box profile (Ok words)).text (build_given heard run profile words) (λ q. Return (converted plain q)) (WorkEnds (build_stage run c few clear profile words (valid words refl) heard z fresh same refl begun))
+        (CommandEnds true (build_words_work run heard box profile (Ok words)))
+        (build_stage_gives run c few clear profile words (valid words refl) heard z fresh same refl begun)
+        (λ y j left q e. mark_ends (build_stage run c few clear profile words (valid words refl) heard z fresh same refl begun) y j left q e)
+    build_words_true clear heard (Err e) valid r = let is = r e refl in plain_refused true c e is.0 z fresh [] is.1 refl same
+
+    build_words_give : alone ≡ true → HasClearWork run c → (heard : Heard) (words : List (List ℕ))
+        → Gives (by_view alone) z fresh (build_words_work run heard box profile (build_said profile words)).text (build_given_by heard run profile (build_said profile words)) (CommandEnds alone (build_words_work run heard box profile (build_said profile words)))
+    build_words_give only clear heard words =
+        subst (λ b. Gives (by_view b) z fresh (build_words_work run heard box profile (build_said profile words)).text (build_given_by heard run profile (build_said profile words)) (CommandEnds b (build_words_work run heard box profile (build_said profile words)))) (sym only)
+        (build_words_true clear heard (build_said profile words) (λ said e. build_valid profile words said e) (λ e is. build_refuses profile words e is))
+
     refile_words_true : IsBare c → (value : Result RefileWords Ended) → ((words : RefileWords) → value ≡ Ok words → IsValid words.source) → ((e : Ended) → value ≡ Err e → IsRefusal e.fault)
         → Gives (by_view true) z fresh (refile_words_work (alone_meeting run) box profile value).text (refile_by run profile value) (CommandEnds true (refile_words_work (alone_meeting run) box profile value))
     unfolding Gives lifted mailbox_in
@@ -707,53 +770,54 @@ module _ (alone : Bool) (run : ℕ) (c : Contents) (few : run < 2 ^ 128) (homes 
         subst (λ b. Gives (by_view b) z fresh (inc_job_work (alone_meeting run) box profile (job_by caller profile (inc_said profile words))).text (inc_by run profile (job_by caller profile (inc_said profile words))) (CommandEnds b (inc_job_work (alone_meeting run) box profile (job_by caller profile (inc_said profile words))))) (sym only)
         (inc_words_true bare (job_by caller profile (inc_said profile words)) (λ job e. job_valid caller profile words job e) (λ e is. job_refuses caller profile words e is))
 
-    by_word : (caller : Caller) (word : List ℕ) (words : List (List ℕ)) (name : Option CommandName) → (begins_folders name ≡ true → alone ≡ true) → (makes_folders name ≡ true → IsBare c) → (stores_files name ≡ true → HasClearWork run c) → Gives (by_view alone) z fresh (word_work (alone_meeting run) box caller profile word words name).text (word_by run caller profile word words name) (CommandEnds alone (word_work (alone_meeting run) box caller profile word words name))
+    by_word : (heard : Heard) (caller : Caller) (word : List ℕ) (words : List (List ℕ)) (name : Option CommandName) → (begins_folders name ≡ true → alone ≡ true) → (makes_folders name ≡ true → IsBare c) → (stores_files name ≡ true → HasClearWork run c) → Gives (by_view alone) z fresh (word_work (alone_meeting run) heard box caller profile word words name).text (word_given heard run caller profile word words name) (CommandEnds alone (word_work (alone_meeting run) heard box caller profile word words name))
     unfolding Gives
-    by_word caller word words None only bare clear = (refl, inl (refl, λ a. ap mailbox_in same))
-    by_word caller word words (Some Inc) only bare clear = inc_words_give (only refl) (bare refl) caller (map chars words)
-    by_word caller word words (Some Scan) only bare clear = scan_words_give (scan_asked caller (scan_said profile (map chars words))) (λ e is. asked_refuses caller profile (map chars words) e is)
-    by_word caller word words (Some Mark) only bare clear = mark_words_give (only refl) (map chars words)
-    by_word caller word words (Some Pick) only bare clear = pick_words_give (only refl) caller (map chars words)
-    by_word caller word words (Some Refile) only bare clear = refile_words_give (only refl) (bare refl) (map chars words)
-    by_word caller word words (Some Rmm) only bare clear = rmm_words_give (only refl) (map chars words)
-    by_word caller word words (Some FolderCommand) only bare clear = tell_words_give (only refl) (map chars words)
-    by_word caller word words (Some Anno) only bare clear = anno_words_give (only refl) caller (map chars words)
-    by_word caller word words (Some Sortm) only bare clear = sort_words_give (only refl) caller (map chars words)
-    by_word caller word words (Some Mhlist) only bare clear = list_words_give (only refl) caller (map chars words)
-    by_word caller word words (Some Mhstore) only bare clear = store_words_give (only refl) (clear refl) caller (map chars words)
+    by_word heard caller word words None only bare clear = (refl, inl (refl, λ a. ap mailbox_in same))
+    by_word heard caller word words (Some Inc) only bare clear = inc_words_give (only refl) (bare refl) caller (map chars words)
+    by_word heard caller word words (Some Scan) only bare clear = scan_words_give (scan_asked caller (scan_said profile (map chars words))) (λ e is. asked_refuses caller profile (map chars words) e is)
+    by_word heard caller word words (Some Mark) only bare clear = mark_words_give (only refl) (map chars words)
+    by_word heard caller word words (Some Pick) only bare clear = pick_words_give (only refl) caller (map chars words)
+    by_word heard caller word words (Some Refile) only bare clear = refile_words_give (only refl) (bare refl) (map chars words)
+    by_word heard caller word words (Some Rmm) only bare clear = rmm_words_give (only refl) (map chars words)
+    by_word heard caller word words (Some FolderCommand) only bare clear = tell_words_give (only refl) (map chars words)
+    by_word heard caller word words (Some Anno) only bare clear = anno_words_give (only refl) caller (map chars words)
+    by_word heard caller word words (Some Sortm) only bare clear = sort_words_give (only refl) caller (map chars words)
+    by_word heard caller word words (Some Mhlist) only bare clear = list_words_give (only refl) caller (map chars words)
+    by_word heard caller word words (Some Mhstore) only bare clear = store_words_give (only refl) (clear refl) caller (map chars words)
+    by_word heard caller word words (Some Mhbuild) only bare clear = build_words_give (only refl) (clear refl) heard (map chars words)
 
-    by_name : (caller : Caller) (words : List (List ℕ)) → (begins_folders (command_of words) ≡ true → alone ≡ true) → (makes_folders (command_of words) ≡ true → IsBare c) → (stores_files (command_of words) ≡ true → HasClearWork run c) → Gives (by_view alone) z fresh (named_work (alone_meeting run) box caller profile words).text (command_by run caller profile words) (CommandEnds alone (named_work (alone_meeting run) box caller profile words))
+    by_name : (heard : Heard) (caller : Caller) (words : List (List ℕ)) → (begins_folders (command_of words) ≡ true → alone ≡ true) → (makes_folders (command_of words) ≡ true → IsBare c) → (stores_files (command_of words) ≡ true → HasClearWork run c) → Gives (by_view alone) z fresh (named_work (alone_meeting run) heard box caller profile words).text (given_by heard run caller profile words) (CommandEnds alone (named_work (alone_meeting run) heard box caller profile words))
     unfolding Gives
-    by_name caller [] only bare clear = (refl, inl (refl, λ a. ap mailbox_in same))
-    by_name caller (word ∷ words) only bare clear = by_word caller word words (named word) only bare clear
+    by_name heard caller [] only bare clear = (refl, inl (refl, λ a. ap mailbox_in same))
+    by_name heard caller (word ∷ words) only bare clear = by_word heard caller word words (named word) only bare clear
 
   -- the whole; beside others, of commands that look
-  module _ (caller : Caller) (words : List (List ℕ)) (only : begins_folders (command_of words) ≡ true → alone ≡ true) (bare : makes_folders (command_of words) ≡ true → IsBare c) (clear : stores_files (command_of words) ≡ true → HasClearWork run c) where
+  module _ (heard : Heard) (caller : Caller) (words : List (List ℕ)) (only : begins_folders (command_of words) ≡ true → alone ≡ true) (bare : makes_folders (command_of words) ≡ true → IsBare c) (clear : stores_files (command_of words) ≡ true → HasClearWork run c) where
     abbrev pub whole_work : Work Ended
-    whole_work = work_of run caller words box
+    whole_work = work_of run caller words heard box
 
     module _ (v : View) (same : v.contents ≡ c) (first : IsFirst v) where
       profile_at : (o : Result (List ℕ) CommandFault) → o ≡ readable (v.contents.texts Home profile_name) → readable (c.texts Home profile_name) ≡ o
       profile_at o is = ap (λ d. readable (d.texts Home profile_name)) (sym same) ∙ sym is
 
-      works_by : (o : Result (List ℕ) CommandFault) → readable (c.texts Home profile_name) ≡ o → whole_work ≡ with_profile (alone_meeting run) box caller words o
+      works_by : (o : Result (List ℕ) CommandFault) → readable (c.texts Home profile_name) ≡ o → whole_work ≡ with_profile (alone_meeting run) heard box caller words o
       unfolding work_by mailbox_in
-      works_by o is = ap (with_profile (alone_meeting run) box caller words) is
+      works_by o is = ap (with_profile (alone_meeting run) heard box caller words) is
 
-      after_profile : (z : View) (j : Hand) (left : List ℕ) (r : Result (List ℕ) CommandFault) → TextRead v Home profile_name fresh whole_work.text z j left r → Gives (by_view alone) z j left (after (λ text. command_by run caller (entries_in text) words) (converted plain r)) (CommandEnds alone whole_work)
+      after_profile : (z : View) (j : Hand) (left : List ℕ) (r : Result (List ℕ) CommandFault) → TextRead v Home profile_name fresh whole_work.text z j left r → Gives (by_view alone) z j left (after (λ text. given_by heard run caller (entries_in text) words) (converted plain r)) (CommandEnds alone whole_work)
       unfolding Gives
       after_profile z j left (Ok text) t =
           let w = works_by (Ok text) (profile_at (Ok text) t.value) in
-          rw (t.view, t.hand, t.rest) (subst (λ x. Gives (by_view alone) (after_read v Home profile_name) fresh x.text (command_by run caller (entries_in text) words) (CommandEnds alone x)) (sym w)
-          (by_name (entries_in text) (after_read v Home profile_name) same (λ p x. first.unmet p x) (begun_first v first) caller words only bare clear))
+          rw (t.view, t.hand, t.rest) (subst (λ x. Gives (by_view alone) (after_read v Home profile_name) fresh x.text (given_by heard run caller (entries_in text) words) (CommandEnds alone x)) (sym w)
+          (by_name (entries_in text) (after_read v Home profile_name) same (λ p x. first.unmet p x) (begun_first v first) heard caller words only bare clear))
       after_profile z j left (Err e) t =
           let is = profile_at (Err e) t.value in
           let w = works_by (Err e) is in
           let l = unreadable (c.texts Home profile_name) e is in
           subst (λ x. CommandEnds alone x z j left (Err (plain e))) (sym w) (plain_refused alone c (plain e) (refusal.TooLarge l.0 LIMIT_BYTES) z j left l.1 (t.rest ∙ ap (λ x. x.text) w) (ap (λ y. y.contents) t.view ∙ same))
 
-      pub command_gives : Gives (by_view alone) v fresh whole_work.text (command run caller words) (CommandEnds alone whole_work)
-      unfolding command
+      pub command_gives : Gives (by_view alone) v fresh whole_work.text (command_given heard run caller words) (CommandEnds alone whole_work)
+      unfolding command_given
       command_gives =
-          gives_then (by_view alone) v fresh whole_work.text plain (text_read Home profile_name) (λ text. command_by run caller (entries_in text) words) (TextRead v Home profile_name fresh whole_work.text) (CommandEnds alone whole_work)
+          gives_then (by_view alone) v fresh whole_work.text plain (text_read Home profile_name) (λ text. given_by heard run caller (entries_in text) words) (TextRead v Home profile_name fresh whole_work.text) (CommandEnds alone whole_work)
           (text_gives alone v Home profile_name fresh whole_work.text (λ beside. ap (λ s. s.names Home profile_name) first.seen)) after_profile

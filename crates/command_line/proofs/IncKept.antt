@@ -43,7 +43,7 @@ use Rattle.command_words.specs.declared.ended.Ended.{Ended}
 use Rattle.command_line.specs.Command.{command, inc_by, word_by}
 use Rattle.command_line.specs.CommandMarks.{IsTextName}
 use Rattle.command_line.specs.CommandNames.{named}
-use Rattle.command_line.specs.CommandPledge.{TellsAsked, asked_pledge, incs_pledge}
+use Rattle.command_line.specs.CommandPledge.{entries_by, TellsAsked, asked_pledge, incs_pledge}
 use Rattle.command_line.specs.Incorporating.{IncAsked, job_by, job_writing}
 use Rattle.command_line.specs.Looking.{WritesAs, written_by}
 use Rattle.command_line.specs.Profile.{path_of, profile_name}
@@ -108,7 +108,7 @@ module _ (run : ℕ) (few : run < 2 ^ 128) (profile : List NamedValue) (h : Hand
     minds = taken_minds asked (valid asked refl).0 (valid asked refl).1;
     Q = IfOkay Any;
     keeps = keeps_after (takes_pledge asked (valid asked refl).0) Home (Mail path) profile_name context_name LIMIT_BYTES h (on_entries (inc_acts run profile asked) (reading_of b)) (IfOkay Any)
-        (λ c d sound. entries_keep (takes_pledge asked (valid asked refl).0) (two_readings profile c d) h sound (inc_acts run profile asked) Any (λ es. asked_keeps asked (valid asked refl).0 c d es sound) (reading_of b));
+        (λ c d sound. entries_keep (takes_pledge asked (valid asked refl).0) (two_readings profile c d) h sound (inc_acts run profile asked) Any (reading_of b) (asked_keeps asked (valid asked refl).0 c d (entries_by b) sound));
   }
 
 -- after a profile that is too long the command does nothing

@@ -2,10 +2,13 @@ pub mod AnnoMarks
 pub mod Begun
 pub mod BegunEnding
 pub mod BegunParts
+pub mod BuildEnding
+pub mod BuildMarks
 pub mod Ending
 pub mod FolderChars
 pub mod FormatRefuses
 pub mod Giving
+pub mod HeardCommand
 pub mod IncEnding
 pub mod IncKept
 pub mod ListMarks

@@ -77,13 +77,14 @@ use Rattle.command_line.specs.CommandNames.{begins_folders, command_of, named}
 use Rattle.command_line.specs.CommandPledge.{entries_by, marks_pledge, on_named, rmm_on_named, rmms_pledge, task_pledge, tell_on_named, tells_pledge}
 use Rattle.command_line.specs.Profile.{folder_of, path_of, profile_name}
 use Rattle.command_line.specs.declared.name.CommandName.{CommandName}
-use Rattle.command_line.specs.declared.name.CommandName.TheVariants.{Anno, Folder as FolderCommand, Inc, Mark, Mhlist, Mhstore, Pick, Refile, Rmm, Scan, Sortm}
+use Rattle.command_line.specs.declared.name.CommandName.TheVariants.{Anno, Folder as FolderCommand, Inc, Mark, Mhbuild, Mhlist, Mhstore, Pick, Refile, Rmm, Scan, Sortm}
 use Rattle.command_line.specs.declared.caller.Caller.{Caller}
 use Rattle.command_line.proofs.IncKept.{inc_kept}
 use Rattle.command_line.proofs.MindingPlans.{Minding, NothingMore, minding_kept, minding_where, minds_own, minds_with, ok_one, sound_so}
 use Rattle.command_line.proofs.MindsMarks.{command_keeps_sequences, minds_sequences}
 use Rattle.command_line.proofs.Pledging.{Answered, answers, context_keeps, context_step, known_sound, mark_acts, mark_onward, mark_words_keep, named_onward, on_context, onward_by, plan_by, profile_step, rmm_acts, rmm_onward, rmm_words_keep, two_readings, word_onward, task_acts, tell_acts, tell_onward, tell_words_keep}
 use Rattle.command_line.proofs.AnnoMarks.{anno_minding}
+use Rattle.command_line.proofs.BuildMarks.{build_kept}
 use Rattle.command_line.proofs.ListMarks.{list_minding}
 use Rattle.command_line.proofs.LooksMarks.{looks_mind as tell_looks_mind}
 use Rattle.command_line.proofs.SortMarks.{sort_minding}
@@ -561,6 +562,7 @@ module _ (run : ℕ) (few : run < 2 ^ 128) (caller : Caller) (x y : State) (resu
   by_name word words texts f (Some Sortm) is = sort_kept word words texts is f
   by_name word words texts f (Some Mhlist) is = list_kept word words texts is f
   by_name word words texts f (Some Mhstore) is = store_kept word words texts is f
+  by_name word words texts f (Some Mhbuild) is = build_kept run few caller x y result word words is f
 
   pub command_keeps_marks : (words : List (List ℕ)) → AreUtf8 words → Follows run ended_cause (command run caller words) x y result → KeepsCommandMarks (command_of words) run x.files.story y.files.story
   command_keeps_marks [] texts f = command_keeps_sequences run few caller [] refl x y result f

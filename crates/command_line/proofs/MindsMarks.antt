@@ -40,7 +40,7 @@ use Rattle.command_line.specs.CommandNames.{begins_folders, command_of, named}
 use Rattle.command_line.specs.CommandPledge.{command_pledge, entries_by, path_by, word_pledge}
 use Rattle.command_line.specs.Profile.{path_of}
 use Rattle.command_line.specs.declared.name.CommandName.{CommandName}
-use Rattle.command_line.specs.declared.name.CommandName.TheVariants.{Anno, Folder as FolderCommand, Inc, Mark, Mhlist, Mhstore, Pick, Refile, Rmm, Scan, Sortm}
+use Rattle.command_line.specs.declared.name.CommandName.TheVariants.{Anno, Folder as FolderCommand, Inc, Mark, Mhbuild, Mhlist, Mhstore, Pick, Refile, Rmm, Scan, Sortm}
 use Rattle.command_line.specs.declared.caller.Caller.{Caller}
 use Rattle.command_words.specs.Ended.{ended_cause}
 use Rattle.command_words.specs.declared.ended.Ended.{Ended}
@@ -136,6 +136,7 @@ pledge_looks run caller (word ∷ words) profile context other = go (named word)
     go (Some Sortm) other = cc (other)
     go (Some Mhlist) other = cc (other)
     go (Some Mhstore) other = cc (other)
+    go (Some Mhbuild) other = cc (other)
 
 -- the own steps of a call's story, where its plan keeps the rules of a pledge
 pub keeps_may : {T E : Type 0} (w : Pledge) (cause : E → Cause) (plan : Plan (Result T E)) (x y : State) (result : Result T E) (Q : List Done → Hand → Result T E → Type 0) → Keeps (rules_of w) [] x.hand plan Q → (f : Follows w.run cause plan x y result) → StoryMay w x.files.story y.files.story

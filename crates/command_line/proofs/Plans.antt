@@ -1,6 +1,7 @@
 -- The plans of commands, and the errors with which they end.
 use Rattle.std.proofs.Common.{◌≡◌, inl, inr, ◌∷◌, [], ℕ, List, Option, None, Some, Result, Ok, Err, refl, sym, ◌∙◌, ap, subst}
 use Rattle.std.specs.Prelude.{codes, map, length, IsErr, IsErrAnd}
+use Rattle.mh_base.specs.Streams.{SourceState}
 use Rattle.mh_profile.specs.declared.named_value.NamedValue.{NamedValue}
 use Rattle.folder_files.specs.Story.{FilesState}
 use Rattle.file_plans.specs.Plan.{Hand, Plan, Recall, Return, Note, lifted}
@@ -15,7 +16,7 @@ use Rattle.command_words.specs.Ended.{Ending, plain, ended_cause}
 use Rattle.command_words.specs.Results.{IsNamed, IsSaid}
 use Rattle.command_words.specs.declared.ended.Ended.{Ended}
 use Rattle.command_line.specs.Command.{context_seen, command_by, no_command, word_by}
-use Rattle.command_line.specs.CommandNames.{named}
+use Rattle.command_line.specs.CommandNames.{LeavesInput, command_of, named}
 use Rattle.command_line.specs.Profile.{value_or}
 use Rattle.command_line.specs.declared.name.CommandName.{CommandName}
 use Rattle.command_line.specs.declared.caller.Caller.{Caller}
@@ -78,3 +79,7 @@ word_on caller profile word words value name is f = rw is f
 
 pub word_none : {run : ℕ} (caller : Caller) (profile : List NamedValue) (word : List ℕ) (words : List (List ℕ)) (value : Option CommandName) (e : Ended) {x : State} → value ≡ None → e ≡ no_command (Some word) → Follows run ended_cause (word_by run caller profile word words value) x x (Err e)
 word_none caller profile word words value e is same = rw (is, same) (refuses _ refl)
+
+-- the input is left as the command of these words leaves it
+pub input_some : (words rest : List (List ℕ)) (word : List ℕ) (old new : SourceState) → words ≡ word ∷ rest → LeavesInput (named word) old new → LeavesInput (command_of words) old new
+input_some words rest word old new is f = rw is f

@@ -89,13 +89,21 @@ use Rattle.refile_command.specs.declared.job.RefileJob.{RefileJob}
 use Rattle.refile_command.proofs.RefileMoved.{HasHeldNone}
 use Rattle.refile_command.proofs.RefilePledged.{EndsRefiled, refile_keeps}
 use Rattle.refile_command.proofs.RmmPledged.{rmm_keeps}
-use Rattle.command_line.specs.Command.{anno_begun, anno_by, anno_job, annotated_by, command, command_by, context_entered, context_seen, folder_found, inc_begun, inc_by, job_of, mark_begun, mark_by, mark_job, no_command, pick_begun, pick_by, pick_job, picked_by, refile_begun, refile_by, refile_job, rmm_begun, rmm_by, rmm_job, scan_begun, scan_by, word_by, pack_begun, pack_job, task_begun, tell_begun, tell_by, tell_job, list_begun, list_by, list_job, sort_begun, sort_by, sort_job, store_begun, store_by, store_job}
+use Rattle.command_line.specs.Command.{anno_begun, anno_by, anno_job, annotated_by, build_begun, build_by, build_job, command, command_by, context_entered, context_seen, folder_found, inc_begun, inc_by, job_of, list_begun, list_by, list_job, mark_begun, mark_by, mark_job, no_command, pack_begun, pack_job, pick_begun, pick_by, pick_job, picked_by, refile_begun, refile_by, refile_job, rmm_begun, rmm_by, rmm_job, scan_begun, scan_by, sort_begun, sort_by, sort_job, store_begun, store_by, store_job, task_begun, tell_begun, tell_by, tell_job, word_by}
 use Rattle.command_line.specs.CommandNames.{command_of, named}
-use Rattle.command_line.specs.CommandPledge.{IsDone, KeepsPledge, TellsAsked, anno_on_named, annos_pledge, asked_pledge, command_pledge, entries_by, incs_pledge, marks_pledge, on_named, path_by, pick_on_named, picks_pledge, refile_on_named, refiles_pledge, rmm_on_named, rmms_pledge, text_of, word_pledge, task_pledge, tell_on_named, tells_pledge, list_on_named, lists_pledge, sort_on_named, sorts_pledge, store_on_named, stores_pledge}
+use Rattle.command_line.specs.CommandPledge.{IsDone, KeepsPledge, TellsAsked, anno_on_named, annos_pledge, asked_pledge, builds_pledge, command_pledge, entries_by, incs_pledge, list_on_named, lists_pledge, marks_pledge, on_named, path_by, pick_on_named, picks_pledge, refile_on_named, refiles_pledge, rmm_on_named, rmms_pledge, sort_on_named, sorts_pledge, store_on_named, stores_pledge, task_pledge, tell_on_named, tells_pledge, text_of, word_pledge}
+use Rattle.build_words.specs.BuildWords.{build_said}
+use Rattle.build_words.specs.declared.words.BuildWords.{BuildWords}
+use Rattle.build_words.proofs.Said.{IsValid as IsDraft, build_valid}
+use Rattle.mhbuild_command.specs.BuildDone.{HasBuilt}
+use Rattle.mhbuild_command.specs.BuildPledge.{build_pledge}
+use Rattle.mhbuild_command.specs.Building.{mhbuild}
+use Rattle.mhbuild_command.specs.declared.job.BuildJob.{BuildJob}
+use Rattle.mhbuild_command.proofs.BuildPledged.{build_keeps}
 use Rattle.command_line.specs.Incorporating.{IncAsked, job_by, job_writing}
 use Rattle.command_line.specs.Profile.{folder_of, path_of, profile_name}
 use Rattle.command_line.specs.declared.name.CommandName.{CommandName}
-use Rattle.command_line.specs.declared.name.CommandName.TheVariants.{Anno, Folder as FolderCommand, Inc, Mark, Mhlist, Mhstore, Pick, Refile, Rmm, Scan, Sortm}
+use Rattle.command_line.specs.declared.name.CommandName.TheVariants.{Anno, Folder as FolderCommand, Inc, Mark, Mhbuild, Mhlist, Mhstore, Pick, Refile, Rmm, Scan, Sortm}
 use Rattle.command_line.specs.declared.caller.Caller.{Caller}
 use Rattle.command_line.proofs.LookFound.{acts_looked, keeps_telling, look_done, look_keeps, look_writes, looked_once, looked_only, looked_settled, writes_kept}
 use Rattle.command_line.proofs.SaidFolder.{acted_valid, asked_valid}
@@ -225,6 +233,14 @@ module _ (run : ℕ) (profile : List NamedValue) where
   store_onward (Ok words) = inr (λ b. on_context profile words.folder (store_acts words) (reading_of b), context_asked profile words.folder (store_acts words))
   store_onward (Err e) = inl (Err e, refl)
 
+  abbrev pub build_acts : BuildWords → Commanded Unit
+  build_acts words = Recall (λ h. mhbuild run (path_of profile) (build_job words (entries_seen h.context) profile))
+
+  unfoldable pub build_onward : (value : Result BuildWords Ended) → Onward (context_step profile) (build_by run profile value)
+  unfolding build_begun
+  build_onward (Ok words) = inr (λ b. on_entries (build_acts words) (reading_of b), entries_asked profile (build_acts words))
+  build_onward (Err e) = inl (Err e, refl)
+
   unfoldable pub inc_onward : (value : Result IncAsked Ended) → Onward (context_step profile) (inc_by run profile value)
   unfolding inc_begun
   inc_onward (Ok asked) = inr (λ b. on_entries (inc_acts asked) (reading_of b), entries_asked profile (inc_acts asked))
@@ -243,6 +259,7 @@ module _ (run : ℕ) (profile : List NamedValue) where
   word_onward caller word words (Some Sortm) = sort_onward (sort_said profile (map chars words))
   word_onward caller word words (Some Mhlist) = list_onward (list_said profile (map chars words))
   word_onward caller word words (Some Mhstore) = store_onward (store_said profile (map chars words))
+  word_onward caller word words (Some Mhbuild) = build_onward (build_said profile (map chars words))
 
   unfoldable pub named_onward : (caller : Caller) (words : List (List ℕ)) → Onward (context_step profile) (command_by run caller profile words)
   named_onward caller [] = inl (Err (no_command None), refl)
@@ -272,16 +289,16 @@ module _ (w : Pledge) (past : List Done) (h : Hand) (sound : Sound w (acts past)
       → Keeps (rules_of w) past h (on_context profile said act r) (IfOkay P)
   context_keeps r f = keeps_lifted (rules_of w) past h plain (on_context_plainly profile said act r) P (plainly_keeps r f)
 
--- the context was read so, and the work keeps the rules whatever its entries are
-module _ (w : Pledge) (past : List Done) (h : Hand) (sound : Sound w (acts past) h) (act : Commanded Unit) (P : List Done → Hand → Unit → Type 0) (f : (es : List NamedValue) → Keeps (rules_of w) past (knowing es h) act (IfOkay P)) where
-  entries_plainly : (r : Reading) → Keeps (rules_of w) past h (on_entries_plainly act r) (IfOkay P)
+-- the context was read so, and the work keeps the rules with its entries
+module _ (w : Pledge) (past : List Done) (h : Hand) (sound : Sound w (acts past) h) (act : Commanded Unit) (P : List Done → Hand → Unit → Type 0) where
+  entries_plainly : (r : Reading) → Keeps (rules_of w) past (knowing (entries_in (text_of r)) h) act (IfOkay P) → Keeps (rules_of w) past h (on_entries_plainly act r) (IfOkay P)
   unfolding Keeps context_seen bind ◌>>=◌
-  entries_plainly (reading.Content bytes) = (sound.numbered, f (entries_in bytes))
-  entries_plainly (reading.Long l) = (sound.numbered, tt)
-  entries_plainly reading.Gone = (sound.numbered, f (entries_in []))
+  entries_plainly (reading.Content bytes) f = (sound.numbered, f)
+  entries_plainly (reading.Long l) f = (sound.numbered, tt)
+  entries_plainly reading.Gone f = (sound.numbered, f)
 
-  pub entries_keep : (r : Reading) → Keeps (rules_of w) past h (on_entries act r) (IfOkay P)
-  entries_keep r = keeps_lifted (rules_of w) past h plain (on_entries_plainly act r) P (entries_plainly r)
+  pub entries_keep : (r : Reading) → Keeps (rules_of w) past (knowing (entries_in (text_of r)) h) act (IfOkay P) → Keeps (rules_of w) past h (on_entries act r) (IfOkay P)
+  entries_keep r f = keeps_lifted (rules_of w) past h plain (on_entries_plainly act r) P (entries_plainly r f)
 
 -- the deeds of two readings
 abbrev pub two_readings : List NamedValue → Answer → Answer → List Done
@@ -598,6 +615,32 @@ module _ (run : ℕ) (few : run < 2 ^ 128) (profile : List NamedValue) (h : Hand
       w = store_on_named run profile words (folder_of words.folder (entries_by b) profile)
   store_words_keep b (Err e) = keeps_ended look Home profile_name LIMIT_BYTES h (Err e) (IfOkay (Finished (Some Mhstore) path)) (λ c. tt)
 
+  -- `mhbuild`
+  module _ (words : BuildWords) (valid : IsDraft words.draft) (b : Answer) where
+    abbrev building : BuildJob
+    building = build_job words (entries_by b) profile
+
+    abbrev build_w : Pledge
+    build_w = build_pledge run path building
+
+    mhbuild_done : (c d : Answer) (later : List Done) (j : Hand) (r : Result Unit CommandFault) → IfOkay (λ last i u. HasBuilt run path building (acts (two_readings profile c d)) (acts last) × (HasFailed (acts last) → ⊥)) later j r → IfOkay (Finished (Some Mhbuild) path) later j r
+    mhbuild_done c d later j (Ok u) f = record { is_done = f.0.settled (two_settled profile c d); unfailed = f.1 }
+    mhbuild_done c d later j (Err e) f = tt
+
+    built_so : (c d : Answer) → Sound build_w (acts (two_readings profile c d)) h → Keeps (rules_of build_w) (two_readings profile c d) (knowing (entries_by b) h) (build_acts run profile words) (IfOkay (Finished (Some Mhbuild) path))
+    unfolding Keeps
+    built_so c d sound =
+        keeps_more (rules_of build_w) (two_readings profile c d) (knowing (entries_by b) h) (mhbuild run path building) (IfOkay (λ last i u. HasBuilt run path building (acts (two_readings profile c d)) (acts last) × (HasFailed (acts last) → ⊥))) (IfOkay (Finished (Some Mhbuild) path))
+        (mhbuild_done c d) (build_keeps run few path building valid (two_readings profile c d) (knowing (entries_by b) h) (known_sound build_w (acts (two_readings profile c d)) h (entries_by b) sound))
+
+  pub build_words_keep : (b : Answer) (value : Result BuildWords Ended) → ((words : BuildWords) → value ≡ Ok words → IsDraft words.draft)
+      → Keeps (rules_of (builds_pledge run profile (entries_by b) value)) [] h (Ask profile_step (λ c. rest_by (context_step profile) (build_by run profile value) (build_onward run profile value) b)) (IfOkay (Finished (Some Mhbuild) path))
+  unfolding build_onward
+  build_words_keep b (Ok words) valid =
+      keeps_after (build_w words (valid words refl) b) Home (Mail path) profile_name context_name LIMIT_BYTES h (on_entries (build_acts run profile words) (reading_of b)) (IfOkay (Finished (Some Mhbuild) path))
+      (λ c d sound. entries_keep (build_w words (valid words refl) b) (two_readings profile c d) h sound (build_acts run profile words) (Finished (Some Mhbuild) path) (reading_of b) (built_so words (valid words refl) b c d sound))
+  build_words_keep b (Err e) valid = keeps_ended look Home profile_name LIMIT_BYTES h (Err e) (IfOkay (Finished (Some Mhbuild) path)) (λ c. tt)
+
   -- `refile`
   refile_done : (job : RefileJob) (a b : Answer) (later : List Done) (j : Hand) (r : Result Unit CommandFault) → IfOkay (EndsRefiled run few path job (acts (two_readings profile a b))) later j r → IfOkay (Finished (Some Refile) path) later j r
   refile_done job a b later j (Ok u) f = record { is_done = f.0.settled (two_settled profile a b); unfailed = f.0.unfailed }
@@ -638,7 +681,7 @@ module _ (run : ℕ) (few : run < 2 ^ 128) (profile : List NamedValue) (h : Hand
   unfolding inc_onward
   inc_job_keeps b (Ok asked) =
       keeps_after w Home (Mail path) profile_name context_name LIMIT_BYTES h (on_entries (inc_acts run profile asked) (reading_of b)) (IfOkay (Finished (Some Inc) path))
-      (λ c d sound. entries_keep w (two_readings profile c d) h sound (inc_acts run profile asked) (Finished (Some Inc) path) (λ es. asked_so c d es sound) (reading_of b))
+      (λ c d sound. entries_keep w (two_readings profile c d) h sound (inc_acts run profile asked) (Finished (Some Inc) path) (reading_of b) (asked_so c d (entries_by b) sound))
     where
       w : Pledge
       w = asked_pledge run path asked
@@ -677,6 +720,7 @@ module _ (run : ℕ) (few : run < 2 ^ 128) (profile : List NamedValue) (h : Hand
   word_keeps caller b word words (Some Sortm) = sort_words_keep b (sort_said profile (map chars words))
   word_keeps caller b word words (Some Mhlist) = list_words_keep b (list_said profile (map chars words))
   word_keeps caller b word words (Some Mhstore) = store_words_keep b (store_said profile (map chars words))
+  word_keeps caller b word words (Some Mhbuild) = build_words_keep b (build_said profile (map chars words)) (λ said e. build_valid profile (map chars words) said e)
 
   named_keeps : (caller : Caller) (b : Answer) (words : List (List ℕ))
       → Keeps (rules_of (command_pledge run caller words profile (entries_by b))) [] h (Ask profile_step (λ c. rest_by (context_step profile) (command_by run caller profile words) (named_onward run profile caller words) b)) (IfOkay (Finished (command_of words) path))
@@ -769,6 +813,10 @@ pledge_run run caller (word ∷ words) profile context = go (named word)
         by (Err e) = refl
     stores_by (Err e) = refl
 
+    builds_by : (value : Result BuildWords Ended) → (builds_pledge run profile context value).run ≡ run
+    builds_by (Ok said) = refl
+    builds_by (Err e) = refl
+
     refiles_by : (value : Result RefileWords Ended) → (refiles_pledge run profile context value).run ≡ run
     refiles_by (Ok said) = by (folder_of said.source context profile)
       where
@@ -794,6 +842,7 @@ pledge_run run caller (word ∷ words) profile context = go (named word)
     go (Some Sortm) = sorts_by (sort_said profile (map chars words))
     go (Some Mhlist) = lists_by (list_said profile (map chars words))
     go (Some Mhstore) = stores_by (store_said profile (map chars words))
+    go (Some Mhbuild) = builds_by (build_said profile (map chars words))
 
 module _ (run : ℕ) (few : run < 2 ^ 128) (caller : Caller) (words : List (List ℕ)) where
   -- the command, by what reading the profile gave

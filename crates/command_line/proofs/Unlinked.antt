@@ -43,7 +43,7 @@ use Rattle.command_line.specs.Command.{command, command_by, context_entered, con
 use Rattle.command_line.specs.CommandNames.{begins_folders, command_of, named}
 use Rattle.command_line.specs.Profile.{folder_of, path_of, profile_name}
 use Rattle.command_line.specs.declared.name.CommandName.{CommandName}
-use Rattle.command_line.specs.declared.name.CommandName.TheVariants.{Anno, Folder as FolderCommand, Inc, Mark, Mhlist, Mhstore, Pick, Refile, Rmm, Scan, Sortm}
+use Rattle.command_line.specs.declared.name.CommandName.TheVariants.{Anno, Folder as FolderCommand, Inc, Mark, Mhbuild, Mhlist, Mhstore, Pick, Refile, Rmm, Scan, Sortm}
 use Rattle.command_line.specs.declared.caller.Caller.{Caller}
 use Rattle.command_words.specs.Ended.{plain}
 use Rattle.command_words.specs.ScanWords.{scan_said}
@@ -183,6 +183,7 @@ word_nothing run caller profile word words (Some Anno) other = cc (other)
 word_nothing run caller profile word words (Some Sortm) other = cc (other)
 word_nothing run caller profile word words (Some Mhlist) other = cc (other)
 word_nothing run caller profile word words (Some Mhstore) other = cc (other)
+word_nothing run caller profile word words (Some Mhbuild) other = cc (other)
 
 named_nothing : (run : ℕ) (caller : Caller) (profile : List NamedValue) (words : List (List ℕ)) → (begins_folders (command_of words) ≡ false) → LinksNothing (command_by run caller profile words)
 named_nothing run caller profile [] other = asks_none IsUnlinked (Err (no_command None))

@@ -71,7 +71,7 @@ use Rattle.command_line.specs.Looking.{WritesAs}
 use Rattle.command_line.specs.Profile.{folder_of, path_of, profile_name}
 use Rattle.command_line.specs.WordCauses.{IsRefusedByWords}
 use Rattle.command_line.specs.declared.name.CommandName.{CommandName}
-use Rattle.command_line.specs.declared.name.CommandName.TheVariants.{Anno, Folder as FolderCommand, Inc, Mark, Mhlist, Mhstore, Pick, Refile, Rmm, Scan, Sortm}
+use Rattle.command_line.specs.declared.name.CommandName.TheVariants.{Anno, Folder as FolderCommand, Inc, Mark, Mhbuild, Mhlist, Mhstore, Pick, Refile, Rmm, Scan, Sortm}
 use Rattle.command_line.specs.declared.caller.Caller.{Caller}
 
 -- what shows how it ended before it came to a folder, once the words are read
@@ -288,6 +288,7 @@ ShowsNamed run caller profile context folder r own words (Some Mhlist) =
     ShowsListWords run profile context folder r own (list_said profile (map chars words))
 ShowsNamed run caller profile context folder r own words (Some Mhstore) =
     ShowsStoreWords run profile context folder r own (store_said profile (map chars words))
+ShowsNamed run caller profile context folder r own words (Some Mhbuild) = ⊥
 
 -- by the command that the first word names
 abbrev pub ShowsWords : ℕ → Caller → List NamedValue → List NamedValue → List ℕ → Result (List ℕ) CommandFault → List Deed

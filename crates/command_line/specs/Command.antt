@@ -29,6 +29,8 @@ use Rattle.pack_command.specs.declared.job.PackJob.{PackJob}
 use Rattle.inc_command.specs.Inc.{inc}
 use Rattle.mhlist_command.specs.Listing.{mhlist}
 use Rattle.mhlist_command.specs.declared.job.ListJob.{ListJob}
+use Rattle.mhbuild_command.specs.Building.{mhbuild}
+use Rattle.mhbuild_command.specs.declared.job.BuildJob.{BuildJob}
 use Rattle.mhstore_command.specs.Storing.{mhstore}
 use Rattle.mhstore_command.specs.declared.job.StoreJob.{StoreJob}
 use Rattle.refile_command.specs.Refile.{refile}
@@ -55,15 +57,17 @@ use Rattle.sort_words.specs.SortWords.{sort_said}
 use Rattle.sort_words.specs.declared.words.SortWords.{SortWords}
 use Rattle.list_words.specs.ListWords.{list_said}
 use Rattle.list_words.specs.declared.words.ListWords.{ListWords}
+use Rattle.build_words.specs.BuildWords.{build_said}
+use Rattle.build_words.specs.declared.words.BuildWords.{BuildWords}
 use Rattle.store_words.specs.StoreWords.{store_said}
 use Rattle.store_words.specs.declared.words.StoreWords.{StoreWords}
 use Rattle.command_line.specs.CommandNames.{named}
 use Rattle.command_line.specs.Incorporating.{IncAsked, job_by, job_writing}
 use Rattle.command_line.specs.Looking.{ScanAsked, look_found, scan_asked, unseen_known}
-use Rattle.command_line.specs.Profile.{folder_of, negation_of, path_of, profile_name}
+use Rattle.command_line.specs.Profile.{folder_of, negation_of, path_of, profile_name, stored_of}
 use Rattle.command_line.specs.declared.caller.Caller.{Caller}
 use Rattle.command_line.specs.declared.name.CommandName.{CommandName}
-use Rattle.command_line.specs.declared.name.CommandName.TheVariants.{Anno, Folder as FolderCommand, Inc, Mark, Mhlist, Mhstore, Pick, Refile, Rmm, Scan, Sortm}
+use Rattle.command_line.specs.declared.name.CommandName.TheVariants.{Anno, Folder as FolderCommand, Inc, Mark, Mhbuild, Mhlist, Mhstore, Pick, Refile, Rmm, Scan, Sortm}
 
 -- the context is read, and the run knows its entries
 unfoldable pub context_seen : List NamedValue → Commanded Unit
@@ -221,6 +225,20 @@ abbrev pub store_by : ℕ → List NamedValue → Result StoreWords Ended → En
 store_by run profile (Ok words) = lifted plain (store_begun run profile words)
 store_by run profile (Err e) = Return (Err e)
 
+-- the draft that the words name, and what forwards messages by the entries of the context and of the profile
+abbrev pub build_job : BuildWords → List NamedValue → List NamedValue → BuildJob
+build_job words context profile = record { draft = words.draft; forwarding = record { current = stored_of context profile; negation = negation_of profile } }
+
+-- the context is read, and the draft becomes a message
+unfoldable pub build_begun : ℕ → List NamedValue → BuildWords → Commanded Unit
+build_begun run profile words = do
+  entered ← context_entered (Mail (path_of profile))
+  Recall (λ h. mhbuild run (path_of profile) (build_job words (entries_seen h.context) profile))
+
+abbrev pub build_by : ℕ → List NamedValue → Result BuildWords Ended → Ending Unit
+build_by run profile (Ok words) = lifted plain (build_begun run profile words)
+build_by run profile (Err e) = Return (Err e)
+
 -- the source is the folder that is acted on, and becomes the current one where the words name it
 abbrev pub refile_job : List ℕ → RefileWords → List NamedValue → RefileJob
 refile_job folder words profile = record {
@@ -271,6 +289,7 @@ word_by run caller profile word words (Some Anno) = anno_by run profile (annotat
 word_by run caller profile word words (Some Sortm) = sort_by run profile (sort_said profile (map chars words))
 word_by run caller profile word words (Some Mhlist) = list_by run profile (list_said profile (map chars words))
 word_by run caller profile word words (Some Mhstore) = store_by run profile (store_said profile (map chars words))
+word_by run caller profile word words (Some Mhbuild) = build_by run profile (build_said profile (map chars words))
 
 abbrev pub command_by : ℕ → Caller → List NamedValue → List (List ℕ) → Ending Unit
 command_by run caller profile [] = Return (Err (no_command None))

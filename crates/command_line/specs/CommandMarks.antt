@@ -12,7 +12,7 @@ use Rattle.sequence_marks.specs.KeepsSequencesOf.{KeepsSequencesOf, SequencesSta
 use Rattle.refile_command.specs.HeldLeft.{RemovesUnheld}
 use Rattle.refile_command.specs.RefileHeld.{TakesUnheld}
 use Rattle.command_line.specs.declared.name.CommandName.{CommandName}
-use Rattle.command_line.specs.declared.name.CommandName.TheVariants.{Anno, Folder as FolderCommand, Inc, Mark, Mhlist, Mhstore, Pick, Refile, Rmm, Scan, Sortm}
+use Rattle.command_line.specs.declared.name.CommandName.TheVariants.{Anno, Folder as FolderCommand, Inc, Mark, Mhbuild, Mhlist, Mhstore, Pick, Refile, Rmm, Scan, Sortm}
 
 -- the name is a text of characters
 abbrev pub IsTextName : List ℕ → Type 0
@@ -30,7 +30,7 @@ KeepsWhere So run (Some old) (Some new) =
 KeepsWhere So run None (Some new) = ⊥
 KeepsWhere So run (Some old) None = ⊥
 
--- `scan` keeps all, whatever a folder is called; `inc`, `mark`, `pick`, `folder`, `sortm`, `mhlist` and `mhstore` those of folders whose names are texts; and
+-- `scan` and `mhbuild` keep all, whatever a folder is called; `inc`, `mark`, `pick`, `folder`, `sortm`, `mhlist` and `mhstore` those of folders whose names are texts; and
 -- so do `rmm`, `refile` and `anno` where, whenever the run took a message from its number, each held name that it had listed in that
 -- folder was let go before
 abbrev pub KeepsCommandMarks : Option CommandName → ℕ → Option Story → Option Story → Type 0
@@ -46,3 +46,4 @@ KeepsCommandMarks (Some Anno) run old new = KeepsWhere TakesUnheld run old new
 KeepsCommandMarks (Some Sortm) run old new = KeepsSequencesOf IsTextName run old new
 KeepsCommandMarks (Some Mhlist) run old new = KeepsSequencesOf IsTextName run old new
 KeepsCommandMarks (Some Mhstore) run old new = KeepsSequencesOf IsTextName run old new
+KeepsCommandMarks (Some Mhbuild) run old new = KeepsSequences run old new

@@ -1,7 +1,8 @@
 -- The commands that there are, by name.
-use Rattle.std.specs.Prelude.{ℕ, Bool, true, false, List, [], ◌∷◌, Option, None, Some, bytes_eq, codes, if◌then◌else◌}
+use Rattle.std.specs.Prelude.{◌≡◌, ◌≢◌, ℕ, Bool, true, false, List, [], ◌∷◌, Option, None, Some, bytes_eq, codes, if◌then◌else◌}
+use Rattle.mh_base.specs.Streams.{SourceState}
 use Rattle.command_line.specs.declared.name.CommandName.{CommandName}
-use Rattle.command_line.specs.declared.name.CommandName.TheVariants.{Anno, Folder as FolderCommand, Inc, Mark, Mhlist, Mhstore, Pick, Refile, Rmm, Scan, Sortm}
+use Rattle.command_line.specs.declared.name.CommandName.TheVariants.{Anno, Folder as FolderCommand, Inc, Mark, Mhbuild, Mhlist, Mhstore, Pick, Refile, Rmm, Scan, Sortm}
 
 -- the command of this name
 abbrev pub named : List ℕ → Option CommandName
@@ -16,14 +17,16 @@ named word =
     else (if bytes_eq word (codes "anno") then Some Anno
     else (if bytes_eq word (codes "sortm") then Some Sortm
     else (if bytes_eq word (codes "mhlist") then Some Mhlist
-    else (if bytes_eq word (codes "mhstore") then Some Mhstore else None))))))))))
+    else (if bytes_eq word (codes "mhstore") then Some Mhstore
+    else (if bytes_eq word (codes "mhbuild") then Some Mhbuild else None)))))))))))
 
 -- the command that the words of a call name
 abbrev pub command_of : List (List ℕ) → Option CommandName
 command_of [] = None
 command_of (word ∷ words) = named word
 
--- it begins a folder, by its words at least; or it looks at one, and what it tells and what shows its ends is said by its own steps
+-- it begins a folder, by its words at least; or what it tells and what shows its ends is said by its own steps, as of one that lists parts, stores them or makes a
+-- message of a draft
 abbrev pub begins_folders : Option CommandName → Bool
 begins_folders None = false
 begins_folders (Some Inc) = true
@@ -37,6 +40,7 @@ begins_folders (Some Anno) = true
 begins_folders (Some Sortm) = true
 begins_folders (Some Mhlist) = true
 begins_folders (Some Mhstore) = true
+begins_folders (Some Mhbuild) = true
 
 -- it makes its folder where that is missing
 abbrev pub makes_folders : Option CommandName → Bool
@@ -52,8 +56,9 @@ makes_folders (Some Anno) = false
 makes_folders (Some Sortm) = false
 makes_folders (Some Mhlist) = false
 makes_folders (Some Mhstore) = false
+makes_folders (Some Mhbuild) = false
 
--- it stores files in the current directory
+-- it makes files in the current directory
 abbrev pub stores_files : Option CommandName → Bool
 stores_files None = false
 stores_files (Some Inc) = false
@@ -67,8 +72,9 @@ stores_files (Some Anno) = false
 stores_files (Some Sortm) = false
 stores_files (Some Mhlist) = false
 stores_files (Some Mhstore) = true
+stores_files (Some Mhbuild) = true
 
--- what shows how it ended is said with one folder at most that is let go; of `refile`, which lets several go, apart
+-- what shows how it ended is said with one folder at most that is let go; of `refile`, which lets several go, apart, and of `mhbuild`, which acts on none
 abbrev pub shows_ends : Option CommandName → Bool
 shows_ends None = false
 shows_ends (Some Inc) = true
@@ -82,3 +88,8 @@ shows_ends (Some Anno) = true
 shows_ends (Some Sortm) = true
 shows_ends (Some Mhlist) = true
 shows_ends (Some Mhstore) = true
+shows_ends (Some Mhbuild) = false
+
+-- no command but `mhbuild` reads the input
+abbrev pub LeavesInput : Option CommandName → SourceState → SourceState → Type 0
+LeavesInput name old new = name ≢ Some Mhbuild → new ≡ old

@@ -24,6 +24,7 @@ use Rattle.pick_command.specs.PickPledge.{pledge_by as pick_pledge_by}
 use Rattle.anno_command.specs.AnnoPledge.{anno_pledge}
 use Rattle.sortm_command.specs.SortPledge.{sortm_pledge}
 use Rattle.mhlist_command.specs.ListPledge.{list_pledge}
+use Rattle.mhbuild_command.specs.BuildPledge.{build_pledge}
 use Rattle.mhstore_command.specs.StorePledge.{store_pledge}
 use Rattle.folder_command.specs.Folder.{pledge_by as tell_pledge_by}
 use Rattle.pack_command.specs.PackPledge.{pack_pledge}
@@ -48,15 +49,17 @@ use Rattle.sort_words.specs.declared.words.SortWords.{SortWords}
 use Rattle.sort_words.specs.SortWords.{sort_said}
 use Rattle.list_words.specs.ListWords.{list_said}
 use Rattle.list_words.specs.declared.words.ListWords.{ListWords}
+use Rattle.build_words.specs.BuildWords.{build_said}
+use Rattle.build_words.specs.declared.words.BuildWords.{BuildWords}
 use Rattle.store_words.specs.StoreWords.{store_said}
 use Rattle.store_words.specs.declared.words.StoreWords.{StoreWords}
-use Rattle.command_line.specs.Command.{anno_job, annotated_by, list_job, mark_job, pack_job, pick_job, picked_by, refile_job, rmm_job, tell_job, sort_job, store_job}
+use Rattle.command_line.specs.Command.{anno_job, annotated_by, build_job, list_job, mark_job, pack_job, pick_job, picked_by, refile_job, rmm_job, tell_job, sort_job, store_job}
 use Rattle.command_line.specs.CommandNames.{command_of, named}
 use Rattle.command_line.specs.Incorporating.{IncAsked, job_by, job_writing}
 use Rattle.command_line.specs.Looking.{WritesAs}
 use Rattle.command_line.specs.Profile.{folder_of, path_of, profile_name}
 use Rattle.command_line.specs.declared.name.CommandName.{CommandName}
-use Rattle.command_line.specs.declared.name.CommandName.TheVariants.{Anno, Folder as FolderCommand, Inc, Mark, Mhlist, Mhstore, Pick, Refile, Rmm, Scan, Sortm}
+use Rattle.command_line.specs.declared.name.CommandName.TheVariants.{Anno, Folder as FolderCommand, Inc, Mark, Mhbuild, Mhlist, Mhstore, Pick, Refile, Rmm, Scan, Sortm}
 use Rattle.command_line.specs.declared.caller.Caller.{Caller}
 
 -- the text that was read; the empty one where there is none
@@ -157,6 +160,11 @@ abbrev pub stores_pledge : ℕ → List NamedValue → List NamedValue → Resul
 stores_pledge run profile context (Ok words) = store_on_named run profile words (folder_of words.folder context profile)
 stores_pledge run profile context (Err e) = scan_pledge run (path_of profile)
 
+-- of `mhbuild`
+abbrev pub builds_pledge : ℕ → List NamedValue → List NamedValue → Result BuildWords Ended → Pledge
+builds_pledge run profile context (Ok words) = build_pledge run (path_of profile) (build_job words context profile)
+builds_pledge run profile context (Err e) = scan_pledge run (path_of profile)
+
 -- and of `refile`
 abbrev pub refile_on_named : ℕ → List NamedValue → RefileWords → Result (List ℕ) CommandFault → Pledge
 refile_on_named run profile words (Ok folder) = refile_pledge run (path_of profile) (refile_job folder words profile)
@@ -200,6 +208,7 @@ word_pledge run caller profile context words (Some Anno) = annos_pledge run prof
 word_pledge run caller profile context words (Some Sortm) = sorts_pledge run profile context (sort_said profile (map chars words))
 word_pledge run caller profile context words (Some Mhlist) = lists_pledge run profile context (list_said profile (map chars words))
 word_pledge run caller profile context words (Some Mhstore) = stores_pledge run profile context (store_said profile (map chars words))
+word_pledge run caller profile context words (Some Mhbuild) = builds_pledge run profile context (build_said profile (map chars words))
 
 -- what a command pledges, by the user's name, its words, the entries of the profile and those of the context
 abbrev pub command_pledge : ℕ → Caller → List (List ℕ) → List NamedValue → List NamedValue → Pledge
@@ -221,6 +230,7 @@ IsDone (Some Anno) path own = AreSettled own
 IsDone (Some Sortm) path own = AreSettled own
 IsDone (Some Mhlist) path own = AreSettled own
 IsDone (Some Mhstore) path own = AreSettled own
+IsDone (Some Mhbuild) path own = AreSettled own
 
 -- the call began with the profile, which names the path of a mail directory, and with the context of that; it kept the pledge that these and
 -- its words make

@@ -1,4 +1,5 @@
 pub mod BegunCauses
+pub mod BuildCauses
 pub mod Causes
 pub mod Clock
 pub mod Command

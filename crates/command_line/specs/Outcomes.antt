@@ -24,6 +24,8 @@ use Rattle.sortm_command.specs.SortOutcome.{sort_work}
 use Rattle.folder_command.specs.Folder.{folder_work}
 use Rattle.pack_command.specs.PackOutcome.{pack_work}
 use Rattle.mhlist_command.specs.ListOutcome.{mhlist_work}
+use Rattle.mhbuild_command.specs.BuildOutcome.{build_work, text_found}
+use Rattle.mhbuild_command.specs.Heard.{Heard}
 use Rattle.mhstore_command.specs.StoreOutcome.{mhstore_work}
 use Rattle.inc_command.specs.IncOutcome.{inc_work, with_folder_made}
 use Rattle.refile_command.specs.MadeFolder.{or_empty}
@@ -47,16 +49,18 @@ use Rattle.sort_words.specs.declared.words.SortWords.{SortWords}
 use Rattle.sort_words.specs.SortWords.{sort_said}
 use Rattle.list_words.specs.ListWords.{list_said}
 use Rattle.list_words.specs.declared.words.ListWords.{ListWords}
+use Rattle.build_words.specs.BuildWords.{build_said}
+use Rattle.build_words.specs.declared.words.BuildWords.{BuildWords}
 use Rattle.store_words.specs.StoreWords.{store_said}
 use Rattle.store_words.specs.declared.words.StoreWords.{StoreWords}
-use Rattle.command_line.specs.Command.{anno_job, annotated_by, job_of, list_job, mark_job, no_command, pack_job, pick_job, picked_by, refile_job, rmm_job, tell_job, sort_job, store_job}
+use Rattle.command_line.specs.Command.{anno_job, annotated_by, build_job, job_of, list_job, mark_job, no_command, pack_job, pick_job, picked_by, refile_job, rmm_job, tell_job, sort_job, store_job}
 use Rattle.command_line.specs.CommandNames.{named}
 use Rattle.command_line.specs.Incorporating.{IncAsked, job_by, job_writing}
 use Rattle.command_line.specs.Looking.{InFile, Known, ScanAsked, Telling, scan_asked, written_with}
 use Rattle.command_line.specs.Profile.{folder_of, path_of, profile_name}
 use Rattle.command_line.specs.declared.caller.Caller.{Caller}
 use Rattle.command_line.specs.declared.name.CommandName.{CommandName}
-use Rattle.command_line.specs.declared.name.CommandName.TheVariants.{Anno, Folder as FolderCommand, Inc, Mark, Mhlist, Mhstore, Pick, Refile, Rmm, Scan, Sortm}
+use Rattle.command_line.specs.declared.name.CommandName.TheVariants.{Anno, Folder as FolderCommand, Inc, Mark, Mhbuild, Mhlist, Mhstore, Pick, Refile, Rmm, Scan, Sortm}
 
 abbrev pub plainly : Result Unit CommandFault → Result Unit Ended
 plainly (Ok u) = Ok u
@@ -199,6 +203,16 @@ abbrev pub store_words_work : Mailbox → List NamedValue → Result StoreWords 
 store_words_work m profile (Ok words) = of_stage (on_folder m profile words.folder (stores m profile words))
 store_words_work m profile (Err e) = refused_at m e
 
+-- `mhbuild`, once the context is read
+abbrev pub builds : ℕ → Heard → Mailbox → List NamedValue → BuildWords → Result (List ℕ) CommandFault → Work CommandFault
+builds run heard m profile words (Ok context) =
+    build_work run (path_of profile) (entries_in context) (build_job words (entries_in context) profile) (text_found heard m words.draft) m
+builds run heard m profile words (Err e) = refused_at m e
+
+abbrev pub build_words_work : ℕ → Heard → Mailbox → List NamedValue → Result BuildWords Ended → Work Ended
+build_words_work run heard m profile (Ok words) = of_stage (builds run heard m profile words (readable (m.context (Mail (path_of profile)))))
+build_words_work run heard m profile (Err e) = refused_at m e
+
 -- `refile`: so too in each folder that it begins; one that is missing is empty
 abbrev pub refiles : Meeting → Mailbox → List NamedValue → RefileWords → FolderWork
 refiles g m profile words context folder =
@@ -221,33 +235,34 @@ inc_job_work g m profile (Ok asked) = of_stage (incs g m profile asked (readable
 inc_job_work g m profile (Err e) = refused_at m e
 
 -- the command of this name
-abbrev pub word_work : Meeting → Mailbox → Caller → List NamedValue → List ℕ → List (List ℕ) → Option CommandName → Work Ended
-word_work g m caller profile word words None = refused_at m (no_command (Some word))
-word_work g m caller profile word words (Some Inc) = inc_job_work g m profile (job_by caller profile (inc_said profile (map chars words)))
-word_work g m caller profile word words (Some Scan) = scan_words_work m profile (scan_asked caller (scan_said profile (map chars words)))
-word_work g m caller profile word words (Some Mark) = mark_words_work g m profile (mark_said profile (map chars words))
-word_work g m caller profile word words (Some Pick) = pick_words_work g m profile (picked_by caller profile (map chars words))
-word_work g m caller profile word words (Some Refile) = refile_words_work g m profile (refile_said profile (map chars words))
-word_work g m caller profile word words (Some Rmm) = rmm_words_work g m profile (rmm_said profile (map chars words))
-word_work g m caller profile word words (Some FolderCommand) = tell_words_work g m profile (tell_said profile (map chars words))
-word_work g m caller profile word words (Some Anno) = anno_words_work g m profile (annotated_by caller profile (map chars words))
-word_work g m caller profile word words (Some Sortm) = sort_words_work g m profile (sort_said profile (map chars words))
-word_work g m caller profile word words (Some Mhlist) = list_words_work m profile (list_said profile (map chars words))
-word_work g m caller profile word words (Some Mhstore) = store_words_work m profile (store_said profile (map chars words))
+abbrev pub word_work : Meeting → Heard → Mailbox → Caller → List NamedValue → List ℕ → List (List ℕ) → Option CommandName → Work Ended
+word_work g heard m caller profile word words None = refused_at m (no_command (Some word))
+word_work g heard m caller profile word words (Some Inc) = inc_job_work g m profile (job_by caller profile (inc_said profile (map chars words)))
+word_work g heard m caller profile word words (Some Scan) = scan_words_work m profile (scan_asked caller (scan_said profile (map chars words)))
+word_work g heard m caller profile word words (Some Mark) = mark_words_work g m profile (mark_said profile (map chars words))
+word_work g heard m caller profile word words (Some Pick) = pick_words_work g m profile (picked_by caller profile (map chars words))
+word_work g heard m caller profile word words (Some Refile) = refile_words_work g m profile (refile_said profile (map chars words))
+word_work g heard m caller profile word words (Some Rmm) = rmm_words_work g m profile (rmm_said profile (map chars words))
+word_work g heard m caller profile word words (Some FolderCommand) = tell_words_work g m profile (tell_said profile (map chars words))
+word_work g heard m caller profile word words (Some Anno) = anno_words_work g m profile (annotated_by caller profile (map chars words))
+word_work g heard m caller profile word words (Some Sortm) = sort_words_work g m profile (sort_said profile (map chars words))
+word_work g heard m caller profile word words (Some Mhlist) = list_words_work m profile (list_said profile (map chars words))
+word_work g heard m caller profile word words (Some Mhstore) = store_words_work m profile (store_said profile (map chars words))
+word_work g heard m caller profile word words (Some Mhbuild) = build_words_work g.run heard m profile (build_said profile (map chars words))
 
-abbrev pub named_work : Meeting → Mailbox → Caller → List NamedValue → List (List ℕ) → Work Ended
-named_work g m caller profile [] = refused_at m (no_command None)
-named_work g m caller profile (word ∷ words) = word_work g m caller profile word words (named word)
+abbrev pub named_work : Meeting → Heard → Mailbox → Caller → List NamedValue → List (List ℕ) → Work Ended
+named_work g heard m caller profile [] = refused_at m (no_command None)
+named_work g heard m caller profile (word ∷ words) = word_work g heard m caller profile word words (named word)
 
 -- the profile that is read
-abbrev pub with_profile : Meeting → Mailbox → Caller → List (List ℕ) → Result (List ℕ) CommandFault → Work Ended
-with_profile g m caller words (Ok text) = named_work g m caller (entries_in text) words
-with_profile g m caller words (Err e) = refused_at m (plain e)
+abbrev pub with_profile : Meeting → Heard → Mailbox → Caller → List (List ℕ) → Result (List ℕ) CommandFault → Work Ended
+with_profile g heard m caller words (Ok text) = named_work g heard m caller (entries_in text) words
+with_profile g heard m caller words (Err e) = refused_at m (plain e)
 
--- what a command comes to, in its stages: the profile, the words, the context, the folder, the file of the format, the work
-unfoldable pub work_by : Meeting → Caller → List (List ℕ) → Mailbox → Work Ended
-work_by g caller words m = with_profile g m caller words (readable (m.home profile_name))
+-- what a command comes to that hears this of its input, in its stages: the profile, the words, the context, the folder, the file of the format, the work
+unfoldable pub work_by : Meeting → Heard → Caller → List (List ℕ) → Mailbox → Work Ended
+work_by g heard caller words m = with_profile g heard m caller words (readable (m.home profile_name))
 
--- what it comes to alone
-abbrev pub work_of : ℕ → Caller → List (List ℕ) → Mailbox → Work Ended
-work_of run caller words m = work_by (alone_meeting run) caller words m
+-- what it comes to alone, where this is heard of the input
+abbrev pub work_of : ℕ → Caller → List (List ℕ) → Heard → Mailbox → Work Ended
+work_of run caller words heard m = work_by (alone_meeting run) heard caller words m

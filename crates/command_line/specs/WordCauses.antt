@@ -20,6 +20,7 @@ use Rattle.command_words.specs.TellWords.{tell_said}
 use Rattle.command_words.specs.declared.ended.Ended.{Ended}
 use Rattle.sort_words.specs.SortWords.{sort_said}
 use Rattle.list_words.specs.ListWords.{list_said}
+use Rattle.build_words.specs.BuildWords.{build_said}
 use Rattle.store_words.specs.StoreWords.{store_said}
 use Rattle.command_line.specs.Command.{annotated_by, no_command, picked_by}
 use Rattle.command_line.specs.CommandNames.{named}
@@ -29,7 +30,7 @@ use Rattle.command_line.specs.Looking.{InFile, Known, ScanAsked, Telling, scan_a
 use Rattle.command_line.specs.Profile.{profile_name}
 use Rattle.command_line.specs.declared.caller.Caller.{Caller}
 use Rattle.command_line.specs.declared.name.CommandName.{CommandName}
-use Rattle.command_line.specs.declared.name.CommandName.TheVariants.{Anno, Folder as FolderCommand, Inc, Mark, Mhlist, Mhstore, Pick, Refile, Rmm, Scan, Sortm}
+use Rattle.command_line.specs.declared.name.CommandName.TheVariants.{Anno, Folder as FolderCommand, Inc, Mark, Mhbuild, Mhlist, Mhstore, Pick, Refile, Rmm, Scan, Sortm}
 
 -- the refusal, where there is one
 abbrev pub refusal_in : {A : Type 0} → Result A Ended → Option CommandFault
@@ -51,6 +52,7 @@ named_refusal caller profile words (Some Anno) = refusal_in (annotated_by caller
 named_refusal caller profile words (Some Sortm) = refusal_in (sort_said profile (map chars words))
 named_refusal caller profile words (Some Mhlist) = refusal_in (list_said profile (map chars words))
 named_refusal caller profile words (Some Mhstore) = refusal_in (store_said profile (map chars words))
+named_refusal caller profile words (Some Mhbuild) = refusal_in (build_said profile (map chars words))
 
 -- that of all words of a call
 abbrev pub words_refusal : Caller → List NamedValue → List (List ℕ) → Option CommandFault
@@ -84,6 +86,7 @@ named_file caller profile words (Some Anno) = None
 named_file caller profile words (Some Sortm) = None
 named_file caller profile words (Some Mhlist) = None
 named_file caller profile words (Some Mhstore) = None
+named_file caller profile words (Some Mhbuild) = None
 
 abbrev pub words_file : Caller → List NamedValue → List (List ℕ) → Option FilePath
 words_file caller profile [] = None

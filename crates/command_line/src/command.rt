@@ -2,16 +2,17 @@
 ghost use Rattle.std.specs.Prelude.{◌≡◌, IfOk, map};
 ghost use Rattle.std.specs.String.{string_bytes};
 ghost use Rattle.file_plans.specs.Plan.{Hand as Kept, fresh};
-ghost use Rattle.file_plans.specs.Follows.{Follows, by_hand, by_out};
+ghost use Rattle.file_plans.specs.Follows.{Follows, all, by_hand};
 ghost use Rattle.step_plans.specs.CommandFaults.{command_cause};
 ghost use Rattle.command_stages.specs.Texts.{text_read};
 ghost use Rattle.command_words.specs.Ended.{ended_cause};
 ghost use Rattle.command_line.specs.Command.{command as command_plan, command_by, no_command as no_command_of, word_by};
-ghost use Rattle.command_line.specs.CommandNames.{named};
+ghost use Rattle.command_line.specs.CommandNames.{LeavesInput, command_of, named};
 ghost use Rattle.command_line.specs.Profile.{profile_name as profile_name_of};
 
 use crate::Caller;
 use crate::annotating::run_anno;
+use crate::building::run_mhbuild;
 use crate::incorporating::run_inc;
 use crate::listing::run_mhlist;
 use crate::marking::run_mark;
@@ -26,7 +27,7 @@ use crate::telling::run_folder;
 use command_stages::read_text;
 use command_words::Ended;
 use folder_files::{Files, Place, Refusal};
-use mh_base::{Bytes, Name, Sink, WordWhy};
+use mh_base::{Bytes, Name, Sink, Source, WordWhy};
 use mh_profile::Entries;
 use std::alloc::{AllocError, Global};
 use step_plans::CommandFault;
@@ -51,17 +52,19 @@ fn profile_name(alloc: Global) -> Result<Name, AllocError>
 }
 
 /// Runs the command of this name, if there is one.
-fn run_word<F: Files, O: Sink>(
+fn run_word<F: Files, I: Source, O: Sink>(
     alloc: Global,
     run: u128,
     files: &mut F,
+    input: &mut I,
     out: &mut O,
     profile: &Entries,
     caller: &Caller,
     word: &str,
     rest: &[String],
 ) -> Result<(), Ended>
-    ensures { (left : Kept) × Follows run ended_cause (word_by run caller.now profile.now word.now (map string_bytes rest.now) (named word.now)) (by_out fresh (F.state files.old) (O.state out.old)) (by_out left (F.state files.new) (O.state out.new)) result }
+    ensures plan { (left : Kept) × Follows run ended_cause (word_by run caller.now profile.now word.now (map string_bytes rest.now) (named word.now)) (all fresh (F.state files.old) (I.state input.old) (O.state out.old)) (all left (F.state files.new) (I.state input.new) (O.state out.new)) result }
+    ensures input { LeavesInput (named word.now) (I.state input.old) (I.state input.new) }
 {
     match CommandName::read(word) {
         Some(CommandName::Inc) => run_inc(alloc, run, files, out, profile, caller, rest),
@@ -75,6 +78,9 @@ fn run_word<F: Files, O: Sink>(
         Some(CommandName::Sortm) => run_sortm(alloc, run, files, profile, rest),
         Some(CommandName::Mhlist) => run_mhlist(alloc, run, files, out, profile, rest),
         Some(CommandName::Mhstore) => run_mhstore(alloc, run, files, out, profile, rest),
+        Some(CommandName::Mhbuild) => {
+            run_mhbuild(alloc, run, files, input, out, profile, rest)
+        }
         None => {
             let word = Bytes::from_slice(alloc, word.as_bytes())?;
             Err(no_command(Some(word)))
@@ -83,16 +89,18 @@ fn run_word<F: Files, O: Sink>(
 }
 
 /// Runs the command that the first word names, if there is one.
-fn run_named<F: Files, O: Sink>(
+fn run_named<F: Files, I: Source, O: Sink>(
     alloc: Global,
     run: u128,
     files: &mut F,
+    input: &mut I,
     out: &mut O,
     profile: &Entries,
     caller: &Caller,
     words: &[String],
 ) -> Result<(), Ended>
-    ensures { (left : Kept) × Follows run ended_cause (command_by run caller.now profile.now (map string_bytes words.now)) (by_out fresh (F.state files.old) (O.state out.old)) (by_out left (F.state files.new) (O.state out.new)) result }
+    ensures plan { (left : Kept) × Follows run ended_cause (command_by run caller.now profile.now (map string_bytes words.now)) (all fresh (F.state files.old) (I.state input.old) (O.state out.old)) (all left (F.state files.new) (I.state input.new) (O.state out.new)) result }
+    ensures input { LeavesInput (command_of (map string_bytes words.now)) (I.state input.old) (I.state input.new) }
 {
     match words.split_first() {
         None => Err(no_command(None)),
@@ -100,6 +108,7 @@ fn run_named<F: Files, O: Sink>(
             alloc,
             run,
             files,
+            input,
             out,
             profile,
             caller,
@@ -117,17 +126,19 @@ fn read_profile<F: Files>(alloc: Global, run: u128, files: &mut F) -> Result<Byt
 }
 
 /// Runs the command that the words name, for this caller.
-pub fn run_command<F: Files, O: Sink>(
+pub fn run_command<F: Files, I: Source, O: Sink>(
     alloc: Global,
     words: &[String],
     run: u128,
     caller: &Caller,
     files: &mut F,
+    input: &mut I,
     out: &mut O,
 ) -> Result<(), Ended>
-    ensures { (left : Kept) × Follows run ended_cause (command_plan run caller.now (map string_bytes words.now)) (by_out fresh (F.state files.old) (O.state out.old)) (by_out left (F.state files.new) (O.state out.new)) result }
+    ensures plan { (left : Kept) × Follows run ended_cause (command_plan run caller.now (map string_bytes words.now)) (all fresh (F.state files.old) (I.state input.old) (O.state out.old)) (all left (F.state files.new) (I.state input.new) (O.state out.new)) result }
+    ensures input { LeavesInput (command_of (map string_bytes words.now)) (I.state input.old) (I.state input.new) }
 {
     let text = read_profile(alloc, run, files)?;
     let profile = Entries::read(alloc, text.as_slice())?;
-    run_named(alloc, run, files, out, &profile, caller, words)
+    run_named(alloc, run, files, input, out, &profile, caller, words)
 }

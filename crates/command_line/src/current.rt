@@ -36,7 +36,8 @@ fn stored_in(alloc: Global, context: &Entries, profile: &Entries) -> Result<Text
     }
 }
 
-fn stored_folder(
+/// The same, by what the hand knows of the context.
+pub(crate) fn stored_folder(
     alloc: Global,
     context: Option<&Entries>,
     profile: &Entries,

@@ -2,6 +2,7 @@
 #![tactic(auto)]
 
 mod annotating;
+mod building;
 mod caller;
 mod command;
 mod current;

@@ -16,6 +16,7 @@ pub enum CommandName {
     Sortm,
     Mhlist,
     Mhstore,
+    Mhbuild,
 }
 
 impl CommandName {
@@ -45,6 +46,8 @@ impl CommandName {
             Some(CommandName::Mhlist)
         } else if word == "mhstore" {
             Some(CommandName::Mhstore)
+        } else if word == "mhbuild" {
+            Some(CommandName::Mhbuild)
         } else {
             None
         }

@@ -60,21 +60,28 @@ once_behind P (d ∷ front) own f = on (once_behind P front own f)
 pub once_onto : (P : Deed → List Deed → Type 0) (own later : List Deed) → Onto own later → Once P own → Once P later
 once_onto P own later o f = subst (λ l. Once P l) (sym o.is) (once_behind P o.front own f)
 
-messages_onto : (place : Place) (messages : List (List ℕ)) (own later : List Deed) → Onto own later → HasReadMessages place messages own → HasReadMessages place messages later
-messages_onto place [] own later o f = tt
-messages_onto place (message ∷ messages) own later o f = ((f.0.0, once_onto _ own later o f.0.1), messages_onto place messages own later o f.1)
+messages_behind : (place : Place) (messages : List (List ℕ)) (front own : List Deed) → HasReadMessages place messages own → HasReadMessages place messages (front ++ own)
+messages_behind place [] front own f = tt
+messages_behind place (message ∷ messages) front own f = ((f.0.0, once_behind _ front own f.0.1), messages_behind place messages front own f.1)
+
+was_behind : (path : List ℕ) (f : Forwarding) (w : Want) (g : Given) (front own : List Deed) → WasGiven path f w g own → WasGiven path f w g (front ++ own)
+was_behind path f (want.File file) (given.File bytes) front own k = once_behind _ front own k
+was_behind path f (want.File file) (given.Messages messages) front own k = k
+was_behind path f (want.Messages word specs) (given.File bytes) front own k = k
+was_behind path f (want.Messages word specs) (given.Messages messages) front own k = (k.0, k.1, messages_behind (Folder path k.0) messages front own k.2)
+
+-- what was given before other deeds was given
+pub are_behind : (path : List ℕ) (f : Forwarding) (wants : List Want) (givens : List Given) (front own : List Deed) → AreGiven path f wants givens own → AreGiven path f wants givens (front ++ own)
+are_behind path f [] [] front own k = tt
+are_behind path f [] (g ∷ givens) front own k = k
+are_behind path f (w ∷ wants) [] front own k = k
+are_behind path f (w ∷ wants) (g ∷ givens) front own k = (was_behind path f w g front own k.0, are_behind path f wants givens front own k.1)
 
 pub was_onto : (path : List ℕ) (f : Forwarding) (w : Want) (g : Given) (own later : List Deed) → Onto own later → WasGiven path f w g own → WasGiven path f w g later
-was_onto path f (want.File file) (given.File bytes) own later o k = once_onto _ own later o k
-was_onto path f (want.File file) (given.Messages messages) own later o k = k
-was_onto path f (want.Messages word specs) (given.File bytes) own later o k = k
-was_onto path f (want.Messages word specs) (given.Messages messages) own later o k = (k.0, k.1, messages_onto (Folder path k.0) messages own later o k.2)
+was_onto path f w g own later o k = subst (λ l. WasGiven path f w g l) (sym o.is) (was_behind path f w g o.front own k)
 
 pub are_onto : (path : List ℕ) (f : Forwarding) (wants : List Want) (givens : List Given) (own later : List Deed) → Onto own later → AreGiven path f wants givens own → AreGiven path f wants givens later
-are_onto path f [] [] own later o k = tt
-are_onto path f [] (g ∷ givens) own later o k = k
-are_onto path f (w ∷ wants) [] own later o k = k
-are_onto path f (w ∷ wants) (g ∷ givens) own later o k = (was_onto path f w g own later o k.0, are_onto path f wants givens own later o k.1)
+are_onto path f wants givens own later o k = subst (λ l. AreGiven path f wants givens l) (sym o.is) (are_behind path f wants givens o.front own k)
 
 -- messages of this folder were read, behind those of before
 pub record Reads (place : Place) (before : List (List ℕ)) (own later : List Deed) (all : List (List ℕ)) : Type 0 where

@@ -1,10 +1,9 @@
 -- A call follows the plan of its words.
-use Rattle.std.specs.Prelude.{◌≡◌, ◌≢◌, ◌⊎◌, ℕ, List, Option, Result, Ok, Err}
+use Rattle.std.specs.Prelude.{◌≡◌, ◌⊎◌, ℕ, List, Option, Result, Ok, Err}
 use Rattle.mh_base.specs.declared.streams.SinkFault.{SinkFault}
 use Rattle.mh_base.specs.declared.streams.SinkFault.TheVariants as sink
 use Rattle.mh_base.specs.Counts.{Rose}
 use Rattle.mh_base.specs.Streams.{SinkState, Adds, AddsPart}
-use Rattle.folder_files.specs.declared.refusal.Which.TheVariants.{Source}
 use Rattle.file_plans.specs.Plan.{Hand, fresh}
 use Rattle.file_plans.specs.Follows.{Follows}
 use Rattle.command_line.specs.Command.{command}
@@ -14,7 +13,7 @@ use Rattle.mh_tools.specs.Calls.{Call, begins, ends}
 use Rattle.mh_tools.specs.Lines.{error_line_of}
 use Rattle.mh_tools.specs.Status.{ended_status, ended_word}
 use Rattle.mh_tools.specs.declared.status.Status.{Status}
-use Rattle.mh_tools.specs.declared.status.Status.TheVariants.{Done, Faulted, NoMemory}
+use Rattle.mh_tools.specs.declared.status.Status.TheVariants.{Done, NoMemory}
 use Rattle.mh_tools.specs.Callers.{caller_of}
 
 -- Where the count of the error output didn't rise, it gained the whole line of the status, which speaks of this word, and else a prefix of it; for want
@@ -30,12 +29,10 @@ told_status (Ok u) status = status
 told_status (Err sink.Failed) status = status
 told_status (Err sink.Memory) status = NoMemory
 
--- the call followed the plan of its words, which reads no input; its status and its error line are those of the plan's end, or memory was wanting for
--- the line
+-- the call followed the plan of its words; its status and its error line are those of the plan's end, or memory was wanting for the line
 pub record FollowsItsPlan (c : Call) : Type 0 where
   pub outcome : Result Unit Ended
   pub left : Hand
   pub follows : Follows c.setting.run ended_cause (command c.setting.run (caller_of c.setting) c.words) (begins c fresh) (ends c left) outcome
-  pub source : ended_status outcome ≢ Faulted Source
   pub ends_so : (c.status ≡ ended_status outcome) ⊎ (c.status ≡ NoMemory)
   pub told : TellsStatus (ended_word outcome) c.before.err c.after.err c.status

@@ -12,15 +12,17 @@ use Rattle.file_plans.specs.Mailboxes.{Mailbox}
 use Rattle.file_plans.specs.Sightings.{Made, IsFailed}
 use Rattle.step_plans.specs.ContextCommit.{TRIES}
 use Rattle.step_plans.specs.Endings.{IsHeld, IsMeddled}
+use Rattle.mhbuild_command.specs.Heard.{Heard}
 use Rattle.step_plans.specs.declared.command_fault.CommandFault.TheVariants as fault
 use Rattle.opened_folders.specs.Endings.{IsShownBy, IsToldBy}
 use Rattle.refile_command.specs.RefileAnswers.{IsShownFirst}
 use Rattle.command_line.specs.BegunCauses.{ShowsFault, ShowsOnFolder, TellsOnFolder}
+use Rattle.command_line.specs.BuildCauses.{ShowsBuildFault, ShowsBuilt, TellsBuilt}
 use Rattle.command_line.specs.Causes.{ShowsRefusal}
 use Rattle.command_line.specs.CommandNames.{command_of, shows_ends}
 use Rattle.command_line.specs.WordCauses.{IsRefusedByWords}
 use Rattle.command_line.specs.declared.name.CommandName.TheVariants.{Refile}
-use Rattle.mh_tools.specs.Calls.{Call, LooksOnly, MadeBy}
+use Rattle.mh_tools.specs.Calls.{Builds, Call, LooksOnly, MadeBy}
 use Rattle.mh_tools.specs.TellsWhatItSaw.{outcome_on}
 use Rattle.mh_tools.specs.declared.status.Status.TheVariants.{Done, Refused, Faulted, Locked, Meddled}
 use Rattle.mh_tools.specs.Callers.{caller_of}
@@ -31,7 +33,7 @@ use Rattle.mh_tools.specs.Callers.{caller_of}
 pub record IsShown (c : Call) (deeds : List Deed) : Type 0 where
   pub refused : (r : Refusal) → c.status ≡ Refused r
       → (IsRefusedByWords (caller_of c.setting) c.words (fault.Refused r) deeds ⊎ ShowsRefusal r deeds) × (Made IsFailed deeds → ⊥)
-  pub out : c.status ≡ Faulted Out → (m : Mailbox) → MailboxAgrees m deeds → (outcome_on c m).output ≢ []
+  pub out : c.status ≡ Faulted Out → (m : Mailbox) (heard : Heard) → MailboxAgrees m deeds → (outcome_on c m heard).output ≢ []
   pub locked : (place : Place) → c.status ≡ Locked place → ((mail : List ℕ) × (place ≡ Mail mail) × IsHeld place TRIES deeds) × (Made IsFailed deeds → ⊥)
   pub meddled : (place : Place) (name : List ℕ) → c.status ≡ Meddled place name → IsMeddled c.setting.run place name deeds × (Made IsFailed deeds → ⊥)
 
@@ -77,9 +79,25 @@ pub record IsShownRefiled (c : Call) (deeds : List Deed) : Type 0 where
   pub told : Adds c.before.out.told c.after.out.told []
   pub out : c.status ≢ Faulted Out
 
+-- Of `mhbuild`: Done, a refusal and Meddled come only where what shows them was answered, and where no step failed; at Done
+-- this shows the message too that was said. No place is locked. However the command ends, the output gained nothing, or a
+-- front of the message of a draft that was the input; and a fault of the output comes only of such a one.
+pub record IsShownBuilt (c : Call) (deeds : List Deed) : Type 0 where
+  pub done : c.status ≡ Done
+      → (said : List ℕ) × Adds c.before.out.told c.after.out.told said
+      × ShowsBuilt c.setting.run c.words (Ok said) deeds
+  pub refused : (r : Refusal) → c.status ≡ Refused r
+      → ShowsBuildFault c.setting.run (caller_of c.setting) c.words (fault.Refused r) deeds × (Made IsFailed deeds → ⊥)
+  pub unlocked : (place : Place) → c.status ≢ Locked place
+  pub meddled : (place : Place) (name : List ℕ) → c.status ≡ Meddled place name
+      → ShowsBuildFault c.setting.run (caller_of c.setting) c.words (fault.Meddled place name) deeds × (Made IsFailed deeds → ⊥)
+  pub told : (said : List ℕ) × Adds c.before.out.told c.after.out.told said
+      × IsToldBy (TellsBuilt c.setting.run c.words) said deeds
+  pub out : c.status ≡ Faulted Out → (text : List ℕ) × TellsBuilt c.setting.run c.words text deeds × (text ≢ [])
+
 -- Where each answer comes from, by the answers to the call's own steps. Done comes only where no step failed. A fault
--- comes only where the count of that which failed rose: of the files where a step failed; the input never fails,
--- since no command that there is reads it. Each refusal, Locked and Meddled come only where own steps show them; and so
+-- comes only where the count of that which failed rose: of the files where a step failed; of the input only of the
+-- command that reads it. Each refusal, Locked and Meddled come only where own steps show them; and so
 -- does Done of a command that may begin a folder. A fault of the output comes only where there is a text to write. Want of
 -- memory alone is free.
 pub record IsCaused (c : Call) : Type 0 where
@@ -87,8 +105,9 @@ pub record IsCaused (c : Call) : Type 0 where
   pub made : MadeBy c deeds
   pub done : c.status ≡ Done → Made IsFailed deeds → ⊥
   pub files : c.status ≡ Faulted Files → Rose c.before.files.faults c.after.files.faults × Made IsFailed deeds
-  pub source : c.status ≢ Faulted Source
+  pub source : c.status ≡ Faulted Source → Builds c × Rose c.before.input.faults c.after.input.faults
   pub out : c.status ≡ Faulted Out → Rose c.before.out.faults c.after.out.faults
   pub shown : LooksOnly c → IsShown c deeds
   pub begun : MayBegin c → IsShownBegun c deeds
   pub refiled : Refiles c → IsShownRefiled c deeds
+  pub built : Builds c → IsShownBuilt c deeds

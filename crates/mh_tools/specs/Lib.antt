@@ -7,6 +7,7 @@ pub mod IsCaused
 pub mod KeepsMail
 pub mod Lines
 pub mod Outcome
+pub mod ReadsInput
 pub mod Setting
 pub mod Shown
 pub mod Status

@@ -1,7 +1,8 @@
 -- What a call answers that runs alone, by its words and the mailbox. Nothing here knows of steps.
-use Rattle.std.specs.Prelude.{ℕ, List, [], Option, Result, Ok, Err}
+use Rattle.std.specs.Prelude.{ℕ, List, [], Result, Ok, Err}
 use Rattle.file_plans.specs.Mailboxes.{Mailbox}
 use Rattle.command_stages.specs.Works.{Work}
+use Rattle.mhbuild_command.specs.Heard.{Heard}
 use Rattle.command_line.specs.Outcomes.{work_of}
 use Rattle.command_words.specs.declared.ended.Ended.{Ended}
 use Rattle.mh_tools.specs.Lines.{error_line_of}
@@ -26,7 +27,7 @@ error_of (Err e) = error_line_of e.word (fault_status e.fault)
 abbrev pub answered : Work Ended → Outcome
 answered w = record { status = ended_status w.end; output = w.text; error = error_of w.end; mailbox = w.mailbox }
 
--- what a call answers alone; no command that there is looks at the input, nor at its setting but for its own run's number, which tells what other
--- runs hold aside, the user's name, which tells where mail is delivered, and, for lines, both the name and the moment
-unfoldable pub outcome_of : List (List ℕ) → Mailbox → SettingParts → Option (List ℕ) → Outcome
-outcome_of words m setting input = answered (work_of setting.run (caller_of setting) words m)
+-- what a call answers alone, where this is heard of its input, at which no command but `mhbuild` looks; and none looks at its setting but for its own
+-- run's number, which tells what other runs hold aside, the user's name, which tells where mail is delivered, and, for lines, both the name and the moment
+unfoldable pub outcome_of : List (List ℕ) → Mailbox → SettingParts → Heard → Outcome
+outcome_of words m setting heard = answered (work_of setting.run (caller_of setting) words heard m)

@@ -7,6 +7,7 @@ ghost use Rattle.mh_tools.specs.Calls.{around, called};
 ghost use Rattle.mh_tools.specs.FollowsItsPlan.{FollowsItsPlan, TellsStatus, told_status};
 ghost use Rattle.mh_tools.specs.IsCaused.{IsCaused};
 ghost use Rattle.mh_tools.specs.KeepsMail.{KeepsMail, KeepsMarks};
+ghost use Rattle.mh_tools.specs.ReadsInput.{ReadsInput};
 ghost use Rattle.mh_tools.specs.Status.{ended_status, ended_word, fault_status};
 ghost use Rattle.mh_tools.specs.TellsWhatItSaw.{TellsIfItLooks};
 
@@ -78,7 +79,7 @@ pub fn mh<F: Files, I: Source, O: Sink, E: Sink>(
     ensures as_one { AnswersAsOne (called (map string_bytes words.now.items) setting.now (around (F.state files.old) (I.state input.old) (O.state out.old) (E.state err.old)) (around (F.state files.new) (I.state input.new) (O.state out.new) (E.state err.new)) result) }
     ensures keeps { KeepsMail (called (map string_bytes words.now.items) setting.now (around (F.state files.old) (I.state input.old) (O.state out.old) (E.state err.old)) (around (F.state files.new) (I.state input.new) (O.state out.new) (E.state err.new)) result) }
     ensures marks { KeepsMarks (called (map string_bytes words.now.items) setting.now (around (F.state files.old) (I.state input.old) (O.state out.old) (E.state err.old)) (around (F.state files.new) (I.state input.new) (O.state out.new) (E.state err.new)) result) }
-    ensures input { I.state input.new ≡ I.state input.old }
+    ensures input { ReadsInput (called (map string_bytes words.now.items) setting.now (around (F.state files.old) (I.state input.old) (O.state out.old) (E.state err.old)) (around (F.state files.new) (I.state input.new) (O.state out.new) (E.state err.new)) result) }
 {
     let outcome = run_command(
         alloc,
@@ -86,6 +87,7 @@ pub fn mh<F: Files, I: Source, O: Sink, E: Sink>(
         setting.run(),
         setting.caller(),
         files,
+        input,
         out,
     );
     report(alloc, err, outcome)

@@ -11,9 +11,6 @@ use Rattle.folder_files.specs.declared.refusal.Refusal.TheVariants as refusal
 use Rattle.folder_files.specs.declared.step.Answer.TheVariants as answer
 use Rattle.folder_files.specs.declared.step.Step.TheVariants as step
 use Rattle.file_plans.specs.Plan.{Hand, Return, after, bind, hear, lifted, say, ◌>>=◌}
-use Rattle.file_plans.specs.Rules.{Keeps}
-use Rattle.file_plans.specs.Runs.{Deed as Done}
-use Rattle.file_plans.proofs.Acting.{acts}
 use Rattle.step_plans.specs.CommandFaults.{of_sink, of_stop}
 use Rattle.step_plans.specs.ContextCommit.{LIMIT_BYTES}
 use Rattle.step_plans.specs.Hands.{temp_name}
@@ -21,7 +18,7 @@ use Rattle.step_plans.specs.declared.command_fault.CommandFault.{CommandFault}
 use Rattle.step_plans.specs.declared.command_fault.CommandFault.TheVariants as fault
 use Rattle.step_plans.specs.declared.fault.PlanFault.{PlanFault}
 use Rattle.step_plans.specs.declared.fault.PlanFault.TheVariants as plan
-use Rattle.step_plans.proofs.Coming.{Comes, NoneFailed, comes_lifted, comes_on, comes_read, comes_stop, comes_then, comes_to}
+use Rattle.step_plans.proofs.Coming.{Comes, comes_lifted, comes_on, comes_read, comes_stop, comes_then, comes_to}
 use Rattle.step_plans.proofs.Ending.{unmade_more}
 use Rattle.step_plans.proofs.Going.{Outcome}
 use Rattle.command_stages.specs.Texts.{too_large}
@@ -44,7 +41,6 @@ use Rattle.mhbuild_command.specs.Building.{message_done, mhbuild, text_built}
 use Rattle.mhbuild_command.specs.Composed.{composed}
 use Rattle.mhbuild_command.specs.Parsed.{drafted, parsed, unless_wrong}
 use Rattle.mhbuild_command.specs.declared.job.BuildJob.{BuildJob}
-use Rattle.mhbuild_command.proofs.HeardEnds.{Cleanly, Ends, ends_keeps, ends_of, ends_then, hearing}
 use Rattle.mhbuild_command.proofs.PlacedEnds.{ShowsPlaced, set_comes}
 
 text_onto : (d : Option (List ℕ)) (text : List ℕ) (own later : List Deed) → Onto own later → HasText d text own → HasText d text later
@@ -52,7 +48,7 @@ text_onto None text own later o f = tt
 text_onto (Some name) text own later o f = once_onto _ own later o f
 
 module _ (run : ℕ) (few : run < 2 ^ 128) (path : List ℕ) (job : BuildJob) (valid : IsValid job.draft) (h : Hand) where
-  abbrev entries : List NamedValue
+  abbrev pub entries : List NamedValue
   entries = entries_seen h.context
 
   -- what shows each fault
@@ -63,42 +59,41 @@ module _ (run : ℕ) (few : run < 2 ^ 128) (path : List ℕ) (job : BuildJob) (v
   Built later j (Ok a) = Unit {0}
   Built later j (Err e) = Shows e later
 
-  abbrev IsUnmade : List Deed → Type 0
+  abbrev pub IsUnmade : List Deed → Type 0
   IsUnmade own = WasMade Work (temp_name run h.next) own → ⊥
 
   -- the draft's text
-  abbrev Reads : Option (List ℕ) → Outcome (Result (List ℕ) CommandFault)
+  abbrev pub Reads : Option (List ℕ) → Outcome (Result (List ℕ) CommandFault)
   Reads d later j (Ok text) = HasText d text later × IsUnmade later × (j ≡ h)
   Reads d later j (Err e) = Shows e later
 
   module _ (is_input : job.draft ≡ None) (own : List Deed) (unmade : IsUnmade own) where
-    heard_ends : (k : ℕ) (bytes : List ℕ) → LIMIT_BYTES < length bytes + k → Ends own h (heard_behind k bytes) (Reads None)
-    unfolding Ends heard_behind piece_heard hear lifted bind ◌>>=◌
+    heard_ends : (k : ℕ) (bytes : List ℕ) → LIMIT_BYTES < length bytes + k → Comes own h (heard_behind k bytes) (Reads None)
+    unfolding Comes heard_behind piece_heard hear lifted bind ◌>>=◌
     heard_ends zero bytes long = long_input is_input (grind (arith, nat_tests, long))
     heard_ends (suc k) bytes long = λ piece short. by (λ more l. heard_ends k more l) piece
       where
-        with_piece : ((more : List ℕ) → LIMIT_BYTES < length more + k → Ends own h (heard_behind k more) (Reads None)) → (more : List ℕ) (b : Bool) → nat_lt LIMIT_BYTES (length more) ≡ b → LIMIT_BYTES < length more + k → Ends own h (after (λ t. heard_behind k t) (if b then Err (too_large (length more)) else Ok more)) (Reads None)
+        with_piece : ((more : List ℕ) → LIMIT_BYTES < length more + k → Comes own h (heard_behind k more) (Reads None)) → (more : List ℕ) (b : Bool) → nat_lt LIMIT_BYTES (length more) ≡ b → LIMIT_BYTES < length more + k → Comes own h (after (λ t. heard_behind k t) (if b then Err (too_large (length more)) else Ok more)) (Reads None)
         with_piece next more true e l = long_input is_input e
         with_piece next more false e l = next more l
 
-        by : ((more : List ℕ) → LIMIT_BYTES < length more + k → Ends own h (heard_behind k more) (Reads None)) → (piece : List ℕ) → Ends own h (heard_by (λ more. heard_behind k more) bytes piece) (Reads None)
+        by : ((more : List ℕ) → LIMIT_BYTES < length more + k → Comes own h (heard_behind k more) (Reads None)) → (piece : List ℕ) → Comes own h (heard_by (λ more. heard_behind k more) bytes piece) (Reads None)
         by next [] = (tt, unmade, refl)
         by next (c ∷ piece) =
             let size = length-append bytes (c ∷ piece) in
             with_piece next (bytes ++ c ∷ piece) (nat_lt LIMIT_BYTES (length (bytes ++ c ∷ piece))) refl (omega (arith, size, long))
 
-  text_ends : (own : List Deed) → IsUnmade own → (d : Option (List ℕ)) → job.draft ≡ d → Ends own h (draft_text d) (Reads d)
+  pub text_ends : (own : List Deed) → IsUnmade own → (d : Option (List ℕ)) → job.draft ≡ d → Comes own h (draft_text d) (Reads d)
   unfolding all_heard draft_read
   text_ends own unmade None is = heard_ends is own unmade 67108866 [] (omega arith)
   text_ends own unmade (Some name) is =
-      ends_of own h (draft_read name) (Reads (Some name))
-      (comes_read own h of_stop (Reads (Some name)) Work name LIMIT_BYTES (draft_by name)
+      comes_read own h of_stop (Reads (Some name)) Work name LIMIT_BYTES (draft_by name)
       (λ bytes. comes_to _ h (Ok bytes) (Reads (Some name)) (now refl, unmade_more Work (temp_name run h.next) (step.Read Work name LIMIT_BYTES) (answer.Content bytes) own (λ b e. cc (e)) unmade, refl))
-      (λ l. comes_to _ h (Err (too_large l)) (Reads (Some name)) (long_draft name is)) (comes_to _ h (Err (no_file (in_work name))) (Reads (Some name)) (no_draft name is)))
+      (λ l. comes_to _ h (Err (too_large l)) (Reads (Some name)) (long_draft name is)) (comes_to _ h (Err (no_file (in_work name))) (Reads (Some name)) (no_draft name is))
 
   -- the message of a text
   module _ (text : List ℕ) where
-    abbrev Builds : Outcome (Result (List ℕ) CommandFault)
+    abbrev pub Builds : Outcome (Result (List ℕ) CommandFault)
     Builds later j (Ok message) = IsBuilt run path job message later × HasText job.draft text later × IsUnmade later × (j ≡ h)
     Builds later j (Err e) = Shows e later
 
@@ -128,7 +123,7 @@ module _ (run : ℕ) (few : run < 2 ^ 128) (path : List ℕ) (job : BuildJob) (v
           (text_onto job.draft text own later q.1.onto has) (q.1.unmade Work (temp_name run h.next) unmade) (nat_lt LIMIT_BYTES (length (composed run draft givens))) refl))
           (λ later j e q. not_given text draft (text_onto job.draft text own later q.0 has) is q.1)
 
-    built_comes : (own : List Deed) → HasText job.draft text own → IsUnmade own → Comes own h (text_built run path job text) Builds
+    pub built_comes : (own : List Deed) → HasText job.draft text own → IsUnmade own → Comes own h (text_built run path job text) Builds
     unfolding text_built
     built_comes own has unmade = go (first_wrong_line text) refl
       where
@@ -167,17 +162,13 @@ module _ (run : ℕ) (few : run < 2 ^ 128) (path : List ℕ) (job : BuildJob) (v
         comes_then own h (text_built run path job text) (λ message. message_done run job.draft message) Builds Built (built_comes own has unmade)
         (λ later j message q. comes_at later later j h (message_done run job.draft message) Built refl q.3 (done_comes job.draft refl later message q.1 q.2)) (λ later j e q. q)
 
-  build_ends : (own : List Deed) → IsUnmade own → Ends own h (mhbuild run path job) Built
+  -- from whatever was done before, where the run's next name was not made
+  pub build_ends : (own : List Deed) → IsUnmade own → Comes own h (mhbuild run path job) Built
   unfolding mhbuild
   build_ends own unmade =
-      ends_then own h (draft_text job.draft) (λ text. text_built run path job text >>= (λ message. message_done run job.draft message)) (Reads job.draft) Built (text_ends own unmade job.draft refl)
+      comes_then own h (draft_text job.draft) (λ text. text_built run path job text >>= (λ message. message_done run job.draft message)) (Reads job.draft) Built (text_ends own unmade job.draft refl)
       (λ later j text q. ends_at later j text q) (λ later j e q. q)
     where
-      ends_at : (later : List Deed) (j : Hand) (text : List ℕ) → Reads job.draft later j (Ok text) → Ends later j (text_built run path job text >>= (λ message. message_done run job.draft message)) Built
+      ends_at : (later : List Deed) (j : Hand) (text : List ℕ) → Reads job.draft later j (Ok text) → Comes later j (text_built run path job text >>= (λ message. message_done run job.draft message)) Built
       ends_at later j text q =
-          subst (λ i. Ends later i (text_built run path job text >>= (λ message. message_done run job.draft message)) Built) (sym q.2)
-          (ends_of later h (text_built run path job text >>= (λ message. message_done run job.draft message)) Built (rest_comes text later q.0 q.1))
-
-  -- from whatever was done before, where no step had failed and the run's next name was not made
-  pub build_shows : (past : List Done) → NoneFailed (acts past) → IsUnmade (acts past) → Keeps hearing past h (mhbuild run path job) (Cleanly Built)
-  build_shows past clean unmade = ends_keeps past (acts past) h (mhbuild run path job) Built refl clean (build_ends (acts past) unmade)
+          subst (λ i. Comes later i (text_built run path job text >>= (λ message. message_done run job.draft message)) Built) (sym q.2) (rest_comes text later q.0 q.1)

@@ -47,6 +47,15 @@ parsed_refuses text = go (first_wrong_line text)
     go None = tt
     go (Some line) = (refusal.BadDraft line, refl)
 
+-- a message is some text
+front_some : (a b : List ℕ) → (a ++ codes "MIME-Version: 1.0\n") ++ b ≡ [] → ⊥
+front_some [] b e = cc (e)
+front_some (x ∷ a) b e = cc (e)
+
+pub message_some : (run : ℕ) (d : Drafted) (givens : List Given) → composed run d givens ≡ [] → ⊥
+unfolding composed
+message_some run d givens e = front_some (ended d.fields) _ e
+
 module _ (ns : List ℕ) (c : Contents) (h : Hand) (run : ℕ) (path : List ℕ) (job : BuildJob) (entries : List NamedValue) (known : h.context ≡ Some entries) where
   abbrev m : Mailbox
   m = mailbox_in c
@@ -64,15 +73,6 @@ module _ (ns : List ℕ) (c : Contents) (h : Hand) (run : ℕ) (path : List ℕ)
       finds_then ns c h left (all_found path job.forwarding entries m [] draft.wants) (λ givens. within_limit (composed run draft givens)) y (all_given path job.forwarding [] draft.wants) (λ givens. Return (within_limit (composed run draft givens)))
       (all_find ns c h left path job.forwarding entries known [] draft.wants y later)
       (λ x givens k last. finds_value ns c h left (within_limit (composed run draft givens)) x (limit_refuses (composed run draft givens)) last))
-
-  -- a message is some text
-  front_some : (a b : List ℕ) → (a ++ codes "MIME-Version: 1.0\n") ++ b ≡ [] → ⊥
-  front_some [] b e = cc (e)
-  front_some (x ∷ a) b e = cc (e)
-
-  message_some : (d : Drafted) (givens : List Given) → composed run d givens ≡ [] → ⊥
-  unfolding composed
-  message_some d givens e = front_some (ended d.fields) _ e
 
   -- it is said
   said_ends : (z : View) (message : List ℕ) → Is true ns z c → (message ≡ [] → ⊥) → Gives (by_view true) z h message (lifted of_sink (say message)) (WorkEnds (ended_work m None [] (Ok message)))
@@ -121,7 +121,7 @@ module _ (ns : List ℕ) (c : Contents) (h : Hand) (run : ℕ) (path : List ℕ)
   built_some text message is = by_draft (parsed text) is
     where
       by_givens : (draft : Drafted) (r : Result (List Given) CommandFault) → and_then r (λ givens. within_limit (composed run draft givens)) ≡ Ok message → message ≡ [] → ⊥
-      by_givens draft (Ok givens) e none = message_some draft givens (sym (limited_is (composed run draft givens) message e) ∙ none)
+      by_givens draft (Ok givens) e none = message_some run draft givens (sym (limited_is (composed run draft givens) message e) ∙ none)
       by_givens draft (Err x) e none = cc (e)
 
       by_draft : (r : Result Drafted CommandFault) → and_then r (λ draft. and_then (all_found path job.forwarding entries m [] draft.wants) (λ givens. within_limit (composed run draft givens))) ≡ Ok message → message ≡ [] → ⊥

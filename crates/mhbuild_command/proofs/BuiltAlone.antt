@@ -1,5 +1,5 @@
 -- `mhbuild` alone.
-use Rattle.std.proofs.Common.{◌≡◌, inl, inr, ◌<◌, ◌^◌, ◌++◌, ◌+◌, ℕ, true, false, List, [], length, Option, None, Some, Result, Ok, Err, refl, sym, ◌∙◌, ap, subst, append-nil}
+use Rattle.std.proofs.Common.{◌≡◌, inl, inr, ◌<◌, ◌^◌, ◌++◌, ◌∷◌, ◌+◌, ℕ, true, false, List, [], length, Option, None, Some, Result, Ok, Err, refl, sym, ◌∙◌, ap, subst, append-nil}
 use Rattle.mh_base.specs.Counts.{Rose}
 use Rattle.mh_base.specs.Streams.{Adds, SinkState, SourceState}
 use Rattle.mh_profile.specs.Reading.{entries_in}
@@ -13,11 +13,11 @@ use Rattle.folder_files.specs.declared.refusal.Refusal.TheVariants as refusal
 use Rattle.folder_files.specs.declared.refusal.Which.TheVariants.{Files, Out, Source}
 use Rattle.file_plans.specs.Alone.{first_of, mailbox_at, world_at}
 use Rattle.file_plans.specs.Contents.{Contents, contents_of, filled, mailbox_in}
-use Rattle.file_plans.specs.Follows.{Follows, Hears, Went, all, deeds_in, filed_in}
+use Rattle.file_plans.specs.Follows.{Follows, Hears, TakesAll, Went, all, deeds_in, filed_in}
 use Rattle.file_plans.specs.Giving as giving
 use Rattle.file_plans.specs.Giving.{Gives}
 use Rattle.file_plans.specs.Mailboxes.{Mailbox, mailbox_of}
-use Rattle.file_plans.specs.Plan.{Hand, Plan, Return, ◌>>=◌}
+use Rattle.file_plans.specs.Plan.{Hand, Plan, Return, after, bind, ◌>>=◌}
 use Rattle.file_plans.specs.Runs.{Deed, Exit, NoMemory, Returned, Runs, exit_of}
 use Rattle.file_plans.specs.Sightings.{AreMade, IsFailed, Made, events_since}
 use Rattle.file_plans.specs.Text.{said_of}
@@ -44,7 +44,8 @@ use Rattle.mhbuild_command.specs.Building.{message_done, mhbuild, text_built}
 use Rattle.mhbuild_command.specs.BuildOutcome.{build_work, built, ended_work, named_text}
 use Rattle.mhbuild_command.specs.declared.job.BuildJob.{BuildJob}
 use Rattle.mhbuild_command.proofs.BuildGiven.{HasDraft, text_ends}
-use Rattle.mhbuild_command.proofs.InputHeard.{HeardSo, all_heard_so, heard_are, heard_of, long, stopped, went as went_on}
+use Rattle.mhbuild_command.specs.Heard.{Heard as HeardText, TooMuch, Whole, heard_text}
+use Rattle.mhbuild_command.proofs.InputHeard.{HeardSo, all_heard_so, heard_are, heard_of, is_heard, same_acts, same_said, stopped, went as went_on}
 use Rattle.mhbuild_command.proofs.NamedGiven.{named_gives}
 
 module _ (run : ℕ) (path : List ℕ) (job : BuildJob) (h j : Hand) (f g : FilesState) (n m : SourceState) (x y : SinkState) (result : Result Unit CommandFault)
@@ -128,10 +129,10 @@ module _ (run : ℕ) (path : List ℕ) (job : BuildJob) (h j : Hand) (f g : File
           alone_by (mhbuild run path job) ds j refl refl went.runs (work_by (named_text name (mailbox_in c)))
           (named_gives (puts_in ds) c h run few path job entries known name is (subst IsValid is valid) there free (first_view c (puts_in ds) (λ q k. false)) ((λ e. refl), refl))
 
-      refused_tells : (e : CommandFault) → exit ≡ Returned (Err e) → acts ds ≡ [] → said_of ds ≡ [] → (r : Refusal) → e ≡ fault.Refused r → ComesTo (work_by (Err e)) after_ x y result
-      unfolding build_work Gives Runs
-      refused_tells e at none silent r is =
-          alone_by (Return (Err e)) [] h none silent (refl, inl at) (refused_at (mailbox_in c) e) (subst (λ z. WorkEnds (refused_at (mailbox_in c) z) (first_view c [] (λ q k. false)) h [] (Err z)) (sym is) (refl, refl, refl))
+      refused_tells : (e : CommandFault) (rest : List Deed) → Runs (Return (Err e)) h rest j exit → acts ds ≡ acts rest → said_of ds ≡ said_of rest → (r : Refusal) → e ≡ fault.Refused r → ComesTo (work_by (Err e)) after_ x y result
+      unfolding build_work Gives
+      refused_tells e rest runs did said r is =
+          alone_by (Return (Err e)) rest j did said runs (refused_at (mailbox_in c) e) (subst (λ z. WorkEnds (refused_at (mailbox_in c) z) (first_view c (puts_in rest) (λ q k. false)) h [] (Err z)) (sym is) (refl, refl, refl))
 
       heard_tells : job.draft ≡ None → (text : List ℕ) (rest : List Deed) → Runs (then_built text) h rest j exit → acts ds ≡ acts rest → said_of ds ≡ said_of rest → ComesTo (work_by (Ok text)) after_ x y result
       unfolding build_work
@@ -140,19 +141,28 @@ module _ (run : ℕ) (path : List ℕ) (job : BuildJob) (h j : Hand) (f g : File
           (text_ends (puts_in rest) c h run path job entries known few text (subst (λ d. HasDraft (puts_in rest) c h run path job entries known d text) (sym is) tt) (first_view c (puts_in rest) (λ q k. false)) ((λ e. refl), refl))
 
       -- by how the input was heard
-      input_tells : job.draft ≡ None → (left later : List ℕ) → HeardSo then_built h j [] left later ds exit → ComesToHeard work_by after_ left later x y result
-      input_tells is left later (stopped (inl e)) = absurd (no_in (went.in_cause e))
-      input_tells is left later (stopped (inr e)) = inl (memory_is result e)
-      input_tells is left later (long front e big at none silent) = inr (Err (too_large (length front)), (front, e, refl, big), refused_tells (too_large (length front)) at none silent (refusal.TooLarge (length front) LIMIT_BYTES) refl)
-      input_tells is left later (went_on rest runs did said last short) = inr (Ok left, (refl, last, short), heard_tells is left rest runs did said)
+      tells_by : job.draft ≡ None → (heard : HeardText) (rest : List Deed) → Runs (after then_built (heard_text heard)) h rest j exit → acts ds ≡ acts rest → said_of ds ≡ said_of rest → ComesTo (work_by (heard_text heard)) after_ x y result
+      tells_by is (Whole text) rest runs did said = heard_tells is text rest runs did said
+      tells_by is (TooMuch l) rest runs did said = refused_tells (too_large l) rest runs did said (refusal.TooLarge l LIMIT_BYTES) refl
 
-      runs_input : job.draft ≡ None → Runs (all_heard >>= then_built) h ds j exit
-      unfolding mhbuild
-      runs_input is = subst (λ d. Runs (draft_text d >>= then_built) h ds j exit) is went.runs
+      input_tells : job.draft ≡ None → (left later : List ℕ) → TakesAll left later (heard_of ds) → HeardSo (after then_built) h j exit [] ds → ComesToHeard work_by after_ left later x y result
+      input_tells is left later t (stopped (inl e) silent) = absurd (no_in (went.in_cause e))
+      input_tells is left later t (stopped (inr e) silent) = inl (memory_is result e)
+      input_tells is left later t (went_on heard rest runs same behind) =
+          inr (heard_text heard, is_heard left later (heard_text heard) (behind left later t), tells_by is heard rest runs (same_acts ds rest same) (same_said ds rest same))
+
+      runs_input : job.draft ≡ None → Runs (bind all_heard (after then_built)) h ds j exit
+      unfolding mhbuild ◌>>=◌
+      runs_input is = subst (λ d. Runs (bind (draft_text d) (after then_built)) h ds j exit) is went.runs
+
+      deaf : (e : CommandFault) (es : List Deed) → Runs (after then_built (Err e)) h es j exit → heard_of es ≡ []
+      unfolding Runs
+      deaf e [] runs = refl
+      deaf e (d ∷ es) runs = absurd runs
 
       by_left : job.draft ≡ None → (l r : Option (List ℕ)) → Hears l r (heard_of ds) → ComesToInput work_by after_ l r x y result
       by_left is None None t = tt
-      by_left is (Some l) (Some r) t = input_tells is l r (all_heard_so then_built h j exit l r ds (runs_input is) t)
+      by_left is (Some l) (Some r) t = input_tells is l r t (all_heard_so (after then_built) h j exit deaf ds (runs_input is))
       by_left is None (Some r) t = absurd t
       by_left is (Some l) None t = absurd t
 

@@ -9,6 +9,7 @@ use Rattle.draft_contents.specs.Found.{all_found, and_then, present}
 use Rattle.draft_files.specs.Drafts.{in_work, no_file}
 use Rattle.draft_files.specs.Limits.{within_limit}
 use Rattle.mhbuild_command.specs.Composed.{composed}
+use Rattle.mhbuild_command.specs.Heard.{Heard, heard_text}
 use Rattle.mhbuild_command.specs.Parsed.{parsed}
 use Rattle.mhbuild_command.specs.declared.job.BuildJob.{BuildJob}
 
@@ -41,3 +42,8 @@ build_work run path entries job (Err e) m = refused_at m e
 -- the text of the draft of this name
 abbrev pub named_text : List ℕ → Mailbox → Result (List ℕ) CommandFault
 named_text name m = present (no_file (in_work name)) (m.work name)
+
+-- the text of the draft of this name, or what was heard of the input where there is no name
+abbrev pub text_found : Heard → Mailbox → Option (List ℕ) → Result (List ℕ) CommandFault
+text_found heard m None = heard_text heard
+text_found heard m (Some name) = named_text name m

@@ -5,4 +5,5 @@ pub mod BuildDone
 pub mod BuildOutcome
 pub mod BuildPledge
 pub mod Composed
+pub mod Heard
 pub mod Parsed

@@ -64,7 +64,7 @@ comes_both own h (Return r) P Q f g = (f, g)
 comes_both own h (Ask s next) P Q f g = λ a row live. comes_both (did s a ∷ own) h (next a) P Q (f a row live) (g a row live)
 comes_both own h (Try s next) P Q f g = absurd f
 comes_both own h (Say piece next) P Q f g = comes_both own h next P Q f g
-comes_both own h (Hear most next) P Q f g = absurd f
+comes_both own h (Hear most next) P Q f g = λ piece short. comes_both own h (next piece) P Q (f piece short) (g piece short)
 comes_both own h (Recall next) P Q f g = comes_both own h (next h) P Q f g
 comes_both own h (Note j next) P Q f g = comes_both own j next P Q f g
 
@@ -99,7 +99,7 @@ comes_goes w own h (Return r) O Q s g f = ((s, g), f)
 comes_goes w own h (Ask t next) O Q s g f = λ a row live. comes_goes w (did t a ∷ own) h (next a) O Q (sound_more w own h t a live (g.0 s).1 s) (g.1 a row live) (f a row live)
 comes_goes w own h (Try t next) O Q s g f = absurd f
 comes_goes w own h (Say piece next) O Q s g f = comes_goes w own h next O Q s g.1 f
-comes_goes w own h (Hear most next) O Q s g f = absurd f
+comes_goes w own h (Hear most next) O Q s g f = λ piece short. comes_goes w own h (next piece) O Q s (g piece short) (f piece short)
 comes_goes w own h (Recall next) O Q s g f = comes_goes w own h (next h) O Q s (g s) f
 comes_goes w own h (Note j next) O Q s g f = comes_goes w own j next O Q (record { numbered = all_numbered w.run h.next j.next own g.0 s.numbered; unfailed = s.unfailed }) g.1 f
 
@@ -111,7 +111,7 @@ comes_asked w F keeps own h (Return r) O Q s g i f = (i, f)
 comes_asked w F keeps own h (Ask t next) O Q s g i f = λ a row live. comes_asked w F keeps (did t a ∷ own) h (next a) O Q (sound_more w own h t a live (g.0 s).1 s) (g.1 a row live) (keeps own t a (g.0 s).0 i) (f a row live)
 comes_asked w F keeps own h (Try t next) O Q s g i f = absurd f
 comes_asked w F keeps own h (Say piece next) O Q s g i f = comes_asked w F keeps own h next O Q s g.1 i f
-comes_asked w F keeps own h (Hear most next) O Q s g i f = absurd f
+comes_asked w F keeps own h (Hear most next) O Q s g i f = λ piece short. comes_asked w F keeps own h (next piece) O Q s (g piece short) i (f piece short)
 comes_asked w F keeps own h (Recall next) O Q s g i f = comes_asked w F keeps own h (next h) O Q s (g s) i f
 comes_asked w F keeps own h (Note j next) O Q s g i f = comes_asked w F keeps own j next O Q (record { numbered = all_numbered w.run h.next j.next own g.0 s.numbered; unfailed = s.unfailed }) g.1 i f
 
@@ -183,7 +183,7 @@ comes_bounded own h (Return r) Q b f = (b, f)
 comes_bounded own h (Ask s next) Q b f = λ a row live. comes_bounded (did s a ∷ own) h (next a) Q (b a) (f a row live)
 comes_bounded own h (Try s next) Q b f = absurd f
 comes_bounded own h (Say piece next) Q b f = comes_bounded own h next Q b f
-comes_bounded own h (Hear most next) Q b f = absurd f
+comes_bounded own h (Hear most next) Q b f = λ piece short. comes_bounded own h (next piece) Q (b piece) (f piece short)
 comes_bounded own h (Recall next) Q b f = comes_bounded own h (next h) Q b f
 comes_bounded own h (Note j next) Q b f = comes_bounded own j next Q b f
 

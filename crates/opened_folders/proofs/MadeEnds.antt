@@ -40,7 +40,7 @@ comes_relifted own h f g (Return (Err e)) P S Q x y okay stop = stop own h e x y
 comes_relifted own h f g (Ask s next) P S Q x y okay stop = λ a row live. comes_relifted (did s a ∷ own) h f g (next a) P S Q (x a row live) (y a row live) okay stop
 comes_relifted own h f g (Try s next) P S Q x y okay stop = absurd x
 comes_relifted own h f g (Say piece next) P S Q x y okay stop = comes_relifted own h f g next P S Q x y okay stop
-comes_relifted own h f g (Hear most next) P S Q x y okay stop = absurd x
+comes_relifted own h f g (Hear most next) P S Q x y okay stop = λ piece short. comes_relifted own h f g (next piece) P S Q (x piece short) (y piece short) okay stop
 comes_relifted own h f g (Recall next) P S Q x y okay stop = comes_relifted own h f g (next h) P S Q x y okay stop
 comes_relifted own h f g (Note j next) P S Q x y okay stop = comes_relifted own j f g next P S Q x y okay stop
 

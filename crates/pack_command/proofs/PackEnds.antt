@@ -1,15 +1,12 @@
 -- How `folder -pack` ends, and what shows it.
-use Rattle.std.proofs.Common.{◌≡◌, ◌⊎◌, inl, inr, ◌==◌, ◌||◌, ◌<◌, ◌-◌, ◌^◌, ◌∷◌, [], Bool, true, false, ℕ, zero, suc, List, Result, Ok, Err, length, get_or, refl, sym, ◌∙◌, ap, subst, arith}
-use Rattle.std.proofs.lemmas.Bool.Decides.{Decides-eqb}
-use Rattle.std.proofs.lemmas.Option.{unwrap_or-slice_get}
+use Rattle.std.proofs.Common.{◌≡◌, ◌⊎◌, inl, inr, ◌<◌, ◌-◌, ◌^◌, ◌∷◌, [], true, ℕ, List, Result, Ok, Err, refl, sym, ap, subst}
 use Rattle.mh_base.specs.Entries.{entry_text, kind_of}
 use Rattle.mh_base.specs.Numbers.{IsMsgNum}
 use Rattle.mh_base.specs.declared.entry.Entry.TheVariants.{Number}
 use Rattle.mh_base.proofs.EntryKinds.{kind_of-entry_text}
-use Rattle.mh_sequences.specs.Runs.{AreRuns, has, numbers_of}
+use Rattle.mh_sequences.specs.Runs.{AreRuns, has}
 use Rattle.mh_sequences.specs.Sequences.{Marked}
 use Rattle.mh_sequences.specs.declared.run.Run.{Run}
-use Rattle.msg_ranges.proofs.Rising.{lists, lists_numbers}
 use Rattle.folder_files.specs.Careful.{HasLock}
 use Rattle.folder_files.specs.Commands.{Marking, Sorting}
 use Rattle.folder_files.specs.Deeds.{Deed, Once, WasDone, did, now, on, still}
@@ -20,7 +17,7 @@ use Rattle.folder_files.specs.declared.refusal.Which.{Which}
 use Rattle.folder_files.specs.declared.step.Answer.{Answer}
 use Rattle.folder_files.specs.declared.step.Step.{Step}
 use Rattle.folder_files.specs.declared.step.Step.TheVariants as step
-use Rattle.file_plans.specs.Plan.{Ask, Hand, Hear, Note, Plan, Recall, Return, Say, Try, lifted, ◌>>=◌}
+use Rattle.file_plans.specs.Plan.{Hand, Return, lifted, ◌>>=◌}
 use Rattle.file_plans.specs.Rules.{Keeps}
 use Rattle.file_plans.specs.Runs as runs
 use Rattle.file_plans.proofs.Acting.{acts}
@@ -52,7 +49,7 @@ use Rattle.opened_folders.specs.FolderPledge.{folder_pledge, told_within}
 use Rattle.opened_folders.specs.Opening.{Opened, begun, opened_of}
 use Rattle.opened_folders.specs.Reads.{HaveSeen}
 use Rattle.opened_folders.proofs.BeginState.{HasState, TakesNone, begin_state, locked_there}
-use Rattle.opened_folders.proofs.CleanRuns.{Clean, comes_asked}
+use Rattle.opened_folders.proofs.CleanRuns.{Clean, comes_asked, comes_both}
 use Rattle.opened_folders.proofs.FolderPledged.{seen_kept}
 use Rattle.opened_folders.proofs.NumbersStay.{takes_none}
 use Rattle.opened_folders.proofs.SequencesEnd.{Left, changed_comes}
@@ -72,6 +69,7 @@ use Rattle.told_folders.specs.Plans.{lines_said}
 use Rattle.sortm_command.specs.Sort.{last_in}
 use Rattle.sortm_command.specs.SortDone.{AllSettled, HasSettled}
 use Rattle.sortm_command.proofs.Listed.{last_small}
+use Rattle.sortm_command.proofs.SortEnds.{last_listed}
 use Rattle.pack_command.specs.Moving.{marked_moved, moved_if}
 use Rattle.pack_command.specs.Pack.{line_after, opened_packed, pack}
 use Rattle.pack_command.specs.PackAnswers.{ShowsPack, long_marks, none_left, none_met, pack_answers}
@@ -80,37 +78,6 @@ use Rattle.pack_command.specs.Places.{listing_moves}
 use Rattle.pack_command.specs.declared.job.PackJob.{PackJob}
 use Rattle.pack_command.proofs.PackLets.{lets, makes_kept}
 use Rattle.pack_command.proofs.PackMoves.{meant_good, moving_distinct, moving_good, moving_listed}
-
-first_listed : (n : ℕ) (ns : List ℕ) → lists (n ∷ ns) n ≡ true
-first_listed n ns = ap (λ b. b || lists ns n) ((Decides-eqb n n).1 refl)
-
-other_listed : (m n : ℕ) (ns : List ℕ) → lists ns n ≡ true → lists (m ∷ ns) n ≡ true
-other_listed m n ns e = go (m == n)
-  where
-    go : (b : Bool) → b || lists ns n ≡ true
-    go true = refl
-    go false = e
-
--- a number of a list that is not 0 stands there
-stands_at : (ns : List ℕ) (i : ℕ) → get_or ns i 0 ≡ 999999 → lists ns 999999 ≡ true
-stands_at [] i e = absurd (omega (arith, e))
-stands_at (n ∷ ns) zero e = subst (λ k. lists (n ∷ ns) k ≡ true) e (first_listed n ns)
-stands_at (n ∷ ns) (suc i) e = other_listed n 999999 ns (stands_at ns i e)
-
--- where the last of a listing is the last number, a message has that
-last_listed : (listing : List Run) → last_in listing ≡ 999999 → has listing 999999 ≡ true
-last_listed listing e = sym (lists_numbers listing 999999) ∙ stands_at (numbers_of listing) (length (numbers_of listing) - 1) (sym (unwrap_or-slice_get (numbers_of listing) (length (numbers_of listing) - 1) 0) ∙ e)
-
--- two outcomes of a plan
-comes_both : {R : Type 0} (own : List Deed) (h : Hand) (p : Plan R) (P Q : Outcome R) → Comes own h p P → Comes own h p Q → Comes own h p (λ later j r. P later j r × Q later j r)
-unfolding Comes
-comes_both own h (Return r) P Q f g = (f, g)
-comes_both own h (Ask s next) P Q f g = λ a row live. comes_both (did s a ∷ own) h (next a) P Q (f a row live) (g a row live)
-comes_both own h (Try s next) P Q f g = absurd f
-comes_both own h (Say piece next) P Q f g = comes_both own h next P Q f g
-comes_both own h (Hear most next) P Q f g = absurd f
-comes_both own h (Recall next) P Q f g = comes_both own h (next h) P Q f g
-comes_both own h (Note j next) P Q f g = comes_both own j next P Q f g
 
 -- what settled had moved
 once_moved : (run : ℕ) (p : Place) (from end : ℕ) {P : Deed → Type 0} (own : List Deed) → Once (λ e before. P e × HasMoved run p from end before) own → HasMoved run p from end own

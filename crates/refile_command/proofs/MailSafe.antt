@@ -55,7 +55,7 @@ comes_inverse own h (Return r) k Q f = f
 comes_inverse own h (Ask s next) k Q f = λ a row live. comes_inverse (did s a ∷ own) h (next a) k Q (f a row live)
 comes_inverse own h (Try s next) k Q f = absurd f
 comes_inverse own h (Say piece next) k Q f = comes_inverse own h next k Q f
-comes_inverse own h (Hear most next) k Q f = absurd f
+comes_inverse own h (Hear most next) k Q f = λ piece short. comes_inverse own h (next piece) k Q (f piece short)
 comes_inverse own h (Recall next) k Q f = comes_inverse own h (next h) k Q f
 comes_inverse own h (Note j next) k Q f = comes_inverse own j next k Q f
 

@@ -37,7 +37,7 @@ use Rattle.sequence_commits.specs.Telling.{same_told}
 use Rattle.sequence_commits.proofs.SequencesPledged.{sequences_name}
 
 -- each step of the plan ends it where it fails, and it neither speaks nor hears
-IsPlain : {R : Type 0} → Plan R → Type 0
+unfoldable pub IsPlain : {R : Type 0} → Plan R → Type 0
 IsPlain (Return r) = Unit {0}
 IsPlain (Ask s next) = (a : _) → IsPlain (next a)
 IsPlain (Try s next) = ⊥
@@ -66,7 +66,7 @@ plain_clean (Recall next) h ds k exit r plain f at any = plain_clean (next h) h 
 plain_clean (Note j next) h ds k exit r plain (inl w) at any = let e = other_exit r exit NoMemory w.2 at in cc
 plain_clean (Note j next) h ds k exit r plain (inr f) at any = plain_clean next j ds k exit r plain f at any
 
-plain_bind : {A B : Type 0} (p : Plan A) (k : A → Plan B) → IsPlain p → ((a : A) → IsPlain (k a)) → IsPlain (bind p k)
+pub plain_bind : {A B : Type 0} (p : Plan A) (k : A → Plan B) → IsPlain p → ((a : A) → IsPlain (k a)) → IsPlain (bind p k)
 unfolding IsPlain bind
 plain_bind (Return r) k f g = g r
 plain_bind (Ask s next) k f g = λ a. plain_bind (next a) k (f a) g
@@ -82,19 +82,19 @@ plain_after k (Ok a) g = g a
 plain_after k (Err e) g = tt
 
 -- one part, and the next where it is Ok
-plain_then : {A B E : Type 0} (p : Plan (Result A E)) (k : A → Plan (Result B E)) → IsPlain p → ((a : A) → IsPlain (k a)) → IsPlain (p >>= k)
+pub plain_then : {A B E : Type 0} (p : Plan (Result A E)) (k : A → Plan (Result B E)) → IsPlain p → ((a : A) → IsPlain (k a)) → IsPlain (p >>= k)
 unfolding ◌>>=◌
 plain_then p k f g = plain_bind p (after k) f (λ r. plain_after k r g)
 
-plain_return : {R : Type 0} (r : R) → IsPlain (Return r)
+pub plain_return : {R : Type 0} (r : R) → IsPlain (Return r)
 unfolding IsPlain
 plain_return r = tt
 
-plain_lifted : {A E F : Type 0} (from : E → F) (p : Plan (Result A E)) → IsPlain p → IsPlain (lifted from p)
+pub plain_lifted : {A E F : Type 0} (from : E → F) (p : Plan (Result A E)) → IsPlain p → IsPlain (lifted from p)
 unfolding lifted
 plain_lifted from p f = plain_bind p (λ r. Return (converted from r)) f (λ r. plain_return (converted from r))
 
-plain_ask : (E : Type 0) (s : Step) → IsPlain (ask {E = E} s)
+pub plain_ask : (E : Type 0) (s : Step) → IsPlain (ask {E = E} s)
 unfolding IsPlain ask
 plain_ask E s = λ a. tt
 
@@ -117,11 +117,11 @@ plain_made_safe : (p : Place) (n : List ℕ) → IsPlain (made_safe p n)
 unfolding made_safe sync_file
 plain_made_safe p n = plain_then _ _ (plain_lifted of_stop _ (plain_then _ _ (plain_ask _ (step.SyncFile p n)) (λ a. plain_return _))) (plain_held p n)
 
-plain_synced : (p : Place) (n : List ℕ) → IsPlain (synced p n)
+pub plain_synced : (p : Place) (n : List ℕ) → IsPlain (synced p n)
 unfolding synced sync_folder
 plain_synced p n = plain_then _ _ (plain_lifted of_stop _ (plain_then _ _ (plain_ask _ (step.SyncFolder p)) (λ a. plain_return _))) (plain_held p n)
 
-plain_renamed : (p : Place) (a b : List ℕ) → IsPlain (renamed p a b)
+pub plain_renamed : (p : Place) (a b : List ℕ) → IsPlain (renamed p a b)
 unfolding renamed rename
 plain_renamed p a b = plain_then _ _ (plain_lifted of_stop _ (plain_then _ _ (plain_ask _ (step.Rename p a b)) (λ a. plain_return _))) (plain_held p a)
 
@@ -133,7 +133,7 @@ plain_named run = λ h. go h (nat_lt h.next (2 ^ 64))
     go h true = tt
     go h false = tt
 
-plain_written : (run : ℕ) (p : Place) (bytes : List ℕ) → IsPlain (written run p bytes)
+pub plain_written : (run : ℕ) (p : Place) (bytes : List ℕ) → IsPlain (written run p bytes)
 unfolding written
 plain_written run p bytes =
     plain_then (named run) _ (plain_named run) (λ temp. plain_then (created p temp bytes) _ (plain_created p temp bytes) (λ u. plain_then (made_safe p temp) _ (plain_made_safe p temp) (λ v. plain_return (Ok temp))))

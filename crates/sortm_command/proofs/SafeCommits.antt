@@ -55,7 +55,7 @@ goes_comes w own h (Return r) P Q f g = (f, g)
 goes_comes w own h (Ask s next) P Q f g = (f.0, λ a row live. goes_comes w (did s a ∷ own) h (next a) P Q (f.1 a row live) (g a row live))
 goes_comes w own h (Try s next) P Q f g = absurd f
 goes_comes w own h (Say piece next) P Q f g = (f.0, goes_comes w own h next P Q f.1 g)
-goes_comes w own h (Hear most next) P Q f g = absurd g
+goes_comes w own h (Hear most next) P Q f g = λ piece short. goes_comes w own h (next piece) P Q (f piece short) (g piece short)
 goes_comes w own h (Recall next) P Q f g = λ s. goes_comes w own h (next h) P Q (f s) g
 goes_comes w own h (Note j next) P Q f g = (f.0, goes_comes w own j next P Q f.1 g)
 

@@ -24,7 +24,7 @@ use Rattle.folder_files.specs.declared.step.Answer.{Answer}
 use Rattle.folder_files.specs.declared.step.Answer.TheVariants as answer
 use Rattle.folder_files.specs.declared.step.Step.{Step}
 use Rattle.folder_files.specs.declared.step.Step.TheVariants as step
-use Rattle.file_plans.specs.Plan.{Ask, Hand, Hear, Note, Plan, Recall, Return, Say, Try, after, bind, lifted, ◌>>=◌}
+use Rattle.file_plans.specs.Plan.{Hand, Return, after, bind, lifted, ◌>>=◌}
 use Rattle.file_plans.specs.Rules.{Keeps}
 use Rattle.file_plans.specs.Runs as runs
 use Rattle.file_plans.proofs.Acting.{acts}
@@ -62,7 +62,7 @@ use Rattle.opened_folders.specs.FolderPledge.{folder_pledge, told_within}
 use Rattle.opened_folders.specs.Opening.{Opened, begun, opened_of}
 use Rattle.opened_folders.specs.Reads.{HaveSeen}
 use Rattle.opened_folders.proofs.BeginState.{HasState, TakesNone, begin_state, locked_there, refused_there}
-use Rattle.opened_folders.proofs.CleanRuns.{Clean, clean_more, comes_asked}
+use Rattle.opened_folders.proofs.CleanRuns.{Clean, clean_more, comes_asked, comes_both}
 use Rattle.opened_folders.proofs.FolderPledged.{seen_kept}
 use Rattle.opened_folders.proofs.NamesKept.{backups_kept, met_in_kept, putting}
 use Rattle.opened_folders.proofs.NumbersStay.{takes_none}
@@ -110,19 +110,8 @@ stands_at (n ∷ ns) zero e = subst (λ k. lists (n ∷ ns) k ≡ true) e (first
 stands_at (n ∷ ns) (suc i) e = other_listed n 999999 ns (stands_at ns i e)
 
 -- where the last of a listing is the last number, a message has that
-last_listed : (listing : List Run) → last_in listing ≡ 999999 → has listing 999999 ≡ true
+pub last_listed : (listing : List Run) → last_in listing ≡ 999999 → has listing 999999 ≡ true
 last_listed listing e = sym (lists_numbers listing 999999) ∙ stands_at (numbers_of listing) (length (numbers_of listing) - 1) (sym (unwrap_or-slice_get (numbers_of listing) (length (numbers_of listing) - 1) 0) ∙ e)
-
--- two outcomes of a plan
-comes_both : {R : Type 0} (own : List Deed) (h : Hand) (p : Plan R) (P Q : Outcome R) → Comes own h p P → Comes own h p Q → Comes own h p (λ later j r. P later j r × Q later j r)
-unfolding Comes
-comes_both own h (Return r) P Q f g = (f, g)
-comes_both own h (Ask s next) P Q f g = λ a row live. comes_both (did s a ∷ own) h (next a) P Q (f a row live) (g a row live)
-comes_both own h (Try s next) P Q f g = absurd f
-comes_both own h (Say piece next) P Q f g = comes_both own h next P Q f g
-comes_both own h (Hear most next) P Q f g = absurd f
-comes_both own h (Recall next) P Q f g = comes_both own h (next h) P Q f g
-comes_both own h (Note j next) P Q f g = comes_both own j next P Q f g
 
 -- what settled had moved
 once_moved : (run : ℕ) (p : Place) (from end : ℕ) {P : Deed → Type 0} (own : List Deed) → Once (λ e before. P e × HasMoved run p from end before) own → HasMoved run p from end own

@@ -1,5 +1,5 @@
 -- How plans end, by a run's own deeds, the newest first: what holds where a plan returns, whatever was answered.
-use Rattle.std.proofs.Common.{◌≡◌, ◌≢◌, inl, inr, ◌++◌, ◌∷◌, [], ℕ, List, Result, Ok, Err, ◌∙◌, ap}
+use Rattle.std.proofs.Common.{◌≡◌, ◌≢◌, ◌≤◌, inl, inr, ◌++◌, ◌∷◌, [], ℕ, List, Result, Ok, Err, length, ◌∙◌, ap}
 use Rattle.folder_files.specs.Deeds as deeds
 use Rattle.folder_files.specs.Deeds.{did}
 use Rattle.folder_files.specs.Rows.{IsAnswerOf}
@@ -13,7 +13,7 @@ use Rattle.file_plans.specs.Asking.{list, read, make_folder, create, sync_file, 
 use Rattle.file_plans.specs.Framing.{AsksOnly}
 use Rattle.file_plans.specs.Plan.{Hand, Plan, Return, Ask, Try, Say, Hear, Recall, Note, bind, after, ask, say, ◌>>=◌, converted, lifted}
 use Rattle.file_plans.specs.Rules.{Rules, Keeps}
-use Rattle.file_plans.specs.Runs.{Deed, Did, Said}
+use Rattle.file_plans.specs.Runs.{Deed, Did, Heard, Said}
 use Rattle.file_plans.specs.Sightings.{Made, IsFailed}
 use Rattle.file_plans.specs.declared.answers.Entered.{Entered}
 use Rattle.file_plans.specs.declared.answers.Entered.TheVariants as entered
@@ -33,13 +33,13 @@ use Rattle.step_plans.proofs.Going.{Outcome}
 use Rattle.step_plans.proofs.Lasting.{KeptBy}
 use Rattle.step_plans.proofs.Stepping.{on_new, on_old, on_make, on_lock, on_unlock, on_names, on_read}
 
--- whatever is answered, this holds where the plan returns. A plan that comes so ends at the first failure, and reads no input.
+-- whatever is answered and heard, this holds where the plan returns. A plan that comes so ends at the first failure.
 unfoldable pub Comes : {R : Type 0} → List deeds.Deed → Hand → Plan R → Outcome R → Type 0
 Comes own h (Return r) Q = Q own h r
 Comes own h (Ask s next) Q = (a : Answer) → IsAnswerOf s a → a ≢ answer.Failed → Comes (did s a ∷ own) h (next a) Q
 Comes own h (Try s next) Q = ⊥
 Comes own h (Say piece next) Q = Comes own h next Q
-Comes own h (Hear most next) Q = ⊥
+Comes own h (Hear most next) Q = (piece : List ℕ) → length piece ≤ most → Comes own h (next piece) Q
 Comes own h (Recall next) Q = Comes own h (next h) Q
 Comes own h (Note j next) Q = Comes own j next Q
 
@@ -50,7 +50,7 @@ comes_bind own h (Return r) k P Q f g = g own h r f
 comes_bind own h (Ask s next) k P Q f g = λ a row live. comes_bind (did s a ∷ own) h (next a) k P Q (f a row live) g
 comes_bind own h (Try s next) k P Q f g = absurd f
 comes_bind own h (Say piece next) k P Q f g = comes_bind own h next k P Q f g
-comes_bind own h (Hear most next) k P Q f g = absurd f
+comes_bind own h (Hear most next) k P Q f g = λ piece short. comes_bind own h (next piece) k P Q (f piece short) g
 comes_bind own h (Recall next) k P Q f g = comes_bind own h (next h) k P Q f g
 comes_bind own h (Note j next) k P Q f g = comes_bind own j next k P Q f g
 
@@ -76,7 +76,7 @@ comes_more own h (Return r) P Q f g = f own h r g
 comes_more own h (Ask s next) P Q f g = λ a row live. comes_more (did s a ∷ own) h (next a) P Q f (g a row live)
 comes_more own h (Try s next) P Q f g = absurd g
 comes_more own h (Say piece next) P Q f g = comes_more own h next P Q f g
-comes_more own h (Hear most next) P Q f g = absurd g
+comes_more own h (Hear most next) P Q f g = λ piece short. comes_more own h (next piece) P Q f (g piece short)
 comes_more own h (Recall next) P Q f g = comes_more own h (next h) P Q f g
 comes_more own h (Note j next) P Q f g = comes_more own j next P Q f g
 
@@ -108,7 +108,7 @@ comes_framed P F keeps own h (Return r) Q g i f = (i, f)
 comes_framed P F keeps own h (Ask s next) Q g i f = λ a row live. comes_framed P F keeps (did s a ∷ own) h (next a) Q (g.1 a) (keeps own s a g.0 i) (f a row live)
 comes_framed P F keeps own h (Try s next) Q g i f = absurd f
 comes_framed P F keeps own h (Say piece next) Q g i f = comes_framed P F keeps own h next Q g i f
-comes_framed P F keeps own h (Hear most next) Q g i f = absurd f
+comes_framed P F keeps own h (Hear most next) Q g i f = λ piece short. comes_framed P F keeps own h (next piece) Q (g piece) i (f piece short)
 comes_framed P F keeps own h (Recall next) Q g i f = comes_framed P F keeps own h (next h) Q (g h) i f
 comes_framed P F keeps own h (Note j next) Q g i f = comes_framed P F keeps own j next Q g i f
 
@@ -127,13 +127,13 @@ comes_clean own h (Ask s next) Q c f = λ a row live. comes_clean (did s a ∷ o
     one a live (inr m) = c m
 comes_clean own h (Try s next) Q c f = absurd f
 comes_clean own h (Say piece next) Q c f = comes_clean own h next Q c f
-comes_clean own h (Hear most next) Q c f = absurd f
+comes_clean own h (Hear most next) Q c f = λ piece short. comes_clean own h (next piece) Q c (f piece short)
 comes_clean own h (Recall next) Q c f = comes_clean own h (next h) Q c f
 comes_clean own h (Note j next) Q c f = comes_clean own j next Q c f
 
--- the rules that ask nothing
+-- the rules that ask nothing, and let the input be heard
 abbrev pub anything : Rules
-anything = record { may_ask = λ past step. Unit {0}; may_say = λ past piece. Unit {0}; may_hear = λ past. ⊥; holds = λ past hand. Unit {0} }
+anything = record { may_ask = λ past step. Unit {0}; may_say = λ past piece. Unit {0}; may_hear = λ past. Unit {0}; holds = λ past hand. Unit {0} }
 
 -- what holds of the deeds, by their steps alone
 abbrev pub OfActs : {R : Type 0} → Outcome R → List Deed → Hand → R → Type 0
@@ -147,7 +147,7 @@ comes_keeps past own h (Ask s next) Q e f =
     (tt, tt, tt, λ a row live. comes_keeps (past ++ Did s a ∷ []) (did s a ∷ own) h (next a) Q (on_ a) (f a row live))
 comes_keeps past own h (Try s next) Q e f = absurd f
 comes_keeps past own h (Say piece next) Q e f = (tt, tt, (λ part rest is. tt), comes_keeps (past ++ Said piece ∷ []) own h next Q (acts_append [] past (Said piece ∷ []) ∙ e) f)
-comes_keeps past own h (Hear most next) Q e f = absurd f
+comes_keeps past own h (Hear most next) Q e f = (tt, tt, λ piece short. comes_keeps (past ++ Heard piece ∷ []) own h (next piece) Q (acts_append [] past (Heard piece ∷ []) ∙ e) (f piece short))
 comes_keeps past own h (Recall next) Q e f = comes_keeps past own h (next h) Q e f
 comes_keeps past own h (Note j next) Q e f = (tt, comes_keeps past own j next Q e f)
 

@@ -1,20 +1,20 @@
 use Rattle.std.proofs.Common.{refl}
 use Rattle.file_plans.specs.Plan.{fresh}
-use Rattle.file_plans.proofs.Following.{go_from, stop_from, whole, no_room}
+use Rattle.file_plans.proofs.Following.{beside, go_from, stop_from, whole, no_room}
 use Rattle.command_line.specs.Command.{command}
 use Rattle.command_line.proofs.Plans.{plain_same}
 use Rattle.command_line.proofs.command.run_command.Goals as goal
 
-pub returns-in_err-text : goal.returns-in_err-text
+pub returns-in_err-text-clause-plan : goal.returns-in_err-text-clause-plan
 unfolding command
-returns-in_err-text g c = (fresh, stop_from _ plain_same (whole (c.in_err-text.ensures fresh)) c.from_residual.ensures)
+returns-in_err-text-clause-plan g c = (fresh, stop_from _ plain_same (beside (whole (c.in_err-text.ensures fresh))) c.from_residual.ensures)
 
-pub returns-in_err-profile : goal.returns-in_err-profile
+pub returns-in_err-profile-clause-plan : goal.returns-in_err-profile-clause-plan
 unfolding command
-returns-in_err-profile g c = (fresh, go_from _ _ (whole (c.in_ok-text.ensures fresh)) (no_room _ c.from_residual-in_err-profile.ensures refl))
+returns-in_err-profile-clause-plan g c = (fresh, go_from _ _ (beside (whole (c.in_ok-text.ensures fresh))) (no_room _ c.from_residual-in_err-profile.ensures refl))
 
-pub returns : goal.returns
+pub returns-clause-plan : goal.returns-clause-plan
 unfolding command
-returns g c =
-    let named = c.run_named.ensures in
-    (named.0, go_from _ _ (whole (c.in_ok-text.ensures fresh)) (rw (c.in_ok-profile.ensures, c.as_slice.ensures) at named.1))
+returns-clause-plan g c =
+    let named = c.run_named.ensures.plan in
+    (named.0, go_from _ _ (beside (whole (c.in_ok-text.ensures fresh))) (rw (c.in_ok-profile.ensures, c.as_slice.ensures) at named.1))

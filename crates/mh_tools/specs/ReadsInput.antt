@@ -1,0 +1,17 @@
+-- What a call does with its input.
+use Rattle.std.specs.Prelude.{◌≡◌, ◌⊎◌, ℕ, List, [], Option, Some, None}
+use Rattle.command_line.specs.CommandNames.{LeavesInput, command_of}
+use Rattle.mh_tools.specs.Calls.{Call}
+use Rattle.mh_tools.specs.declared.status.Status.TheVariants.{Done}
+
+-- nothing was taken, or all
+abbrev pub HasTakenAll : Option (List ℕ) → Option (List ℕ) → Type 0
+HasTakenAll None None = Unit {0}
+HasTakenAll (Some old) (Some new) = (new ≡ old) ⊎ (new ≡ [])
+HasTakenAll None (Some new) = ⊥
+HasTakenAll (Some old) None = ⊥
+
+-- No command but `mhbuild` reads the input. At Done it was left as it is, or read to its end.
+pub record ReadsInput (c : Call) : Type 0 where
+  pub others : LeavesInput (command_of c.words) c.before.input c.after.input
+  pub done : c.status ≡ Done → HasTakenAll c.before.input.left c.after.input.left
