@@ -4,7 +4,7 @@
 # command too: scan, inc and so on. PROGRAM is crates/mh/out/mh without one.
 set -eu
 top=$(cd "$(dirname "$0")" && pwd)
-commands="inc scan folder pick mark refile rmm anno sortm mhlist mhstore"
+commands="inc scan folder pick mark refile rmm anno sortm mhlist mhstore mhbuild"
 prefix=${DESTDIR-}${PREFIX-/usr/local}
 links=
 if [ "${1-}" = --links ]; then

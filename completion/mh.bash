@@ -13,6 +13,7 @@ _mh_switches() {
         sortm) echo "-datefield -textfield" ;;
         mhlist) echo "-part" ;;
         mhstore) echo "-part -clobber" ;;
+        mhbuild) echo "" ;;
     esac
 }
 
@@ -43,11 +44,15 @@ _mh() {
     fi
     COMPREPLY=()
     if [ "$COMP_CWORD" -lt "$first" ]; then
-        COMPREPLY=($(compgen -W "inc scan folder pick mark refile rmm anno sortm mhlist mhstore help --help --version" -- "$word"))
+        COMPREPLY=($(compgen -W "inc scan folder pick mark refile rmm anno sortm mhlist mhstore mhbuild help --help --version" -- "$word"))
         return
     fi
     if [ "$command" = help ]; then
-        COMPREPLY=($(compgen -W "inc scan folder pick mark refile rmm anno sortm mhlist mhstore errors" -- "$word"))
+        COMPREPLY=($(compgen -W "inc scan folder pick mark refile rmm anno sortm mhlist mhstore mhbuild errors" -- "$word"))
+        return
+    fi
+    if [ "$command" = mhbuild ]; then
+        COMPREPLY=($(compgen -f -- "$word"))
         return
     fi
     for each in "${COMP_WORDS[@]:first}"; do
@@ -66,7 +71,7 @@ _mh() {
 
 complete -F _mh mh
 # Links to the program by the names of its commands.
-for _mh_name in inc scan folder pick mark refile rmm anno sortm mhlist mhstore; do
+for _mh_name in inc scan folder pick mark refile rmm anno sortm mhlist mhstore mhbuild; do
     if [ -n "$(type -P "$_mh_name")" ] && [ "$(readlink -f "$(type -P "$_mh_name")")" = "$(readlink -f "$(type -P mh)")" ]; then complete -F _mh "$_mh_name"; fi
 done
 unset _mh_name

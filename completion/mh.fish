@@ -24,6 +24,8 @@ function __mh_switches
             echo "-part"
         case mhstore
             echo "-part -clobber"
+        case mhbuild
+            echo ""
     end
 end
 
@@ -49,10 +51,11 @@ end
 function __mh_words
     set -l before (commandline -opc)
     if not set -q before[2]
-        string split ' ' -- "inc scan folder pick mark refile rmm anno sortm mhlist mhstore help --help --version"
+        string split ' ' -- "inc scan folder pick mark refile rmm anno sortm mhlist mhstore mhbuild help --help --version"
     else if test $before[2] = help
-        string split ' ' -- "inc scan folder pick mark refile rmm anno sortm mhlist mhstore errors"
+        string split ' ' -- "inc scan folder pick mark refile rmm anno sortm mhlist mhstore mhbuild errors"
     else
+        test $before[2] = mhbuild; and return
         switch (commandline -ct)
             case '-*'
                 string split ' ' -- (__mh_switches $before[2])
@@ -66,4 +69,4 @@ function __mh_words
 end
 
 complete -c mh -f -a '(__mh_words)'
-complete -c mh -n 'contains -- (commandline -opc)[-1] -file -form' -F
+complete -c mh -n 'contains -- (commandline -opc)[-1] -file -form mhbuild' -F

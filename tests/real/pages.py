@@ -11,7 +11,7 @@ from pathlib import Path
 
 PROGRAM, ROOM = sys.argv[1], Path(sys.argv[2])
 TOP = Path(__file__).resolve().parent.parent.parent
-COMMANDS = ["anno", "folder", "inc", "mark", "mhlist", "mhstore", "pick", "refile", "rmm", "scan", "sortm"]
+COMMANDS = ["anno", "folder", "inc", "mark", "mhbuild", "mhlist", "mhstore", "pick", "refile", "rmm", "scan", "sortm"]
 passed = failed = 0
 
 
@@ -32,7 +32,7 @@ def tables():
     """The switches of each command, by the code of the words that the program reads."""
     below = re.search(r"^command_line: (.*)$", (TOP / "crates.txt").read_text(), re.M).group(1).split()
     files = [it for crate in below for it in (TOP / f"crates/{crate}/src").glob("table*.rt") if crate.endswith("_words")]
-    found = {}
+    found = {"mhbuild": set()}
     for name, body in re.findall(r"fn (\w+)_table\(.*?\n\{(.*?)\n\}", "\n".join(it.read_text() for it in files), re.S):
         found[{"sort": "sortm", "list": "mhlist", "store": "mhstore"}.get(name, name)] = set(re.findall(r'push_switch\(alloc, &mut switches, "(\w+)"', body))
     return found
@@ -132,10 +132,6 @@ def help_pages():
         check(f"{text.split(chr(10))[0]} in 80 columns", text != "" and all(len(it) <= 80 for it in text.split("\n") if str(ROOM) not in it))
 
 
-# lines of commands that aren't there yet
-LATER = {"bad draft at line"}
-
-
 def errors():
     """Each line of errors that a command can end with is on its page."""
     page = re.sub(r"\s+", " ", run("help", "errors").stdout)
@@ -143,7 +139,7 @@ def errors():
     body = code[code.index("fn say_command") : code.index("fn say_place")]
     lines = {re.sub(r" at (byte|word|line) $|: \+?$", "", it) for it in re.findall(r'b"([a-z][^"]*?)"', body)}
     lines = {it for it in lines if it.strip() and "limit" not in it}
-    for line in sorted(lines - LATER - {"bad draft"}):
+    for line in sorted(lines):
         check(f"mh help errors: {line}", line in page)
 
 
@@ -187,6 +183,8 @@ def completions():
     check("commands", completed(home, "mh", "r") == ["refile", "rmm"])
     check("pages of help", completed(home, "mh", "help", "e") == ["errors"] and completed(home, "mh", "help", "f") == ["folder"])
     check("switches", completed(home, "mh", "scan", "-r") == ["-reverse"])
+    (home / "letter").write_text("")
+    check("a draft", completed(home, "mh", "mhbuild", "let") == [])
     check("switches of folder", completed(home, "mh", "folder", "-") == ["-nopack", "-pack"])
     check("switches of a link", completed(home, "scan", "-no") == ["-noreverse"])
     check("folders", completed(home, "mh", "scan", "+w") == ["+work", "+work/later"])

@@ -1,12 +1,14 @@
 -- The plans of commands, and the errors with which they end.
-use Rattle.std.proofs.Common.{◌≡◌, inl, inr, ◌∷◌, [], ℕ, List, Option, None, Some, Result, Ok, Err, refl, sym, ◌∙◌, ap, subst}
+use Rattle.std.proofs.Common.{◌≡◌, ◌≢◌, arith, inl, inr, ◌∷◌, [], ℕ, List, Option, None, Some, Result, Ok, Err, refl, sym, ◌∙◌, ap, subst}
 use Rattle.std.specs.Prelude.{codes, map, length, IsErr, IsErrAnd}
-use Rattle.mh_base.specs.Streams.{SourceState}
+use Rattle.mh_base.specs.Counts.{Rose}
+use Rattle.mh_base.specs.Streams.{SinkState, SourceState}
 use Rattle.mh_profile.specs.declared.named_value.NamedValue.{NamedValue}
 use Rattle.folder_files.specs.Story.{FilesState}
+use Rattle.folder_files.specs.declared.refusal.Which.TheVariants.{Source}
 use Rattle.file_plans.specs.Plan.{Hand, Plan, Recall, Return, Note, lifted}
-use Rattle.file_plans.specs.Follows.{State, Follows, by_hand}
-use Rattle.file_plans.specs.Runs.{Cause, OfPlan}
+use Rattle.file_plans.specs.Follows.{State, Follows, by_hand, by_out}
+use Rattle.file_plans.specs.Runs.{Cause, OfPlan, exit_by}
 use Rattle.file_plans.proofs.Following.{SameCause, recalled, noted, done, refuses, no_room_at, lift_err}
 use Rattle.step_plans.specs.CommandFaults.{command_cause}
 use Rattle.step_plans.specs.Hands.{knowing}
@@ -16,7 +18,8 @@ use Rattle.command_words.specs.Ended.{Ending, plain, ended_cause}
 use Rattle.command_words.specs.Results.{IsNamed, IsSaid}
 use Rattle.command_words.specs.declared.ended.Ended.{Ended}
 use Rattle.command_line.specs.Command.{context_seen, command_by, no_command, word_by}
-use Rattle.command_line.specs.CommandNames.{LeavesInput, command_of, named}
+use Rattle.command_line.specs.CommandNames.{command_of, named}
+use Rattle.command_line.specs.LeavesInput.{IsNotOfInput, LeavesInput}
 use Rattle.command_line.specs.Profile.{value_or}
 use Rattle.command_line.specs.declared.name.CommandName.{CommandName}
 use Rattle.command_line.specs.declared.caller.Caller.{Caller}
@@ -81,5 +84,31 @@ pub word_none : {run : ℕ} (caller : Caller) (profile : List NamedValue) (word 
 word_none caller profile word words value e is same = rw (is, same) (refuses _ refl)
 
 -- the input is left as the command of these words leaves it
-pub input_some : (words rest : List (List ℕ)) (word : List ℕ) (old new : SourceState) → words ≡ word ∷ rest → LeavesInput (named word) old new → LeavesInput (command_of words) old new
-input_some words rest word old new is f = rw is f
+pub input_some : (words rest : List (List ℕ)) (word : List ℕ) (old new : SourceState) (r : Result Unit Ended) → words ≡ word ∷ rest → LeavesInput (named word) old new r → LeavesInput (command_of words) old new r
+input_some words rest word old new r is f = rw is f
+
+-- where no input is had, none fails
+no_rise : Rose 0 0 → ⊥
+no_rise r = omega (arith, r)
+
+pub unsourced : {run : ℕ} {p : Ending Unit} {h i : Hand} {f g : FilesState} {o u : SinkState} {r : Result Unit Ended} → Follows run ended_cause p (by_out h f o) (by_out i g u) r → IsNotOfInput r
+unsourced {r = Ok tt} w = tt
+unsourced {r = Err x} w = λ e. no_rise (w.went.in_cause (ap (λ k. exit_by {T = Unit {0}} x (command_cause k)) e))
+
+pub hand_unsourced : {run : ℕ} {p : Ending Unit} {h i : Hand} {f g : FilesState} {r : Result Unit Ended} → Follows run ended_cause p (by_hand h f) (by_hand i g) r → IsNotOfInput r
+hand_unsourced {r = Ok tt} w = tt
+hand_unsourced {r = Err x} w = λ e. no_rise (w.went.in_cause (ap (λ k. exit_by {T = Unit {0}} x (command_cause k)) e))
+
+-- want of memory is not of the input
+pub memory_unsourced : (r : Result Unit Ended) (e : Ended) → IsErr r × IsErrAnd r (λ f. f ≡ e) → e.fault ≡ fault.Memory → IsNotOfInput r
+memory_unsourced (Ok u) e is memory = tt
+memory_unsourced (Err f) e is memory = λ of. let both = sym (ap (λ z. z.fault) is.1 ∙ memory) ∙ of in cc (both)
+
+-- nor is a word that names no command
+pub none_unsourced : (x : Ended) (word : Option (List ℕ)) → x ≡ no_command word → x.fault ≢ fault.Faulted Source
+none_unsourced x word is of = let both = sym (ap (λ z. z.fault) is) ∙ of in cc (both)
+
+-- nor what ended the reading of a text
+pub text_unsourced : {A : Type 0} {run : ℕ} {p : Plan (Result A CommandFault)} {h i : Hand} {f g : FilesState} {e : CommandFault} (r : Result Unit Ended) → Follows run command_cause p (by_hand h f) (by_hand i g) (Err e) → IsErr r × IsErrAnd r (λ z. z ≡ plain e) → IsNotOfInput r
+text_unsourced (Ok u) w is = tt
+text_unsourced {A = A} {e = e} (Err x) w is = λ of. no_rise (w.went.in_cause (ap (λ k. exit_by {T = A} e (command_cause k)) (sym (ap (λ z. z.fault) is.1) ∙ of)))

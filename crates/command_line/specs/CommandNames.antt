@@ -1,6 +1,5 @@
 -- The commands that there are, by name.
-use Rattle.std.specs.Prelude.{◌≡◌, ◌≢◌, ℕ, Bool, true, false, List, [], ◌∷◌, Option, None, Some, bytes_eq, codes, if◌then◌else◌}
-use Rattle.mh_base.specs.Streams.{SourceState}
+use Rattle.std.specs.Prelude.{ℕ, Bool, true, false, List, [], ◌∷◌, Option, None, Some, bytes_eq, codes, if◌then◌else◌}
 use Rattle.command_line.specs.declared.name.CommandName.{CommandName}
 use Rattle.command_line.specs.declared.name.CommandName.TheVariants.{Anno, Folder as FolderCommand, Inc, Mark, Mhbuild, Mhlist, Mhstore, Pick, Refile, Rmm, Scan, Sortm}
 
@@ -89,7 +88,3 @@ shows_ends (Some Sortm) = true
 shows_ends (Some Mhlist) = true
 shows_ends (Some Mhstore) = true
 shows_ends (Some Mhbuild) = false
-
--- no command but `mhbuild` reads the input
-abbrev pub LeavesInput : Option CommandName → SourceState → SourceState → Type 0
-LeavesInput name old new = name ≢ Some Mhbuild → new ≡ old

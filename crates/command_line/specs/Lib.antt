@@ -7,6 +7,7 @@ pub mod CommandMarks
 pub mod CommandNames
 pub mod CommandPledge
 pub mod Incorporating
+pub mod LeavesInput
 pub mod Looking
 pub mod Outcomes
 pub mod Profile

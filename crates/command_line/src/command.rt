@@ -7,7 +7,8 @@ ghost use Rattle.step_plans.specs.CommandFaults.{command_cause};
 ghost use Rattle.command_stages.specs.Texts.{text_read};
 ghost use Rattle.command_words.specs.Ended.{ended_cause};
 ghost use Rattle.command_line.specs.Command.{command as command_plan, command_by, no_command as no_command_of, word_by};
-ghost use Rattle.command_line.specs.CommandNames.{LeavesInput, command_of, named};
+ghost use Rattle.command_line.specs.CommandNames.{command_of, named};
+ghost use Rattle.command_line.specs.LeavesInput.{LeavesInput};
 ghost use Rattle.command_line.specs.Profile.{profile_name as profile_name_of};
 
 use crate::Caller;
@@ -64,7 +65,7 @@ fn run_word<F: Files, I: Source, O: Sink>(
     rest: &[String],
 ) -> Result<(), Ended>
     ensures plan { (left : Kept) × Follows run ended_cause (word_by run caller.now profile.now word.now (map string_bytes rest.now) (named word.now)) (all fresh (F.state files.old) (I.state input.old) (O.state out.old)) (all left (F.state files.new) (I.state input.new) (O.state out.new)) result }
-    ensures input { LeavesInput (named word.now) (I.state input.old) (I.state input.new) }
+    ensures input { LeavesInput (named word.now) (I.state input.old) (I.state input.new) result }
 {
     match CommandName::read(word) {
         Some(CommandName::Inc) => run_inc(alloc, run, files, out, profile, caller, rest),
@@ -100,7 +101,7 @@ fn run_named<F: Files, I: Source, O: Sink>(
     words: &[String],
 ) -> Result<(), Ended>
     ensures plan { (left : Kept) × Follows run ended_cause (command_by run caller.now profile.now (map string_bytes words.now)) (all fresh (F.state files.old) (I.state input.old) (O.state out.old)) (all left (F.state files.new) (I.state input.new) (O.state out.new)) result }
-    ensures input { LeavesInput (command_of (map string_bytes words.now)) (I.state input.old) (I.state input.new) }
+    ensures input { LeavesInput (command_of (map string_bytes words.now)) (I.state input.old) (I.state input.new) result }
 {
     match words.split_first() {
         None => Err(no_command(None)),
@@ -136,7 +137,7 @@ pub fn run_command<F: Files, I: Source, O: Sink>(
     out: &mut O,
 ) -> Result<(), Ended>
     ensures plan { (left : Kept) × Follows run ended_cause (command_plan run caller.now (map string_bytes words.now)) (all fresh (F.state files.old) (I.state input.old) (O.state out.old)) (all left (F.state files.new) (I.state input.new) (O.state out.new)) result }
-    ensures input { LeavesInput (command_of (map string_bytes words.now)) (I.state input.old) (I.state input.new) }
+    ensures input { LeavesInput (command_of (map string_bytes words.now)) (I.state input.old) (I.state input.new) result }
 {
     let text = read_profile(alloc, run, files)?;
     let profile = Entries::read(alloc, text.as_slice())?;

@@ -1,6 +1,7 @@
 // One call of `mh`. What calls it is generic over its files, so that its contract is looked at once.
 use folder_files::{Files, Refusal};
-use mh_base::{Bytes, MemSink, NumberList, PlainSink, PlainSource, Text};
+use memory_inputs::MemSource;
+use mh_base::{Bytes, MemSink, NumberList, PlainSink, Text};
 use mh_tools::{Setting, Status, mh};
 use row_text::{show_quoted, signed, text, word};
 use std::alloc::Global;
@@ -74,33 +75,54 @@ fn show_called(
     show_written(told, b"err ", err)
 }
 
+/// What a call hears, and which of its streams' pieces fail.
+#[derive(Drop)]
+pub(crate) struct Streams {
+    pub(crate) input: Bytes,
+    /// The readings of the input that fail, counted from 1.
+    pub(crate) unheard: NumberList,
+    /// The pieces of the output that fail, counted from 1.
+    pub(crate) unsaid: NumberList,
+}
+
+impl Streams {
+    /// An empty input, and nothing fails.
+    pub(crate) fn new(alloc: Global) -> Streams {
+        Streams {
+            input: Bytes::new(alloc),
+            unheard: NumberList::new(alloc),
+            unsaid: NumberList::new(alloc),
+        }
+    }
+}
+
 fn call_by<F: Files>(
     alloc: Global,
     files: &mut F,
     words: &Vec<String>,
     setting: &Setting,
-    failing: NumberList,
+    streams: Streams,
     told: &mut Bytes,
 ) -> Result<(), Fail> {
-    let mut input = PlainSource::new(Bytes::new(alloc));
-    let mut out = MemSink::new(alloc, failing);
+    let mut input = MemSource::new(streams.input, streams.unheard);
+    let mut out = MemSink::new(alloc, streams.unsaid);
     let mut err = PlainSink::new(alloc);
     let status = mh(alloc, words, setting, files, &mut input, &mut out, &mut err);
     show_called(alloc, told, end_of(&status), out.bytes(), err.bytes())
 }
 
-/// Calls it with these words, by this run, while these pieces of its output fail; and tells how it ended and what it wrote.
+/// Calls it with these words and streams, by this run; and tells how it ended and what it wrote.
 pub(crate) fn call<F: Files>(
     alloc: Global,
     files: &mut F,
     run: u128,
     words: &[Bytes],
-    failing: NumberList,
+    streams: Streams,
     told: &mut Bytes,
 ) -> Result<(), Fail> {
     let strings = strings(alloc, words)?;
     let setting = setting(alloc, run)?;
-    call_by(alloc, files, &strings, &setting, failing, told)
+    call_by(alloc, files, &strings, &setting, streams, told)
 }
 
 fn offset(word: &[u8]) -> Result<i32, Fail> {

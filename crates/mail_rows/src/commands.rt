@@ -1,8 +1,8 @@
 // Commands over a mailbox in memory.
-use crate::calls::call;
+use crate::calls::{Streams, call};
 use folder_files::Step;
 use folder_room::PromptList;
-use mh_base::{Bytes, NumberList};
+use mh_base::Bytes;
 use row_mailboxes::Given;
 use row_rooms::{Scene, steps_of};
 use row_text::{from, number, word, words};
@@ -17,22 +17,26 @@ pub(crate) const OTHER: u128 = 99;
 pub(crate) struct Commands {
     alloc: Global,
     scene: Scene,
-    /// Which pieces of the next command's output fail.
-    failing: NumberList,
+    /// What the next command hears, and which pieces of its streams fail.
+    streams: Streams,
 }
 
 /// What a line asks.
 #[derive(Clone, Copy)]
 enum Asked {
     Command,
-    Failing,
+    Input,
+    Unheard,
+    Unsaid,
     Look,
 }
 
 fn asked_by(word: &[u8]) -> Asked {
     match word {
         b"$" | b">" => Asked::Command,
-        b"out" => Asked::Failing,
+        b"in" => Asked::Input,
+        b"in-fails" => Asked::Unheard,
+        b"out" => Asked::Unsaid,
         _ => Asked::Look,
     }
 }
@@ -40,11 +44,11 @@ fn asked_by(word: &[u8]) -> Asked {
 impl Commands {
     pub(crate) fn new(alloc: Global, given: &Given, prompts: PromptList) -> Result<Commands, Fail> {
         let scene = Scene::new(alloc, given, prompts)?;
-        let failing = NumberList::new(alloc);
+        let streams = Streams::new(alloc);
         Ok(Commands {
             alloc,
             scene,
-            failing,
+            streams,
         })
     }
 
@@ -54,9 +58,9 @@ impl Commands {
     }
 
     fn call(&mut self, words: &[Bytes], told: &mut Bytes) -> Result<(), Fail> {
-        let failing = std::mem::replace(&mut self.failing, NumberList::new(self.alloc));
+        let streams = std::mem::replace(&mut self.streams, Streams::new(self.alloc));
         let run = self.scene.run;
-        call(self.alloc, &mut *self.scene.room, run, words, failing, told)?;
+        call(self.alloc, &mut *self.scene.room, run, words, streams, told)?;
         Ok(self.scene.room.end(run)?)
     }
 
@@ -65,17 +69,30 @@ impl Commands {
         self.call(from(words, 1), told)
     }
 
-    fn fail_at(&mut self, words: &[Bytes]) -> Result<(), Fail> {
-        Ok(self.failing.push(number(word(words, 1)?)?)?)
+    fn hear(&mut self, words: &[Bytes]) -> Result<(), Fail> {
+        for word in from(words, 1) {
+            self.streams.input.extend(word.as_slice())?;
+        }
+        Ok(())
     }
 
-    /// `$` or `>` and a command's words, which it runs; `out` and the number of a piece of its output that is to fail; or a line that looks at
-    /// the mailbox, or makes a step there.
+    fn hear_not(&mut self, words: &[Bytes]) -> Result<(), Fail> {
+        Ok(self.streams.unheard.push(number(word(words, 1)?)?)?)
+    }
+
+    fn say_not(&mut self, words: &[Bytes]) -> Result<(), Fail> {
+        Ok(self.streams.unsaid.push(number(word(words, 1)?)?)?)
+    }
+
+    /// `$` or `>` and a command's words, which it runs; `in` and what its input has, `in-fails` and the number of a reading of it that is to fail,
+    /// `out` and that of a piece of its output; or a line that looks at the mailbox, or makes a step there.
     pub(crate) fn line(&mut self, line: &[u8], told: &mut Bytes) -> Result<(), Fail> {
         let words = words(self.alloc, line)?;
         match asked_by(word(&words, 0)?) {
             Asked::Command => self.command(&words, told),
-            Asked::Failing => self.fail_at(&words),
+            Asked::Input => self.hear(&words),
+            Asked::Unheard => self.hear_not(&words),
+            Asked::Unsaid => self.say_not(&words),
             Asked::Look => self.scene.line(&words, told),
         }
     }

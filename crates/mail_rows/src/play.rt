@@ -40,7 +40,7 @@ enum Kind {
 fn going_on(word: &[u8]) -> Kind {
     match word {
         b"$" | b"run" => Kind::Acts,
-        b"show" | b"drop" | b"lock" | b"count" | b"out" => Kind::Looks,
+        b"show" | b"drop" | b"lock" | b"count" | b"in" | b"in-fails" | b"out" => Kind::Looks,
         _ => Kind::Gives,
     }
 }

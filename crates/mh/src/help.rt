@@ -5,6 +5,7 @@ mod errors;
 mod folder;
 mod inc;
 mod mark;
+mod mhbuild;
 mod mhlist;
 mod mhstore;
 mod overview;
@@ -36,6 +37,7 @@ fn command_page(word: &str) -> Option<&'static str> {
         "folder" => Some(folder::PAGE),
         "inc" => Some(inc::PAGE),
         "mark" => Some(mark::PAGE),
+        "mhbuild" => Some(mhbuild::PAGE),
         "mhlist" => Some(mhlist::PAGE),
         "mhstore" => Some(mhstore::PAGE),
         "pick" => Some(pick::PAGE),

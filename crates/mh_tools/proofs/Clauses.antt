@@ -1,7 +1,7 @@
 -- The promises of the top call, from the plan that it followed.
 use Rattle.std.specs.String.{string_bytes}
 use Rattle.std.proofs.lemmas.Str.{IsUtf8-string_bytes}
-use Rattle.std.proofs.Common.{◌≡◌, ◌≢◌, ◌⊎◌, inl, inr, ◌++◌, ◌<◌, ◌^◌, ℕ, ◌+◌, Bool, true, false, List, [], ◌∷◌, arith, Option, Some, None, Result, Ok, Err, length, refl, sym, ◌∙◌, ap, subst, append-nil, String, map}
+use Rattle.std.proofs.Common.{◌≡◌, ◌≢◌, ◌⊎◌, inl, inr, ◌++◌, ◌<◌, ◌^◌, ℕ, ◌+◌, Bool, true, false, List, [], ◌∷◌, Option, Some, None, Result, Ok, Err, length, refl, sym, ◌∙◌, ap, subst, append-nil, String, map}
 use Rattle.mh_base.specs.Counts.{Rose}
 use Rattle.mh_base.specs.Streams.{Adds, AddsPart}
 use Rattle.folder_files.specs.Deeds as deeds
@@ -45,7 +45,8 @@ use Rattle.command_line.specs.BegunCauses.{ShowsFault, ShowsOnFolder}
 use Rattle.command_line.specs.BuildCauses.{ShowsBuilt}
 use Rattle.command_line.specs.Command.{command}
 use Rattle.command_words.specs.Ended.{ended_cause}
-use Rattle.command_line.specs.CommandNames.{LeavesInput, begins_folders, command_of, makes_folders, stores_files}
+use Rattle.command_line.specs.LeavesInput.{IsNotOfInput, LeavesInput}
+use Rattle.command_line.specs.CommandNames.{begins_folders, command_of, makes_folders, stores_files}
 use Rattle.command_line.specs.Outcomes.{work_of}
 use Rattle.command_line.specs.declared.name.CommandName.{CommandName}
 use Rattle.command_line.specs.declared.name.CommandName.TheVariants.{Anno, Folder as FolderCommand, Inc, Mark, Mhbuild, Mhlist, Mhstore, Pick, Refile, Rmm, Scan, Sortm}
@@ -175,8 +176,10 @@ is_build (Some Mhbuild) = inl refl
 looks_not : (name : Option CommandName) → begins_folders name ≡ false → name ≢ Some Mhbuild
 looks_not name looks is = let both : false ≡ true = sym looks ∙ ap begins_folders is in cc (both)
 
-no_rise : (n : ℕ) → Rose n n → ⊥
-no_rise n r = omega (arith, r)
+-- an end by no fault of the input
+not_source : (r : Result Unit Ended) → IsNotOfInput r → ended_status r ≡ Faulted Source → ⊥
+not_source (Ok tt) f e = cc (e)
+not_source (Err x) f e = f (fault_faulted x.fault Source e)
 
 -- a call that wants memory
 memory_status : (r : Result Unit Ended) → exit_of ended_cause r ≡ NoRoom → ended_status r ≡ NoMemory
@@ -208,7 +211,7 @@ pub string_texts : {Z : Type 0} (words : List (String Z)) → AreUtf8 (map strin
 string_texts [] = tt
 string_texts (w ∷ words) = (IsUtf8-string_bytes w, string_texts words)
 
-module _ (c : Call) (plan : FollowsItsPlan c) (unread : LeavesInput (command_of c.words) c.before.input c.after.input) where
+module _ (c : Call) (plan : FollowsItsPlan c) (unread : LeavesInput (command_of c.words) c.before.input c.after.input plan.outcome) where
   abbrev run : ℕ
   run = c.setting.run
 
@@ -285,7 +288,7 @@ module _ (c : Call) (plan : FollowsItsPlan c) (unread : LeavesInput (command_of 
     where
       go : (command_of c.words ≡ Some Mhbuild) ⊎ (command_of c.words ≢ Some Mhbuild) → Heeded
       go (inl builds) = heeds_by (command_heeds run (caller_of c.setting) c.words builds fresh plan.left exit (deeds_in went.log) went.runs)
-      go (inr other) = whatever (unheard_runs other) (subst (λ z. IsLeft c.before.input.left z.left) (sym (unread other)) (same_left c.before.input.left))
+      go (inr other) = whatever (unheard_runs other) (subst (λ z. IsLeft c.before.input.left z.left) (sym (unread other).0) (same_left c.before.input.left))
 
   -- the status, where the call did not want memory for its line
   settle : (x : Status) → c.status ≡ x → (NoMemory ≡ x → ⊥) → ended_status outcome ≡ x
@@ -411,7 +414,7 @@ module _ (c : Call) (plan : FollowsItsPlan c) (unread : LeavesInput (command_of 
 
       go : (command_of c.words ≡ Some Mhbuild) ⊎ (command_of c.words ≢ Some Mhbuild) → Builds c × Rose c.before.input.faults c.after.input.faults
       go (inl builds) = (builds, rose)
-      go (inr other) = absurd (no_rise c.before.input.faults (subst (λ z. Rose c.before.input.faults z.faults) (unread other) rose))
+      go (inr other) = absurd (not_source outcome (unread other).1 e)
 
   files_at : ended_status outcome ≡ Faulted Files → Rose c.before.files.faults c.after.files.faults × Made IsFailed steps
   files_at e =
@@ -726,8 +729,8 @@ module _ (c : Call) (plan : FollowsItsPlan c) (unread : LeavesInput (command_of 
           stops (Ok tt) same q = undone (sym q)
           stops (Err x) same q = vain_never (Err x) (ap (exit_of ended_cause) same ∙ (exit_fault x k (only x.fault q) ∙ ap (exit_by {T = Unit {0}} x) cause)) e
       never (whatever f left) k s at undone only cause refutes =
-          never_given (Whole []) (deeds_in went.log) (f (Whole [])) refl refl outcome k s refl at undone only cause (λ rest x. refutes (work (Whole []) (mailbox_in d)) _ rest x)
-      never (this heard rest has runs did said_ stops) k s at undone only cause refutes = never_given heard rest runs did said_ outcome k s refl at undone only cause (λ more x. refutes (work heard (mailbox_in d)) _ more x)
+          never_given (Whole []) (deeds_in went.log) (f (Whole [])) refl refl outcome k s refl at undone only cause (λ rest x. refutes (work (Whole []) (mailbox_in d)) (fitted (Whole []) (deeds_in went.log) (f (Whole [])) refl refl).0 rest x)
+      never (this heard rest has runs did said_ stops) k s at undone only cause refutes = never_given heard rest runs did said_ outcome k s refl at undone only cause (λ more x. refutes (work heard (mailbox_in d)) (fitted heard rest runs did said_).0 more x)
 
     by_heard : {P Q : Heard → Type 0} → ((heard : Heard) → P heard → Q heard) → ByHeard c P → ByHeard c Q
     by_heard f (inl p) = inl (p.0, p.1, f p.0 p.2)
@@ -747,7 +750,7 @@ module _ (c : Call) (plan : FollowsItsPlan c) (unread : LeavesInput (command_of 
 
     -- what becomes of the input
     pub reads_input : ReadsInput c
-    reads_input = record { others = unread; done = λ q. at_done heeded (is_done outcome (settle Done q (λ e. cc (e)))) }
+    reads_input = record { others = λ other. (unread other).0; done = λ q. at_done heeded (is_done outcome (settle Done q (λ e. cc (e)))) }
       where
         all_taken : (l r : Option (List ℕ)) (text : List ℕ) → HasHeard l r (Whole text) → HasTakenAll l r
         all_taken None None text h = tt

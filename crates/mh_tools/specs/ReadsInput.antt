@@ -1,7 +1,6 @@
 -- What a call does with its input.
 use Rattle.std.specs.Prelude.{◌≡◌, ◌⊎◌, ℕ, List, [], Option, Some, None}
-use Rattle.command_line.specs.CommandNames.{LeavesInput, command_of}
-use Rattle.mh_tools.specs.Calls.{Call}
+use Rattle.mh_tools.specs.Calls.{Builds, Call}
 use Rattle.mh_tools.specs.declared.status.Status.TheVariants.{Done}
 
 -- nothing was taken, or all
@@ -13,5 +12,5 @@ HasTakenAll (Some old) None = ⊥
 
 -- No command but `mhbuild` reads the input. At Done it was left as it is, or read to its end.
 pub record ReadsInput (c : Call) : Type 0 where
-  pub others : LeavesInput (command_of c.words) c.before.input c.after.input
+  pub others : (Builds c → ⊥) → c.after.input ≡ c.before.input
   pub done : c.status ≡ Done → HasTakenAll c.before.input.left c.after.input.left

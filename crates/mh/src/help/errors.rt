@@ -30,12 +30,14 @@ its status tells how it ended:
    not a mail drop                    its first line is no `From ` line
    same folder                        messages are in this folder
    folder is full                     it has no number left up to 999999
+   bad draft at line N                mh help mhbuild; counted from 1
    too large                          a message or text is above its limit
    mail drop has grown                new mail came meanwhile; nothing is lost:
                                       the drop was not emptied, so mh inc will
                                       take its messages in once more
    mail drop has changed              another program took mail out of it
-   no such file                       of a name that was given, as to -form
+   no such file                       of a name that was given, as to -form or in
+                                      a draft
    no such part                       mh mhlist shows which there are
    file exists                        -clobber always replaces it
 

@@ -17,6 +17,7 @@ folder a directory below the mail directory.
   sortm    puts messages in order
   mhlist   lists the parts of messages
   mhstore  stores parts of messages in files
+  mhbuild  makes a message of a draft
 
 A folder is written with a plus sign: +inbox. Messages are numbers, ranges and
 names: 3, 5-9, first, last, cur, prev, next, all, last:10, and sequences. A
