@@ -79,9 +79,7 @@ fn run_word<F: Files, I: Source, O: Sink>(
         Some(CommandName::Sortm) => run_sortm(alloc, run, files, profile, rest),
         Some(CommandName::Mhlist) => run_mhlist(alloc, run, files, out, profile, rest),
         Some(CommandName::Mhstore) => run_mhstore(alloc, run, files, out, profile, rest),
-        Some(CommandName::Mhbuild) => {
-            run_mhbuild(alloc, run, files, input, out, profile, rest)
-        }
+        Some(CommandName::Mhbuild) => { run_mhbuild(alloc, run, files, input, out, profile, rest) }
         None => {
             let word = Bytes::from_slice(alloc, word.as_bytes())?;
             Err(no_command(Some(word)))
