@@ -28,7 +28,7 @@ PIECES = {
                 b"x" * 300],
     "profile": [b"Path: ", b"Mail", b"MailDrop: drop", b"Inbox: ", b"Unseen-Sequence: ", b"Sequence-Negation: not", b"scan: -width 20",
                 b"inc: -silent", b"mark: -list", b"rmm: 1", b"refile: +a",
-                b"pick: -subject x", b"folder: 1", b"folder: -pack", b"mhlist: -part 1", b"mhstore: -clobber always", b"anno: -component x", b"-format %(msg)", b":", b"\n", b"\n ", b" ", b"\0", b"\xff", b"cur", b"all", b"x" * 300],
+                b"pick: -subject x", b"folder: 1", b"folder: -pack", b"mhlist: -part 1", b"mhstore: -clobber always", b"mhbuild: letter", b"anno: -component x", b"-format %(msg)", b":", b"\n", b"\n ", b" ", b"\0", b"\xff", b"cur", b"all", b"x" * 300],
     "format": [b"%(", b"%{", b"%<", b"%?", b"%|", b"%>", b"%;", b"%%", b"\\", b"\\n", b"}", b")", b"(", b"{", b" ", b"%4(msg)",
                b"%{subject}", b"%<{from}x%|y%>", b"%020(size)", b"%-9(msg)",
                b"%99999999999(msg)", b"9223372036854775807", b"-9223372036854775808", b"%(divide 0)", b"%(modulo 0)",
@@ -38,6 +38,10 @@ PIECES = {
     "pattern": [b"[", b"]", b"[^", b"^", b"$", b"*", b".", b"\\", b"a-z", b"[z-a]", b"[]", b"[a", b"\\\\", b"message", b"M", b"**", b".*",
                 b"^^", b"$$", b"\xff", b"a" * 130, b"today", b"yesterday",
                 b"-3", b"2026-06-02", b"31 may 2026", b"friday", b"99", b" ", b"+0000", b"10:00"],
+    "draft": [b"#begin\n", b"#begin digest\n", b"#begin x\n", b"#end\n", b"#forw\n", b"#forw +a 1\n", b"#forw all\n", b"#forw +none\n", b"#text/plain drop\n",
+              b"#image/png; a=\"b c\" (d) <e@f> [g] {h} drop\n", b"#text/plain none\n", b"##x\n", b"#", b"# x\n", b"#off\n", b"MIME-Version: 1.0\n",
+              b"Content-Type: text/plain\n", b"Subject: t\n", b" more\n", b"\n", b"\n\n", b"\r\n", b"\0", b"\xff", b"\xc3\xa9", b"--mh-", b"--", b"From ",
+              b";", b"=", b"\"", b"\\", b"<", b">", b"[", b"]", b"{", b"}", b"(", b")", b"/", b" \t", b"a" * 1200],
     "word": [b"1", b"3", b"0", b"007", b"999999", b"1000000", b"first", b"last", b"cur", b"prev", b"next", b"all", b"-", b":", b"+",
              b"todo", b"nottodo", b":first", b":next", b"1-3", b"3-1", b":-2",
              b":+999999", b"x" * 300, b"+inbox", b"+a", b"+a.b", b"+..", b"@a", b"", b"99999999999999999999", b"--", b"-sequence",
@@ -180,10 +184,19 @@ def hostile_pattern(rng):
     return case
 
 
+def hostile_draft(rng):
+    """A draft."""
+    case = Case(rng)
+    good = b"To: ann@a.example\nSubject: t\n\nhello\n#begin alternative\n#text/plain [all of it] drop\n#forw 1-2\n#end\nbye\n"
+    case.files["letter"] = mutated(rng, good, "draft")
+    case.words = ["mhbuild", "letter"]
+    return case
+
+
 def hostile_words(rng):
     """Words that name messages, folders and switches."""
     case = Case(rng)
-    case.words = [rng.choice(["scan", "mark", "pick", "rmm", "refile", "inc", "folder", "anno", "sortm", "mhlist", "mhstore"])]
+    case.words = [rng.choice(["scan", "mark", "pick", "rmm", "refile", "inc", "folder", "anno", "sortm", "mhlist", "mhstore", "mhbuild"])]
     for _ in range(rng.choice([1, 1, 1, 2, 3, 5])):
         case.words.append(word(rng, "word", rng.choice([b"1-3", b"last:2", b"todo:next", b"+inbox", b"cur"])))
     case.words = ["drop" if before == "-file" else it for before, it in zip([""] + case.words, case.words)]
@@ -208,7 +221,7 @@ def hostile_names(rng):
 
 KINDS = {"drop": hostile_drop, "message": hostile_message, "sequences": hostile_sequences, "context": hostile_context,
          "profile": hostile_profile, "format": hostile_format,
-         "pattern": hostile_pattern, "words": hostile_words, "names": hostile_names}
+         "pattern": hostile_pattern, "draft": hostile_draft, "words": hostile_words, "names": hostile_names}
 
 
 def standing(home):
@@ -260,6 +273,13 @@ def drop_taken(case, box, ran):
     return []
 
 
+def draft_kept(case, box, ran):
+    """The draft stands under its name, or under that of its original where its message has its name."""
+    name = f"{box.home}/,letter.orig" if ran.returncode == 0 else f"{box.home}/letter"
+    with open(name, "rb") as f:
+        return [] if f.read() == case.files["letter"] else ["the draft is not kept"]
+
+
 def tried(program, room, kind, seed, count, statuses):
     """One hostile input, by its seed."""
     rng = random.Random(seed)
@@ -272,6 +292,7 @@ def tried(program, room, kind, seed, count, statuses):
         statuses[kind, ran.returncode] += 1
         bad += ended_well(kind, ran)
         bad += drop_taken(case, box, ran) if case.exact_drop else []
+        bad += draft_kept(case, box, ran) if kind == "draft" else []
         if not removes(kind, case.words):
             after = standing(box.home)
             bad += [f"a message of {len(text)} bytes is lost" for text in before if not stands(text, after)]

@@ -36,8 +36,8 @@ its status tells how it ended:
                                       the drop was not emptied, so mh inc will
                                       take its messages in once more
    mail drop has changed              another program took mail out of it
-   no such file                       of a name that was given, as to -form or in
-                                      a draft
+   no such file                       of a name that was given, as to -form or
+                                      in a draft
    no such part                       mh mhlist shows which there are
    file exists                        -clobber always replaces it
 
