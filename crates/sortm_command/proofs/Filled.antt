@@ -1,5 +1,5 @@
 -- Dates that are filled in have one form.
-use Rattle.std.proofs.Common.{◌≡◌, ◌<◌, ◌+◌, ℕ, suc, List, [], ◌∷◌, length, take, get_or, refl, sym, ap, ◌∙◌, arith}
+use Rattle.std.proofs.Common.{◌≡◌, ◌<◌, ◌+◌, ℕ, suc, List, [], ◌∷◌, length, take, get_or, refl, ap, ◌∙◌, arith}
 use Rattle.std.specs.Prelude.{ℤ, Option, None, Some}
 use Rattle.message_order.specs.Dates.{AreFilled, last_date, later}
 use Rattle.sortm_command.specs.Ordered.{filled_behind}

@@ -2,6 +2,7 @@ pub mod ArrangedDone
 pub mod ArrangedEnds
 pub mod BegunKnown
 pub mod Cleared
+pub mod CommitsShown
 pub mod Filled
 pub mod HandSame
 pub mod HeldNone
@@ -9,6 +10,7 @@ pub mod Keyed
 pub mod Listed
 pub mod MarksKnown
 pub mod MovesMade
+pub mod MovesMind
 pub mod Numbered
 pub mod OrderGiven
 pub mod OrderMoves

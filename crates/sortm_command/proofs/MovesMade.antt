@@ -1,5 +1,5 @@
 -- Moves, and what they come to, one after another.
-use Rattle.std.proofs.Common.{◌≡◌, ◌≢◌, ◌<◌, ◌≤◌, ◌+◌, ◌==◌, ℕ, Bool, true, false, List, [], ◌∷◌, ◌++◌, length, drop, get_or, map, min, refl, sym, ap, ◌∙◌, arith, add-one, append_assoc, append-nil, drop-cons, ⊎_elim}
+use Rattle.std.proofs.Common.{◌≡◌, ◌≢◌, ◌<◌, ◌≤◌, ◌+◌, ◌==◌, ℕ, Bool, true, false, List, [], ◌∷◌, ◌++◌, length, drop, get_or, min, refl, sym, ap, ◌∙◌, arith, add-one, append_assoc, append-nil, drop-cons, ⊎_elim}
 use Rattle.std.specs.Prelude.{if◌then◌else◌}
 use Rattle.std.proofs.lemmas.Bool.{cases_lt}
 use Rattle.std.proofs.lemmas.Bool.Decides.{nat_tests}
@@ -8,7 +8,6 @@ use Rattle.folder_files.specs.declared.place.Place.{Place}
 use Rattle.message_places.specs.Order.{moves_of}
 use Rattle.message_places.specs.declared.moves.Move.{Move}
 use Rattle.opened_folders.specs.Opening.{Opened}
-use Rattle.step_plans.specs.PlanFaults.{Planned}
 use Rattle.file_plans.specs.Plan.{Return}
 use Rattle.std.specs.Prelude.{Ok}
 use Rattle.sortm_command.specs.Sort.{marked_moved, moved_if}

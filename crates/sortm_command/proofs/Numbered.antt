@@ -1,5 +1,5 @@
 -- Numbers that are put into a pile, one after another.
-use Rattle.std.proofs.Common.{◌≡◌, ◌∷◌, ◌+◌, ◌<◌, ◌≤◌, ◌||◌, ◌&&◌, ◌==◌, ℕ, Bool, true, false, List, [], refl, sym, ◌∙◌, ap, arith, drop, get_or, length, add-one, drop-cons}
+use Rattle.std.proofs.Common.{◌≡◌, ◌∷◌, ◌+◌, ◌<◌, ◌≤◌, ◌||◌, ◌&&◌, ◌==◌, ℕ, Bool, true, false, List, refl, sym, ◌∙◌, ap, arith, drop, get_or, length, add-one, drop-cons}
 use Rattle.std.specs.List.{list_any}
 use Rattle.std.specs.Prelude.{nat_le}
 use Rattle.std.proofs.lemmas.Bool.Decides.{nat_tests}

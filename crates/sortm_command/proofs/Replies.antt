@@ -1,6 +1,5 @@
 -- What stands behind the marks of replies.
-use Rattle.std.proofs.Common.{◌≡◌, ◌≤◌, ◌-◌, ℕ, zero, suc, true, false, List, [], ◌∷◌, length, drop, refl, ◌∙◌, ap, subst, arith, length-drop}
-use Rattle.std.specs.Prelude.{if◌then◌else◌}
+use Rattle.std.proofs.Common.{◌≡◌, ◌≤◌, ℕ, zero, suc, true, List, [], ◌∷◌, length, drop, refl, ◌∙◌, arith, length-drop}
 use Rattle.std.specs.List.{prefix_len}
 use Rattle.message_order.specs.Texts.{IsBehindReplies, begins_reply, behind_mark, is_blank}
 use Rattle.message_order.specs.Texts.IsBehindReplies.{none, one}

@@ -1,4 +1,4 @@
-use Rattle.std.proofs.Common.{refl, sym, ◌∙◌}
+use Rattle.std.proofs.Common.{sym, ◌∙◌}
 use Rattle.file_plans.proofs.Following.{done, same_plan}
 use Rattle.step_plans.specs.Hands.{mail_place}
 use Rattle.sortm_command.proofs.MovesMade.{by_moves, by_none}

@@ -1,4 +1,4 @@
-use Rattle.std.proofs.Common.{[], ℕ, List, Result, drop}
+use Rattle.std.proofs.Common.{[], List, Result, drop}
 use Rattle.std.specs.Prelude.{ℤ, Option}
 use Rattle.file_plans.specs.Plan.{Hand}
 use Rattle.file_plans.specs.Follows.{State, Follows, by_hand}

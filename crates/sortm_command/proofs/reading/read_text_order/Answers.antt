@@ -1,4 +1,4 @@
-use Rattle.std.proofs.Common.{refl, ap}
+use Rattle.std.proofs.Common.{refl}
 use Rattle.file_plans.proofs.Following.{go, no_room, stop}
 use Rattle.sortm_command.proofs.Values.{done_as}
 use Rattle.sortm_command.specs.Reading.{text_order_read}

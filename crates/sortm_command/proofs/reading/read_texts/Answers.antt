@@ -1,6 +1,5 @@
 use Rattle.std.proofs.Common.{refl}
 use Rattle.file_plans.proofs.Following.{go, no_room, stop}
-use Rattle.sortm_command.specs.Keys.{text_key}
 use Rattle.sortm_command.proofs.Keyed.{end, turn}
 use Rattle.sortm_command.proofs.reading.read_texts.Goals as goal
 
