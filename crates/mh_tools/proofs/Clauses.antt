@@ -211,7 +211,10 @@ pub string_texts : {Z : Type 0} (words : List (String Z)) → AreUtf8 (map strin
 string_texts [] = tt
 string_texts (w ∷ words) = (IsUtf8-string_bytes w, string_texts words)
 
-module _ (c : Call) (plan : FollowsItsPlan c) (unread : LeavesInput (command_of c.words) c.before.input c.after.input plan.outcome) where
+module _ (c : Call) (plan : FollowsItsPlan c) where
+  abbrev unread : LeavesInput (command_of c.words) c.before.input c.after.input plan.outcome
+  unread = plan.unread
+
   abbrev run : ℕ
   run = c.setting.run
 

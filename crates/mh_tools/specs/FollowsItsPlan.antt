@@ -7,6 +7,8 @@ use Rattle.mh_base.specs.Streams.{SinkState, Adds, AddsPart}
 use Rattle.file_plans.specs.Plan.{Hand, fresh}
 use Rattle.file_plans.specs.Follows.{Follows}
 use Rattle.command_line.specs.Command.{command}
+use Rattle.command_line.specs.CommandNames.{command_of}
+use Rattle.command_line.specs.LeavesInput.{LeavesInput}
 use Rattle.command_words.specs.Ended.{ended_cause}
 use Rattle.command_words.specs.declared.ended.Ended.{Ended}
 use Rattle.mh_tools.specs.Calls.{Call, begins, ends}
@@ -29,10 +31,11 @@ told_status (Ok u) status = status
 told_status (Err sink.Failed) status = status
 told_status (Err sink.Memory) status = NoMemory
 
--- the call followed the plan of its words; its status and its error line are those of the plan's end, or memory was wanting for the line
+-- the call followed the plan of its words, which reads no input but that of `mhbuild`; its status and its error line are those of the plan's end, or memory was wanting for the line
 pub record FollowsItsPlan (c : Call) : Type 0 where
   pub outcome : Result Unit Ended
   pub left : Hand
   pub follows : Follows c.setting.run ended_cause (command c.setting.run (caller_of c.setting) c.words) (begins c fresh) (ends c left) outcome
+  pub unread : LeavesInput (command_of c.words) c.before.input c.after.input outcome
   pub ends_so : (c.status ≡ ended_status outcome) ⊎ (c.status ≡ NoMemory)
   pub told : TellsStatus (ended_word outcome) c.before.err c.after.err c.status

@@ -4,32 +4,25 @@ use Rattle.mh_tools.proofs.top.mh.Goals as goal
 pub returns-clause-plan : goal.returns-clause-plan
 returns-clause-plan g c =
     let ran = rw (c.run.ensures, c.caller.ensures, c.as_slice.ensures.value) at c.run_command-outcome.ensures.plan in
-    record { outcome = c.run_command-outcome.result; left = ran.0; follows = ran.1; ends_so = c.report.ensures.ends; told = c.report.ensures.told }
+    record { outcome = c.run_command-outcome.result; left = ran.0; follows = ran.1; unread = rw c.as_slice.ensures.value at c.run_command-outcome.ensures.input; ends_so = c.report.ensures.ends; told = c.report.ensures.told }
 
 pub returns-clause-input : goal.returns-clause-input
-unfolding returns-clause-plan
-returns-clause-input g c = reads_input _ (returns-clause-plan g c) (rw c.as_slice.ensures.value at c.run_command-outcome.ensures.input) (rw c.run.ensures at c.run.type_inv)
+returns-clause-input g c = reads_input _ (returns-clause-plan g c) (rw c.run.ensures at c.run.type_inv)
 
 pub returns-clause-caused : goal.returns-clause-caused
-unfolding returns-clause-plan
-returns-clause-caused g c = caused _ (returns-clause-plan g c) (rw c.as_slice.ensures.value at c.run_command-outcome.ensures.input) (rw c.run.ensures at c.run.type_inv)
+returns-clause-caused g c = caused _ (returns-clause-plan g c) (rw c.run.ensures at c.run.type_inv)
 
 pub returns-clause-seen : goal.returns-clause-seen
-unfolding returns-clause-plan
-returns-clause-seen g c = tells _ (returns-clause-plan g c) (rw c.as_slice.ensures.value at c.run_command-outcome.ensures.input) (rw c.run.ensures at c.run.type_inv)
+returns-clause-seen g c = tells _ (returns-clause-plan g c) (rw c.run.ensures at c.run.type_inv)
 
 pub returns-clause-alone : goal.returns-clause-alone
-unfolding returns-clause-plan
-returns-clause-alone g c = answers_alone _ (returns-clause-plan g c) (rw c.as_slice.ensures.value at c.run_command-outcome.ensures.input) (rw c.run.ensures at c.run.type_inv)
+returns-clause-alone g c = answers_alone _ (returns-clause-plan g c) (rw c.run.ensures at c.run.type_inv)
 
 pub returns-clause-as_one : goal.returns-clause-as_one
-unfolding returns-clause-plan
-returns-clause-as_one g c = answers_as_one _ (returns-clause-plan g c) (rw c.as_slice.ensures.value at c.run_command-outcome.ensures.input) (rw c.run.ensures at c.run.type_inv)
+returns-clause-as_one g c = answers_as_one _ (returns-clause-plan g c) (rw c.run.ensures at c.run.type_inv)
 
 pub returns-clause-keeps : goal.returns-clause-keeps
-unfolding returns-clause-plan
-returns-clause-keeps g c = keeps _ (returns-clause-plan g c) (rw c.as_slice.ensures.value at c.run_command-outcome.ensures.input) (rw c.run.ensures at c.run.type_inv)
+returns-clause-keeps g c = keeps _ (returns-clause-plan g c) (rw c.run.ensures at c.run.type_inv)
 
 pub returns-clause-marks : goal.returns-clause-marks
-unfolding returns-clause-plan
-returns-clause-marks g c = marks _ (returns-clause-plan g c) (rw c.as_slice.ensures.value at c.run_command-outcome.ensures.input) (rw c.run.ensures at c.run.type_inv) (string_texts c.args.words.now.items)
+returns-clause-marks g c = marks _ (returns-clause-plan g c) (rw c.run.ensures at c.run.type_inv) (string_texts c.args.words.now.items)
