@@ -2,8 +2,8 @@
 use Rattle.std.proofs.Common.{◌≡◌, ℕ, zero, suc, ◌+◌, ◌-◌, ◌<◌, ◌≤◌, Bool, true, false, List, [], ◌∷◌, length, get_or, take, drop, refl, sym, ◌∙◌, ap, arith, add-one, length-drop, append-nil, ◌++◌}
 use Rattle.std.proofs.lemmas.List.{drop_all, drop-drop, get_or-drop, take_rest}
 use Rattle.std.proofs.lemmas.Bool.{eqb-true}
-use Rattle.mail_headers.specs.Unfolding.{joined}
-use Rattle.std.specs.Prelude.{◌&&◌, ◌==◌, not, if◌then◌else◌}
+use Rattle.mail_headers.specs.Unfolding.{ends_line, joined}
+use Rattle.std.specs.Prelude.{◌&&◌, ◌||◌, ◌==◌, not, slice_index, if◌then◌else◌}
 use Rattle.std.proofs.Math.Seq.{drop-cons, drop-length}
 use Rattle.mail_headers.specs.Lines.{folded_len, continues}
 
@@ -40,7 +40,7 @@ pub inside : (b : ℕ) (bs : List ℕ) → b == 10 && not (continues bs) ≡ fal
 unfolding folded_len
 inside b bs e = rw e refl
 
-cut_at : (bytes : List ℕ) (i b : ℕ) → i < length bytes → b ≡ get_or bytes i 0 → drop i bytes ≡ b ∷ drop (i + 1) bytes
+pub cut_at : (bytes : List ℕ) (i b : ℕ) → i < length bytes → b ≡ get_or bytes i 0 → drop i bytes ≡ b ∷ drop (i + 1) bytes
 cut_at bytes i b lt is = rw (add-one, drop-cons bytes i 0) (ap (λ x. x ∷ drop (suc i) bytes) (sym is))
 
 -- the field ends behind this byte
@@ -129,3 +129,27 @@ unfolding joined
 all_joined value text i le e =
     let none : drop i value ≡ [] = drop_all i value le in
     sym (append-nil text) ∙ rw none at e
+
+-- a value without a line feed is one line
+
+false_of : (b : Bool) → (b ≡ true → ⊥) → b ≡ false
+false_of true denied = absurd (denied refl)
+false_of false denied = refl
+
+neither : (a b c : Bool) → a ≡ false → c ≡ false → a || (b && c) ≡ false
+neither true b c x y = absurd (cc (x))
+neither false true c x y = y
+neither false false c x y = refl
+
+none_next : (rest : List ℕ) → HasNoFeed rest (length rest) → slice_index rest 0 == 10 ≡ false
+none_next [] none = refl
+none_next (b ∷ bs) none = false_of (b == 10) (none zero (omega arith))
+
+ends_no_line : (b : ℕ) (rest : List ℕ) → HasNoFeed (b ∷ rest) (length (b ∷ rest)) → ends_line b rest ≡ false
+ends_no_line b rest none = neither (b == 10) (b == 13) (slice_index rest 0 == 10) (false_of (b == 10) (none zero (omega arith)))
+    (none_next rest (λ k lt. none (suc k) (omega arith)))
+
+pub one_line : (value : List ℕ) → HasNoFeed value (length value) → joined value ≡ value
+unfolding joined
+one_line [] none = refl
+one_line (b ∷ rest) none = rw (ends_no_line b rest none) (ap (λ l. b ∷ l) (one_line rest (λ k lt. none (suc k) (omega arith))))

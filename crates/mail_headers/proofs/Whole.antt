@@ -1,9 +1,9 @@
 -- Each text of bytes is one message, and no other.
-use Rattle.std.proofs.Common.{◌≡◌, ◌⊎◌, inl, inr, ℕ, zero, suc, ◌≤◌, Option, Some, None, List, [], ◌∷◌, ◌++◌, length, take, drop, refl, sym, ◌∙◌, ap, arith, rules}
+use Rattle.std.proofs.Common.{◌≡◌, inl, inr, ℕ, zero, suc, ◌≤◌, Option, Some, None, List, [], ◌∷◌, ◌++◌, length, take, drop, refl, sym, ◌∙◌, ap, arith, rules}
 use Rattle.std.proofs.lemmas.List.{take-append-drop, length-take-le}
 use Rattle.std.proofs.Math.Seq.{take-append_seam, drop-append_seam}
 use Rattle.mail_headers.specs.Lines.{folded_len, empty_line_len}
-use Rattle.mail_headers.specs.Fields.{FieldText, field_in, first_field, with_first, fields_up_to, fields_of}
+use Rattle.mail_headers.specs.Fields.{FieldText, first_field, with_first, fields_up_to, fields_of}
 use Rattle.mail_headers.specs.Message.{behind_first, rest_up_to, rest_of, body_of}
 use Rattle.mail_headers.specs.Whole.{IsFieldText, StandBefore, IsBehind, IsMessage, IsNoOther}
 use Rattle.mail_headers.proofs.Folding.{folded_len-le}

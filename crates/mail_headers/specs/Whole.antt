@@ -11,7 +11,8 @@ IsFieldText text after field = (folded_len (text ++ after) ≡ length text) × (
 -- these fields stand in front of the rest, and nothing between them
 abbrev pub StandBefore : List FieldText → List ℕ → List ℕ → Type 0
 StandBefore [] rest bytes = bytes ≡ rest
-StandBefore (f ∷ fs) rest bytes = (text : List ℕ) × (after : List ℕ) × (bytes ≡ text ++ after) × IsFieldText text after f × StandBefore fs rest after
+StandBefore (f ∷ fs) rest bytes =
+    (text : List ℕ) × (after : List ℕ) × (bytes ≡ text ++ after) × IsFieldText text after f × StandBefore fs rest after
 
 -- what stands behind the fields: nothing, an empty line and the body, or the body at once
 abbrev pub IsBehind : List ℕ → List ℕ → Type 0
@@ -19,7 +20,8 @@ IsBehind body rest = ((rest ≡ []) × (body ≡ [])) ⊎ (rest ≡ 10 ∷ body)
 
 -- these bytes are a message of these fields and this body
 abbrev pub IsMessage : List FieldText → List ℕ → List ℕ → Type 0
-IsMessage fields body bytes = (rest : List ℕ) × StandBefore fields rest bytes × (first_field rest ≡ None) × IsBehind body rest
+IsMessage fields body bytes =
+    (rest : List ℕ) × StandBefore fields rest bytes × (first_field rest ≡ None) × IsBehind body rest
 
 -- and are no other
 abbrev pub IsNoOther : List FieldText → List ℕ → List ℕ → Type 0

@@ -1,8 +1,9 @@
 // A field's value on one line.
-ghost use Rattle.std.specs.Prelude.{◌≡◌, ◌≤◌, ◌∷◌, ◌++◌, length, IfOk, OnOk};
+ghost use Rattle.std.specs.Prelude.{◌≡◌, ◌≤◌, ◌∷◌, ◌++◌, length, IfOk, OnOk, IsTrue};
 ghost use Rattle.mail_headers.specs.Unfolding.{ends_line as is_line_end, is_edge, joined, trimmed, unfolded};
 ghost use Rattle.std.specs.List.{prefix_len, suffix_len};
 
+use memchr::memchr;
 use mh_base::Bytes;
 use std::alloc::{AllocError, Global};
 
@@ -26,12 +27,22 @@ fn keep(text: &mut Vec<u8>, byte: u8, rest: &[u8]) -> Result<(), AllocError>
 fn join(alloc: Global, value: &[u8]) -> Result<Vec<u8>, AllocError>
     ensures { IfOk result (λ text. text.items ≡ joined value.now) }
 {
-    let mut text = Vec::new(alloc);
+    let mut text = Vec::with_capacity(alloc, value.len())?;
     for (i, byte) in value.iter().enumerate() {
         let (_, rest) = value.split_at(i + 1);
         keep(&mut text, *byte, rest)?;
     }
     Ok(text)
+}
+
+/// Whether a value stands on one line, as most do.
+fn is_one_line(value: &[u8]) -> bool
+    ensures { IsTrue result → joined value.now ≡ value.now }
+{
+    match memchr(b'\n', value) {
+        None => true,
+        Some(_) => false,
+    }
 }
 
 fn is_edge_byte(byte: u8) -> bool
@@ -71,6 +82,9 @@ fn trim(text: &[u8]) -> &[u8]
 pub fn unfold(alloc: Global, value: &[u8]) -> Result<Bytes, AllocError>
     ensures { IfOk result (λ text. text ≡ unfolded value.now) }
 {
+    if is_one_line(value) {
+        return Bytes::from_slice(alloc, trim(value));
+    }
     let text = join(alloc, value)?;
     Bytes::from_slice(alloc, trim(text.as_slice()))
 }
