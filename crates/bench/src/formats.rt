@@ -1,4 +1,5 @@
-// Twenty thousand messages, each on a line of the default format, beside a plain read of their bytes.
+// Twenty thousand messages, each on a line of the default format, beside reading them from files, and a plain read of their bytes.
+use crate::message_files::measure_files;
 use crate::rates::{micros_since, plain, tell_things};
 use format_compiler::{FormatFault, Program, compile};
 use format_run::{IndexedMessage, View, line};
@@ -86,13 +87,14 @@ fn measure_lines(
     tell_things(rt, "lines", u64::from(COUNT), taken, all)
 }
 
-pub fn measure(rt: &(impl Print + Clock), alloc: Global) -> Result<(), Fail> {
+pub fn measure(rt: &HostRuntime, alloc: Global) -> Result<(), Fail> {
     let messages = messages(alloc)?;
     let program = match compile(alloc, DEFAULT) {
         Ok(program) => program,
         Err(FormatFault::Bad(_)) => return Err("no format".into()),
         Err(FormatFault::Memory) => return Err(AllocError.into()),
     };
+    measure_files(rt, alloc, messages.as_slice())?;
     measure_read(rt, messages.as_slice())?;
     measure_lines(rt, alloc, &program, messages.as_slice())
 }

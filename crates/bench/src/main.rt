@@ -6,6 +6,7 @@ mod codes;
 mod drops;
 mod formats;
 mod long;
+mod message_files;
 mod ranges;
 mod rates;
 mod room;

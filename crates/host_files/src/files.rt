@@ -4,6 +4,7 @@ ghost use Rattle.folder_files.specs.Rows.{IsAnswerOf};
 ghost use Rattle.folder_files.specs.Story.{Counts};
 
 use crate::fault::HostFault;
+use crate::listed::LastListing;
 use crate::locks::HeldLocks;
 use crate::paths::Paths;
 use crate::room::ReadRoom;
@@ -20,6 +21,7 @@ pub struct HostFiles {
     paths: Paths,
     locks: HeldLocks,
     room: ReadRoom,
+    last: LastListing,
     faults: u64,
 }
 
@@ -31,6 +33,7 @@ impl HostFiles {
             paths: Paths::new(home.duplicate(alloc)?),
             locks: HeldLocks::new(alloc),
             room: ReadRoom::new(alloc),
+            last: LastListing::new(alloc)?,
             faults: 0,
         })
     }
@@ -41,9 +44,18 @@ impl HostFiles {
     {
         let rt = &self.rt;
         match step {
-            Step::List(place) => reading::list(rt, alloc, &self.paths, place),
+            Step::List(place) => reading::list(rt, alloc, &self.paths, &mut self.last, place),
             Step::Read(place, name, limit) => {
-                reading::read(rt, alloc, &self.paths, &mut self.room, place, name, *limit)
+                reading::read(
+                    rt,
+                    alloc,
+                    &self.paths,
+                    &mut self.room,
+                    &self.last,
+                    place,
+                    name,
+                    *limit,
+                )
             }
             Step::ReadFile(path, limit) => {
                 reading::read_file(rt, alloc, &self.paths, &mut self.room, path, *limit)

@@ -5,6 +5,7 @@ mod changing;
 mod drop_lock;
 mod fault;
 mod files;
+mod listed;
 mod locks;
 mod paths;
 mod reading;

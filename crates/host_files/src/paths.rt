@@ -12,7 +12,7 @@ pub(crate) struct Paths {
 }
 
 /// A path's text; a path that is no UTF-8 is a fault.
-fn text(bytes: &[u8]) -> Result<&str, HostFault> {
+pub(crate) fn text(bytes: &[u8]) -> Result<&str, HostFault> {
     match str::from_utf8(bytes) {
         Ok(text) => Ok(text),
         Err(_) => Err(HostFault::Failed),
@@ -20,7 +20,7 @@ fn text(bytes: &[u8]) -> Result<&str, HostFault> {
 }
 
 /// A name below a directory; the empty path is the current directory.
-fn below(alloc: Global, base: &str, name: &str) -> Result<String, HostFault> {
+pub(crate) fn below(alloc: Global, base: &str, name: &str) -> Result<String, HostFault> {
     let base = if base.is_empty() { "." } else { base };
     let room = base.len().saturating_add(name.len()).saturating_add(1);
     let mut path = String::with_capacity(alloc, room)?;

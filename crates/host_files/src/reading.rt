@@ -4,69 +4,57 @@ ghost use Rattle.folder_files.specs.Rows.{IsNamesRow, IsReadRow, IsPieceRow};
 
 use crate::drop_lock::lock_to_read;
 use crate::fault::{Found, HostFault, looked_up};
+use crate::listed::{LastListing, ListedPath};
 use crate::paths::Paths;
 use crate::room::ReadRoom;
 use folder_files::{Answer, FilePath, Place};
-use mh_base::{Bytes, Name, NameList};
+use mh_base::{Bytes, Name};
 use std::alloc::Global;
 use std::fs;
 use std::fs::File;
 use std::io::{Read, Seek, SeekFrom};
 
-/// The names of a directory but those of directories, in byte order.
-fn sorted_names(rt: &HostRuntime, alloc: Global, path: &str) -> Result<Found<NameList>, HostFault> {
-    let entries = match looked_up(fs::read_dir(rt, path))? {
-        Found::There(entries) => entries,
-        Found::Gone => return Ok(Found::Gone),
-        Found::Exists => return Err(HostFault::Failed),
-    };
-    let mut names: Vec<String> = Vec::new(alloc);
-    for entry in entries {
-        let entry = entry?;
-        if !is_directory(&entry)? {
-            names.push(String::from_str(alloc, entry.file_name())?)?;
-        }
-    }
-    names.sort()?;
-    let mut listed = NameList::new(alloc);
-    for name in &names {
-        if let Some(name) = Name::new(Bytes::from_slice(alloc, name.as_bytes())?) {
-            listed.push(name)?;
-        }
-    }
-    Ok(Found::There(listed))
-}
-
-/// An entry that went away since it was listed is no directory.
-fn is_directory(entry: &fs::DirEntry<HostRuntime, Global>) -> Result<bool, HostFault> {
-    match looked_up(entry.file_type())? {
-        Found::There(kind) => Ok(kind.is_dir()),
-        _ => Ok(false),
-    }
-}
-
 pub(crate) fn list(
     rt: &HostRuntime,
     alloc: Global,
     paths: &Paths,
+    last: &mut LastListing,
     place: &Place,
 ) -> Result<Answer, HostFault>
     ensures { IfOk result IsNamesRow }
 {
-    let path = paths.place(alloc, place)?;
-    match sorted_names(rt, alloc, path.as_str())? {
-        Found::There(names) => Ok(Answer::Names(names)),
+    match LastListing::read(rt, alloc, paths, place)? {
+        Found::There(listing) => {
+            *last = listing;
+            Ok(Answer::Names(last.names(alloc)?))
+        }
         _ => Ok(Answer::Gone),
     }
 }
 
-/// A file that is there, and its length. What is a directory, a pipe, a socket or a device is a
-/// fault before it is opened, since opening a pipe waits for who writes to it.
-fn open_plain(rt: &HostRuntime, path: &str) -> Result<Found<(File, u64)>, HostFault> {
-    let length = match looked_up(fs::metadata(rt, path))? {
-        Found::There(what) if what.is_file() => what.len(),
-        Found::Gone => return Ok(Found::Gone),
-        _ => return Err(HostFault::Failed),
+/// How long a plain file is. What is a directory, a pipe, a socket or a device is a fault before it is
+/// opened, since opening a pipe waits for who writes to it.
+fn plain_length(rt: &HostRuntime, path: &str) -> Result<Found<u64>, HostFault> {
+    match looked_up(fs::metadata(rt, path))? {
+        Found::There(what) if what.is_file() => Ok(Found::There(what.len())),
+        Found::Gone => Ok(Found::Gone),
+        _ => Err(HostFault::Failed),
+    }
+}
+
+/// A plain file that is there, and its length, which a listing may have told.
+fn open_plain(
+    rt: &HostRuntime,
+    path: &str,
+    listed: Option<u64>,
+) -> Result<Found<(File, u64)>, HostFault> {
+    let length = match listed {
+        Some(length) => length,
+        None => match plain_length(rt, path)? {
+            Found::There(length) => length,
+            Found::Gone => return Ok(Found::Gone),
+            Found::Exists => return Err(HostFault::Failed),
+        },
     };
     match looked_up(File::open(rt, path))? {
         Found::There(file) => Ok(Found::There((file, length))),
@@ -84,7 +72,7 @@ fn read_most(
     most: u64,
 ) -> Result<Bytes, HostFault> {
     let mut file = file.take(most);
-    let front = room.front(&mut file)?;
+    let front = room.front(&mut file, likely)?;
     let mut bytes = Vec::with_capacity(alloc, front.bytes.len().max(likely as usize))?;
     bytes.extend_from_slice(front.bytes)?;
     if !front.ends {
@@ -100,11 +88,12 @@ fn read_within(
     alloc: Global,
     room: &mut ReadRoom,
     path: &str,
+    listed: Option<u64>,
     limit: u64,
 ) -> Result<Answer, HostFault>
     ensures { IfOk result IsReadRow }
 {
-    let (file, length) = match open_plain(rt, path)? {
+    let (file, length) = match open_plain(rt, path, listed)? {
         Found::There(opened) => opened,
         Found::Gone => return Ok(Answer::Gone),
         Found::Exists => return Err(HostFault::Failed),
@@ -125,14 +114,16 @@ pub(crate) fn read(
     alloc: Global,
     paths: &Paths,
     room: &mut ReadRoom,
+    last: &LastListing,
     place: &Place,
     name: &Name,
     limit: u64,
 ) -> Result<Answer, HostFault>
     ensures { IfOk result IsReadRow }
 {
-    let path = paths.entry(alloc, place, name)?;
-    read_within(rt, alloc, room, path.as_str(), limit)
+    let ListedPath { path, length } = last.path(alloc, paths, place, name)?;
+    let listed = length.filter(|length| *length <= limit);
+    read_within(rt, alloc, room, path.as_str(), listed, limit)
 }
 
 pub(crate) fn read_file(
@@ -146,7 +137,7 @@ pub(crate) fn read_file(
     ensures { IfOk result IsReadRow }
 {
     let path = paths.file(alloc, path)?;
-    read_within(rt, alloc, room, path.as_str(), limit)
+    read_within(rt, alloc, room, path.as_str(), None, limit)
 }
 
 /// A piece of an open file of this length, and nothing of what was written behind it since.
@@ -181,7 +172,7 @@ pub(crate) fn read_drop(
     ensures { IfOk result (IsPieceRow most) }
 {
     let path = paths.file(alloc, path)?;
-    let (file, _) = match open_plain(rt, path.as_str())? {
+    let (file, _) = match open_plain(rt, path.as_str(), None)? {
         Found::There(opened) => opened,
         Found::Gone => return Ok(Answer::Gone),
         Found::Exists => return Err(HostFault::Failed),

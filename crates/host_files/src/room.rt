@@ -25,15 +25,21 @@ pub(crate) struct FileFront<'a> {
     pub(crate) ends: bool,
 }
 
-/// Reads until the room is full or the file ends: how many bytes came.
-fn fill(file: &mut Take<File>, room: &mut [u8]) -> Result<usize, HostFault>
+/// Reads until the room is full or the file ends: how many bytes came. Where so many came as the file is said to have, and
+/// the last read gave less than it had room for, both say that it ends there.
+fn fill(file: &mut Take<File>, room: &mut [u8], likely: u64) -> Result<usize, HostFault>
     ensures { IfOk result (λ n. n ≤ count room.new) }
 {
     let mut filled = 0;
     for _ in 0..TURNS {
         match file.read(&mut room[filled..]) {
             Ok(0) => return Ok(filled),
-            Ok(n) => filled += n,
+            Ok(n) => {
+                filled += n;
+                if filled as u64 == likely {
+                    return Ok(filled);
+                }
+            }
             Err(error) if error.kind() == ErrorKind::Interrupted => {}
             Err(error) => return Err(HostFault::from(error)),
         }
@@ -48,12 +54,16 @@ impl ReadRoom {
         }
     }
 
-    /// Reads what a file begins with.
-    pub(crate) fn front(&mut self, file: &mut Take<File>) -> Result<FileFront<'_>, HostFault> {
+    /// Reads what a file begins with that is likely so long.
+    pub(crate) fn front(
+        &mut self,
+        file: &mut Take<File>,
+        likely: u64,
+    ) -> Result<FileFront<'_>, HostFault> {
         if self.bytes.is_empty() {
             self.bytes.resize(ROOM, 0)?;
         }
-        let filled = fill(file, self.bytes.as_mut_slice())?;
+        let filled = fill(file, self.bytes.as_mut_slice(), likely)?;
         let (bytes, _) = self.bytes.as_slice().split_at(filled);
         Ok(FileFront {
             bytes,
