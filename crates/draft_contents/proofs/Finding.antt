@@ -2,7 +2,6 @@
 use Rattle.std.proofs.Common.{◌≡◌, ℕ, Bool, true, false, List, Option, Some, None, Result, Ok, Err, length, refl, sym, ap, subst}
 use Rattle.std.specs.Prelude.{nat_lt, if◌then◌else◌}
 use Rattle.folder_files.specs.Steps.{read_file_answer}
-use Rattle.folder_files.specs.declared.refusal.Refusal.{Refusal}
 use Rattle.folder_files.specs.declared.refusal.Refusal.TheVariants as refusal
 use Rattle.folder_files.specs.declared.step.Answer.TheVariants as answer
 use Rattle.file_plans.specs.Contents.{Contents}
@@ -13,14 +12,10 @@ use Rattle.file_plans.proofs.Giving.{gives_on}
 use Rattle.file_plans.proofs.Onward.{Is}
 use Rattle.step_plans.specs.ContextCommit.{LIMIT_BYTES}
 use Rattle.step_plans.specs.declared.command_fault.CommandFault.{CommandFault}
-use Rattle.step_plans.specs.declared.command_fault.CommandFault.TheVariants as fault
+use Rattle.step_plans.proofs.Refusals.{IsRefusal}
 use Rattle.command_stages.specs.Texts.{Commanded, too_large}
 use Rattle.draft_files.specs.Limits.{within_limit}
 use Rattle.draft_contents.specs.Found.{and_then, present}
-
--- a refusal
-abbrev pub IsRefusal : CommandFault → Type 0
-IsRefusal e = (r : Refusal) × (e ≡ fault.Refused r)
 
 abbrev pub IsRefusing : {A : Type 0} → Result A CommandFault → Type 0
 IsRefusing (Ok a) = Unit {0}

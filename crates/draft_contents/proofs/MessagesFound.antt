@@ -1,14 +1,12 @@
 -- Alone the messages that a directive forwards are those that stand in their folder.
-use Rattle.std.proofs.Common.{◌≡◌, ◌∷◌, ◌++◌, [], ℕ, ◌==◌, ◌||◌, Bool, true, false, List, Option, Some, None, Result, Ok, Err, length, refl, sym, ◌∙◌, ap, subst}
-use Rattle.std.specs.Prelude.{decimal, is_some, unwrap_or, nat_lt, if◌then◌else◌}
-use Rattle.std.proofs.lemmas.Bool.Decides.{Decides-eqb}
+use Rattle.std.proofs.Common.{◌≡◌, ◌∷◌, ◌++◌, [], ℕ, Bool, true, false, List, Option, Some, Result, Ok, Err, length, refl, sym, ◌∙◌, ap, subst}
+use Rattle.std.specs.Prelude.{decimal, unwrap_or, nat_lt, if◌then◌else◌}
 use Rattle.mh_base.specs.Entries.{entry_text}
 use Rattle.mh_base.specs.declared.entry.Entry.TheVariants.{Number, Sequences}
 use Rattle.mh_profile.specs.declared.named_value.NamedValue.{NamedValue}
 use Rattle.mh_sequences.specs.Runs.{numbers_of}
 use Rattle.msg_ranges.specs.Selection.{marks_of}
 use Rattle.msg_ranges.specs.Selecting.{Folder as MsgFolder}
-use Rattle.msg_ranges.proofs.Rising.{lists}
 use Rattle.folder_files.specs.Steps.{read_file_answer}
 use Rattle.folder_files.specs.declared.place.Place.{Place}
 use Rattle.folder_files.specs.declared.place.Place.TheVariants.{Folder}
@@ -20,7 +18,6 @@ use Rattle.file_plans.specs.Contents.{Contents, folder_at, mailbox_in}
 use Rattle.file_plans.specs.Giving.{Gives}
 use Rattle.file_plans.specs.Mailboxes.{Folder as FolderValue, is_message_number}
 use Rattle.file_plans.specs.Plan.{Hand, Recall, Return, ◌>>=◌}
-use Rattle.file_plans.specs.Sightings.{has_number}
 use Rattle.file_plans.specs.Views.{View, by_view, fits_view, view_after}
 use Rattle.file_plans.proofs.Giving.{gives_more, gives_on}
 use Rattle.file_plans.proofs.Onward.{Is, onward}
@@ -41,7 +38,7 @@ use Rattle.mh_looks.proofs.Folders.{FolderListed, IsAbsent, IsListed, Tells, fol
 use Rattle.mh_looks.proofs.Reading.{TextRead, text_gives}
 use Rattle.mh_looks.proofs.Scanning.{refuses, unreadable}
 use Rattle.opened_folders.specs.BegunWork.{runs_in}
-use Rattle.opened_folders.proofs.ChosenListed.{has_tested, words_listed}
+use Rattle.told_folders.proofs.MessagesStand.{AllStand, Stands, words_stand}
 use Rattle.told_folders.specs.Tasks.{listed_runs, sequences_listed}
 use Rattle.draft_contents.specs.Forwards.{chosen_seen}
 use Rattle.draft_contents.specs.Found.{and_then, chosen_of, folder_found, messages_found}
@@ -49,39 +46,6 @@ use Rattle.draft_contents.specs.Messages.{message_by, message_read, messages_giv
 use Rattle.draft_contents.specs.declared.forwarding.Forwarding.{Forwarding}
 use Rattle.draft_files.specs.Limits.{within_limit}
 use Rattle.draft_contents.proofs.Finding.{Finds, IsRefusing, content_found, finds_then, found_so, long_found}
-
--- a message that stands in the contents
-record Stands (c : Contents) (place : Place) (n : ℕ) : Type 0 where
-  pub number : is_message_number n ≡ true
-  pub text : List ℕ
-  pub there : c.texts place (decimal n) ≡ Some text
-
-abbrev AllStand : Contents → Place → List ℕ → Type 0
-AllStand c place [] = Unit {0}
-AllStand c place (n ∷ ns) = Stands c place n × AllStand c place ns
-
-first_listed : (n : ℕ) (ns : List ℕ) → lists (n ∷ ns) n ≡ true
-first_listed n ns = ap (λ b. b || lists ns n) ((Decides-eqb n n).1 refl)
-
-other_listed : (m n : ℕ) (ns : List ℕ) → lists ns n ≡ true → lists (m ∷ ns) n ≡ true
-other_listed m n ns e = go (m == n)
-  where
-    go : (b : Bool) → b || lists ns n ≡ true
-    go true = refl
-    go false = e
-
-stands_of : (c : Contents) (q : Place) (n : ℕ) → is_some ((folder_at c q).messages n) ≡ true → Stands c q n
-unfolding entry_text
-stands_of c q n e = let w = within (is_message_number n) (c.texts q (decimal n)) e in record { number = w.0; text = w.1.0; there = w.1.1 }
-  where
-    within : (b : Bool) (o : Option (List ℕ)) → is_some (if b then o else None) ≡ true → (b ≡ true) × ((t : List ℕ) × (o ≡ Some t))
-    within true (Some t) e = (refl, (t, refl))
-    within true None e = cc (e)
-    within false o e = cc (e)
-
-all_stand : (c : Contents) (q : Place) (numbers : List ℕ) → ((n : ℕ) → lists numbers n ≡ true → is_some ((folder_at c q).messages n) ≡ true) → AllStand c q numbers
-all_stand c q [] f = tt
-all_stand c q (n ∷ numbers) f = (stands_of c q n (f n (first_listed n numbers)), all_stand c q numbers (λ k e. f k (other_listed n k numbers e)))
 
 never_gone : (text : List ℕ) → answer.Gone ≡ read_file_answer LIMIT_BYTES (Some text) → ⊥
 never_gone text e = go (nat_lt LIMIT_BYTES (length text)) e
@@ -184,7 +148,7 @@ module _ (ns : List ℕ) (c : Contents) (h : Hand) (text path : List ℕ) (f : F
 
   stand_listed : (names : List (List ℕ)) (written numbers : List ℕ) → Tells c at names → chosen_of f.negation folder specs entries old written ≡ Ok numbers → AllStand c at numbers
   stand_listed names written numbers t is =
-      all_stand c at numbers (λ n e. messages_listed c at names t n ∙ has_tested (λ m. has_number m names) n (words_listed f.negation (listed_runs names) (sequences_listed names written entries folder) specs numbers (same_chosen names written t ∙ is) n e))
+      words_stand c at names t f.negation (sequences_listed names written entries folder) specs numbers (same_chosen names written t ∙ is)
 
   abbrev then_read : List (List ℕ) → Commanded (List (List ℕ))
   then_read names = text_read at (entry_text Sequences) >>= (λ written. Recall (λ k. Return (chosen_seen f.negation folder specs names written (entries_seen k.context))) >>= (λ numbers. messages_read at [] numbers))

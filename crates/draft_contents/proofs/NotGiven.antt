@@ -1,9 +1,8 @@
 -- How reading what a draft wants ends, and what shows it.
-use Rattle.std.proofs.Common.{◌≡◌, inl, inr, ◌∷◌, ◌++◌, ◌==◌, ◌||◌, [], ℕ, Bool, true, false, List, Result, Ok, Err, refl, sym, ◌∙◌, ap, subst, append_assoc, append-nil}
+use Rattle.std.proofs.Common.{◌≡◌, inl, inr, ◌∷◌, ◌++◌, [], ℕ, true, List, Result, Ok, Err, refl, sym, ◌∙◌, ap, subst, append_assoc, append-nil}
 use Rattle.std.specs.Prelude.{decimal}
-use Rattle.std.proofs.lemmas.Bool.Decides.{Decides-eqb}
 use Rattle.mh_base.specs.Entries.{entry_text}
-use Rattle.mh_base.specs.declared.entry.Entry.TheVariants.{Number, Sequences}
+use Rattle.mh_base.specs.declared.entry.Entry.TheVariants.{Sequences}
 use Rattle.mh_profile.specs.declared.named_value.NamedValue.{NamedValue}
 use Rattle.mh_sequences.specs.Runs.{numbers_of}
 use Rattle.mh_sequences.specs.Sequences.{Marked}
@@ -41,10 +40,11 @@ use Rattle.command_stages.specs.Chosen.{folder_with}
 use Rattle.command_stages.specs.Listed.{folder_listed, names_by}
 use Rattle.command_stages.specs.Texts.{text_by, text_read, too_large}
 use Rattle.mh_looks.specs.Scan.{entries_seen}
-use Rattle.mh_looks.proofs.Ending.{by_choice, comes_at, comes_recall}
+use Rattle.mh_looks.proofs.Ending.{by_choice, comes_at, comes_recall, name_of}
 use Rattle.opened_folders.specs.Reads.{TellsText}
 use Rattle.opened_folders.proofs.ChosenListed.{has_tested, words_listed}
 use Rattle.opened_folders.proofs.NamesKept.{met_kept}
+use Rattle.told_folders.proofs.MessagesStand.{first_listed, other_listed}
 use Rattle.told_folders.specs.Tasks.{listed_runs, sequences_listed}
 use Rattle.mh_drafts.specs.declared.want.Want.{Want}
 use Rattle.mh_drafts.specs.declared.want.Want.TheVariants as want
@@ -59,23 +59,9 @@ use Rattle.draft_contents.specs.Wants.{all_given, file_given, forward_given, wan
 use Rattle.draft_contents.specs.declared.forwarding.Forwarding.{Forwarding}
 use Rattle.draft_contents.proofs.Shown.{Gave, Onto, Reads, once_onto, onto_more, onto_none, onto_one, was_onto}
 
-abbrev name_of : ℕ → List ℕ
-name_of n = entry_text (Number n)
-
 listed_text : (n : ℕ) (names : List (List ℕ)) → has_number n names ≡ true → has_text (name_of n) names ≡ true
 unfolding entry_text
 listed_text n names e = (both (is_message_number n) (has_text (decimal n) names) (sym (has_number_text n names) ∙ e)).1
-
--- the first of a list is in it, and so are the others
-first_listed : (n : ℕ) (ns : List ℕ) → lists (n ∷ ns) n ≡ true
-first_listed n ns = ap (λ b. b || lists ns n) ((Decides-eqb n n).1 refl)
-
-other_listed : (m n : ℕ) (ns : List ℕ) → lists ns n ≡ true → lists (m ∷ ns) n ≡ true
-other_listed m n ns e = go (m == n)
-  where
-    go : (b : Bool) → b || lists ns n ≡ true
-    go true = refl
-    go false = e
 
 -- these deeds, and after them others that only look
 pub record Looked (own later : List Deed) : Type 0 where

@@ -1,6 +1,5 @@
 -- What is read one after another.
-use Rattle.std.proofs.Common.{◌≡◌, ◌∷◌, ◌++◌, [], List, ℕ, ◌+◌, suc, ◌<◌, ◌≤◌, Result, Ok, sym, ap, drop, get_or, length, add-one}
-use Rattle.std.proofs.Math.Seq.{drop-cons}
+use Rattle.std.proofs.Common.{◌≡◌, ◌∷◌, ◌++◌, [], List, ℕ, ◌+◌, ◌<◌, ◌≤◌, Result, Ok, ap, drop, get_or, length}
 use Rattle.std.proofs.lemmas.List.{drop_all}
 use Rattle.folder_files.specs.declared.place.Place.{Place}
 use Rattle.file_plans.specs.Plan.{◌>>=◌}
@@ -8,14 +7,12 @@ use Rattle.file_plans.specs.Follows.{State, Follows}
 use Rattle.file_plans.proofs.Following.{same_plan, done}
 use Rattle.step_plans.specs.CommandFaults.{command_cause}
 use Rattle.step_plans.specs.declared.command_fault.CommandFault.{CommandFault}
+use Rattle.step_plans.proofs.Rounds.{next}
 use Rattle.mh_drafts.specs.declared.want.Want.{Want}
 use Rattle.mhbuild_compose.specs.declared.given.Given.{Given}
 use Rattle.draft_contents.specs.Messages.{message_read, messages_read}
 use Rattle.draft_contents.specs.Wants.{all_given, want_given}
 use Rattle.draft_contents.specs.declared.forwarding.Forwarding.{Forwarding}
-
-next : {A : Type 0} (l : List A) (i : ℕ) (x : A) → i < length l → x ≡ get_or l i x → drop i l ≡ x ∷ drop (i + 1) l
-next l i x h is = rw (add-one, drop-cons l i x) (ap (λ y. y ∷ drop (suc i) l) (sym is))
 
 -- messages
 pub one_read : (run : ℕ) (place : Place) (before : List (List ℕ)) (l : List ℕ) (i n : ℕ) (x y : State) (r : Result (List (List ℕ)) CommandFault) → i < length l → n ≡ get_or l i n →

@@ -18,13 +18,16 @@ folder_word f (Some word) = word
 
 -- the folder's name, or the refusal of a word that is none
 abbrev pub folder_named : List ℕ → Result (List ℕ) CommandFault
-folder_named word = if is_folder_name (without_plus word) then Ok (without_plus word) else Err (fault.Refused (refusal.BadFolder word))
+folder_named word =
+    if is_folder_name (without_plus word) then Ok (without_plus word) else Err (fault.Refused (refusal.BadFolder word))
 
 -- the words that choose messages; the current one where there are none
 abbrev pub specs_or_current : List (List ℕ) → List (List ℕ)
 specs_or_current [] = codes "cur" ∷ []
 specs_or_current (spec ∷ specs) = spec ∷ specs
 
--- the messages that these words choose, by the folder's names, the text of its sequences, of its listed messages alone, and the context
-abbrev pub chosen_seen : List ℕ → List ℕ → List (List ℕ) → List (List ℕ) → List ℕ → List NamedValue → Result (List ℕ) CommandFault
+-- the messages that these words choose, by the folder's names, the text of its sequences, of its listed messages alone,
+-- and the context
+abbrev pub chosen_seen : List ℕ → List ℕ → List (List ℕ) → List (List ℕ) → List ℕ → List NamedValue
+    → Result (List ℕ) CommandFault
 chosen_seen negation folder specs names text entries = chosen_in (folder_with negation (numbers_of (listed_runs names)) (marks_of (sequences_listed names text entries folder))) specs

@@ -39,18 +39,22 @@ file_found m path = present (no_file path) (m.outside path)
 -- the texts of these messages, behind others
 unfoldable pub messages_found : (ℕ → Option (List ℕ)) → List (List ℕ) → List ℕ → Result (List (List ℕ)) CommandFault
 messages_found messages before [] = Ok before
-messages_found messages before (n ∷ ns) = and_then (within_limit (unwrap_or (messages n) [])) (λ text. messages_found messages (before ++ text ∷ []) ns)
+messages_found messages before (n ∷ ns) =
+    and_then (within_limit (unwrap_or (messages n) [])) (λ text. messages_found messages (before ++ text ∷ []) ns)
 
 -- the messages that these words choose of a folder whose sequences have this text
-abbrev pub chosen_of : List ℕ → List ℕ → List (List ℕ) → List NamedValue → FolderValue → List ℕ → Result (List ℕ) CommandFault
+abbrev pub chosen_of : List ℕ → List ℕ → List (List ℕ) → List NamedValue → FolderValue → List ℕ
+    → Result (List ℕ) CommandFault
 chosen_of negation folder specs entries v text = chosen_in (folder_with negation (numbers_of (runs_in v)) (marks_of (cut_to (runs_in v) (sequences_in text entries folder)))) specs
 
-abbrev pub folder_found : Forwarding → List ℕ → List (List ℕ) → List NamedValue → Option FolderValue → Result (List (List ℕ)) CommandFault
+abbrev pub folder_found : Forwarding → List ℕ → List (List ℕ) → List NamedValue → Option FolderValue
+    → Result (List (List ℕ)) CommandFault
 folder_found f folder specs entries None = Err (fault.Refused (refusal.NoFolder folder))
 folder_found f folder specs entries (Some v) = and_then (readable v.sequences) (λ text. and_then (chosen_of f.negation folder specs entries v text) (λ numbers. messages_found v.messages [] numbers))
 
 -- the messages that these words choose, of the folder that its word names, or else of the current one
-abbrev pub forward_found : List ℕ → Forwarding → List NamedValue → Mailbox → Option (List ℕ) → List (List ℕ) → Result Given CommandFault
+abbrev pub forward_found : List ℕ → Forwarding → List NamedValue → Mailbox → Option (List ℕ) → List (List ℕ)
+    → Result Given CommandFault
 forward_found path f entries m word specs =
     and_then (folder_named (folder_word f word)) (λ folder.
     and_then (folder_found f folder (specs_or_current specs) entries (m.folders (Folder path folder))) (λ messages. Ok (given.Messages messages)))
@@ -60,6 +64,8 @@ want_found path f entries m (want.File file) = and_then (file_found m file) (λ 
 want_found path f entries m (want.Messages word specs) = forward_found path f entries m word specs
 
 -- all that is wanted, behind what was given before, or the refusal of the first that is refused
-unfoldable pub all_found : List ℕ → Forwarding → List NamedValue → Mailbox → List Given → List Want → Result (List Given) CommandFault
+unfoldable pub all_found : List ℕ → Forwarding → List NamedValue → Mailbox → List Given → List Want
+    → Result (List Given) CommandFault
 all_found path f entries m before [] = Ok before
-all_found path f entries m before (want ∷ wants) = and_then (want_found path f entries m want) (λ given. all_found path f entries m (before ++ given ∷ []) wants)
+all_found path f entries m before (want ∷ wants) =
+    and_then (want_found path f entries m want) (λ given. all_found path f entries m (before ++ given ∷ []) wants)

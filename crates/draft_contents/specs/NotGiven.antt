@@ -30,7 +30,8 @@ pub data FileIsNotGiven (file : FilePath) : CommandFault → List Deed → Type 
   not_there : {older : List Deed} → FileIsNotGiven file (no_file file) (did (ReadFile file LIMIT_BYTES) Gone ∷ older)
   too_long : {l : ℕ} {older : List Deed} → FileIsNotGiven file (too_large l) (did (ReadFile file LIMIT_BYTES) (Long l) ∷ older)
 
--- the newest two steps listed the folder and read its sequences; by these, and by the entries of the context that were read before, the words are refused so
+-- the newest two steps listed the folder and read its sequences; by these, and by the entries of the context that were
+-- read before, the words are refused so
 pub record IsRefusedByWords (negation folder : List ℕ) (specs : List (List ℕ)) (entries : List NamedValue) (place : Place) (r : Refusal) (own : List Deed)
     : Type 0 where
   pub names : List (List ℕ)
@@ -41,8 +42,8 @@ pub record IsRefusedByWords (negation folder : List ℕ) (specs : List (List ℕ
   pub told : TellsText place (entry_text Sequences) text reading
   pub refuses : chosen_seen negation folder specs names text entries ≡ Err (fault.Refused r)
 
--- The folder isn't there; or its words are refused by what it has; or the newest step read its sequences or a message of it, which is too long; or it read a
--- message that it had listed, and others have taken it away.
+-- The folder isn't there; or its words are refused by what it has; or the newest step read its sequences or a message
+-- of it, which is too long; or it read a message that it had listed, and others have taken it away.
 pub data MessagesAreNotGiven (negation folder : List ℕ) (specs : List (List ℕ)) (entries : List NamedValue) (place : Place)
     : CommandFault → List Deed → Type 0 where
   no_folder : {older : List Deed} → MessagesAreNotGiven negation folder specs entries place (fault.Refused (refusal.NoFolder folder)) (did (Lists place) Gone ∷ older)

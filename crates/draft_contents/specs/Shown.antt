@@ -22,7 +22,8 @@ HasReadFile path bytes own = Once (λ d older. d ≡ did (ReadFile path LIMIT_BY
 
 -- a message of this folder had these
 abbrev pub HasReadMessage : Place → List ℕ → List Deed → Type 0
-HasReadMessage place message own = (n : ℕ) × Once (λ d older. d ≡ did (Read place (entry_text (Number n)) LIMIT_BYTES) (Content message)) own
+HasReadMessage place message own =
+    (n : ℕ) × Once (λ d older. d ≡ did (Read place (entry_text (Number n)) LIMIT_BYTES) (Content message)) own
 
 abbrev pub HasReadMessages : Place → List (List ℕ) → List Deed → Type 0
 HasReadMessages place [] own = Unit {0}

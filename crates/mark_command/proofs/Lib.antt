@@ -1,10 +1,4 @@
-pub mod ListingSays
-pub mod LooksEnd
-pub mod LooksRefused
 pub mod Loops
 pub mod MarkAlone
-pub mod MarkEnds
-pub mod MarkGiven
-pub mod MarkMinds
 pub mod MarkPledged
-pub mod MarkSays
+pub mod Orderly

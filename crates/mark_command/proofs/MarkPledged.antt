@@ -1,234 +1,33 @@
--- `mark` goes as it pledges.
-use Rattle.std.proofs.Common.{◌≡◌, inr, ◌<◌, ◌^◌, ◌∷◌, [], ℕ, Bool, true, false, List, Result, Ok, Err, refl, sym, ◌∙◌, ap, subst}
-use Rattle.mh_base.specs.Entries.{entry_text}
-use Rattle.mh_base.specs.declared.entry.Entry.TheVariants.{Sequences}
-use Rattle.mh_sequences.specs.Sequences.{Marked}
-use Rattle.folder_files.specs.Deeds.{Deed}
-use Rattle.folder_files.specs.declared.place.Place.{Place}
-use Rattle.folder_files.specs.declared.place.Place.TheVariants.{Folder, Mail}
-use Rattle.file_plans.specs.Plan.{Hand, Return, after, lifted, ◌>>=◌, bind}
-use Rattle.file_plans.proofs.Framing.{AnyStep}
-use Rattle.step_plans.specs.ContextCommit.{commit_context}
-use Rattle.step_plans.specs.Pledges.{Pledge}
-use Rattle.step_plans.specs.Settled.{AreSettled}
-use Rattle.step_plans.specs.declared.change.ChangeEntry.{ChangeEntry}
-use Rattle.step_plans.specs.declared.command_fault.CommandFault.{CommandFault}
-use Rattle.step_plans.proofs.Facts.{once_kept}
-use Rattle.step_plans.proofs.Going.{Goes, Outcome, goes_lifted, goes_more, goes_then, okay, okay_more}
-use Rattle.step_plans.proofs.Pledged.{IsPledged, Known, Of, commit_goes}
-use Rattle.step_plans.proofs.Stepping.{goes_end, goes_return, goes_say}
-use Rattle.step_plans.proofs.Written.{Serves, goes_at}
-use Rattle.step_plans.specs.CommandFaults.{of_sink}
-use Rattle.sequence_commits.specs.Committing.{changed_sequences}
-use Rattle.command_stages.specs.Current.{current_change, made_current}
-use Rattle.command_stages.specs.Endings.{of_plan}
-use Rattle.opened_folders.specs.Opening.{Opened, with_sequences}
-use Rattle.opened_folders.specs.Reads.{HaveSeen}
-use Rattle.folder_files.specs.Commands.{Marking}
-use Rattle.folder_files.specs.declared.step.Step.{Step}
-use Rattle.opened_folders.proofs.EndedKept.{Still, keeps_more}
-use Rattle.opened_folders.proofs.FolderPledged.{HasBegun}
-use Rattle.opened_folders.proofs.WorkPledged.{LetsBegin, begun_keeps, committed_goes, current_goes, whenever}
-use Rattle.std.specs.Prelude.{Option, None, Some}
+-- `mark` promises what its pledge says.
+use Rattle.std.proofs.Common.{◌<◌, ◌^◌, ℕ, List, Option, None, Some, Result}
 use Rattle.file_plans.specs.Follows.{Follows, State}
+use Rattle.file_plans.specs.Plan.{Hand}
 use Rattle.file_plans.specs.Rules.{IfOkay, Keeps}
 use Rattle.file_plans.specs.Runs.{Deed as Done}
 use Rattle.file_plans.proofs.Acting.{acts}
 use Rattle.step_plans.specs.CommandFaults.{command_cause}
 use Rattle.step_plans.specs.Promises.{Promises}
-use Rattle.step_plans.proofs.Going.{ByActs, Sound, Soundly, goes_keeps}
-use Rattle.step_plans.proofs.Promising.{keeps_pledge}
+use Rattle.step_plans.specs.declared.command_fault.CommandFault.{CommandFault}
+use Rattle.step_plans.proofs.Going.{Sound}
 use Rattle.step_plans.proofs.Ruling.{rules_of}
-use Rattle.command_stages.specs.Listed.{folder_listed}
-use Rattle.command_stages.specs.Texts.{text_read}
-use Rattle.mh_looks.specs.Scan.{entries_seen}
-use Rattle.mh_looks.specs.ScanPledge.{HasListed}
-use Rattle.mh_looks.proofs.LooksLeave.{Lists, Looks, goes_chosen, listed_goes, text_goes}
-use Rattle.mark_command.specs.Lines.{lines_for}
-use Rattle.mark_command.specs.Mark.{chosen_from, chosen_marked, lines_said, mark, mark_by_act, mark_changes, mark_looks, opened_marked, said_if, sequences_seen}
-use Rattle.mark_command.specs.MarkPledge.{Marks, looks_pledge, mark_pledge, pledge_by}
-use Rattle.mark_command.specs.Marking.{marked_for}
+use Rattle.opened_folders.proofs.EndedKept.{Still}
+use Rattle.told_folders.proofs.ChangesPledged.{changes_keep, changes_promise, looks_keep, looks_promise}
+use Rattle.mark_command.specs.Mark.{look_task, mark, mark_by_act, mark_task, pledge_by}
 use Rattle.mark_command.specs.declared.job.MarkAct.{MarkAct}
 use Rattle.mark_command.specs.declared.job.MarkJob.{MarkJob}
 
--- lines are free to be said
-module _ (w : Pledge) (tells : (own : List Deed) (piece : List ℕ) → w.may_tell own piece) where
-  lines_go : (own : List Deed) (h : Hand) (lines : List (List ℕ)) → Goes w own h (lines_said lines) (okay (λ later j u. later ≡ own))
-  unfolding lines_said
-  lines_go own h [] = goes_return w own h tt (okay (λ later j u. later ≡ own)) refl
-  lines_go own h (line ∷ lines) = goes_say w own h of_sink (okay (λ later j u. later ≡ own)) line (λ told. lines_said lines) (λ s. tells own line) (lines_go own h lines)
+by_act : (run : ℕ) (few : run < 2 ^ 128) (path : List ℕ) (job : MarkJob) (act : Option MarkAct) (x y : State) (result : Result Unit CommandFault)
+    → Follows run command_cause (mark_by_act run path job act) x y result → Promises (pledge_by run path job act) x y
+by_act run few path job None x y result f = looks_promise run few path (look_task job) x y result f
+by_act run few path job (Some a) x y result f = changes_promise run few path (mark_task job a) x y result f
 
-  said_goes : (own : List Deed) (h : Hand) (list : Bool) (lines : List (List ℕ)) → Goes w own h (said_if list lines) (okay (λ later j u. later ≡ own))
-  said_goes own h true lines = lines_go own h lines
-  said_goes own h false lines = goes_return w own h tt (okay (λ later j u. later ≡ own)) refl
+-- it keeps the rules of its pledge, whatever its run has done before
+pub mark_keeps : (run : ℕ) (few : run < 2 ^ 128) (path : List ℕ) (job : MarkJob) (act : Option MarkAct) (past : List Done) (h : Hand) → Sound (pledge_by run path job act) (acts past) h
+    → Keeps (rules_of (pledge_by run path job act)) past h (mark_by_act run path job act) (IfOkay (Still (acts past)))
+mark_keeps run few path job None past h sound = looks_keep run few path (look_task job) past h sound
+mark_keeps run few path job (Some a) past h sound = changes_keep run few path (mark_task job a) past h sound
 
-module _ (run : ℕ) (few : run < 2 ^ 128) (path : List ℕ) (job : MarkJob) (a : MarkAct) where
-  abbrev w : Pledge
-  w = mark_pledge run path job a
-
-  abbrev p : Place
-  p = Folder path job.folder
-
-  abbrev mail : Place
-  mail = Mail path
-
-  abbrev any_piece : List Deed → List ℕ → Type 0
-  any_piece own piece = Unit {0}
-
-  abbrev any_step : List Deed → Step → Type 0
-  any_step own s = Unit {0}
-
-  pub lets : LetsBegin path job.folder (Marking path job.folder) any_step
-  lets = record {
-    kinds = λ own kind s k. k;
-    makes = λ own q. tt;
-    creates = λ own q temp bytes. tt;
-    clears = λ own q temp is. tt;
-    gives = λ own q held number is. tt;
-    drops = λ own q held is away. tt;
-    commits = λ own q temp name is. tt;
-  }
-
-  abbrev Seen : Opened → List ℕ → List ℕ → List Deed → Type 0
-  Seen o text context later = HaveSeen run p mail o.listing text context later
-
-  module _ (first own : List Deed) (o : Opened) (b : HasBegun w first path job.folder own o) (h : Hand) where
-    abbrev made : List ℕ → Marked
-    made numbers = marked_for job a o.listing numbers o.sequences
-
-    abbrev Marks_ : Outcome Opened
-    Marks_ later j q = Seen o b.text b.context later × (AreSettled own → AreSettled later)
-
-    -- the marks on what the words choose are committed
-    commits : (numbers : List ℕ) → chosen_from job o.listing o.sequences ≡ Ok numbers
-        → Goes w own h (lifted (of_plan job.folder) (changed_sequences run p mail job.folder o.sequences (made numbers)) >>= (λ done. Return (Ok (with_sequences (made numbers) o)))) (okay Marks_)
-    commits numbers is =
-        goes_then w own h (lifted (of_plan job.folder) (changed_sequences run p mail job.folder o.sequences (made numbers))) (λ done. Return (Ok (with_sequences (made numbers) o))) (λ later j u. Seen o b.text b.context later × (AreSettled own → AreSettled later)) Marks_
-        (subst (λ m. Goes w own h (lifted (of_plan job.folder) (changed_sequences run p mail job.folder m (made numbers))) (okay (λ later j u. Seen o b.text b.context later × (AreSettled own → AreSettled later)))) (sym b.sequences)
-        (committed_goes run few path job.folder (λ own. Marks job a) (Marking path job.folder) any_piece any_step lets (whenever (Marks job a)) own h o.listing b.text b.context (made numbers)
-        (inr (numbers, ap (λ m. chosen_from job o.listing m) (sym b.sequences) ∙ is, ap (marked_for job a o.listing numbers) b.sequences)) b.seen b.held.lock b.base.0 b.base.1))
-        (λ later j u f. goes_return w later j (with_sequences (made numbers) o) (okay Marks_) f)
-
-    chosen_by : (value : Result (List ℕ) CommandFault) → chosen_from job o.listing o.sequences ≡ value
-        → Goes w own h (after (λ numbers. lifted (of_plan job.folder) (changed_sequences run p mail job.folder o.sequences (made numbers)) >>= (λ done. Return (Ok (with_sequences (made numbers) o)))) value) (okay Marks_)
-    chosen_by (Ok numbers) is = commits numbers is
-    chosen_by (Err e) is = goes_end w own h e Marks_
-
-    chosen_at : (q : Place) (n : List ℕ) → q ≡ p → n ≡ job.folder
-        → Goes w own h (Return (chosen_from job o.listing o.sequences) >>= (λ numbers. lifted (of_plan job.folder) (changed_sequences run q mail n o.sequences (made numbers)) >>= (λ done. Return (Ok (with_sequences (made numbers) o))))) (okay Marks_)
-    unfolding Goes bind ◌>>=◌
-    chosen_at q n place name = rw (place, name) (chosen_by (chosen_from job o.listing o.sequences) refl)
-
-    chosen_goes : Goes w own h (chosen_marked run path job a o) (okay Marks_)
-    unfolding chosen_marked
-    chosen_goes = chosen_at o.place o.folder b.place b.name
-
-    -- the work on a folder that was begun
-    pub opened_goes : Goes w own h (opened_marked run path job a o) (okay (Of (λ later. AreSettled own → AreSettled later)))
-    unfolding opened_marked
-    opened_goes =
-        goes_then w own h (chosen_marked run path job a o) (λ marked. said_if job.list (lines_for job.names marked.sequences) >>= (λ told. made_current run path job.folder)) Marks_ (Of (λ later. AreSettled own → AreSettled later)) chosen_goes
-        (λ later j q m.
-        goes_then w later j (said_if job.list (lines_for job.names q.sequences)) (λ told. made_current run path job.folder) (λ last i u. last ≡ later) (Of (λ last. AreSettled own → AreSettled last)) (said_goes w (λ deeds piece. tt) later j job.list (lines_for job.names q.sequences))
-        (λ last i u e. goes_at w last later i (made_current run path job.folder) (okay (Of (λ end. AreSettled own → AreSettled end))) e
-        (goes_more w later i (made_current run path job.folder) (okay (Of (λ end. AreSettled later → AreSettled end))) (okay (Of (λ end. AreSettled own → AreSettled end)))
-        (okay_more (Of (λ end. AreSettled later → AreSettled end)) (Of (λ end. AreSettled own → AreSettled end)) (λ end k v f s. f (m.1 s)))
-        (current_goes run few path job.folder (λ own. Marks job a) (Marking path job.folder) any_piece any_step lets (whenever (Marks job a)) later i o.listing b.text b.context m.0))))
-
--- one that only lists makes its folder the current one, whatever it may tell
-module _ (run : ℕ) (few : run < 2 ^ 128) (path : List ℕ) (job : MarkJob) (tells : List Deed → List ℕ → Type 0) where
-  abbrev pub notes_pledge : Pledge
-  notes_pledge = record (looks_pledge run path job) { may_tell = tells }
-
-  abbrev at : Place
-  at = Folder path job.folder
-
-  abbrev current : List ChangeEntry
-  current = current_change job.folder
-
-  serves_context : Serves notes_pledge (Mail path)
-  serves_context = record { serves = λ own kind s k m. (k, m); make = λ own. tt; create = λ own temp bytes is. tt; clear = λ own temp is. tt }
-
-  listed_pledged : IsPledged notes_pledge (Mail path) current AnyStep (HasListed at)
-  listed_pledged = record {
-    asks = record { make = tt; lock = tt; list = tt; clear = λ temp is. tt; read = tt; create = λ temp bytes. tt; sync_file = λ temp. tt; rename = λ temp. tt; sync = tt; unlock = tt };
-    keeps = once_kept _ AnyStep;
-    may = λ later old f. (f, (refl, refl, refl));
-    lets = λ later temp f lock m. tt;
-  }
-
-  -- what was settled of commits stays so
-  abbrev pub StillBy : List Deed → Outcome Unit
-  StillBy own later j u = AreSettled own → AreSettled later
-
-  pub noted_goes : (own : List Deed) (h : Hand) → HasListed at own → Goes notes_pledge own h (made_current run path job.folder) (okay (StillBy own))
-  unfolding made_current
-  noted_goes own h listed =
-      goes_then notes_pledge own h (lifted (of_plan job.folder) (commit_context run (Mail path) current)) _ (Of (Known notes_pledge own (Mail path) current h)) (StillBy own)
-      (goes_lifted notes_pledge own h (of_plan job.folder) (commit_context run (Mail path) current) (Of (Known notes_pledge own (Mail path) current h))
-      (commit_goes notes_pledge few path serves_context current AnyStep (HasListed at) listed_pledged own h listed))
-      (λ later j u k. goes_return notes_pledge later j tt (okay (StillBy own)) k.settled_still)
-
--- one that only lists
-module _ (run : ℕ) (few : run < 2 ^ 128) (path : List ℕ) (job : MarkJob) where
-  abbrev any_tells : List Deed → List ℕ → Type 0
-  any_tells own piece = Unit {0}
-
-  abbrev v : Pledge
-  v = looks_pledge run path job
-
-  abbrev folder_at : Place
-  folder_at = Folder path job.folder
-
-  abbrev StillBy_ : List Deed → Outcome Unit
-  StillBy_ own later j u = AreSettled own → AreSettled later
-
-  tells_any : (own : List Deed) (piece : List ℕ) → v.may_tell own piece
-  tells_any own piece = tt
-
-  noted_after : (own later : List Deed) (h : Hand) → (AreSettled own → AreSettled later) → HasListed folder_at later → Goes v later h (made_current run path job.folder) (okay (StillBy_ own))
-  noted_after own later h f listed =
-      goes_more v later h (made_current run path job.folder) (okay (StillBy_ later)) (okay (StillBy_ own)) (okay_more (StillBy_ later) (StillBy_ own) (λ last j u g s. g (f s))) (noted_goes run few path job any_tells later h listed)
-
-  looks_go : (own : List Deed) (h : Hand) → Goes v own h (mark_looks run path job) (okay (StillBy_ own))
-  unfolding mark_looks
-  looks_go own h =
-      goes_then v own h (folder_listed folder_at job.folder) _ (Lists v tells_any folder_at own) (StillBy_ own) (listed_goes v tells_any own h folder_at job.folder) (λ later j names f.
-      goes_then v later j (text_read folder_at (entry_text Sequences)) _ (Looks later) (StillBy_ own) (text_goes v tells_any later j folder_at (entry_text Sequences)) (λ next i text g.
-      goes_chosen v next i (λ k. sequences_seen job names text (entries_seen k.context)) _ (StillBy_ own) (λ m is.
-      goes_then v next i (lines_said (lines_for job.names m)) _ (λ last k u. last ≡ next) (StillBy_ own) (lines_go v tells_any next i (lines_for job.names m)) (λ last k u e.
-      goes_at v last next k (made_current run path job.folder) (okay (StillBy_ own)) e (noted_after own next k (λ s. g.settled (f.0.settled s)) (g.listed folder_at f.1))))))
-
-module _ (run : ℕ) (few : run < 2 ^ 128) (path : List ℕ) (job : MarkJob) where
-  changes_keep : (a : MarkAct) (past : List Done) (h : Hand) → Sound (mark_pledge run path job a) (acts past) h → Keeps (rules_of (mark_pledge run path job a)) past h (mark_changes run path job a) (IfOkay (Still (acts past)))
-  unfolding mark_changes
-  changes_keep a past h sound =
-      begun_keeps run few path job.folder (λ own. Marks job a) (Marking path job.folder) (any_piece run few path job a) (any_step run few path job a) (lets run few path job a) (whenever (Marks job a)) (opened_marked run path job a)
-      (λ first own o b i. opened_goes run few path job a first own o b i) past h sound
-
-  looked_so : (own : List Deed) (past : List Done) (h : Hand) (r : Result Unit CommandFault) → Sound (looks_pledge run path job) (acts past) h → okay (StillBy_ run few path job own) (acts past) h r → IfOkay (Still own) past h r
-  looked_so own past h (Ok u) s f = record { settled = f; unfailed = s.unfailed }
-  looked_so own past h (Err e) s f = tt
-
-  looks_keep : (past : List Done) (h : Hand) → Sound (looks_pledge run path job) (acts past) h → Keeps (rules_of (looks_pledge run path job)) past h (mark_looks run path job) (IfOkay (Still (acts past)))
-  looks_keep past h sound =
-      keeps_more (rules_of (looks_pledge run path job)) past h (mark_looks run path job) (ByActs (Soundly (looks_pledge run path job) (okay (StillBy_ run few path job (acts past))))) (IfOkay (Still (acts past)))
-      (λ later j r q. looked_so (acts past) later j r q.0 q.1)
-      (goes_keeps (looks_pledge run path job) past (acts past) h (mark_looks run path job) (okay (StillBy_ run few path job (acts past))) refl sound (looks_go run few path job (acts past) h))
-
-  -- a `mark` keeps the rules of its pledge, whatever its run has done before
-  pub mark_keeps : (act : Option MarkAct) (past : List Done) (h : Hand) → Sound (pledge_by run path job act) (acts past) h → Keeps (rules_of (pledge_by run path job act)) past h (mark_by_act run path job act) (IfOkay (Still (acts past)))
-  mark_keeps None past h sound = looks_keep past h sound
-  mark_keeps (Some a) past h sound = changes_keep a past h sound
-
-  -- a `mark` promises what its pledge says
-  pub mark_promises : (x y : State) (result : Result Unit CommandFault) → Follows run command_cause (mark run path job) x y result → Promises (pledge_by run path job job.act) x y
-  unfolding mark
-  mark_promises x y result f = go job.act f
-    where
-      sound : (w : Pledge) → Sound w [] x.hand
-      sound w = record { numbered = tt; unfailed = λ z. elim z [ ] }
-
-      go : (act : Option MarkAct) → Follows run command_cause (mark_by_act run path job act) x y result → Promises (pledge_by run path job act) x y
-      go None f = keeps_pledge (looks_pledge run path job) command_cause (mark_looks run path job) x y result (IfOkay (Still [])) (mark_keeps None [] x.hand (sound (looks_pledge run path job))) f
-      go (Some a) f = keeps_pledge (mark_pledge run path job a) command_cause (mark_changes run path job a) x y result (IfOkay (Still [])) (mark_keeps (Some a) [] x.hand (sound (mark_pledge run path job a))) f
+pub mark_promises : (run : ℕ) (few : run < 2 ^ 128) (path : List ℕ) (job : MarkJob) (x y : State) (result : Result Unit CommandFault)
+    → Follows run command_cause (mark run path job) x y result → Promises (pledge_by run path job job.act) x y
+unfolding mark
+mark_promises run few path job x y result f = by_act run few path job job.act x y result f

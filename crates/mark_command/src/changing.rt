@@ -2,10 +2,11 @@
 ghost use Rattle.std.specs.Prelude.{◌≡◌};
 ghost use Rattle.file_plans.specs.Follows.{Follows, by_hand, by_out};
 ghost use Rattle.step_plans.specs.CommandFaults.{command_cause};
-ghost use Rattle.mark_command.specs.Mark.{chosen_from, chosen_marked, mark as mark_plan, mark_changes, opened_marked};
-ghost use Rattle.mark_command.specs.MarkPledge.{PromisesSteps};
-ghost use Rattle.mark_command.specs.MarkedAlone.{MarksIfUnfaulted};
-ghost use Rattle.mark_command.specs.Values.{AreMarks};
+ghost use Rattle.told_folders.specs.Plans.{chosen_changed, folder_changed, opened_told};
+ghost use Rattle.told_folders.specs.Tasks.{chosen_from};
+ghost use Rattle.told_folders.specs.ToldAlone.{TellsIfUnfaulted};
+ghost use Rattle.mark_command.specs.Mark.{mark as mark_plan, mark_task, mark_work};
+ghost use Rattle.mark_command.specs.Values.{AreMarks, PromisesSteps};
 
 use crate::looking::look;
 use crate::marks::marks;
@@ -26,7 +27,7 @@ fn chosen_marks(
     act: MarkAct,
     opened: &Opened,
 ) -> Result<MarkList, CommandFault>
-    ensures { AreMarks job.now act opened.now.listing (chosen_from job.now opened.now.listing opened.now.sequences) result }
+    ensures { AreMarks job.now act opened.now.listing (chosen_from (mark_task job.now act) opened.now.listing opened.now.sequences) result }
 {
     let chosen = choose(
         alloc,
@@ -47,7 +48,7 @@ fn mark_chosen<F: Files>(
     act: MarkAct,
     mut opened: Opened,
 ) -> Result<Opened, CommandFault>
-    ensures plan { Follows hand.old.run command_cause (chosen_marked hand.old.run hand.old.mail job.now act opened) (by_hand hand.old.kept (F.state files.old)) (by_hand hand.new.kept (F.state files.new)) result }
+    ensures plan { Follows hand.old.run command_cause (chosen_changed hand.old.run hand.old.mail (mark_task job.now act) opened) (by_hand hand.old.kept (F.state files.old)) (by_hand hand.new.kept (F.state files.new)) result }
     ensures run { hand.new.run ≡ hand.old.run }
     ensures mail { hand.new.mail ≡ hand.old.mail }
 {
@@ -69,7 +70,7 @@ fn mark_opened<F: Files, O: Sink>(
     act: MarkAct,
     opened: Opened,
 ) -> Result<(), CommandFault>
-    ensures plan { Follows hand.old.run command_cause (opened_marked hand.old.run hand.old.mail job.now act opened) (by_out hand.old.kept (F.state files.old) (O.state out.old)) (by_out hand.new.kept (F.state files.new) (O.state out.new)) result }
+    ensures plan { Follows hand.old.run command_cause (opened_told hand.old.run hand.old.mail (mark_task job.now act) opened) (by_out hand.old.kept (F.state files.old) (O.state out.old)) (by_out hand.new.kept (F.state files.new) (O.state out.new)) result }
     ensures run { hand.new.run ≡ hand.old.run }
     ensures mail { hand.new.mail ≡ hand.old.mail }
 {
@@ -86,7 +87,7 @@ fn change<F: Files, O: Sink>(
     job: &MarkJob,
     act: MarkAct,
 ) -> Result<(), CommandFault>
-    ensures plan { Follows hand.old.run command_cause (mark_changes hand.old.run hand.old.mail job.now act) (by_out hand.old.kept (F.state files.old) (O.state out.old)) (by_out hand.new.kept (F.state files.new) (O.state out.new)) result }
+    ensures plan { Follows hand.old.run command_cause (folder_changed hand.old.run hand.old.mail (mark_task job.now act)) (by_out hand.old.kept (F.state files.old) (O.state out.old)) (by_out hand.new.kept (F.state files.new) (O.state out.new)) result }
     ensures run { hand.new.run ≡ hand.old.run }
     ensures mail { hand.new.mail ≡ hand.old.mail }
 {
@@ -106,7 +107,7 @@ pub fn mark<F: Files, O: Sink>(
     job: &MarkJob,
 ) -> Result<(), CommandFault>
     ensures plan { Follows hand.old.run command_cause (mark_plan hand.old.run hand.old.mail job.now) (by_out hand.old.kept (F.state files.old) (O.state out.old)) (by_out hand.new.kept (F.state files.new) (O.state out.new)) result }
-    ensures alone { MarksIfUnfaulted hand.old.run hand.old.mail hand.old.kept job.now result (F.state files.old) (F.state files.new) (O.state out.old) (O.state out.new) }
+    ensures alone { TellsIfUnfaulted hand.old.run hand.old.mail job.now.folder hand.old.kept (mark_work hand.old.mail job.now) result (F.state files.old) (F.state files.new) (O.state out.old) (O.state out.new) }
     ensures steps { PromisesSteps hand.old.run hand.old.mail job.now (by_out hand.old.kept (F.state files.old) (O.state out.old)) (by_out hand.new.kept (F.state files.new) (O.state out.new)) }
     ensures run { hand.new.run ≡ hand.old.run }
     ensures mail { hand.new.mail ≡ hand.old.mail }

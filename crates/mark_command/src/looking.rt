@@ -1,59 +1,22 @@
 // `mark` that only lists.
-ghost use Rattle.std.specs.Prelude.{◌≡◌, IfOk};
+ghost use Rattle.std.specs.Prelude.{◌≡◌};
 ghost use Rattle.file_plans.specs.Follows.{Follows, by_out};
 ghost use Rattle.step_plans.specs.CommandFaults.{command_cause};
 ghost use Rattle.mh_looks.specs.Scan.{entries_seen};
-ghost use Rattle.sequence_commits.specs.Cutting.{cut_to};
-ghost use Rattle.sequence_commits.specs.Reading.{sequences_in as sequences_in_text};
-ghost use Rattle.mark_command.specs.Mark.{checked, listed_runs, mark_looks, sequences_seen};
+ghost use Rattle.told_folders.specs.Plans.{folder_looked};
+ghost use Rattle.told_folders.specs.Tasks.{checked, sequences_seen};
+ghost use Rattle.mark_command.specs.Mark.{look_task};
 ghost use Rattle.mark_command.specs.Values.{AreValue};
 
 use crate::MarkJob;
 use crate::saying::say_sequences;
-use command_stages::{choose, folder_place, list_folder, make_current, noted, read_sequences_text};
+use command_stages::{choose, folder_place, list_folder, make_current, read_sequences_text};
 use folder_files::Files;
-use mh_base::{Bytes, FolderName, NameList, Sink};
-use mh_profile::Entries;
+use mh_base::{Bytes, NameList, Sink};
 use mh_sequences::{NumSet, Sequences};
-use sequence_commits::{cut_sequences, read_sequences};
-use std::alloc::{AllocError, Global};
+use std::alloc::Global;
 use step_plans::{CommandFault, Hand};
-
-/// The sequences of a text and of the context as the run has seen it.
-fn sequences_in(
-    alloc: Global,
-    hand: &Hand,
-    folder: &FolderName,
-    text: &[u8],
-) -> Result<Sequences, AllocError>
-    ensures { IfOk result (λ s. s ≡ sequences_in_text text.now (entries_seen hand.now.kept.context) folder.now) }
-{
-    match hand.context() {
-        Some(entries) => read_sequences(alloc, text, entries, folder),
-        None => read_sequences(alloc, text, &Entries::new(alloc), folder),
-    }
-}
-
-/// The same without the messages that are not listed.
-fn sequences_listed(
-    alloc: Global,
-    hand: &Hand,
-    folder: &FolderName,
-    text: &[u8],
-    listing: &NumSet,
-) -> Result<Sequences, AllocError>
-    ensures { IfOk result (λ s. s ≡ cut_to listing.now.runs (sequences_in_text text.now (entries_seen hand.now.kept.context) folder.now)) }
-{
-    let mut sequences = sequences_in(alloc, hand, folder, text)?;
-    cut_sequences(&mut sequences, listing)?;
-    Ok(sequences)
-}
-
-fn listed(alloc: Global, names: &NameList) -> Result<NumSet, AllocError>
-    ensures { IfOk result (λ s. s.runs ≡ listed_runs names.now) }
-{
-    noted(alloc, names.as_slice())?.into_set()
-}
+use told_folders::{listed, sequences_listed};
 
 /// The sequences, where none of the words is refused.
 fn check(
@@ -62,7 +25,7 @@ fn check(
     listing: &NumSet,
     sequences: Sequences,
 ) -> Result<Sequences, CommandFault>
-    ensures { AreValue (checked job.now listing.now.runs sequences) result }
+    ensures { AreValue (checked (look_task job.now) listing.now.runs sequences) result }
 {
     if !job.specs.is_empty() {
         let _ = choose(
@@ -83,7 +46,7 @@ fn seen(
     names: &NameList,
     text: &Bytes,
 ) -> Result<Sequences, CommandFault>
-    ensures { AreValue (sequences_seen job.now names.now text.now (entries_seen hand.now.kept.context)) result }
+    ensures { AreValue (sequences_seen (look_task job.now) names.now text.now (entries_seen hand.now.kept.context)) result }
 {
     let listing = listed(alloc, names)?;
     let sequences = sequences_listed(alloc, hand, &job.folder, text.as_slice(), &listing)?;
@@ -98,7 +61,7 @@ pub(crate) fn look<F: Files, O: Sink>(
     out: &mut O,
     job: &MarkJob,
 ) -> Result<(), CommandFault>
-    ensures plan { Follows hand.old.run command_cause (mark_looks hand.old.run hand.old.mail job.now) (by_out hand.old.kept (F.state files.old) (O.state out.old)) (by_out hand.new.kept (F.state files.new) (O.state out.new)) result }
+    ensures plan { Follows hand.old.run command_cause (folder_looked hand.old.run hand.old.mail (look_task job.now)) (by_out hand.old.kept (F.state files.old) (O.state out.old)) (by_out hand.new.kept (F.state files.new) (O.state out.new)) result }
     ensures run { hand.new.run ≡ hand.old.run }
     ensures mail { hand.new.mail ≡ hand.old.mail }
 {

@@ -30,7 +30,7 @@ use Rattle.opened_folders.proofs.EndedKept.{Still, keeps_more}
 use Rattle.mh_looks.specs.Scan.{entries_seen}
 use Rattle.mh_looks.specs.ScanPledge.{HasListed}
 use Rattle.mh_looks.proofs.LooksLeave.{Lists, Looked, Looks, goes_chosen, listed_goes, more_looked, none_looked, one_looked, text_goes}
-use Rattle.told_folders.proofs.ChangesPledged.{lines_go, noted_goes}
+use Rattle.told_folders.proofs.ChangesPledged.{lines_go, noted_goes, sound_first}
 use Rattle.part_rows.specs.Choices.{first_missing}
 use Rattle.part_rows.specs.PartViews.{parts_of}
 use Rattle.part_rows.specs.Rows.{header, rows_of}
@@ -64,10 +64,6 @@ module _ (w : Pledge) (tells : (own : List Deed) (piece : List ℕ) → w.may_te
   all_goes wanted own h place (n ∷ ns) =
       goes_then w own h (one_listed wanted place n) (λ listed. all_listed wanted place ns) (Looks own) (Looks own) (one_goes wanted own h place n)
       (λ later j u f. goes_more w later j (all_listed wanted place ns) (okay (Looks later)) (okay (Looks own)) (okay_more (Looks later) (Looks own) (λ last i v g. more_looked own later last f g)) (all_goes wanted later j place ns))
-
--- nothing was done before
-sound_first : (w : Pledge) (h : Hand) → Sound w [] h
-sound_first w h = record { numbered = tt; unfailed = λ z. elim z [ ] }
 
 module _ (run : ℕ) (few : run < 2 ^ 128) (path : List ℕ) (job : ListJob) where
   abbrev v : Pledge

@@ -1,9 +1,6 @@
 -- What comes of reading messages, and of saying their rows.
-use Rattle.std.proofs.Common.{◌≡◌, ◌++◌, ◌∷◌, ◌==◌, ◌||◌, [], ℕ, Bool, true, false, List, Option, Some, None, Result, Ok, Err, refl, sym, ◌∙◌, ap, append_assoc, append-nil}
+use Rattle.std.proofs.Common.{◌≡◌, ◌++◌, ◌∷◌, [], ℕ, true, List, Option, Some, None, Result, Ok, Err, refl, sym, ◌∙◌, ap, append_assoc, append-nil}
 use Rattle.std.specs.List.{flat_map}
-use Rattle.std.proofs.lemmas.Bool.Decides.{Decides-eqb}
-use Rattle.mh_base.specs.Entries.{entry_text}
-use Rattle.mh_base.specs.declared.entry.Entry.TheVariants.{Number}
 use Rattle.mh_profile.specs.declared.named_value.NamedValue.{NamedValue}
 use Rattle.msg_ranges.proofs.Rising.{lists}
 use Rattle.folder_files.specs.Deeds.{Deed, did}
@@ -13,16 +10,17 @@ use Rattle.folder_files.specs.declared.step.Answer.{Answer}
 use Rattle.folder_files.specs.declared.step.Answer.TheVariants as answer
 use Rattle.folder_files.specs.declared.step.Step.TheVariants as step
 use Rattle.file_plans.specs.Plan.{Hand}
-use Rattle.step_plans.specs.CommandFaults.{of_sink, of_stop}
+use Rattle.step_plans.specs.CommandFaults.{of_stop}
 use Rattle.step_plans.specs.ContextCommit.{LIMIT_BYTES}
 use Rattle.step_plans.specs.declared.command_fault.CommandFault.{CommandFault}
 use Rattle.step_plans.specs.declared.command_fault.CommandFault.TheVariants as fault
-use Rattle.step_plans.proofs.Coming.{Comes, comes_more, comes_read, comes_say, comes_then, comes_to}
+use Rattle.step_plans.proofs.Coming.{Comes, comes_more, comes_read, comes_then, comes_to}
 use Rattle.step_plans.proofs.Going.{Outcome}
 use Rattle.command_stages.specs.Texts.{too_large}
-use Rattle.mh_looks.proofs.Ending.{comes_at}
+use Rattle.mh_looks.proofs.Ending.{comes_at, name_of}
+use Rattle.told_folders.proofs.ChangesEnd.{lines_come}
+use Rattle.told_folders.proofs.MessagesStand.{first_listed, other_listed}
 use Rattle.told_folders.specs.Outcomes.{joined}
-use Rattle.told_folders.specs.Plans.{lines_said}
 use Rattle.part_rows.specs.Choices.{first_missing}
 use Rattle.part_rows.specs.PartViews.{parts_of}
 use Rattle.part_rows.specs.Rows.{header, rows_of}
@@ -30,33 +28,13 @@ use Rattle.mhlist_command.specs.ListAnswers.{AreWhole, HasJustRead, IsWhole, Rea
 use Rattle.mhlist_command.specs.Listing.{all_listed, listed_by, no_part, one_listed, said_unless}
 use Rattle.mhlist_command.specs.declared.job.ListJob.{ListJob}
 
-abbrev pub name_of : ℕ → List ℕ
-name_of n = entry_text (Number n)
-
 abbrev pub reading : Place → ℕ → Answer → Deed
 reading place n a = did (step.Read place (name_of n) LIMIT_BYTES) a
-
--- the first of a list is in it, and so are the others
-pub first_listed : (n : ℕ) (ns : List ℕ) → lists (n ∷ ns) n ≡ true
-first_listed n ns = ap (λ b. b || lists ns n) ((Decides-eqb n n).1 refl)
-
-pub other_listed : (m n : ℕ) (ns : List ℕ) → lists ns n ≡ true → lists (m ∷ ns) n ≡ true
-other_listed m n ns e = go (m == n)
-  where
-    go : (b : Bool) → b || lists ns n ≡ true
-    go true = refl
-    go false = e
 
 -- what each reading keeps, all of them keep
 pub reading_kept : (place : Place) (F : List Deed → Type 0) → ((own : List Deed) (n : ℕ) (text : List ℕ) → F own → F (reading place n (answer.Content text) ∷ own)) → (ms : List ReadMessage) (own : List Deed) → F own → F (after_reading place ms own)
 reading_kept place F keeps [] own f = f
 reading_kept place F keeps (m ∷ ms) own f = reading_kept place F keeps ms (reading_of place m ∷ own) (keeps own m.number m.text f)
-
--- lines are said, and that is all
-pub lines_come : (own : List Deed) (h : Hand) (lines : List (List ℕ)) (Q : Outcome (Result Unit CommandFault)) → Q own h (Ok tt) → Comes own h (lines_said lines) Q
-unfolding lines_said
-lines_come own h [] Q q = comes_to own h (Ok tt) Q q
-lines_come own h (line ∷ lines) Q q = comes_say own h of_sink Q line (λ told. lines_said lines) (lines_come own h lines Q q)
 
 module _ (place : Place) (wanted : List (List ℕ)) where
   -- these messages were read after these deeds, and each has the parts that are wanted
@@ -88,7 +66,7 @@ module _ (place : Place) (wanted : List (List ℕ)) where
   All ns own h later j (Err e) = Stopped ns own e later
 
   said_comes : (n : ℕ) (ns : List ℕ) (own : List Deed) (h : Hand) (text : List ℕ) (missing : Option (List ℕ)) → first_missing wanted (parts_of text) ≡ missing → Comes (reading place n (answer.Content text) ∷ own) h (said_unless wanted n text missing) (One n ns own h)
-  said_comes n ns own h text None is = lines_come (reading place n (answer.Content text) ∷ own) h (rows_of n wanted text) (One n ns own h) (text, is, refl, refl)
+  said_comes n ns own h text None is = lines_come (reading place n (answer.Content text) ∷ own) h (One n ns own h) (text, is, refl, refl) (rows_of n wanted text)
   said_comes n ns own h text (Some part) is = comes_to (reading place n (answer.Content text) ∷ own) h (Err (no_part part)) (One n ns own h) (lacks [] (record { number = n; text = text }) ns part refl tt is)
 
   one_comes : (n : ℕ) (ns : List ℕ) (own : List Deed) (h : Hand) → Comes own h (one_listed wanted place n) (One n ns own h)

@@ -5,7 +5,6 @@ use Rattle.mh_base.specs.Entries.{entry_text}
 use Rattle.mh_base.specs.declared.entry.Entry.TheVariants.{Number}
 use Rattle.folder_files.specs.Steps.{read_file_answer}
 use Rattle.folder_files.specs.declared.place.Place.{Place}
-use Rattle.folder_files.specs.declared.refusal.Refusal.{Refusal}
 use Rattle.folder_files.specs.declared.refusal.Refusal.TheVariants as refusal
 use Rattle.folder_files.specs.declared.step.Answer.{Answer}
 use Rattle.folder_files.specs.declared.step.Answer.TheVariants as answer
@@ -21,9 +20,10 @@ use Rattle.file_plans.proofs.Viewing.{read_view}
 use Rattle.step_plans.specs.CommandFaults.{of_stop}
 use Rattle.step_plans.specs.ContextCommit.{LIMIT_BYTES}
 use Rattle.step_plans.specs.declared.command_fault.CommandFault.{CommandFault}
-use Rattle.step_plans.specs.declared.command_fault.CommandFault.TheVariants as fault
+use Rattle.step_plans.proofs.Refusals.{IsRefusal}
 use Rattle.command_stages.specs.Texts.{too_large}
 use Rattle.mh_looks.proofs.Reading.{after_read}
+use Rattle.told_folders.proofs.MessagesStand.{AllStand, Stands}
 use Rattle.told_folders.specs.Outcomes.{joined}
 use Rattle.told_folders.specs.Plans.{lines_said}
 use Rattle.told_folders.specs.Tasks.{AreSome}
@@ -57,16 +57,6 @@ unfolding Gives lines_said say lifted bind ◌>>=◌
 lines_then v h [] rest f = (refl, refl, refl, refl)
 lines_then v h (l ∷ ls) rest f = (f.0, (joined ls ++ rest, append_assoc l (joined ls) rest, lines_then v h ls rest f.1))
 
--- a message that stands in the contents
-pub record Stands (c : Contents) (place : Place) (n : ℕ) : Type 0 where
-  pub number : is_message_number n ≡ true
-  pub text : List ℕ
-  pub there : c.texts place (decimal n) ≡ Some text
-
-abbrev pub AllStand : Contents → Place → List ℕ → Type 0
-AllStand c place [] = Unit {0}
-AllStand c place (n ∷ ns) = Stands c place n × AllStand c place ns
-
 -- what an answer says of a message that is there
 abbrev pub Says : List ℕ → Answer → Type 0
 Says b (answer.Content bytes) = (bytes ≡ b) × (nat_lt LIMIT_BYTES (length b) ≡ false)
@@ -86,10 +76,6 @@ says_it b a e = go (nat_lt LIMIT_BYTES (length b)) refl e
     go : (v : Bool) → nat_lt LIMIT_BYTES (length b) ≡ v → a ≡ (if v then answer.Long (length b) else answer.Content b) → Says b a
     go true long is = rw is (refl, long)
     go false short is = rw is (refl, short)
-
--- an end that is a refusal
-abbrev pub IsRefusal : CommandFault → Type 0
-IsRefusal e = (r : Refusal) × (e ≡ fault.Refused r)
 
 module _ (place : Place) (wanted : List (List ℕ)) (c : Contents) (ns : List ℕ) where
   abbrev pub messages : ℕ → Option (List ℕ)

@@ -1,6 +1,5 @@
 -- The messages that are listed, one after another.
-use Rattle.std.proofs.Common.{◌≡◌, ◌∷◌, List, ℕ, ◌+◌, suc, ◌<◌, ◌≤◌, Result, Ok, sym, ap, drop, get_or, length, add-one}
-use Rattle.std.proofs.Math.Seq.{drop-cons}
+use Rattle.std.proofs.Common.{◌≡◌, List, ℕ, ◌+◌, ◌<◌, ◌≤◌, Result, Ok, ap, drop, get_or, length}
 use Rattle.std.proofs.lemmas.List.{drop_all}
 use Rattle.folder_files.specs.declared.place.Place.{Place}
 use Rattle.file_plans.specs.Plan.{◌>>=◌}
@@ -8,10 +7,8 @@ use Rattle.file_plans.specs.Follows.{State, Follows}
 use Rattle.file_plans.proofs.Following.{same_plan, done}
 use Rattle.step_plans.specs.CommandFaults.{command_cause}
 use Rattle.step_plans.specs.declared.command_fault.CommandFault.{CommandFault}
+use Rattle.mh_looks.proofs.Showing.{next}
 use Rattle.mhlist_command.specs.Listing.{all_listed, one_listed}
-
-next : (l : List ℕ) (i : ℕ) (x : ℕ) → i < length l → x ≡ get_or l i x → drop i l ≡ x ∷ drop (i + 1) l
-next l i x h is = rw (add-one, drop-cons l i x) (ap (λ y. y ∷ drop (suc i) l) (sym is))
 
 pub turn : (run : ℕ) (wanted : List (List ℕ)) (place : Place) (l : List ℕ) (i n : ℕ) (x y : State) (r : Result Unit CommandFault) → i < length l → n ≡ get_or l i n →
     Follows run command_cause (one_listed wanted place n >>= λ u. all_listed wanted place (drop (i + 1) l)) x y r → Follows run command_cause (all_listed wanted place (drop i l)) x y r

@@ -53,9 +53,9 @@ AreWhole wanted (m ∷ ms) = IsWhole wanted m.text × AreWhole wanted ms
 abbrev pub told_of : List (List ℕ) → List ReadMessage → List ℕ
 told_of wanted messages = header ++ flat_map (λ m. joined (rows_of m.number wanted m.text)) messages
 
--- The newest steps listed the folder, read its sequences, and then read these messages, one after another. By the listing
--- and the sequences, and by the entries of the context that were read before, the job's words choose these messages, and
--- behind them those that are left. Each message that was read has all parts that are wanted.
+-- The newest steps listed the folder, read its sequences, and then read these messages, one after another. By the
+-- listing and the sequences, and by the entries of the context that were read before, the job's words choose these
+-- messages, and behind them those that are left. Each message that was read has all parts that are wanted.
 pub record HasJustRead (path : List ℕ) (job : ListJob) (entries : List NamedValue) (messages : List ReadMessage) (left : List ℕ)
     (own : List Deed) : Type 0 where
   pub names : List (List ℕ)
@@ -77,7 +77,8 @@ pub record HasRead (path : List ℕ) (job : ListJob) (entries : List NamedValue)
   pub seen : own ≡ newer ++ before
   pub just : HasJustRead path job entries messages left before
 
--- the run read all messages that the words choose, and this text is the line above the rows with the rows of all of them
+-- the run read all messages that the words choose, and this text is the line above the rows with the rows of all of
+-- them
 abbrev pub TellsRows : List ℕ → ListJob → List NamedValue → List ℕ → List Deed → Type 0
 TellsRows path job entries said own =
     (messages : List ReadMessage) × HasRead path job entries messages [] own × (said ≡ told_of job.parts messages)
@@ -100,8 +101,8 @@ pub record IsRefusedByListing (path : List ℕ) (job : ListJob) (entries : List 
   pub told : TellsText (Folder path job.folder) (entry_text Sequences) text reading
   pub refuses : chosen_seen job names text entries ≡ Err (command.Refused r)
 
--- the newest step read the next of the chosen messages, and the part that this word names is the first of the wanted ones
--- that the message has not
+-- the newest step read the next of the chosen messages, and the part that this word names is the first of the wanted
+-- ones that the message has not
 pub record LacksPart (path : List ℕ) (job : ListJob) (entries : List NamedValue) (word : List ℕ) (own : List Deed) : Type 0 where
   pub messages : List ReadMessage
   pub next : ReadMessage

@@ -39,7 +39,8 @@ first_of None later = later
 -- why the first of these messages isn't listed that isn't
 unfoldable pub first_refused : List (List ℕ) → (ℕ → Option (List ℕ)) → List ℕ → Option CommandFault
 first_refused wanted messages [] = None
-first_refused wanted messages (n ∷ ns) = first_of (refused_text wanted (text_of messages n)) (first_refused wanted messages ns)
+first_refused wanted messages (n ∷ ns) =
+    first_of (refused_text wanted (text_of messages n)) (first_refused wanted messages ns)
 
 abbrev pub unless_refused : Option CommandFault → List ℕ → List ℕ
 unless_refused (Some e) rows = []
@@ -60,13 +61,16 @@ unless_stopped path job k text None = current_work path job.folder text k
 
 -- they are listed, and the folder becomes the current one
 abbrev pub numbers_work : List ℕ → ListJob → Kept → (ℕ → Option (List ℕ)) → List ℕ → Work CommandFault
-numbers_work path job k messages numbers = unless_stopped path job k (list_text job messages numbers) (first_refused job.parts messages numbers)
+numbers_work path job k messages numbers =
+    unless_stopped path job k (list_text job messages numbers) (first_refused job.parts messages numbers)
 
-abbrev pub chosen_work : List ℕ → ListJob → Kept → (ℕ → Option (List ℕ)) → Result (List ℕ) CommandFault → Work CommandFault
+abbrev pub chosen_work : List ℕ → ListJob → Kept → (ℕ → Option (List ℕ)) → Result (List ℕ) CommandFault
+    → Work CommandFault
 chosen_work path job k messages (Ok numbers) = numbers_work path job k messages numbers
 chosen_work path job k messages (Err e) = refused_at k.mailbox e
 
--- the messages that the words choose of a folder with these numbers and sequences, or the refusal of the first word that is refused
+-- the messages that the words choose of a folder with these numbers and sequences, or the refusal of the first word
+-- that is refused
 abbrev pub chosen_from : ListJob → List Run → Marked → Result (List ℕ) CommandFault
 chosen_from job listing m = chosen_in (folder_with job.negation (numbers_of listing) (marks_of m)) job.specs
 

@@ -64,8 +64,10 @@ all_listed wanted place (n ∷ ns) = do
   listed ← one_listed wanted place n
   all_listed wanted place ns
 
--- the messages that words choose of a folder, by its names, the text of its sequences, of its listed messages alone, and the context
-abbrev pub chosen_by : List ℕ → List (List ℕ) → List ℕ → List (List ℕ) → List ℕ → List NamedValue → Result (List ℕ) CommandFault
+-- the messages that words choose of a folder, by its names, the text of its sequences, of its listed messages alone,
+-- and the context
+abbrev pub chosen_by : List ℕ → List (List ℕ) → List ℕ → List (List ℕ) → List ℕ → List NamedValue
+    → Result (List ℕ) CommandFault
 chosen_by folder specs negation names text entries =
     chosen_in (folder_with negation (numbers_of (listed_runs names)) (marks_of (sequences_listed names text entries folder))) specs
 
@@ -73,8 +75,8 @@ chosen_by folder specs negation names text entries =
 abbrev pub chosen_seen : ListJob → List (List ℕ) → List ℕ → List NamedValue → Result (List ℕ) CommandFault
 chosen_seen job names text entries = chosen_by job.folder job.specs job.negation names text entries
 
--- `mhlist`: the folder is listed and its sequences are read; the line above the rows is said, and then the rows of the chosen messages; and the folder
--- becomes the current one
+-- `mhlist`: the folder is listed and its sequences are read; the line above the rows is said, and then the rows of the
+-- chosen messages; and the folder becomes the current one
 unfoldable pub mhlist : ℕ → List ℕ → ListJob → Commanded Unit
 mhlist run mail job = do
   names ← folder_listed (Folder mail job.folder) job.folder

@@ -2,7 +2,6 @@
 use Rattle.std.proofs.Common.{◌≡◌, inl, inr, ◌<◌, ◌^◌, ◌++◌, ◌∷◌, [], ℕ, Bool, true, false, List, Ok, refl, sym, ◌∙◌, ap, subst, append_assoc, arith}
 use Rattle.std.proofs.lemmas.Bool.Decides.{nat_tests}
 use Rattle.mh_base.specs.Entries.{kind_of}
-use Rattle.mh_base.specs.declared.entry.Entry.{Entry}
 use Rattle.mh_base.specs.declared.entry.Entry.TheVariants as entry
 use Rattle.folder_files.specs.Careful.{Clears, Creates, Stores, WasReady, WasSynced, clears, creates, links, replaces}
 use Rattle.folder_files.specs.Deeds.{Deed, Once, did, now, on}
@@ -31,6 +30,7 @@ use Rattle.step_plans.proofs.Ruling.{AreNumbered}
 use Rattle.step_plans.proofs.Stepping.{goes_create, goes_end, goes_link, goes_rename, goes_return, goes_sync_file, goes_unlink}
 use Rattle.step_plans.proofs.Written.{Adds, Serves, goes_at, goes_named}
 use Rattle.part_rows.specs.FileNames.{StoredFile}
+use Rattle.message_puts.proofs.PutPledged.{is_temp_any}
 use Rattle.mhstore_command.specs.Files.{file_added, file_replaced, file_stored, if_free, linked, linked_by}
 use Rattle.mhstore_command.specs.StorePledge.{HasStoredAs, IsPartRead, IsReadyPart, IsStoredAs, store_pledge}
 use Rattle.mhstore_command.specs.declared.job.StoreJob.{StoreJob}
@@ -74,15 +74,6 @@ was_ready temp bytes own = now (refl, now refl)
 
 was_synced : (temp bytes : List ℕ) (own : List Deed) → WasReady Work temp bytes own → WasSynced Work temp own
 was_synced temp bytes own w = once_map (λ d older f. (f.0, once_map (λ x old e. (bytes, e)) f.1)) w
-
-is_temp_any : (run : ℕ) (k : Entry) → is_temp_of run k ≡ true → is_temp k ≡ true
-is_temp_any run (entry.Temp r n) e = refl
-is_temp_any run (entry.Number n) e = cc (e)
-is_temp_any run (entry.Backup n) e = cc (e)
-is_temp_any run (entry.Held r n) e = cc (e)
-is_temp_any run entry.Sequences e = cc (e)
-is_temp_any run entry.LockFile e = cc (e)
-is_temp_any run entry.Other e = cc (e)
 
 is_temp_by : (run n : ℕ) (temp : List ℕ) → kind_of temp ≡ entry.Temp run n → is_temp_of run (kind_of temp) ≡ true
 is_temp_by run n temp e = rw e (grind (arith, nat_tests))

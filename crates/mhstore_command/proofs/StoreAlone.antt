@@ -1,6 +1,5 @@
 -- `mhstore` alone, by what it gives.
 use Rattle.std.proofs.Common.{◌≡◌, inl, inr, ◌++◌, ◌+◌, ℕ, false, List, [], length, Option, None, Some, Result, Ok, Err, refl, sym, ◌∙◌, ap, subst, append-nil, arith}
-use Rattle.std.specs.Prelude.{nat_lt}
 use Rattle.mh_base.specs.Counts.{Rose}
 use Rattle.mh_base.specs.Streams.{Adds, SinkState}
 use Rattle.mh_profile.specs.Reading.{entries_in}
@@ -24,23 +23,19 @@ use Rattle.file_plans.proofs.Both.{alone_gave}
 use Rattle.file_plans.proofs.Contents.{mailbox_is}
 use Rattle.file_plans.proofs.Existing.{puts_in}
 use Rattle.file_plans.proofs.Failing.{made_failed, said_are}
-use Rattle.file_plans.proofs.Onward.{IsShort}
 use Rattle.step_plans.specs.CommandFaults.{command_cause}
-use Rattle.step_plans.specs.ContextCommit.{LIMIT_BYTES, context_name}
+use Rattle.step_plans.specs.ContextCommit.{context_name}
 use Rattle.step_plans.specs.declared.command_fault.CommandFault.{CommandFault}
 use Rattle.step_plans.specs.declared.command_fault.CommandFault.TheVariants as fault
 use Rattle.command_stages.specs.Works.{Work}
 use Rattle.opened_folders.proofs.WorkGiven.{WorkEnds}
 use Rattle.told_folders.specs.ToldAlone.{ComesTo, HasReadContext}
+use Rattle.told_folders.proofs.ToldAlone.{short_is}
 use Rattle.mhstore_command.specs.StoreAlone.{HasNoTemps, StoresAlone, StoresIfUnfaulted, StoresInStory}
 use Rattle.mhstore_command.specs.StoreOutcome.{mhstore_work}
 use Rattle.mhstore_command.specs.Storing.{mhstore}
 use Rattle.mhstore_command.specs.declared.job.StoreJob.{StoreJob}
 use Rattle.mhstore_command.proofs.WholeGiven.{store_gives}
-
-short_is : (o : Option (List ℕ)) → nat_lt LIMIT_BYTES (length (filled o)) ≡ false → IsShort LIMIT_BYTES o
-short_is None e = tt
-short_is (Some text) e = e
 
 module _ (run : ℕ) (path : List ℕ) (job : StoreJob) (h j : Hand) (f g : FilesState) (x y : SinkState) (result : Result Unit CommandFault)
     (went : Went run (mhstore run path job) (by_out h f x) (by_out j g y) (exit_of command_cause result)) (no_files : Rose f.faults g.faults → ⊥) (no_out : Rose x.faults y.faults → ⊥) where

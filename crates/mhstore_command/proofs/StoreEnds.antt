@@ -15,7 +15,7 @@ use Rattle.folder_files.specs.declared.refusal.Refusal.TheVariants as refusal
 use Rattle.folder_files.specs.declared.step.Answer.{Answer}
 use Rattle.folder_files.specs.declared.step.Answer.TheVariants as answer
 use Rattle.folder_files.specs.declared.step.Step.TheVariants as step
-use Rattle.file_plans.specs.Plan.{Hand, Plan, Recall, Return, lifted, ◌>>=◌}
+use Rattle.file_plans.specs.Plan.{Hand, Plan, Return, lifted, ◌>>=◌}
 use Rattle.file_plans.specs.Sightings.{has_number}
 use Rattle.step_plans.specs.CommandFaults.{of_stop}
 use Rattle.step_plans.specs.ContextCommit.{LIMIT_BYTES, commit_context}
@@ -24,16 +24,15 @@ use Rattle.step_plans.specs.declared.command_fault.CommandFault.{CommandFault}
 use Rattle.step_plans.specs.declared.command_fault.CommandFault.TheVariants as fault
 use Rattle.step_plans.specs.declared.fault.PlanFault.{PlanFault}
 use Rattle.step_plans.specs.declared.fault.PlanFault.TheVariants as plan
-use Rattle.step_plans.proofs.Coming.{Comes, comes_lifted, comes_list, comes_more, comes_on, comes_read, comes_stop, comes_then, comes_to}
+use Rattle.step_plans.proofs.Coming.{Comes, comes_lifted, comes_more, comes_read, comes_then, comes_to}
 use Rattle.step_plans.proofs.Ending.{CommitEnds, commit_comes}
 use Rattle.step_plans.proofs.Going.{Outcome}
 use Rattle.command_stages.specs.Chosen.{folder_with}
 use Rattle.command_stages.specs.Current.{current_change, made_current}
 use Rattle.command_stages.specs.Endings.{of_plan}
-use Rattle.command_stages.specs.Listed.{folder_listed, names_by}
-use Rattle.command_stages.specs.Texts.{text_by, text_read, too_large}
+use Rattle.command_stages.specs.Texts.{too_large}
 use Rattle.mh_looks.specs.Scan.{entries_seen}
-use Rattle.mh_looks.proofs.Ending.{ScanShows, absent, bad_spec, by_choice, comes_at, comes_recall, empty_range, empty_sequence, held, long_file, long_text, meddled, no_folder}
+use Rattle.mh_looks.proofs.Ending.{ScanShows, absent, bad_spec, by_choice, empty_range, empty_sequence, held, long_file, long_text, meddled, name_of, no_folder}
 use Rattle.opened_folders.specs.Reads.{TellsText}
 use Rattle.opened_folders.proofs.ChosenListed.{has_tested, words_listed}
 use Rattle.opened_folders.proofs.CleanRuns.{Clean, clean_more, never_made}
@@ -46,7 +45,9 @@ use Rattle.part_rows.specs.PathTexts.{path_text}
 use Rattle.mhlist_command.specs.ListAnswers.{IsRefusedByListing, ReadMessage}
 use Rattle.mhlist_command.specs.Listing.{no_part}
 use Rattle.mhlist_command.proofs.ListEnds.{listed_text}
-use Rattle.mhlist_command.proofs.MessagesRead.{first_listed, lines_come, name_of, other_listed}
+use Rattle.told_folders.proofs.ChangesEnd.{lines_come}
+use Rattle.told_folders.proofs.FrontComes.{after_both, after_list, front_comes, reading as reading_at}
+use Rattle.told_folders.proofs.MessagesStand.{first_listed, other_listed}
 use Rattle.mhstore_command.specs.Files.{file_stored}
 use Rattle.mhstore_command.specs.StoreAnswers.{HasStored, IsNoStoring, MeetsFile, ShowsRefused, ShowsStoring, files_in, listing_of}
 use Rattle.mhstore_command.specs.Storing.{all_filed, all_stored, chosen_seen, filed_unless, mhstore, one_filed, one_stored, stored_by, told_by}
@@ -98,7 +99,7 @@ module _ (run : ℕ) (few : run < 2 ^ 128) (mail : List ℕ) (job : StoreJob) (e
     Free later j (Err e) = Both e later
 
     told_comes : (later : List Deed) (j : Hand) (b : Bool) → Stores run few f job.clobber own later j b → Comes later j (told_by f.name f.line b) One
-    told_comes later j true t = lines_come later j (f.line ∷ []) One (record { clean = t.0; stored = subst (HasStored_ messages left (files ++ f ∷ []) rest) (sym t.1.is) (file_more run mail job entries messages left files f rest t.1.newer own t.1.stored s.stored); met = λ n e. subst (HasMet place (name_of n)) (sym t.1.is) (t.1.apart place (name_of n) own refl (s.met n e)) })
+    told_comes later j true t = lines_come later j One (record { clean = t.0; stored = subst (HasStored_ messages left (files ++ f ∷ []) rest) (sym t.1.is) (file_more run mail job entries messages left files f rest t.1.newer own t.1.stored s.stored); met = λ n e. subst (HasMet place (name_of n)) (sym t.1.is) (t.1.apart place (name_of n) own refl (s.met n e)) }) (f.line ∷ [])
     told_comes later j false t = comes_to later j (Err (fault.Refused (refusal.WouldReplace f.name))) One (inr (inl (inr (f.name, refl))), meets)
       where
         meets : MeetsFile run mail job entries f.name later
@@ -222,34 +223,9 @@ module _ (run : ℕ) (few : run < 2 ^ 128) (mail : List ℕ) (job : StoreJob) (h
   Ends later j (Ok u) = Unit {0}
   Ends later j (Err e) = B e later
 
-  abbrev reading_at : Answer → Deed
-  reading_at a = did (step.Read at (entry_text Sequences) LIMIT_BYTES) a
-
-  abbrev pub Listing : List Deed → Outcome (Result (List (List ℕ)) CommandFault)
-  Listing own later j (Ok names) = (later ≡ did (step.List at) (answer.Names names) ∷ own) × (j ≡ h)
-  Listing own later j (Err e) = B e later
-
-  pub list_comes : (own : List Deed) → Comes own h (folder_listed at job.folder) (Listing own)
-  unfolding folder_listed
-  list_comes own =
-      comes_list own h of_stop (Listing own) at (names_by job.folder) (λ names. comes_to _ h (Ok names) (Listing own) (refl, refl)) (comes_to _ h (Err (fault.Refused (refusal.NoFolder job.folder))) (Listing own) (inl no_folder, tt))
-
-  abbrev pub Reading : List Deed → Outcome (Result (List ℕ) CommandFault)
-  Reading own later j (Ok text) = (a : Answer) × (later ≡ reading_at a ∷ own) × (j ≡ h) × TellsText at (entry_text Sequences) text (reading_at a) × (a ≡ answer.Failed → ⊥)
-  Reading own later j (Err e) = B e later
-
-  pub text_comes : (own : List Deed) → Comes own h (text_read at (entry_text Sequences)) (Reading own)
-  unfolding text_read
-  text_comes own =
-      comes_read own h of_stop (Reading own) at (entry_text Sequences) LIMIT_BYTES text_by (λ bytes. comes_to _ h (Ok bytes) (Reading own) (answer.Content bytes, refl, refl, inl (LIMIT_BYTES, refl), (λ e. cc (e))))
-      (λ l. comes_to _ h (Err (too_large l)) (Reading own) (inl long_file, tt)) (comes_to _ h (Ok []) (Reading own) (answer.Gone, refl, refl, inr (LIMIT_BYTES, refl, refl), (λ e. cc (e))))
-
-  abbrev after_both : List (List ℕ) → Answer → List Deed → List Deed
-  after_both names a older = reading_at a ∷ (did (step.List at) (answer.Names names) ∷ older)
-
-  module _ (names : List (List ℕ)) (text : List ℕ) (a : Answer) (older : List Deed) (told : TellsText at (entry_text Sequences) text (reading_at a)) (clean : Clean run (after_both names a older) h) where
+  module _ (names : List (List ℕ)) (text : List ℕ) (a : Answer) (older : List Deed) (told : TellsText at (entry_text Sequences) text (reading_at mail job.folder h a)) where
     abbrev own : List Deed
-    own = after_both names a older
+    own = after_both mail job.folder h names a older
 
     abbrev marked : Marked
     marked = sequences_listed names text es job.folder
@@ -258,15 +234,15 @@ module _ (run : ℕ) (few : run < 2 ^ 128) (mail : List ℕ) (job : StoreJob) (h
     rest numbers = all_stored run job at numbers >>= (λ done. made_current run mail job.folder)
 
     first_stands : (numbers : List ℕ) → chosen_seen job names text es ≡ Ok numbers → HasStored run mail job es [] numbers [] [] own
-    first_stands numbers is = record { names = names; text = text; reading = reading_at a; newer = []; older = older; seen = refl; told = told; chosen = is; whole = tt; read = tt; all = refl; stored = tt }
+    first_stands numbers is = record { names = names; text = text; reading = reading_at mail job.folder h a; newer = []; older = older; seen = refl; told = told; chosen = is; whole = tt; read = tt; all = refl; stored = tt }
 
     met : (numbers : List ℕ) → chosen_seen job names text es ≡ Ok numbers → (n : ℕ) → lists numbers n ≡ true → HasMet at (name_of n) own
     met numbers is n e =
         met_kept at (name_of n) (step.Read at (entry_text Sequences) LIMIT_BYTES) a (did (step.List at) (answer.Names names) ∷ older) (λ f. f)
         (last (inr (names, refl, listed_text n names (has_tested (λ k. has_number k names) n (words_listed job.negation (listed_runs names) marked job.specs numbers is n e)))))
 
-    numbers_come : (numbers : List ℕ) → chosen_seen job names text es ≡ Ok numbers → Comes own h (rest numbers) Ends
-    numbers_come numbers is =
+    numbers_come : Clean run own h → (numbers : List ℕ) → chosen_seen job names text es ≡ Ok numbers → Comes own h (rest numbers) Ends
+    numbers_come clean numbers is =
         comes_then own h (all_stored run job at numbers) (λ done. made_current run mail job.folder) (All run few mail job es) Ends
         (messages_come run few mail job es numbers [] own h (record { clean = clean; stored = first_stands numbers is; met = met numbers is }))
         (λ later j u c. comes_more later j (made_current run mail job.folder) (Looks run few mail job es) Ends (λ end i r q. ends end i r q) (current_comes run few mail job es later j c)) (λ later j e q. q)
@@ -276,28 +252,25 @@ module _ (run : ℕ) (few : run < 2 ^ 128) (mail : List ℕ) (job : StoreJob) (h
         ends end i (Err e) q = q
 
     by : (r : Refusal) → chosen_seen job names text es ≡ Err (fault.Refused r) → IsRefusedByListing mail (listing_of job) es r own
-    by r is = record { names = names; text = text; reading = reading_at a; older = older; newest = refl; told = told; refuses = is }
+    by r is = record { names = names; text = text; reading = reading_at mail job.folder h a; older = older; newest = refl; told = told; refuses = is }
 
-    chosen_comes : Comes own h (Recall (λ i. Return (chosen_seen job names text (entries_seen i.context))) >>= rest) Ends
-    chosen_comes = comes_recall own h _ rest Ends (go (chosen_seen job names text es) refl)
-      where
-        go : (r : Result (List ℕ) CommandFault) → chosen_seen job names text es ≡ r → Comes own h (Return r >>= rest) Ends
-        go (Ok numbers) is = comes_on own h numbers rest Ends (numbers_come numbers is)
-        go (Err e) is =
-            comes_stop own h e rest Ends
-            (by_choice (λ z. chosen_seen job names text es ≡ Err z → B z own) (folder_with job.negation (numbers_of (listed_runs names)) (marks_of marked)) job.specs e is (λ word f. (inl bad_spec, by (refusal.BadSpec word) f))
-            (λ word f. (inl absent, by (refusal.Absent word) f)) (λ word f. (inl empty_range, by (refusal.EmptyRange word) f)) (λ word f. (inl empty_sequence, by (refusal.EmptySequence word) f)) is)
+    stops : (e : CommandFault) → chosen_seen job names text es ≡ Err e → B e own
+    stops e is =
+        by_choice (λ z. chosen_seen job names text es ≡ Err z → B z own) (folder_with job.negation (numbers_of (listed_runs names)) (marks_of marked)) job.specs e is (λ word f. (inl bad_spec, by (refusal.BadSpec word) f))
+        (λ word f. (inl absent, by (refusal.Absent word) f)) (λ word f. (inl empty_range, by (refusal.EmptyRange word) f)) (λ word f. (inl empty_sequence, by (refusal.EmptySequence word) f)) is
+
+  pub clean_both : (names : List (List ℕ)) (a : Answer) (own : List Deed) → (a ≡ answer.Failed → ⊥) → Clean run own h → Clean run (after_both mail job.folder h names a own) h
+  clean_both names a own live clean =
+      clean_more run (after_list mail job.folder h names own) h (step.Read at (entry_text Sequences) LIMIT_BYTES) a live tt (clean_more run own h (step.List at) (answer.Names names) (λ e. cc (e)) tt clean)
 
   -- after deeds of which none failed
   pub store_comes : (own : List Deed) → Clean run own h → Comes own h (mhstore run mail job) Ends
   unfolding mhstore
-  store_comes own clean =
-      comes_then own h (folder_listed at job.folder) _ (Listing own) Ends (list_comes own)
-      (λ own1 j names q. comes_at own1 (did (step.List at) (answer.Names names) ∷ own) j h _ Ends q.0 q.1
-      (comes_then (did (step.List at) (answer.Names names) ∷ own) h (text_read at (entry_text Sequences)) _ (Reading (did (step.List at) (answer.Names names) ∷ own)) Ends
-      (text_comes (did (step.List at) (answer.Names names) ∷ own))
-      (λ own2 i text r. comes_at own2 (after_both names r.0 own) i h _ Ends r.1 r.2
-      (chosen_comes names text r.0 own r.3
-      (clean_more run (did (step.List at) (answer.Names names) ∷ own) h (step.Read at (entry_text Sequences) LIMIT_BYTES) r.0 r.4 tt (clean_more run own h (step.List at) (answer.Names names) (λ e. cc (e)) tt clean))))
-      (λ own2 i e r. r)))
-      (λ own1 j e q. q)
+  store_comes before clean =
+      front_comes mail job.folder h (List ℕ) (chosen_seen job) (λ names numbers. all_stored run job at numbers >>= (λ done. made_current run mail job.folder)) Ends before
+      (record {
+        absent = (inl no_folder, tt);
+        long = λ names l. (inl long_file, tt);
+        stops = λ names text a told e is. stops names text a before told e is;
+        goes = λ names text a told live numbers is. numbers_come names text a before told (clean_both names a before live clean) numbers is;
+      })

@@ -43,7 +43,8 @@ use Rattle.part_rows.specs.Choices.{first_missing, stored}
 use Rattle.part_rows.specs.FileNames.{StoredFile, file_of, files_of, line_for}
 use Rattle.part_rows.specs.PartViews.{PartView, parts_of}
 use Rattle.part_rows.specs.PathTexts.{path_text}
-use Rattle.mhlist_command.proofs.RowsGiven.{AllStand, Says, Stands, says_it}
+use Rattle.told_folders.proofs.MessagesStand.{AllStand, Stands}
+use Rattle.mhlist_command.proofs.RowsGiven.{Says, says_it}
 use Rattle.mhstore_command.specs.Files.{file_stored}
 use Rattle.mhstore_command.specs.StoreOutcome.{file_work, files_work, message_work, messages_work, parts_work, stored_work, text_of, unless_there, with_file}
 use Rattle.mhstore_command.specs.Storing.{all_filed, all_stored, filed_unless, one_filed, one_stored, parts_filed, stored_by, told_by}

@@ -49,11 +49,12 @@ use Rattle.opened_folders.proofs.ChosenListed.{has_ranged, words_listed}
 use Rattle.opened_folders.proofs.EndedKept.{Still, keeps_more}
 use Rattle.told_folders.specs.Plans.{lines_said}
 use Rattle.told_folders.specs.Tasks.{listed_runs, sequences_listed}
+use Rattle.told_folders.proofs.ChangesPledged.{sound_first}
 use Rattle.part_rows.specs.Choices.{first_missing, stored}
 use Rattle.part_rows.specs.FileNames.{StoredFile, files_of}
 use Rattle.part_rows.specs.PartViews.{parts_of}
 use Rattle.mhlist_command.specs.Listing.{no_part}
-use Rattle.mhlist_command.proofs.MessagesRead.{first_listed, other_listed}
+use Rattle.told_folders.proofs.MessagesStand.{first_listed, other_listed}
 use Rattle.mhstore_command.specs.Files.{file_stored}
 use Rattle.mhstore_command.specs.StorePledge.{HasStoredAs, IsPartRead, TellsStored, store_pledge}
 use Rattle.mhstore_command.specs.Storing.{all_filed, all_stored, chosen_seen, filed_unless, mhstore, one_filed, one_stored, stored_by, told_by}
@@ -64,10 +65,6 @@ use Rattle.mhstore_command.proofs.StoreGiven.{AreFine, fine_parts}
 -- a step that looks
 look_after : (own : List Deed) (s : Step) (a : Answer) → (AreSettled own → AreSettled (did s a ∷ own)) → After own (did s a ∷ own)
 look_after own s a k = record { newer = did s a ∷ []; is = refl; settled = k }
-
--- nothing was done before
-sound_first : (w : Pledge) (h : Hand) → Sound w [] h
-sound_first w h = record { numbered = tt; unfailed = λ z. elim z [ ] }
 
 module _ (run : ℕ) (few : run < 2 ^ 128) (path : List ℕ) (job : StoreJob) where
   abbrev v : Pledge

@@ -16,14 +16,12 @@ use Rattle.folder_files.specs.declared.refusal.Refusal.TheVariants as refusal
 use Rattle.folder_files.specs.declared.step.Answer.{Answer}
 use Rattle.folder_files.specs.declared.step.Answer.TheVariants as answer
 use Rattle.folder_files.specs.declared.step.Step.TheVariants as step
-use Rattle.file_plans.specs.Asking.{list, listing_of as listing_by, read, reading_of as reading_by}
-use Rattle.file_plans.specs.Plan.{Hand, Plan, Recall, Return, after, ask, bind, lifted, ◌>>=◌}
+use Rattle.file_plans.specs.Asking.{read, reading_of as reading_by}
+use Rattle.file_plans.specs.Plan.{Hand, Plan, Return, after, ask, bind, lifted, ◌>>=◌}
 use Rattle.file_plans.specs.Rules.{IfOkay, Keeps}
 use Rattle.file_plans.specs.Runs.{Deed, Did}
 use Rattle.file_plans.specs.Sightings.{has_number}
 use Rattle.file_plans.specs.Text.{said_of}
-use Rattle.file_plans.specs.declared.answers.Listing.{Listing as Listed}
-use Rattle.file_plans.specs.declared.answers.Listing.TheVariants as listing
 use Rattle.file_plans.proofs.Acting.{acts, acts_append}
 use Rattle.file_plans.proofs.Framing.{AnyStep}
 use Rattle.file_plans.proofs.Keeping.{keeps_bind}
@@ -38,19 +36,21 @@ use Rattle.step_plans.proofs.Ruling.{rules_of}
 use Rattle.step_plans.proofs.Stepping.{on_read}
 use Rattle.command_stages.specs.Current.{made_current}
 use Rattle.command_stages.specs.Endings.{of_plan}
-use Rattle.command_stages.specs.Listed.{folder_listed, names_by}
-use Rattle.command_stages.specs.Texts.{text_read, too_large}
+use Rattle.command_stages.specs.Texts.{too_large}
 use Rattle.mh_looks.specs.Scan.{entries_seen}
 use Rattle.mh_looks.specs.ScanPledge.{HasListed}
+use Rattle.mh_looks.proofs.Ending.{name_of}
 use Rattle.opened_folders.specs.Endings.{IsToldBy}
 use Rattle.opened_folders.specs.Reads.{TellsText}
 use Rattle.opened_folders.proofs.ChosenListed.{has_ranged, words_listed}
 use Rattle.opened_folders.proofs.CleanRuns.{Clean, clean_more}
 use Rattle.opened_folders.proofs.EndedKept.{keeps_more}
-use Rattle.opened_folders.proofs.Speaking.{Quiet, keeps_both, quietly, said_did, silence, silent_told, speaking, text_silent, told_did}
+use Rattle.opened_folders.proofs.Speaking.{Quiet, keeps_both, quietly, said_did, speaking, told_did}
 use Rattle.told_folders.specs.Outcomes.{joined}
 use Rattle.told_folders.specs.Tasks.{Task, listed_runs, sequences_listed}
-use Rattle.told_folders.proofs.ChangesPledged.{StillBy, noted_goes, notes_pledge}
+use Rattle.told_folders.proofs.ChangesPledged.{notes_pledge}
+use Rattle.told_folders.proofs.FrontComes.{reading}
+use Rattle.told_folders.proofs.FrontSays.{GoesOn, behind, current_says, front_says, stops}
 use Rattle.told_folders.proofs.ChangesSay.{Adds, all_told, lines_say}
 use Rattle.part_rows.specs.Choices.{first_missing, stored as stored_parts}
 use Rattle.part_rows.specs.FileNames.{StoredFile, files_of}
@@ -58,7 +58,7 @@ use Rattle.part_rows.specs.PartViews.{parts_of}
 use Rattle.mhlist_command.specs.ListAnswers.{ReadMessage}
 use Rattle.mhlist_command.specs.ListPledge.{task_of}
 use Rattle.mhlist_command.specs.Listing.{no_part}
-use Rattle.mhlist_command.proofs.MessagesRead.{first_listed, name_of, other_listed}
+use Rattle.told_folders.proofs.MessagesStand.{first_listed, other_listed}
 use Rattle.mhstore_command.specs.Files.{file_stored}
 use Rattle.mhstore_command.specs.StoreAnswers.{TellsFiles, TellsFirstFiles, files_in, lines_of, listing_of}
 use Rattle.mhstore_command.specs.StorePledge.{IsPartRead}
@@ -66,18 +66,9 @@ use Rattle.mhstore_command.specs.Storing.{all_filed, all_stored, chosen_seen, fi
 use Rattle.mhstore_command.specs.declared.job.StoreJob.{StoreJob}
 use Rattle.mhstore_command.proofs.FileEnds.{Filed, So, Stores, stores_come}
 use Rattle.mhstore_command.proofs.FilePledged.{Stored as GoesStored, stored_goes, v as storing_pledge}
-use Rattle.mhstore_command.proofs.StoreEnds.{Listing, Reading, list_comes, text_comes}
+use Rattle.mhstore_command.proofs.StoreEnds.{clean_both}
 use Rattle.mhstore_command.proofs.StoreGiven.{AreFine, IsFine, fine_parts}
-use Rattle.mhstore_command.proofs.StoreStands.{Stored, behind, file_more, kept, lines_more, message_more}
-
--- a listing is asked for in silence
-listed_silent : (past : List Deed) (h : Hand) (p : Place) (folder : List ℕ) → Keeps silence past h (folder_listed p folder) (λ later j r. Unit {0})
-unfolding Keeps folder_listed list ask lifted bind ◌>>=◌
-listed_silent past h p folder = (tt, tt, tt, λ a row live. by a (listing_by a))
-  where
-    by : (a : Answer) (r : Listed) → Keeps silence (past ++ Did (step.List p) a ∷ []) h (names_by folder r) (λ later j s. Unit {0})
-    by a (listing.Names names) = (tt, tt)
-    by a listing.Gone = (tt, tt)
+use Rattle.mhstore_command.proofs.StoreStands.{Stored, file_more, kept, lines_more, message_more}
 
 module _ (run : ℕ) (few : run < 2 ^ 128) (path : List ℕ) (job : StoreJob) (entries : List NamedValue) where
   abbrev place : Place
@@ -95,9 +86,6 @@ module _ (run : ℕ) (few : run < 2 ^ 128) (path : List ℕ) (job : StoreJob) (e
 
   abbrev w : Pledge
   w = storing_pledge run few path job no_piece
-
-  quiet : (past : List Deed) (piece : List ℕ) → (rules_of v).may_say past piece → ⊥
-  quiet past piece f = f
 
   quiet_files : (past : List Deed) (piece : List ℕ) → (rules_of w).may_say past piece → ⊥
   quiet_files past piece f = f
@@ -125,6 +113,9 @@ module _ (run : ℕ) (few : run < 2 ^ 128) (path : List ℕ) (job : StoreJob) (e
 
     abbrev Ends_ : List Deed → Hand → Result Unit CommandFault → Type 0
     Ends_ later j r = IfOkay (λ last i u. Done (said_of last) (acts last)) later j r
+
+    fails : (later : List Deed) (j : Hand) (e : CommandFault) → Ends_ later j (Err e)
+    fails later j e = tt
 
     -- a part that is over
     returns : (later : List Deed) (j : Hand) (r : Result Unit CommandFault) (Q : List Deed → Hand → Result Unit CommandFault → Type 0) → Told later → Q later j r → Keeps (speaking T) later j (Return r) Q
@@ -309,18 +300,10 @@ module _ (run : ℕ) (few : run < 2 ^ 128) (path : List ℕ) (job : StoreJob) (e
       S_kept : KeptBy AnyStep S
       S_kept own s x any z = (lasts own s x any z.0, kept run path job entries messages [] files [] own s x any z.1)
 
-      current_says : (past : List Deed) (j : Hand) → Stands messages [] files [] past j → Keeps (speaking T) past j (made_current run path job.folder) Ends_
-      current_says past j s =
-          keeps_more (speaking T) past j (made_current run path job.folder) _ Ends_ go
-          (quietly T told_kept (rules_of v) quiet S S_kept past j (made_current run path job.folder) P (stands_told messages [] files [] past j s)
-          (goes_keeps v past (acts past) j (made_current run path job.folder) (okay (StillBy run few path task no_piece (acts past))) refl (record { numbered = s.clean.numbered; unfailed = s.clean.unfailed }) (noted_goes run few path task no_piece (acts past) j (listed_once messages [] files [] (acts past) s.stored))))
-        where
-          P : List Deed → Hand → Result Unit CommandFault → Type 0
-          P last k r = ByActs (Soundly v (okay (StillBy run few path task no_piece (acts past)))) last k r
-
-          go : (last : List Deed) (k : Hand) (r : Result Unit CommandFault) → Quiet T told_kept (rules_of v) quiet S S_kept P past last k r → Ends_ last k r
-          go last k (Ok u) q = let z = q.1 (s.fact, s.stored) in subst (λ t. Done t (acts last)) (sym (q.0 ∙ s.said)) (z.0, (messages, z.1, refl))
-          go last k (Err e) q = tt
+      current_made : (past : List Deed) (j : Hand) → Stands messages [] files [] past j → Keeps (speaking T) past j (made_current run path job.folder) Ends_
+      current_made past j s =
+          current_says T told_kept Ends_ fails run few path task S S_kept past j (record { numbered = s.clean.numbered; unfailed = s.clean.unfailed }) (stands_told messages [] files [] past j s) (listed_once messages [] files [] (acts past) s.stored)
+          (s.fact, s.stored) (λ last i none z. subst (λ t. Done t (acts last)) (sym (none ∙ s.said)) (z.0, (messages, z.1, refl)))
 
 -- the whole
 module _ (run : ℕ) (few : run < 2 ^ 128) (path : List ℕ) (job : StoreJob) (h : Hand) (F : List deeds.Deed → Type 0) (lasts : KeptBy AnyStep F) where
@@ -336,15 +319,11 @@ module _ (run : ℕ) (few : run < 2 ^ 128) (path : List ℕ) (job : StoreJob) (h
   texts_kept : (text : List ℕ) → KeptBy AnyStep (Texts text)
   texts_kept text = told_kept run few path job es F lasts text
 
-  abbrev Said : List Deed → Type 0
-  Said past = IsToldBy Texts (said_of past) (acts past)
-
   abbrev pub Ends : List Deed → Hand → Result Unit CommandFault → Type 0
   Ends later j r = IfOkay (λ last i u. F (acts last) × TellsFiles run path job es (said_of last) (acts last)) later j r
 
-  stops : {A : Type 0} (later : List Deed) (j : Hand) (e : CommandFault) (k : A → Plan (Result Unit CommandFault)) → Said later → Keeps (speaking Texts) later j (after k (Err e)) Ends
-  unfolding Keeps
-  stops later j e k told = (told, tt)
+  ends_failed : (later : List Deed) (j : Hand) (e : CommandFault) → Ends later j (Err e)
+  ends_failed later j e = tt
 
   abbrev rest : List ℕ → Plan (Result Unit CommandFault)
   rest numbers = bind (all_stored run job at numbers) (after (λ done. made_current run path job.folder))
@@ -352,7 +331,7 @@ module _ (run : ℕ) (few : run < 2 ^ 128) (path : List ℕ) (job : StoreJob) (h
   -- what was read
   module _ (past : List Deed) (silent : said_of past ≡ []) (f : F (acts past)) (clean : Clean run (acts past) h) where
     module _ (names : List (List ℕ)) (text : List ℕ) (reading_ : deeds.Deed) (told_text : TellsText at (entry_text Sequences) text reading_) (later : List Deed) (is : acts later ≡ reading_ ∷ did (step.List at) (answer.Names names) ∷ acts past)
-        (g : F (acts later)) (clean_later : Clean run (acts later) h) (none : said_of later ≡ []) (t : Said later) where
+        (g : F (acts later)) (clean_later : Clean run (acts later) h) (none : said_of later ≡ []) where
       ranged : (numbers : List ℕ) → chosen_seen job names text es ≡ Ok numbers → (n : ℕ) → lists numbers n ≡ true → IsMsgNum n
       ranged numbers same n e =
           has_ranged (runs_of_all (λ k. has_number k names)) (all_runs (λ k. has_number k names)) n (words_listed job.negation (listed_runs names) (sequences_listed names text es job.folder) job.specs numbers same n e)
@@ -371,67 +350,13 @@ module _ (run : ℕ) (few : run < 2 ^ 128) (path : List ℕ) (job : StoreJob) (h
           (all_say run few path job es F lasts numbers (ranged numbers same) [] later h (begun numbers same)) go
         where
           go : (last : List Deed) (j : Hand) (r : Result Unit CommandFault) → AllSaid run few path job es F lasts last j r → Keeps (speaking Texts) last j (after (λ done. made_current run path job.folder) r) Ends
-          go last j (Ok u) q = current_says run few path job es F lasts q.0 last j q.1
-          go last j (Err e) q = stops last j e (λ (u : Unit {0}). made_current run path job.folder) q
-
-      chosen_says : (r : Result (List ℕ) CommandFault) → chosen_seen job names text es ≡ r → Keeps (speaking Texts) later h (after rest r) Ends
-      chosen_says (Err e) same = stops later h e rest t
-      chosen_says (Ok numbers) same = numbers_say numbers same
-
-    abbrev reads_ : List (List ℕ) → List ℕ → Plan (Result (List ℕ) CommandFault)
-    reads_ names text = Recall (λ i. Return (chosen_seen job names text (entries_seen i.context)))
-
-    chosen_at : (names : List (List ℕ)) (text : List ℕ) (later : List Deed) (j : Hand) → j ≡ h → Keeps (speaking Texts) later h (after rest (chosen_seen job names text es)) Ends → Keeps (speaking Texts) later j (bind (reads_ names text) (after rest)) Ends
-    unfolding Keeps bind
-    chosen_at names text later j same k = rw same k
-
-    texts_say : (names : List (List ℕ)) (later : List Deed) → acts later ≡ did (step.List at) (answer.Names names) ∷ acts past → Clean run (acts later) h → F (acts later) → said_of later ≡ [] → Said later
-        → Keeps (speaking Texts) later h (bind (text_read at (entry_text Sequences)) (after (λ text. bind (reads_ names text) (after rest)))) Ends
-    texts_say names later is clean_later g none told =
-        keeps_bind (speaking Texts) later h plan (after (λ text. bind (reads_ names text) (after rest))) _ Ends
-        (keeps_both (speaking Texts) anything later h plan Silent (OfActs Reads) (quietly Texts texts_kept silence (λ now_ piece no. no) F lasts later h plan (λ last j r. Unit {0}) told (text_silent later h at (entry_text Sequences)))
-        (comes_keeps later (acts later) h plan Reads refl (text_comes run few path job h (acts later))))
-        go
-      where
-        plan : Plan (Result (List ℕ) CommandFault)
-        plan = text_read at (entry_text Sequences)
-
-        Reads : Outcome (Result (List ℕ) CommandFault)
-        Reads last j r = Reading run few path job h (acts later) last j r
-
-        Silent : List Deed → Hand → Result (List ℕ) CommandFault → Type 0
-        Silent last j r = Quiet Texts texts_kept silence (λ now_ piece no. no) F lasts (λ end i s. Unit {0}) later last j r
-
-        go : (last : List Deed) (j : Hand) (r : Result (List ℕ) CommandFault) → Silent last j r × OfActs Reads last j r → Keeps (speaking Texts) last j (after (λ text. bind (reads_ names text) (after rest)) r) Ends
-        go last j (Err e) q = stops last j e (λ text. bind (reads_ names text) (after rest)) q.0.2
-        go last j (Ok text) q =
-            let read_ = q.1 in
-            let whole : acts last ≡ did (step.Read at (entry_text Sequences) LIMIT_BYTES) read_.0 ∷ did (step.List at) (answer.Names names) ∷ acts past = read_.1 ∙ ap (λ z. did (step.Read at (entry_text Sequences) LIMIT_BYTES) read_.0 ∷ z) is in
-            chosen_at names text last j read_.2
-            (chosen_says names text (did (step.Read at (entry_text Sequences) LIMIT_BYTES) read_.0) read_.3 last whole (q.0.1 g)
-            (subst (λ o. Clean run o h) (sym read_.1) (clean_more run (acts later) h (step.Read at (entry_text Sequences) LIMIT_BYTES) read_.0 read_.4 tt clean_later)) (q.0.0 ∙ none) q.0.2 (chosen_seen job names text es) refl)
+          go last j (Ok u) q = current_made run few path job es F lasts q.0 last j q.1
+          go last j (Err e) q = stops Texts texts_kept Ends ends_failed last j e (λ (u : Unit {0}). made_current run path job.folder) q
 
     -- after deeds that said nothing, of which none failed
     pub store_says : Keeps (speaking Texts) past h (mhstore run path job) Ends
     unfolding mhstore ◌>>=◌
-    store_says =
-        keeps_bind (speaking Texts) past h plan (after (λ names. bind (text_read at (entry_text Sequences)) (after (λ text. bind (reads_ names text) (after rest))))) _ Ends
-        (keeps_both (speaking Texts) anything past h plan Silent (OfActs Lists) (quietly Texts texts_kept silence (λ now_ piece no. no) F lasts past h plan (λ last j r. Unit {0}) (silent_told Texts texts_kept past silent) (listed_silent past h at job.folder))
-        (comes_keeps past (acts past) h plan Lists refl (list_comes run few path job h (acts past))))
-        go
+    store_says = front_says Texts texts_kept Ends ends_failed F lasts path job.folder h (List ℕ) (chosen_seen job) (λ names. rest) past silent f goes
       where
-        plan : Plan (Result (List (List ℕ)) CommandFault)
-        plan = folder_listed at job.folder
-
-        Lists : Outcome (Result (List (List ℕ)) CommandFault)
-        Lists last j r = Listing run few path job h (acts past) last j r
-
-        Silent : List Deed → Hand → Result (List (List ℕ)) CommandFault → Type 0
-        Silent last j r = Quiet Texts texts_kept silence (λ now_ piece no. no) F lasts (λ end i s. Unit {0}) past last j r
-
-        go : (last : List Deed) (j : Hand) (r : Result (List (List ℕ)) CommandFault) → Silent last j r × OfActs Lists last j r
-            → Keeps (speaking Texts) last j (after (λ names. bind (text_read at (entry_text Sequences)) (after (λ text. bind (reads_ names text) (after rest)))) r) Ends
-        go last j (Err e) q = stops last j e (λ names. bind (text_read at (entry_text Sequences)) (after (λ text. bind (reads_ names text) (after rest)))) q.0.2
-        go last j (Ok names) q =
-            subst (λ i. Keeps (speaking Texts) last i (bind (text_read at (entry_text Sequences)) (after (λ text. bind (reads_ names text) (after rest)))) Ends) (sym q.1.1)
-            (texts_say names last q.1.0 (subst (λ o. Clean run o h) (sym q.1.0) (clean_more run (acts past) h (step.List at) (answer.Names names) (λ e. cc (e)) tt clean)) (q.0.1 f) (q.0.0 ∙ silent) q.0.2)
+        goes : GoesOn Texts texts_kept Ends ends_failed F lasts path job.folder h (List ℕ) (chosen_seen job) (λ names. rest) past
+        goes names text a told live later is g none t numbers same = numbers_say names text (reading path job.folder h a) told later is g (subst (λ o. Clean run o h) (sym is) (clean_both run few path job h names a (acts past) live clean)) none numbers same

@@ -1,22 +1,18 @@
 -- What a run has read and stored so far, and what a further message or file makes of it.
 use Rattle.std.proofs.Common.{◌≡◌, ◌++◌, ◌∷◌, [], ℕ, List, Ok, refl, sym, ◌∙◌, ap, subst, append_assoc, append-nil}
 use Rattle.mh_profile.specs.declared.named_value.NamedValue.{NamedValue}
-use Rattle.folder_files.specs.Deeds.{Deed, Once, did, now, on}
+use Rattle.folder_files.specs.Deeds.{Deed, Once, did, now}
 use Rattle.folder_files.specs.declared.place.Place.{Place}
 use Rattle.folder_files.specs.declared.place.Place.TheVariants.{Folder}
 use Rattle.file_plans.proofs.Framing.{AnyStep}
 use Rattle.step_plans.proofs.Lasting.{KeptBy}
 use Rattle.part_rows.specs.FileNames.{StoredFile, files_of}
+use Rattle.told_folders.proofs.FrontSays.{behind}
 use Rattle.mhlist_command.specs.ListAnswers.{IsWhole, ReadMessage, reading_of}
 use Rattle.mhlist_command.proofs.MessagesRead.{numbers_more, whole_more}
 use Rattle.mhstore_command.specs.StoreAnswers.{AreRead, AreStored, HasStored, files_in, lines_of}
 use Rattle.mhstore_command.specs.StorePledge.{HasStoredAs}
 use Rattle.mhstore_command.specs.declared.job.StoreJob.{StoreJob}
-
--- what happened once, happened once later too
-pub behind : (P : Deed → List Deed → Type 0) (newer own : List Deed) → Once P own → Once P (newer ++ own)
-behind P [] own f = f
-behind P (d ∷ newer) own f = on (behind P newer own f)
 
 pub read_behind : (place : Place) (ms : List ReadMessage) (newer own : List Deed) → AreRead place ms own → AreRead place ms (newer ++ own)
 read_behind place [] newer own f = tt

@@ -7,8 +7,8 @@ use Rattle.file_plans.specs.Follows.{State, Follows}
 use Rattle.file_plans.proofs.Following.{done, same_plan}
 use Rattle.step_plans.specs.CommandFaults.{command_cause}
 use Rattle.step_plans.specs.declared.command_fault.CommandFault.{CommandFault}
+use Rattle.step_plans.proofs.Rounds.{next}
 use Rattle.part_rows.specs.FileNames.{StoredFile}
-use Rattle.told_folders.proofs.Loops.{next}
 use Rattle.mhstore_command.specs.Storing.{all_filed, all_stored, one_filed, one_stored}
 use Rattle.mhstore_command.specs.declared.job.StoreJob.{StoreJob}
 

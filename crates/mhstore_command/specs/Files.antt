@@ -29,8 +29,8 @@ if_free name true = do
   Return (Ok true)
 if_free name false = Return (Ok false)
 
--- a file with these bytes is made under the run's next temporary name and made safe, gets the name where that is free, and
--- loses its temporary name; whether it got the name
+-- a file with these bytes is made under the run's next temporary name and made safe, gets the name where that is free,
+-- and loses its temporary name; whether it got the name
 unfoldable pub file_added : ℕ → List ℕ → List ℕ → Planned Bool
 file_added run name bytes = do
   temp ← written run Work bytes
@@ -44,7 +44,8 @@ file_replaced run name bytes = do
   done ← replaced run Work name bytes
   Return (Ok true)
 
--- a file with these bytes is stored under this name, and whether it was: where files that stand there are replaced, it was
+-- a file with these bytes is stored under this name, and whether it was: where files that stand there are replaced, it
+-- was
 abbrev pub file_stored : ℕ → Bool → List ℕ → List ℕ → Planned Bool
 file_stored run true name bytes = file_replaced run name bytes
 file_stored run false name bytes = file_added run name bytes

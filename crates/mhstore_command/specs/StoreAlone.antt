@@ -22,9 +22,10 @@ use Rattle.mhstore_command.specs.declared.job.StoreJob.{StoreJob}
 abbrev pub HasNoTemps : ℕ → Hand → Mailbox → Type 0
 HasNoTemps run h m = (k : ℕ) → h.next ≤ k → k < 2 ^ 64 → m.work (temp_name run k) ≡ None
 
--- Where nothing else happened between the call's first step and its last, and no other run had a lock at the first, and the current directory is there: the
--- call comes to its work on the mailbox at its first step.
-abbrev pub StoresAlone : ℕ → List ℕ → StoreJob → Hand → Result Unit CommandFault → SinkState → SinkState → Story → Story → Type 0
+-- Where nothing else happened between the call's first step and its last, and no other run had a lock at the first, and
+-- the current directory is there: the call comes to its work on the mailbox at its first step.
+abbrev pub StoresAlone : ℕ → List ℕ → StoreJob → Hand → Result Unit CommandFault → SinkState → SinkState → Story → Story
+    → Type 0
 StoresAlone run path job h result x y earlier later =
     (added : List ℕ) → later.asked ≡ earlier.asked ++ added → IsStart later.start → IsPossible earlier → IsAlone run later.start later.history added →
     let first = first_of (length earlier.history) added in
@@ -34,13 +35,16 @@ StoresAlone run path job h result x y earlier later =
     (mailbox_at later (first + length added)) x y result
 
 -- where a story is told
-abbrev pub StoresInStory : ℕ → List ℕ → StoreJob → Hand → Result Unit CommandFault → SinkState → SinkState → Option Story → Option Story → Type 0
+abbrev pub StoresInStory : ℕ → List ℕ → StoreJob → Hand → Result Unit CommandFault → SinkState → SinkState
+    → Option Story → Option Story → Type 0
 StoresInStory run path job h result x y None None = Unit {0}
-StoresInStory run path job h result x y (Some earlier) (Some later) = StoresAlone run path job h result x y earlier later
+StoresInStory run path job h result x y (Some earlier) (Some later) =
+    StoresAlone run path job h result x y earlier later
 StoresInStory run path job h result x y None (Some later) = ⊥
 StoresInStory run path job h result x y (Some earlier) None = ⊥
 
 -- and no count rose
-abbrev pub StoresIfUnfaulted : ℕ → List ℕ → StoreJob → Hand → Result Unit CommandFault → FilesState → FilesState → SinkState → SinkState → Type 0
+abbrev pub StoresIfUnfaulted : ℕ → List ℕ → StoreJob → Hand → Result Unit CommandFault → FilesState → FilesState
+    → SinkState → SinkState → Type 0
 StoresIfUnfaulted run path job h result f g x y =
     (Rose f.faults g.faults → ⊥) → (Rose x.faults y.faults → ⊥) → StoresInStory run path job h result x y f.story g.story

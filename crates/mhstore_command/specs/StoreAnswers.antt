@@ -50,9 +50,9 @@ abbrev pub AreStored : ℕ → List StoredFile → List Deed → Type 0
 AreStored run [] own = Unit {0}
 AreStored run (f ∷ fs) own = HasStoredAs run f.name f.content own × AreStored run fs own
 
--- The run listed the folder and then read its sequences. By these, and by the entries of the context that were read before, the words choose these messages,
--- and behind them those that are left. It has read these messages since; each has all parts that are wanted. Of their files it has stored the first ones, and
--- the others are to come.
+-- The run listed the folder and then read its sequences. By these, and by the entries of the context that were read
+-- before, the words choose these messages, and behind them those that are left. It has read these messages since; each
+-- has all parts that are wanted. Of their files it has stored the first ones, and the others are to come.
 pub record HasStored (run : ℕ) (path : List ℕ) (job : StoreJob) (entries : List NamedValue) (messages : List ReadMessage)
     (left : List ℕ) (files rest : List StoredFile) (own : List Deed) : Type 0 where
   pub names : List (List ℕ)
@@ -85,8 +85,8 @@ pub record TellsFirstFiles (run : ℕ) (path : List ℕ) (job : StoreJob) (entri
   pub stored : HasStored run path job entries messages left files rest own
   pub lines : said ≡ lines_of files
 
--- the newest step read the next of the chosen messages, all files of those before it were stored, and the part that this word names is the first of the wanted
--- ones that it has not
+-- the newest step read the next of the chosen messages, all files of those before it were stored, and the part that
+-- this word names is the first of the wanted ones that it has not
 pub record LacksPart (run : ℕ) (path : List ℕ) (job : StoreJob) (entries : List NamedValue) (word : List ℕ) (own : List Deed)
     : Type 0 where
   pub messages : List ReadMessage
@@ -99,7 +99,8 @@ pub record LacksPart (run : ℕ) (path : List ℕ) (job : StoreJob) (entries : L
   pub missing : first_missing job.parts (parts_of next.text) ≡ Some part
   pub named : word ≡ path_text part
 
--- the name is that of the next file, the newest steps met a file there and took the run's own away again, and none is to be replaced
+-- the name is that of the next file, the newest steps met a file there and took the run's own away again, and none is
+-- to be replaced
 pub record MeetsFile (run : ℕ) (path : List ℕ) (job : StoreJob) (entries : List NamedValue) (name : List ℕ) (own : List Deed)
     : Type 0 where
   pub messages : List ReadMessage
@@ -114,8 +115,8 @@ pub record MeetsFile (run : ℕ) (path : List ℕ) (job : StoreJob) (entries : L
   pub named : name ≡ next.name
   pub stays : job.clobber ≡ false
 
--- the newest step shows that others took this name away in the current directory, which the run had made or put there, or made its fresh name, or that the
--- directory is gone
+-- the newest step shows that others took this name away in the current directory, which the run had made or put there,
+-- or made its fresh name, or that the directory is gone
 pub data IsMeddledHere (run : ℕ) (x : List ℕ) : List Deed → Type 0 where
   -- its fresh name is taken, or the directory is gone
   fresh_taken : {bytes : List ℕ} {a : Answer} {older : List Deed} → (k : ℕ) → x ≡ temp_name run k → (WasMade Work x older → ⊥)
@@ -137,7 +138,8 @@ IsNoStoring e =
     ((word : List ℕ) × (e ≡ command.Refused (refusal.NoPart word)))
     ⊎ ((name : List ℕ) × (e ≡ command.Refused (refusal.WouldReplace name)))
 
--- each refusal of its words is by what it read, and so is that a part is missing, or that a file is there already; of other refusals this says nothing
+-- each refusal of its words is by what it read, and so is that a part is missing, or that a file is there already; of
+-- other refusals this says nothing
 abbrev pub RefusesStoring : ℕ → List ℕ → StoreJob → List NamedValue → Refusal → List Deed → Type 0
 RefusesStoring run path job entries (refusal.BadSwitch place why) own = Unit {0}
 RefusesStoring run path job entries (refusal.BadFolder s) own = Unit {0}

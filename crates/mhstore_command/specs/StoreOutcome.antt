@@ -82,18 +82,21 @@ text_of messages n = unwrap_or (messages n) []
 -- these messages, one after another
 unfoldable pub messages_work : StoreJob → (ℕ → Option (List ℕ)) → List ℕ → Mailbox → Work CommandFault
 messages_work job messages [] m = nothing_at m
-messages_work job messages (n ∷ ns) m = then_work (message_work job n (text_of messages n) m) (messages_work job messages ns)
+messages_work job messages (n ∷ ns) m =
+    then_work (message_work job n (text_of messages n) m) (messages_work job messages ns)
 
 -- and then the folder becomes the current one
 abbrev pub numbers_work : List ℕ → StoreJob → Kept → (ℕ → Option (List ℕ)) → List ℕ → Work CommandFault
 numbers_work path job k messages numbers =
     then_work (messages_work job messages numbers k.mailbox) (λ m. current_work path job.folder [] (kept_of m k.entries))
 
-abbrev pub chosen_work : List ℕ → StoreJob → Kept → (ℕ → Option (List ℕ)) → Result (List ℕ) CommandFault → Work CommandFault
+abbrev pub chosen_work : List ℕ → StoreJob → Kept → (ℕ → Option (List ℕ)) → Result (List ℕ) CommandFault
+    → Work CommandFault
 chosen_work path job k messages (Ok numbers) = numbers_work path job k messages numbers
 chosen_work path job k messages (Err e) = refused_at k.mailbox e
 
--- the messages that the words choose of a folder with these numbers and sequences, or the refusal of the first word that is refused
+-- the messages that the words choose of a folder with these numbers and sequences, or the refusal of the first word
+-- that is refused
 abbrev pub chosen_from : StoreJob → List Run → Marked → Result (List ℕ) CommandFault
 chosen_from job listing m = chosen_in (folder_with job.negation (numbers_of listing) (marks_of m)) job.specs
 

@@ -37,7 +37,8 @@ pub record IsReadyPart (path : List ℕ) (job : StoreJob) (temp name : List ℕ)
   pub named : name ≡ file.name
   pub ready : WasReady Work temp file.content own
 
--- what leads to new names in the current directory is such a file; one that stands there is replaced where the job says so alone
+-- what leads to new names in the current directory is such a file; one that stands there is replaced where the job says
+-- so alone
 abbrev pub StoresPart : List ℕ → StoreJob → List Deed → Step → Type 0
 StoresPart path job own (step.List p) = Unit {0}
 StoresPart path job own (step.Read p n limit) = Unit {0}
@@ -55,7 +56,8 @@ StoresPart path job own (step.ReadFile f limit) = Unit {0}
 StoresPart path job own (step.ReadDrop f from most) = Unit {0}
 StoresPart path job own (step.CutDrop f length_) = Unit {0}
 
--- the deed gave this name in the current directory to a file of the run, which it had made with these bytes and made safe
+-- the deed gave this name in the current directory to a file of the run, which it had made with these bytes and made
+-- safe
 pub record IsStoredAs (run : ℕ) (name bytes : List ℕ) (d : Deed) (older : List Deed) : Type 0 where
   pub temp : List ℕ
   pub is_own : is_temp_of run (kind_of temp) ≡ true
@@ -64,7 +66,8 @@ pub record IsStoredAs (run : ℕ) (name bytes : List ℕ) (d : Deed) (older : Li
 
 -- and then the run made the directory safe
 abbrev pub HasStoredAs : ℕ → List ℕ → List ℕ → List Deed → Type 0
-HasStoredAs run name bytes own = Once (λ d older. (d ≡ did (step.SyncFolder Work) Done) × Once (IsStoredAs run name bytes) older) own
+HasStoredAs run name bytes own =
+    Once (λ d older. (d ≡ did (step.SyncFolder Work) Done) × Once (IsStoredAs run name bytes) older) own
 
 -- it says lines of files of parts that it has stored
 pub record TellsStored (run : ℕ) (path : List ℕ) (job : StoreJob) (own : List Deed) (piece : List ℕ) : Type 0 where
@@ -73,7 +76,8 @@ pub record TellsStored (run : ℕ) (path : List ℕ) (job : StoreJob) (own : Lis
   pub line : piece ≡ file.line
   pub stored : HasStoredAs run file.name file.content own
 
--- it stores parts of messages that it read, tells of what is stored, and changes nothing else but the current folder, which becomes the one that it listed
+-- it stores parts of messages that it read, tells of what is stored, and changes nothing else but the current folder,
+-- which becomes the one that it listed
 abbrev pub store_pledge : ℕ → List ℕ → StoreJob → Pledge
 store_pledge run path job = record {
   run = run;

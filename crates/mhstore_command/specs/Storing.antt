@@ -76,8 +76,8 @@ all_stored run job place (n ∷ ns) = do
 abbrev pub chosen_seen : StoreJob → List (List ℕ) → List ℕ → List NamedValue → Result (List ℕ) CommandFault
 chosen_seen job names text entries = chosen_by job.folder job.specs job.negation names text entries
 
--- `mhstore`: the folder is listed and its sequences are read; the parts of the chosen messages are stored in files of the
--- current directory; and the folder becomes the current one
+-- `mhstore`: the folder is listed and its sequences are read; the parts of the chosen messages are stored in files of
+-- the current directory; and the folder becomes the current one
 unfoldable pub mhstore : ℕ → List ℕ → StoreJob → Commanded Unit
 mhstore run mail job = do
   names ← folder_listed (Folder mail job.folder) job.folder

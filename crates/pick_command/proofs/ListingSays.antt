@@ -5,47 +5,40 @@ use Rattle.mh_base.specs.Entries.{entry_text}
 use Rattle.mh_base.specs.declared.entry.Entry.TheVariants.{Sequences}
 use Rattle.mh_profile.specs.declared.named_value.NamedValue.{NamedValue}
 use Rattle.folder_files.specs.Deeds as deeds
-use Rattle.folder_files.specs.Deeds.{Once, did, now, on}
+use Rattle.folder_files.specs.Deeds.{did, now, on}
 use Rattle.folder_files.specs.declared.place.Place.{Place}
 use Rattle.folder_files.specs.declared.place.Place.TheVariants.{Folder}
-use Rattle.folder_files.specs.declared.step.Answer.{Answer}
 use Rattle.folder_files.specs.declared.step.Answer.TheVariants as answer
 use Rattle.folder_files.specs.declared.step.Step.TheVariants as step
-use Rattle.file_plans.specs.Asking.{list, listing_of}
-use Rattle.file_plans.specs.Plan.{Hand, Plan, Recall, Return, after, ask, bind, lifted, ◌>>=◌}
+use Rattle.file_plans.specs.Plan.{Hand, Plan, after, bind, ◌>>=◌}
 use Rattle.file_plans.specs.Rules.{IfOkay, Keeps}
-use Rattle.file_plans.specs.Runs.{Deed, Did}
+use Rattle.file_plans.specs.Runs.{Deed}
 use Rattle.file_plans.specs.Text.{said_of}
-use Rattle.file_plans.specs.declared.answers.Listing.{Listing as Listed}
-use Rattle.file_plans.specs.declared.answers.Listing.TheVariants as listing
 use Rattle.file_plans.proofs.Acting.{acts}
 use Rattle.file_plans.proofs.Framing.{AnyStep}
 use Rattle.file_plans.proofs.Keeping.{keeps_bind}
-use Rattle.step_plans.specs.ContextCommit.{LIMIT_BYTES}
 use Rattle.step_plans.specs.Pledges.{Pledge}
 use Rattle.step_plans.specs.declared.command_fault.CommandFault.{CommandFault}
-use Rattle.step_plans.proofs.Coming.{NoneFailed, OfActs, anything, comes_clean, comes_keeps}
-use Rattle.step_plans.proofs.Going.{ByActs, Outcome, Sound, Soundly, goes_keeps, okay}
+use Rattle.step_plans.proofs.Coming.{NoneFailed}
+use Rattle.step_plans.proofs.Going.{ByActs, Sound, Soundly, goes_keeps, okay}
 use Rattle.step_plans.proofs.Lasting.{KeptBy}
 use Rattle.step_plans.proofs.Ruling.{AreNumbered, rules_of}
 use Rattle.command_stages.specs.Current.{made_current}
-use Rattle.command_stages.specs.Listed.{folder_listed, names_by}
-use Rattle.command_stages.specs.Texts.{text_read}
 use Rattle.mh_looks.specs.Scan.{entries_seen}
 use Rattle.mh_looks.specs.ScanPledge.{HasListed}
 use Rattle.opened_folders.specs.Endings.{IsToldBy}
 use Rattle.opened_folders.specs.Reads.{TellsText}
 use Rattle.opened_folders.proofs.CleanRuns.{unfailed_by}
 use Rattle.opened_folders.proofs.EndedKept.{keeps_more}
-use Rattle.opened_folders.proofs.Speaking.{Quiet, keeps_both, quietly, silence, silent_told, speaking, text_silent}
-use Rattle.mark_command.specs.Mark.{said_if}
-use Rattle.mark_command.specs.Outcomes.{text_if}
-use Rattle.mark_command.proofs.LooksRefused.{Listing, Reading, list_comes, text_comes}
-use Rattle.mark_command.proofs.MarkPledged.{StillBy, noted_goes, notes_pledge}
-use Rattle.mark_command.proofs.MarkSays.{Adds, all_told}
-use Rattle.mark_command.specs.declared.job.MarkJob.{MarkJob}
+use Rattle.opened_folders.proofs.Speaking.{Quiet, quietly, speaking}
+use Rattle.told_folders.specs.Tasks.{Task}
+use Rattle.told_folders.proofs.ChangesPledged.{notes_pledge}
+use Rattle.told_folders.proofs.ChangesSay.{Adds, all_told}
+use Rattle.told_folders.proofs.FrontComes.{reading}
+use Rattle.told_folders.proofs.FrontSays.{GoesOn, behind, both_clean, current_says, front_says, stops}
 use Rattle.pick_command.specs.Lines.{lines_for}
-use Rattle.pick_command.specs.Pick.{chosen_seen, found_told, pick_looks, some_found, unless_none}
+use Rattle.pick_command.specs.Outcomes.{text_if}
+use Rattle.pick_command.specs.Pick.{chosen_seen, found_told, pick_looks, said_if, some_found, unless_none}
 use Rattle.pick_command.specs.PickAnswers.{HasFoundListed, TellsFound, TellsSome}
 use Rattle.pick_command.specs.Testing.{all_tested}
 use Rattle.pick_command.specs.declared.job.PickJob.{PickJob}
@@ -54,20 +47,6 @@ use Rattle.pick_command.proofs.LooksJob.{looks_of}
 use Rattle.pick_command.proofs.PickSays.{Quietly, returns_so, said_says, tells_found, unless_says}
 use Rattle.pick_command.proofs.Tested.{All, AreTested, all_goes, tested_kept}
 use Rattle.pick_command.proofs.TestsGiven.{some_for}
-
--- a listing is asked for in silence
-listed_silent : (past : List Deed) (h : Hand) (p : Place) (folder : List ℕ) → Keeps silence past h (folder_listed p folder) (λ later j r. Unit {0})
-unfolding Keeps folder_listed list ask lifted bind ◌>>=◌
-listed_silent past h p folder = (tt, tt, tt, λ a row live. by a (listing_of a))
-  where
-    by : (a : Answer) (r : Listed) → Keeps silence (past ++ Did (step.List p) a ∷ []) h (names_by folder r) (λ later j s. Unit {0})
-    by a (listing.Names names) = (tt, tt)
-    by a listing.Gone = (tt, tt)
-
--- what happened once, happened once later too
-behind : (P : deeds.Deed → List deeds.Deed → Type 0) (newer own : List deeds.Deed) → Once P own → Once P (newer ++ own)
-behind P [] own f = f
-behind P (d ∷ newer) own f = on (behind P newer own f)
 
 module _ (run : ℕ) (few : run < 2 ^ 128) (path : List ℕ) (job : PickJob) (h : Hand) where
   abbrev place : Place
@@ -79,8 +58,8 @@ module _ (run : ℕ) (few : run < 2 ^ 128) (path : List ℕ) (job : PickJob) (h 
   abbrev no_piece : List deeds.Deed → List ℕ → Type 0
   no_piece own piece = ⊥
 
-  -- the same folder, as `mark` looks at it
-  abbrev looks : MarkJob
+  -- the same folder, as other commands look at it
+  abbrev looks : Task
   looks = looks_of job
 
   -- one that says nothing
@@ -129,9 +108,8 @@ module _ (run : ℕ) (few : run < 2 ^ 128) (path : List ℕ) (job : PickJob) (h 
     abbrev pub Ends : List Deed → Hand → Result Unit CommandFault → Type 0
     Ends later j r = IfOkay (λ last i u. Done (said_of last) (acts last)) later j r
 
-    stops : {A : Type 0} (later : List Deed) (j : Hand) (e : CommandFault) (k : A → Plan (Result Unit CommandFault)) → Told later → Keeps (speaking T) later j (after k (Err e)) Ends
-    unfolding Keeps
-    stops later j e k told = (told, tt)
+    fails : (later : List Deed) (j : Hand) (e : CommandFault) → Ends later j (Err e)
+    fails later j e = tt
 
     sound_there : (later : List Deed) (j : Hand) → j ≡ h → AreNumbered run h.next (acts later) → NoneFailed (acts later) → Sound v (acts later) j
     sound_there later j same numbered clean = record { numbered = subst (λ i. AreNumbered run i.next (acts later)) (sym same) numbered; unfailed = unfailed_by (acts later) clean }
@@ -151,18 +129,10 @@ module _ (run : ℕ) (few : run < 2 ^ 128) (path : List ℕ) (job : PickJob) (h 
       tells own s = (s.0, tells_found Found job found own s.1)
 
       -- the folder becomes the current one
-      current_says : (past : List Deed) (i : Hand) → Sound v (acts past) i → S (acts past) → said_of past ≡ new → Keeps (speaking T) past i (made_current run path job.folder) Ends
-      current_says past i ok s told =
-          keeps_more (speaking T) past i (made_current run path job.folder) _ Ends go
-          (quietly T told_kept (rules_of v) quiet S S_kept past i (made_current run path job.folder) P (all_told T new (said_of past) (acts past) (tells (acts past) s) told)
-          (goes_keeps v past (acts past) i (made_current run path job.folder) (okay (StillBy run few path looks no_piece (acts past))) refl ok (noted_goes run few path looks no_piece (acts past) i (listed_by found (acts past) s.1))))
-        where
-          P : List Deed → Hand → Result Unit CommandFault → Type 0
-          P last k r = ByActs (Soundly v (okay (StillBy run few path looks no_piece (acts past)))) last k r
-
-          go : (last : List Deed) (k : Hand) (r : Result Unit CommandFault) → Quiet T told_kept (rules_of v) quiet S S_kept P past last k r → Ends last k r
-          go last k (Ok u) q = let z = q.1 s in subst (λ t. Done t (acts last)) (sym (q.0 ∙ told)) (z.0, (found, some, z.1, refl))
-          go last k (Err e) q = tt
+      current_made : (past : List Deed) (i : Hand) → Sound v (acts past) i → S (acts past) → said_of past ≡ new → Keeps (speaking T) past i (made_current run path job.folder) Ends
+      current_made past i ok s told =
+          current_says T told_kept Ends fails run few path looks S S_kept past i ok (all_told T new (said_of past) (acts past) (tells (acts past) s) told) (listed_by found (acts past) s.1) s
+          (λ last k none z. subst (λ t. Done t (acts last)) (sym (none ∙ told)) (z.0, (found, some, z.1, refl)))
 
       told_says : (past : List Deed) (i : Hand) → Sound v (acts past) i → S (acts past) → said_of past ≡ [] → Keeps (speaking T) past i (found_told run path job found) Ends
       unfolding found_told ◌>>=◌
@@ -171,8 +141,8 @@ module _ (run : ℕ) (few : run < 2 ^ 128) (path : List ℕ) (job : PickJob) (h 
           (said_says T new past i job.list (lines_for found) (some_for found) (tells (acts past) s) (ap (λ z. z ++ new) none)) go
         where
           go : (last : List Deed) (k : Hand) (r : Result Unit CommandFault) → Adds new past i last k r → Keeps (speaking T) last k (after (λ told. made_current run path job.folder) r) Ends
-          go last k (Err e) q = stops last k e (λ (told : Unit {0}). made_current run path job.folder) (all_told T new (said_of last) (acts last) (tells (acts last) (subst S (sym q.1) s)) (q.0 ∙ ap (λ z. z ++ new) none))
-          go last k (Ok u) q = current_says last k (subst (λ x. Sound v (acts last) x) (sym q.2) (subst (λ z. Sound v z i) (sym q.1) ok)) (subst S (sym q.1) s) (q.0 ∙ ap (λ z. z ++ new) none)
+          go last k (Err e) q = stops T told_kept Ends fails last k e (λ (told : Unit {0}). made_current run path job.folder) (all_told T new (said_of last) (acts last) (tells (acts last) (subst S (sym q.1) s)) (q.0 ∙ ap (λ z. z ++ new) none))
+          go last k (Ok u) q = current_made last k (subst (λ x. Sound v (acts last) x) (sym q.2) (subst (λ z. Sound v z i) (sym q.1) ok)) (subst S (sym q.1) s) (q.0 ∙ ap (λ z. z ++ new) none)
 
     abbrev then_told : List ℕ → Plan (Result Unit CommandFault)
     then_told found = found_told run path job found
@@ -213,68 +183,18 @@ module _ (run : ℕ) (few : run < 2 ^ 128) (path : List ℕ) (job : PickJob) (h 
                   more end i (Err e) s = s.0
                   more end i (Ok all) s = (s.0, rw (s.1.0, s.1.1, s.1.2) (q.0 ∙ none, q.1 g, q.3.0, has_found (acts last) found q.3.1.0, s.1.3))
 
-        chosen_says : (r : Result (List ℕ) CommandFault) → chosen_seen job names text entries ≡ r → Keeps (speaking T) later h (after rest r) Ends
-        chosen_says (Err e) same = stops later h e rest t
-        chosen_says (Ok numbers) same = keeps_bind (speaking T) later h (some_found place job numbers) (after then_told) (FindsSome numbers same) Ends (found_says numbers same) go
+        numbers_say : (numbers : List ℕ) → chosen_seen job names text entries ≡ Ok numbers → Keeps (speaking T) later h (rest numbers) Ends
+        numbers_say numbers same = keeps_bind (speaking T) later h (some_found place job numbers) (after then_told) (FindsSome numbers same) Ends (found_says numbers same) go
           where
             go : (last : List Deed) (j : Hand) (r : Result (List ℕ) CommandFault) → FindsSome numbers same last j r → Keeps (speaking T) last j (after then_told r) Ends
-            go last j (Err e) q = stops last j e then_told q
+            go last j (Err e) q = stops T told_kept Ends fails last j e then_told q
             go last j (Ok found) q = told_says found q.1.4 last j q.1.2 (q.1.1, q.1.3) q.1.0
-
-      abbrev reads : List (List ℕ) → List ℕ → Plan (Result (List ℕ) CommandFault)
-      reads names text = Recall (λ i. Return (chosen_seen job names text (entries_seen i.context)))
-
-      chosen_at : (names : List (List ℕ)) (text : List ℕ) (later : List Deed) (j : Hand) → j ≡ h → Keeps (speaking T) later h (after rest (chosen_seen job names text entries)) Ends → Keeps (speaking T) later j (bind (reads names text) (after rest)) Ends
-      unfolding Keeps bind
-      chosen_at names text later j same k = rw same k
-
-      texts_say : (names : List (List ℕ)) (later : List Deed) → acts later ≡ did (step.List place) (answer.Names names) ∷ acts past → NoneFailed (acts later) → F (acts later) → said_of later ≡ [] → Told later
-          → Keeps (speaking T) later h (bind (text_read place (entry_text Sequences)) (after (λ text. bind (reads names text) (after rest)))) Ends
-      texts_say names later is clean g none told =
-          keeps_bind (speaking T) later h plan (after (λ text. bind (reads names text) (after rest))) _ Ends
-          (keeps_both (speaking T) anything later h plan Silent (OfActs Reads) (quietly T told_kept silence (λ now_ piece no. no) F fasts later h plan (λ last j r. Unit {0}) told (text_silent later h place (entry_text Sequences)))
-          (comes_keeps later (acts later) h plan Reads refl (comes_clean (acts later) h plan (Reading run path looks h (acts later)) clean (text_comes run path looks h (acts later)))))
-          go
-        where
-          plan : Plan (Result (List ℕ) CommandFault)
-          plan = text_read place (entry_text Sequences)
-
-          Reads : Outcome (Result (List ℕ) CommandFault)
-          Reads last j r = NoneFailed last × Reading run path looks h (acts later) last j r
-
-          Silent : List Deed → Hand → Result (List ℕ) CommandFault → Type 0
-          Silent last j r = Quiet T told_kept silence (λ now_ piece no. no) F fasts (λ end i s. Unit {0}) later last j r
-
-          go : (last : List Deed) (j : Hand) (r : Result (List ℕ) CommandFault) → Silent last j r × OfActs Reads last j r → Keeps (speaking T) last j (after (λ text. bind (reads names text) (after rest)) r) Ends
-          go last j (Err e) q = stops last j e (λ text. bind (reads names text) (after rest)) q.0.2
-          go last j (Ok text) q =
-              let read_ = q.1.1 in
-              let at : acts last ≡ did (step.Read place (entry_text Sequences) LIMIT_BYTES) read_.0 ∷ did (step.List place) (answer.Names names) ∷ acts past = read_.1 ∙ ap (λ z. did (step.Read place (entry_text Sequences) LIMIT_BYTES) read_.0 ∷ z) is in
-              chosen_at names text last j read_.2
-              (chosen_says names text (did (step.Read place (entry_text Sequences) LIMIT_BYTES) read_.0) read_.3 last at (q.0.1 g) (sound_there last h refl (subst (AreNumbered run h.next) (sym at) (tt, (tt, numbered))) q.1.0) (q.0.0 ∙ none) q.0.2
-              (chosen_seen job names text entries) refl)
 
       -- after deeds that said nothing, of which none failed
       pub listing_says : NoneFailed (acts past) → Keeps (speaking T) past h (pick_looks run path job) Ends
       unfolding pick_looks ◌>>=◌
-      listing_says clean =
-          keeps_bind (speaking T) past h plan (after (λ names. bind (text_read place (entry_text Sequences)) (after (λ text. bind (reads names text) (after rest))))) _ Ends
-          (keeps_both (speaking T) anything past h plan Silent (OfActs Lists) (quietly T told_kept silence (λ now_ piece no. no) F fasts past h plan (λ last j r. Unit {0}) (silent_told T told_kept past silent) (listed_silent past h place job.folder))
-          (comes_keeps past (acts past) h plan Lists refl (comes_clean (acts past) h plan (Listing run path looks h (acts past)) clean (list_comes run path looks h (acts past)))))
-          go
+      listing_says clean = front_says T told_kept Ends fails F fasts path job.folder h (List ℕ) (chosen_seen job) (λ names. rest) past silent f goes
         where
-          plan : Plan (Result (List (List ℕ)) CommandFault)
-          plan = folder_listed place job.folder
-
-          Lists : Outcome (Result (List (List ℕ)) CommandFault)
-          Lists last j r = NoneFailed last × Listing run path looks h (acts past) last j r
-
-          Silent : List Deed → Hand → Result (List (List ℕ)) CommandFault → Type 0
-          Silent last j r = Quiet T told_kept silence (λ now_ piece no. no) F fasts (λ end i s. Unit {0}) past last j r
-
-          go : (last : List Deed) (j : Hand) (r : Result (List (List ℕ)) CommandFault) → Silent last j r × OfActs Lists last j r
-              → Keeps (speaking T) last j (after (λ names. bind (text_read place (entry_text Sequences)) (after (λ text. bind (reads names text) (after rest)))) r) Ends
-          go last j (Err e) q = stops last j e (λ names. bind (text_read place (entry_text Sequences)) (after (λ text. bind (reads names text) (after rest)))) q.0.2
-          go last j (Ok names) q =
-              subst (λ i. Keeps (speaking T) last i (bind (text_read place (entry_text Sequences)) (after (λ text. bind (reads names text) (after rest)))) Ends) (sym q.1.1.1)
-              (texts_say names last q.1.1.0 q.1.0 (q.0.1 f) (q.0.0 ∙ silent) q.0.2)
+          goes : GoesOn T told_kept Ends fails F fasts path job.folder h (List ℕ) (chosen_seen job) (λ names. rest) past
+          goes names text a told live later is g none t numbers same =
+              numbers_say names text (reading path job.folder h a) told later is g (sound_there later h refl (subst (AreNumbered run h.next) (sym is) (tt, (tt, numbered))) (subst NoneFailed (sym is) (both_clean path job.folder h names a (acts past) live clean))) none t numbers same

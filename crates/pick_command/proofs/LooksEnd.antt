@@ -17,37 +17,35 @@ use Rattle.folder_files.specs.declared.step.Answer.TheVariants as answer
 use Rattle.folder_files.specs.declared.step.Step.TheVariants as step
 use Rattle.folder_files.proofs.Names.{both}
 use Rattle.file_plans.specs.Mailboxes.{is_message_number}
-use Rattle.file_plans.specs.Plan.{Hand, Plan, Recall, Return, ◌>>=◌}
+use Rattle.file_plans.specs.Plan.{Hand, ◌>>=◌}
 use Rattle.file_plans.specs.Sightings.{has_number}
 use Rattle.file_plans.proofs.NumberTexts.{has_number_text}
 use Rattle.step_plans.specs.ContextCommit.{LIMIT_BYTES}
 use Rattle.step_plans.specs.Endings.{HasMet, name_gone}
 use Rattle.step_plans.specs.declared.command_fault.CommandFault.{CommandFault}
 use Rattle.step_plans.specs.declared.command_fault.CommandFault.TheVariants as fault
-use Rattle.step_plans.proofs.Coming.{Comes, comes_more, comes_on, comes_stop, comes_then}
-use Rattle.step_plans.proofs.Ending.{unmade_more}
+use Rattle.step_plans.proofs.Coming.{Comes, comes_more, comes_then}
 use Rattle.step_plans.proofs.Going.{Outcome}
 use Rattle.command_stages.specs.Chosen.{folder_with}
 use Rattle.command_stages.specs.Current.{made_current}
-use Rattle.command_stages.specs.Listed.{folder_listed}
-use Rattle.command_stages.specs.Texts.{text_read, too_large}
 use Rattle.mh_looks.specs.Scan.{entries_seen}
 use Rattle.mh_looks.specs.ScanJob.{ScanJob}
-use Rattle.mh_looks.proofs.Ending.{AfterSequences, IsUnmade, ScanEnds, ScanShows, TextEnds, absent, bad_spec, by_choice, comes_at, comes_recall, current_comes, empty_range, empty_sequence, list_comes, long_file, meddled, text_comes, unread}
+use Rattle.mh_looks.proofs.Ending.{AfterSequences, IsUnmade, ScanEnds, ScanShows, absent, bad_spec, by_choice, comes_at, current_comes, empty_range, empty_sequence, long_file, meddled, name_of, unread, no_folder}
 use Rattle.opened_folders.proofs.ChosenListed.{has_tested, words_listed}
 use Rattle.opened_folders.proofs.NamesKept.{met_kept}
-use Rattle.mark_command.specs.Mark.{listed_runs, said_if, sequences_listed}
-use Rattle.mark_command.proofs.LooksEnd as mark_looks
+use Rattle.told_folders.specs.Tasks.{listed_runs, sequences_listed}
+use Rattle.told_folders.proofs.FrontComes.{front_comes, unmade_both}
+use Rattle.told_folders.proofs.LooksEnd as told_looks
 use Rattle.pick_command.specs.Lines.{lines_for}
-use Rattle.pick_command.specs.Pick.{chosen_seen, found_told, pick_looks, some_found}
+use Rattle.pick_command.specs.Pick.{chosen_seen, found_told, pick_looks, said_if, some_found}
 use Rattle.pick_command.specs.declared.job.PickJob.{PickJob}
 use Rattle.pick_command.proofs.LooksJob.{looks_of}
 use Rattle.pick_command.proofs.PickEnds.{FindsSome, found_comes, said_comes}
-use Rattle.pick_command.proofs.Tested.{AreTested, Stopped, is_gone, name_of, reading_kept, too_long}
+use Rattle.pick_command.proofs.Tested.{AreTested, Stopped, is_gone, reading_kept, too_long}
 
 -- the same folder and words, as `scan` has them
 abbrev pub looks_job : PickJob → ScanJob
-looks_job job = mark_looks.looks_job (looks_of job)
+looks_job job = told_looks.looks_job (looks_of job)
 
 listed_text : (n : ℕ) (names : List (List ℕ)) → has_number n names ≡ true → has_text (name_of n) names ≡ true
 unfolding entry_text
@@ -67,13 +65,6 @@ module _ (run : ℕ) (mail : List ℕ) (job : PickJob) (h : Hand) (numbered : na
   abbrev pub Looks : {A : Type 0} → Outcome (Result A CommandFault)
   Looks later j (Ok a) = Unit {0}
   Looks later j (Err e) = Shows e later
-
-  abbrev Listing : List Deed → Outcome (Result (List (List ℕ)) CommandFault)
-  Listing own later j (Ok names) = (later ≡ did (step.List place) (answer.Names names) ∷ own) × (j ≡ h)
-  Listing own later j (Err e) = ScanShows run mail job.folder e later
-
-  long_text : (later older : List Deed) (q : Place) (x : List ℕ) (l : ℕ) (e : CommandFault) → e ≡ too_large l → later ≡ did (step.Read q x LIMIT_BYTES) (answer.Long l) ∷ older → Shows e later
-  long_text later older q x l e is at = inl (rw (is, at) long_file)
 
   as_scan : (later : List Deed) (j : Hand) (r : Result Unit CommandFault) → ScanEnds run mail (looks_job job) h numbered later j r → Looks later j r
   as_scan later j (Ok u) q = tt
@@ -127,27 +118,18 @@ module _ (run : ℕ) (mail : List ℕ) (job : PickJob) (h : Hand) (numbered : na
           (comes_more own h (some_found place job numbers) (FindsSome place job numbers own h) EndsSome found_shows (found_comes place job numbers own h))
           (λ later j found t. comes_at later later j h (found_told run mail job found) Looks refl t.1 (told_comes later (unmade_after later found t.0) found)) (λ later j e q. q)
 
-    abbrev rest : List ℕ → Plan (Result Unit CommandFault)
-    rest numbers = some_found place job numbers >>= (λ found. found_told run mail job found)
-
-    chosen_comes : Comes own h (Recall (λ i. Return (chosen_seen job names text (entries_seen i.context))) >>= rest) Looks
-    chosen_comes = comes_recall own h _ rest Looks (go (chosen_seen job names text (entries_seen h.context)) refl)
-      where
-        go : (r : Result (List ℕ) CommandFault) → chosen_seen job names text (entries_seen h.context) ≡ r → Comes own h (Return r >>= rest) Looks
-        go (Ok numbers) is = comes_on own h numbers rest Looks (numbers_come numbers is)
-        go (Err e) is =
-            comes_stop own h e rest Looks
-            (by_choice (λ z. Shows z own) (folder_with job.negation (numbers_of (listed_runs names)) (marks_of m)) job.specs e is (λ word. inl bad_spec) (λ word. inl absent) (λ word. inl empty_range) (λ word. inl empty_sequence))
+    stops : (e : CommandFault) → chosen_seen job names text (entries_seen h.context) ≡ Err e → Shows e own
+    stops e is =
+        by_choice (λ z. Shows z own) (folder_with job.negation (numbers_of (listed_runs names)) (marks_of m)) job.specs e is (λ word. inl bad_spec) (λ word. inl absent) (λ word. inl empty_range) (λ word. inl empty_sequence)
 
   -- where the run's next name was not made yet
   pub looks_comes : (own : List Deed) → Unmade own → Comes own h (pick_looks run mail job) Looks
   unfolding pick_looks
-  looks_comes own unmade =
-      comes_then own h (folder_listed place job.folder) _ (Listing own) Looks (list_comes run mail (looks_job job) h numbered own)
-      (λ own1 j names q. comes_at own1 (did (step.List place) (answer.Names names) ∷ own) j h _ Looks q.0 q.1
-      (comes_then (did (step.List place) (answer.Names names) ∷ own) h (text_read place (entry_text Sequences)) _ (TextEnds place (entry_text Sequences) (did (step.List place) (answer.Names names) ∷ own) h) Looks
-      (text_comes place (entry_text Sequences) (did (step.List place) (answer.Names names) ∷ own) h)
-      (λ own2 i text r. comes_at own2 (AfterSequences place names r.0 own) i h _ Looks r.1 r.2
-      (chosen_comes names text r.0 own (unread run mail (looks_job job) h numbered place (entry_text Sequences) r.0 (did (step.List place) (answer.Names names) ∷ own) (unmade_more _ _ (step.List place) (answer.Names names) own (λ b e. cc (e)) unmade))))
-      (λ own2 i e r. long_text own2 (did (step.List place) (answer.Names names) ∷ own) place (entry_text Sequences) r.0 e r.1 r.2)))
-      (λ own1 j e q. inl q)
+  looks_comes before unmade =
+      front_comes mail job.folder h (List ℕ) (chosen_seen job) (λ names numbers. some_found place job numbers >>= (λ found. found_told run mail job found)) Looks before
+      (record {
+        absent = inl no_folder;
+        long = λ names l. inl long_file;
+        stops = λ names text a told e is. stops names text a before (unmade_both mail job.folder h run names a before unmade) e is;
+        goes = λ names text a told live numbers is. numbers_come names text a before (unmade_both mail job.folder h run names a before unmade) numbers is;
+      })

@@ -1,9 +1,14 @@
--- The jobs of other commands that look at the same folder by the same words.
-use Rattle.std.specs.Prelude.{None}
-use Rattle.std.proofs.Common.{[], false}
-use Rattle.mark_command.specs.declared.job.MarkJob.{MarkJob}
+-- What other commands do that look at the same folder by the same words.
+use Rattle.std.proofs.Common.{[]}
+use Rattle.told_folders.specs.Tasks.{Task}
 use Rattle.pick_command.specs.declared.job.PickJob.{PickJob}
 
--- as `mark` has them, that only lists
-abbrev pub looks_of : PickJob → MarkJob
-looks_of job = record { folder = job.folder; specs = job.specs; names = []; act = None; list = false; public = None; negation = job.negation }
+-- as a command has it that tells of the folder's sequences; of its lines this says nothing
+abbrev pub looks_of : PickJob → Task
+looks_of job = record {
+  folder = job.folder;
+  specs = job.specs;
+  negation = job.negation;
+  becomes = λ listing numbers m. m;
+  lines = λ listing m. [];
+}

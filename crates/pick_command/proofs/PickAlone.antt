@@ -1,6 +1,5 @@
 -- `pick` alone.
 use Rattle.std.proofs.Common.{◌≡◌, inl, inr, ◌++◌, ◌+◌, ℕ, false, List, [], length, Option, None, Some, Result, Ok, Err, refl, sym, ◌∙◌, ap, subst, append-nil, arith}
-use Rattle.std.specs.Prelude.{nat_lt}
 use Rattle.mh_base.specs.Counts.{Rose}
 use Rattle.mh_base.specs.Streams.{Adds, SinkState}
 use Rattle.mh_profile.specs.Reading.{entries_in}
@@ -24,24 +23,21 @@ use Rattle.file_plans.proofs.Both.{alone_gave}
 use Rattle.file_plans.proofs.Contents.{mailbox_is}
 use Rattle.file_plans.proofs.Existing.{puts_in}
 use Rattle.file_plans.proofs.Failing.{made_failed, said_are}
-use Rattle.file_plans.proofs.Onward.{IsShort}
 use Rattle.step_plans.specs.CommandFaults.{command_cause}
-use Rattle.step_plans.specs.ContextCommit.{LIMIT_BYTES, context_name}
+use Rattle.step_plans.specs.ContextCommit.{context_name}
 use Rattle.step_plans.specs.declared.command_fault.CommandFault.{CommandFault}
 use Rattle.step_plans.specs.declared.command_fault.CommandFault.TheVariants as fault
 use Rattle.folder_files.specs.declared.refusal.Which.TheVariants.{Files, Out, Source}
 use Rattle.command_stages.specs.Works.{Work}
 use Rattle.opened_folders.specs.BegunWork.{AreHomesAt}
+use Rattle.told_folders.proofs.ToldAlone.{short_is}
+use Rattle.told_folders.specs.ToldAlone.{ComesTo, HasReadContext}
 use Rattle.pick_command.specs.Pick.{pick}
-use Rattle.pick_command.specs.PickedAlone.{ComesTo, HasReadContext, PicksAlone, PicksIfUnfaulted, PicksInStory}
+use Rattle.pick_command.specs.PickedAlone.{PicksAlone, PicksIfUnfaulted, PicksInStory}
 use Rattle.pick_command.specs.Outcomes.{pick_work}
 use Rattle.pick_command.specs.declared.job.PickJob.{PickJob}
 use Rattle.opened_folders.proofs.WorkGiven.{WorkEnds}
 use Rattle.pick_command.proofs.PickGiven.{pick_gives}
-
-short_is : (o : Option (List ℕ)) → nat_lt LIMIT_BYTES (length (filled o)) ≡ false → IsShort LIMIT_BYTES o
-short_is None e = tt
-short_is (Some text) e = e
 
 module _ (run : ℕ) (path : List ℕ) (job : PickJob) (h j : Hand) (f g : FilesState) (x y : SinkState) (result : Result Unit CommandFault)
     (went : Went run (pick run path job) (by_out h f x) (by_out j g y) (exit_of command_cause result)) (no_files : Rose f.faults g.faults → ⊥) (no_out : Rose x.faults y.faults → ⊥) where

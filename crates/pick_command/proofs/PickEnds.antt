@@ -20,11 +20,10 @@ use Rattle.file_plans.specs.Rules.{Keeps}
 use Rattle.file_plans.specs.Runs as runs
 use Rattle.file_plans.proofs.Acting.{acts}
 use Rattle.file_plans.proofs.Framing.{AnyStep}
-use Rattle.step_plans.specs.CommandFaults.{of_sink}
 use Rattle.step_plans.specs.ContextCommit.{LIMIT_BYTES}
 use Rattle.step_plans.specs.declared.command_fault.CommandFault.{CommandFault}
 use Rattle.step_plans.specs.declared.command_fault.CommandFault.TheVariants as fault
-use Rattle.step_plans.proofs.Coming.{Comes, NoneFailed, anything, comes_more, comes_say, comes_then, comes_to}
+use Rattle.step_plans.proofs.Coming.{Comes, NoneFailed, anything, comes_more, comes_then, comes_to}
 use Rattle.step_plans.proofs.Facts.{once_kept}
 use Rattle.step_plans.proofs.Going.{Outcome}
 use Rattle.step_plans.proofs.Lasting.{KeptBy}
@@ -32,7 +31,7 @@ use Rattle.sequence_commits.specs.Committing.{changed_sequences}
 use Rattle.command_stages.specs.Chosen.{folder_with}
 use Rattle.command_stages.specs.Current.{made_current}
 use Rattle.command_stages.specs.Endings.{of_plan}
-use Rattle.mh_looks.proofs.Ending.{by_choice}
+use Rattle.mh_looks.proofs.Ending.{by_choice, name_of}
 use Rattle.opened_folders.specs.Endings.{HasMetIn, IsRefusedBy, PutsNone, met_gone}
 use Rattle.opened_folders.specs.FolderPledge.{told_within}
 use Rattle.opened_folders.specs.Opening.{Opened, begun}
@@ -45,26 +44,21 @@ use Rattle.opened_folders.proofs.NamesKept.{LeavesNames, names_met_kept, names_s
 use Rattle.opened_folders.proofs.SequencesEnd.{Left, changed_comes}
 use Rattle.opened_folders.proofs.WorkEnds.{Ends, EndsBeside, EndsWith, comes_shown, current_comes, work_ends}
 use Rattle.opened_folders.proofs.WorkPledged.{LetsBegin}
-use Rattle.mark_command.specs.Mark.{lines_said, said_if}
+use Rattle.told_folders.proofs.ChangesEnd.{lines_come}
 use Rattle.pick_command.specs.Lines.{lines_for}
 use Rattle.pick_command.specs.Marking.{marked_for}
-use Rattle.pick_command.specs.Pick.{chosen_from, found_marked, found_told, opened_picked, pick_changes, some_found, unless_none}
+use Rattle.pick_command.specs.Pick.{chosen_from, found_marked, found_told, opened_picked, pick_changes, said_if, some_found, unless_none}
 use Rattle.pick_command.specs.PickAnswers.{HasFound, ShowsPicking, ShowsTest, long_message, none_matches, pick_answers}
 use Rattle.pick_command.specs.Testing.{ReadMessage, after_reading, all_tested}
 use Rattle.pick_command.specs.declared.job.PickJob.{PickJob}
 use Rattle.pick_command.specs.declared.job.PickMarks.{PickMarks}
 use Rattle.pick_command.proofs.PickPledged.{chosen_numbers, settled_runs}
-use Rattle.pick_command.proofs.Tested.{All, AreTested, Ends as TestEnds, Stopped, all_comes, is_gone, name_of, reading, reading_kept, reading_keeps, tested_all, too_long}
+use Rattle.pick_command.proofs.Tested.{All, AreTested, Ends as TestEnds, Stopped, all_comes, is_gone, reading, reading_kept, reading_keeps, tested_all, too_long}
 
 -- lines are said, and that is all
 module _ (own : List Deed) (h : Hand) (Q : Outcome (Result Unit CommandFault)) (q : Q own h (Ok tt)) where
-  lines_come : (lines : List (List ℕ)) → Comes own h (lines_said lines) Q
-  unfolding lines_said
-  lines_come [] = comes_to own h (Ok tt) Q q
-  lines_come (line ∷ lines) = comes_say own h of_sink Q line (λ told. lines_said lines) (lines_come lines)
-
   pub said_comes : (list : Bool) (lines : List (List ℕ)) → Comes own h (said_if list lines) Q
-  said_comes true lines = lines_come lines
+  said_comes true lines = lines_come own h Q q lines
   said_comes false lines = comes_to own h (Ok tt) Q q
 
 -- the rest, with what a test gave: the same deeds and hand, or no message matches

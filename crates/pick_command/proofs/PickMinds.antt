@@ -38,18 +38,19 @@ use Rattle.opened_folders.proofs.FolderSeen.{quiet_seen}
 use Rattle.opened_folders.proofs.Meeting.{Meets, meets_end, meets_lifted, meets_more, meets_okay, meets_return, meets_say, meets_then}
 use Rattle.opened_folders.proofs.ToldMarks.{InListing, told_cur, told_listed, told_valid}
 use Rattle.opened_folders.proofs.WorkMinds.{Anyhow, current_meets, whole_meets}
-use Rattle.mark_command.specs.Mark.{lines_said, said_if}
+use Rattle.told_folders.specs.Plans.{lines_said}
 use Rattle.pick_expr.specs.Picks.{picks}
+use Rattle.mh_looks.proofs.Ending.{name_of}
 use Rattle.pick_command.specs.Lines.{lines_for}
 use Rattle.pick_command.specs.Marking.{mark_with, marked_for}
-use Rattle.pick_command.specs.Pick.{chosen_from, found_marked, found_told, opened_picked, pick_changes, some_found, unless_none}
+use Rattle.pick_command.specs.Pick.{chosen_from, found_marked, found_told, opened_picked, pick_changes, said_if, some_found, unless_none}
 use Rattle.pick_command.specs.PickPledge.{pick_pledge}
 use Rattle.pick_command.specs.Testing.{ReadMessage, all_tested, numbers_in}
 use Rattle.pick_command.specs.declared.job.PickAct.{PickAct}
 use Rattle.pick_command.specs.declared.job.PickAct.TheVariants as act
 use Rattle.pick_command.specs.declared.job.PickJob.{PickJob}
 use Rattle.pick_command.specs.declared.job.PickMarks.{PickMarks}
-use Rattle.pick_command.proofs.Tested.{All, AreTested, all_meets, name_of, reading}
+use Rattle.pick_command.proofs.Tested.{All, AreTested, all_meets, reading}
 
 -- what matches is among what was read
 matches_among : (test : ReadMessage → Bool) (ms : List ReadMessage) (n : ℕ) → lists (numbers_in (filter test ms)) n ≡ true → lists (numbers_in ms) n ≡ true

@@ -25,7 +25,7 @@ use Rattle.file_plans.specs.Runs.{Deed as Done}
 use Rattle.file_plans.proofs.Acting.{acts}
 use Rattle.file_plans.proofs.Framing.{AnyStep}
 use Rattle.step_plans.specs.Commits.{IsBase}
-use Rattle.step_plans.specs.CommandFaults.{command_cause, of_sink}
+use Rattle.step_plans.specs.CommandFaults.{command_cause}
 use Rattle.step_plans.specs.ContextCommit.{LIMIT_BYTES}
 use Rattle.step_plans.specs.Pledges.{Pledge}
 use Rattle.step_plans.specs.Promises.{Promises}
@@ -38,10 +38,11 @@ use Rattle.step_plans.proofs.Lasting.{KeptBy, lasting}
 use Rattle.step_plans.proofs.Pledged.{Of}
 use Rattle.step_plans.proofs.Promising.{keeps_pledge}
 use Rattle.step_plans.proofs.Ruling.{rules_of}
-use Rattle.step_plans.proofs.Stepping.{goes_end, goes_return, goes_say}
+use Rattle.step_plans.proofs.Stepping.{goes_end, goes_return}
 use Rattle.step_plans.proofs.Written.{goes_at}
 use Rattle.sequence_commits.specs.Committing.{changed_sequences}
 use Rattle.sequence_commits.proofs.RunTests.{all_runs}
+use Rattle.sequence_commits.proofs.SequencesPledged.{sequences_name}
 use Rattle.command_stages.specs.Current.{made_current}
 use Rattle.command_stages.specs.Endings.{of_plan}
 use Rattle.command_stages.specs.Listed.{folder_listed}
@@ -49,27 +50,26 @@ use Rattle.command_stages.specs.Texts.{text_read}
 use Rattle.mh_looks.specs.Scan.{entries_seen}
 use Rattle.mh_looks.specs.ScanPledge.{HasListed}
 use Rattle.mh_looks.proofs.LooksLeave.{Lists, Looks, goes_chosen, listed_goes, text_goes}
+use Rattle.mh_looks.proofs.Ending.{name_of}
 use Rattle.held_messages.specs.Settle.{Settled}
 use Rattle.opened_folders.specs.Existing.{exists_in, numbers_settled}
 use Rattle.opened_folders.specs.FolderPledge.{folder_pledge, told_within}
 use Rattle.opened_folders.specs.Opening.{Opened}
 use Rattle.opened_folders.specs.Reads.{HaveSeen}
 use Rattle.opened_folders.proofs.ChosenListed.{has_ranged, words_listed}
-use Rattle.opened_folders.proofs.CommitMinds.{sequences_name}
 use Rattle.opened_folders.proofs.EndedKept.{Still, keeps_more}
 use Rattle.opened_folders.proofs.FolderPledged.{HasBegun, seen_kept}
 use Rattle.opened_folders.proofs.WorkPledged.{LetsBegin, begun_keeps, committed_goes, current_goes}
-use Rattle.mark_command.specs.Mark.{lines_said, said_if}
-use Rattle.mark_command.proofs.MarkPledged.{noted_goes}
+use Rattle.told_folders.proofs.ChangesPledged.{lines_go, noted_goes}
 use Rattle.pick_command.specs.Lines.{lines_for}
 use Rattle.pick_command.specs.Marking.{marked_for}
-use Rattle.pick_command.specs.Pick.{chosen_from, chosen_seen, found_marked, found_told, opened_picked, pick, pick_by, pick_changes, pick_looks, some_found, unless_none}
+use Rattle.pick_command.specs.Pick.{chosen_from, chosen_seen, found_marked, found_told, opened_picked, pick, pick_by, pick_changes, pick_looks, said_if, some_found, unless_none}
 use Rattle.pick_command.specs.PickPledge.{Picks, looks_pledge, pick_pledge, pledge_by}
 use Rattle.pick_command.specs.Testing.{HaveTested, all_tested, numbers_in}
 use Rattle.pick_command.specs.declared.job.PickJob.{PickJob}
 use Rattle.pick_command.specs.declared.job.PickMarks.{PickMarks}
 use Rattle.pick_command.proofs.LooksJob.{looks_of}
-use Rattle.pick_command.proofs.Tested.{All, AreTested, all_goes, name_of, reading_keeps, reading_kept, tested_all, tested_kept}
+use Rattle.pick_command.proofs.Tested.{All, AreTested, all_goes, reading_keeps, reading_kept, tested_all, tested_kept}
 
 -- the numbers that words choose of a folder are those of messages
 pub chosen_numbers : (job : PickJob) (listing : List Run) (m : Marked) (numbers : List ℕ) → chosen_from job listing m ≡ Ok numbers → AreRuns listing → (n : ℕ) → lists numbers n ≡ true → IsMsgNum n
@@ -89,13 +89,8 @@ number_apart n ok e = differ (sym (kind_of-entry_text (Number n) ok) ∙ (ap kin
 
 -- lines may be said, and no step is made for them
 module _ (w : Pledge) (tells : (own : List Deed) (piece : List ℕ) → w.may_tell own piece) where
-  lines_go : (own : List Deed) (h : Hand) (lines : List (List ℕ)) → Goes w own h (lines_said lines) (okay (λ later j u. later ≡ own))
-  unfolding lines_said
-  lines_go own h [] = goes_return w own h tt (okay (λ later j u. later ≡ own)) refl
-  lines_go own h (line ∷ lines) = goes_say w own h of_sink (okay (λ later j u. later ≡ own)) line (λ told. lines_said lines) (λ s. tells own line) (lines_go own h lines)
-
   said_goes : (own : List Deed) (h : Hand) (list : Bool) (lines : List (List ℕ)) → Goes w own h (said_if list lines) (okay (λ later j u. later ≡ own))
-  said_goes own h true lines = lines_go own h lines
+  said_goes own h true lines = lines_go w tells own h lines
   said_goes own h false lines = goes_return w own h tt (okay (λ later j u. later ≡ own)) refl
 
   abbrev Same : List ℕ → List Deed → Hand → Outcome (List ℕ)

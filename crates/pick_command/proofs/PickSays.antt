@@ -4,7 +4,6 @@ use Rattle.std.proofs.Common.{◌≡◌, ◌≢◌, inl, inr, ◌<◌, ◌^◌, 
 use Rattle.mh_sequences.specs.Sequences.{Marked}
 use Rattle.folder_files.specs.Commands.{Marking}
 use Rattle.folder_files.specs.Deeds as deeds
-use Rattle.folder_files.specs.Deeds.{did}
 use Rattle.folder_files.specs.declared.place.Place.{Place}
 use Rattle.folder_files.specs.declared.place.Place.TheVariants.{Folder, Mail}
 use Rattle.folder_files.specs.declared.refusal.Refusal.TheVariants as refusal
@@ -39,13 +38,12 @@ use Rattle.opened_folders.proofs.EndedKept.{keeps_more}
 use Rattle.opened_folders.proofs.FolderPledged.{HasBegun, begun_goes, seen_kept}
 use Rattle.opened_folders.proofs.Speaking.{Quiet, keeps_holding, quietly, said_did, silent_told, speaking, told_did}
 use Rattle.opened_folders.proofs.WorkPledged.{begins, current_goes}
-use Rattle.mark_command.specs.Mark.{said_if}
-use Rattle.mark_command.specs.Outcomes.{text_if}
-use Rattle.mark_command.proofs.MarkGiven.{AreSome}
-use Rattle.mark_command.proofs.MarkSays.{Adds, all_told, lines_say}
+use Rattle.told_folders.specs.Tasks.{AreSome}
+use Rattle.told_folders.proofs.ChangesSay.{Adds, all_told, lines_say}
 use Rattle.pick_command.specs.Lines.{lines_for}
 use Rattle.pick_command.specs.Marking.{marked_for}
-use Rattle.pick_command.specs.Pick.{chosen_from, found_marked, found_told, opened_picked, pick_changes, some_found, unless_none}
+use Rattle.pick_command.specs.Outcomes.{text_if}
+use Rattle.pick_command.specs.Pick.{chosen_from, found_marked, found_told, opened_picked, pick_changes, said_if, some_found, unless_none}
 use Rattle.pick_command.specs.PickAnswers.{HasFound, TellsFound, TellsSome}
 use Rattle.pick_command.specs.PickPledge.{Picks}
 use Rattle.pick_command.specs.Testing.{all_tested}

@@ -1,8 +1,5 @@
 -- What comes of reading and testing messages.
 use Rattle.std.proofs.Common.{◌≡◌, ◌++◌, ◌∷◌, ◌==◌, ◌||◌, [], ℕ, Bool, true, false, cond, List, Result, Ok, Err, refl, sym, ◌∙◌, ap, append_assoc, append-nil}
-use Rattle.std.proofs.lemmas.Bool.Decides.{Decides-eqb}
-use Rattle.mh_base.specs.Entries.{entry_text}
-use Rattle.mh_base.specs.declared.entry.Entry.TheVariants.{Number}
 use Rattle.msg_ranges.proofs.Rising.{lists}
 use Rattle.folder_files.specs.Deeds.{Deed, did}
 use Rattle.folder_files.specs.declared.place.Place.{Place}
@@ -22,29 +19,16 @@ use Rattle.step_plans.proofs.Going.{Goes, Outcome, goes_more, goes_then, okay, o
 use Rattle.step_plans.proofs.Lasting.{KeptBy}
 use Rattle.step_plans.proofs.Stepping.{goes_end, goes_read, goes_return}
 use Rattle.command_stages.specs.Texts.{too_large}
-use Rattle.mh_looks.proofs.Ending.{comes_at}
+use Rattle.mh_looks.proofs.Ending.{comes_at, name_of}
 use Rattle.opened_folders.proofs.AllMarks.{MindsAll, look_minds}
 use Rattle.opened_folders.proofs.Meeting.{Meets, meets_end, meets_okay, meets_read, meets_return, meets_then}
+use Rattle.told_folders.proofs.MessagesStand.{first_listed, other_listed}
 use Rattle.pick_expr.specs.Picks.{picks}
 use Rattle.pick_expr.specs.declared.expr.Expr.{Expr}
 use Rattle.pick_command.specs.Testing.{HaveTested, ReadMessage, after_reading, all_tested, kept_if, matching, numbers_in, one_tested, reading_of, tested_by}
 
-abbrev pub name_of : ℕ → List ℕ
-name_of n = entry_text (Number n)
-
 abbrev pub reading : Place → ℕ → Answer → Deed
 reading place n a = did (step.Read place (name_of n) LIMIT_BYTES) a
-
--- the first of a list is in it, and so are the others
-pub first_listed : (n : ℕ) (ns : List ℕ) → lists (n ∷ ns) n ≡ true
-first_listed n ns = ap (λ b. b || lists ns n) ((Decides-eqb n n).1 refl)
-
-pub other_listed : (m n : ℕ) (ns : List ℕ) → lists ns n ≡ true → lists (m ∷ ns) n ≡ true
-other_listed m n ns e = go (m == n)
-  where
-    go : (b : Bool) → b || lists ns n ≡ true
-    go true = refl
-    go false = e
 
 -- what each reading keeps of these, all of them keep
 pub reading_kept : (place : Place) (F : List Deed → Type 0) (Fine : ℕ → Type 0) → ((own : List Deed) (n : ℕ) (text : List ℕ) → Fine n → F own → F (reading place n (answer.Content text) ∷ own)) → (ms : List ReadMessage)

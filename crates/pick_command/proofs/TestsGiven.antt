@@ -11,7 +11,7 @@ use Rattle.folder_files.specs.declared.step.Step.TheVariants as step
 use Rattle.file_plans.specs.Contents.{Contents, folder_at, mailbox_in}
 use Rattle.file_plans.specs.Giving.{Gives}
 use Rattle.file_plans.specs.Mailboxes.{is_message_number}
-use Rattle.file_plans.specs.Plan.{Hand, Plan, Return, bind, lifted, say, ◌>>=◌}
+use Rattle.file_plans.specs.Plan.{Hand, Plan, Return, bind, ◌>>=◌}
 use Rattle.file_plans.specs.Views.{View, by_view, fits_view}
 use Rattle.file_plans.proofs.Giving.{gives_more, gives_on}
 use Rattle.file_plans.proofs.Onward.{Is}
@@ -23,18 +23,18 @@ use Rattle.step_plans.specs.declared.command_fault.CommandFault.TheVariants as f
 use Rattle.command_stages.specs.Texts.{too_large}
 use Rattle.command_stages.specs.Works.{Work, refused_at}
 use Rattle.mh_looks.proofs.Reading.{after_read}
+use Rattle.mh_looks.proofs.Ending.{name_of}
 use Rattle.opened_folders.proofs.WorkGiven.{WorkEnds}
-use Rattle.mark_command.specs.Mark.{lines_said, said_if}
-use Rattle.mark_command.specs.Outcomes.{joined, text_if}
-use Rattle.mark_command.proofs.MarkGiven.{AreSome}
+use Rattle.told_folders.specs.Tasks.{AreSome}
+use Rattle.told_folders.proofs.FoldersGiven.{Told, lines_give}
+use Rattle.told_folders.proofs.MessagesStand.{AllStand, Stands}
 use Rattle.pick_expr.specs.Picks.{picks}
 use Rattle.pick_expr.specs.declared.expr.Expr.{Expr}
 use Rattle.pick_command.specs.Lines.{lines_for, number_line}
-use Rattle.pick_command.specs.Outcomes.{found_in, found_work, text_of, too_long_among, unless_long, unless_none as none_work}
-use Rattle.pick_command.specs.Pick.{some_found, unless_none}
+use Rattle.pick_command.specs.Outcomes.{found_in, found_work, text_if, text_of, too_long_among, unless_long, unless_none as none_work}
+use Rattle.pick_command.specs.Pick.{said_if, some_found, unless_none}
 use Rattle.pick_command.specs.Testing.{all_tested, kept_if, one_tested, tested_by}
 use Rattle.pick_command.specs.declared.job.PickJob.{PickJob}
-use Rattle.pick_command.proofs.Tested.{name_of}
 
 -- no line is empty
 line_some : (n : ℕ) → number_line n ≡ [] → ⊥
@@ -53,28 +53,10 @@ pub some_for : (found : List ℕ) → AreSome (lines_for found)
 some_for [] = ((λ e. cc (e)), tt)
 some_for (n ∷ ns) = some_lines (n ∷ ns)
 
-abbrev Told : View → Hand → View → Hand → List ℕ → Result Unit CommandFault → Type 0
-Told v h z j left r = (r ≡ Ok tt) × (z ≡ v) × (j ≡ h) × (left ≡ [])
-
-lines_give : (v : View) (h : Hand) (lines : List (List ℕ)) → AreSome lines → Gives (by_view true) v h (joined lines) (lines_said lines) (Told v h)
-unfolding Gives lines_said say lifted bind ◌>>=◌
-lines_give v h [] f = (refl, refl, refl, refl)
-lines_give v h (l ∷ ls) f = (f.0, (joined ls, refl, lines_give v h ls f.1))
-
 pub said_gives : (v : View) (h : Hand) (list : Bool) (lines : List (List ℕ)) → AreSome lines → Gives (by_view true) v h (text_if list lines) (said_if list lines) (Told v h)
 unfolding Gives
 said_gives v h true lines f = lines_give v h lines f
 said_gives v h false lines f = (refl, refl, refl, refl)
-
--- a message that stands in the contents
-pub record Stands (c : Contents) (place : Place) (n : ℕ) : Type 0 where
-  pub number : is_message_number n ≡ true
-  pub text : List ℕ
-  pub there : c.texts place (decimal n) ≡ Some text
-
-abbrev pub AllStand : Contents → Place → List ℕ → Type 0
-AllStand c place [] = Unit {0}
-AllStand c place (n ∷ ns) = Stands c place n × AllStand c place ns
 
 -- what an answer says of a message that is there
 abbrev Says : List ℕ → Answer → Type 0

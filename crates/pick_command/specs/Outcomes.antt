@@ -1,5 +1,5 @@
 -- What `pick` comes to, by the mailbox. Nothing here knows of steps.
-use Rattle.std.specs.Prelude.{ℕ, List, [], ◌∷◌, filter, length, nat_lt, unwrap_or, Option, None, Some, Result, Ok, Err, if◌then◌else◌}
+use Rattle.std.specs.Prelude.{ℕ, Bool, true, false, List, [], ◌∷◌, filter, length, nat_lt, unwrap_or, Option, None, Some, Result, Ok, Err, if◌then◌else◌}
 use Rattle.mh_profile.specs.declared.named_value.NamedValue.{NamedValue}
 use Rattle.mh_sequences.specs.declared.run.Run.{Run}
 use Rattle.mh_sequences.specs.Sequences.{Marked}
@@ -15,7 +15,7 @@ use Rattle.command_stages.specs.Texts.{too_large}
 use Rattle.command_stages.specs.Works.{Work, readable, refused_at}
 use Rattle.opened_folders.specs.BegunWork.{Homes, after_commits, begun_work, current_work, runs_in}
 use Rattle.opened_folders.specs.Kept.{Kept, kept_of, sequences_kept}
-use Rattle.mark_command.specs.Outcomes.{text_if}
+use Rattle.told_folders.specs.Outcomes.{joined}
 use Rattle.pick_expr.specs.Picks.{picks}
 use Rattle.pick_expr.specs.declared.expr.Expr.{Expr}
 use Rattle.pick_command.specs.Lines.{lines_for}
@@ -23,6 +23,11 @@ use Rattle.pick_command.specs.Marking.{marked_for}
 use Rattle.pick_command.specs.Pick.{chosen_from}
 use Rattle.pick_command.specs.declared.job.PickJob.{PickJob}
 use Rattle.pick_command.specs.declared.job.PickMarks.{PickMarks}
+
+-- the text of these lines, where a job lists
+abbrev pub text_if : Bool → List (List ℕ) → List ℕ
+text_if true lines = joined lines
+text_if false lines = []
 
 -- the messages of a folder, by their numbers
 abbrev pub messages_of : Option FolderValue → ℕ → Option (List ℕ)
@@ -51,10 +56,13 @@ unless_long job m next found (Some l) = refused_at m (too_large l)
 unless_long job m next found None = unless_none job m next found
 
 -- these messages are tested, and the command goes on with those that match
-abbrev pub found_work : PickJob → Mailbox → (ℕ → Option (List ℕ)) → (List ℕ → Work CommandFault) → List ℕ → Work CommandFault
-found_work job m messages next numbers = unless_long job m next (found_in messages job.expr numbers) (too_long_among messages numbers)
+abbrev pub found_work : PickJob → Mailbox → (ℕ → Option (List ℕ)) → (List ℕ → Work CommandFault) → List ℕ
+    → Work CommandFault
+found_work job m messages next numbers =
+    unless_long job m next (found_in messages job.expr numbers) (too_long_among messages numbers)
 
-abbrev pub chosen_work : PickJob → Mailbox → (ℕ → Option (List ℕ)) → (List ℕ → Work CommandFault) → Result (List ℕ) CommandFault → Work CommandFault
+abbrev pub chosen_work : PickJob → Mailbox → (ℕ → Option (List ℕ)) → (List ℕ → Work CommandFault)
+    → Result (List ℕ) CommandFault → Work CommandFault
 chosen_work job m messages next (Ok numbers) = found_work job m messages next numbers
 chosen_work job m messages next (Err e) = refused_at m e
 
@@ -64,7 +72,8 @@ told_work path job k found = current_work path job.folder (text_if job.list (lin
 
 -- they are brought into the sequences before
 abbrev pub marked_work : List ℕ → PickJob → PickMarks → Marked → Kept → List ℕ → Work CommandFault
-marked_work path job p m k found = after_commits (sequences_kept path job.folder m (marked_for p found m) k) (λ kept. told_work path job kept found)
+marked_work path job p m k found =
+    after_commits (sequences_kept path job.folder m (marked_for p found m) k) (λ kept. told_work path job kept found)
 
 -- a folder with these numbers and sequences was begun
 abbrev pub opened_work : List ℕ → PickJob → PickMarks → List Run → Marked → Kept → Work CommandFault

@@ -1,5 +1,5 @@
 -- The plan of `pick`.
-use Rattle.std.specs.Prelude.{ℕ, Bool, List, [], ◌∷◌, Option, None, Some, Result, Ok, Err}
+use Rattle.std.specs.Prelude.{ℕ, Bool, true, false, List, [], ◌∷◌, Option, None, Some, Result, Ok, Err}
 use Rattle.mh_base.specs.Entries.{entry_text}
 use Rattle.mh_base.specs.declared.entry.Entry.TheVariants.{Sequences}
 use Rattle.mh_profile.specs.declared.named_value.NamedValue.{NamedValue}
@@ -22,16 +22,23 @@ use Rattle.command_stages.specs.Texts.{Commanded, text_read}
 use Rattle.opened_folders.specs.Ending.{ended}
 use Rattle.opened_folders.specs.Opening.{Opened, begun}
 use Rattle.mh_looks.specs.Scan.{entries_seen}
-use Rattle.mark_command.specs.Mark.{listed_runs, said_if, sequences_listed}
+use Rattle.told_folders.specs.Plans.{lines_said}
+use Rattle.told_folders.specs.Tasks.{listed_runs, sequences_listed}
 use Rattle.pick_command.specs.Lines.{lines_for}
 use Rattle.pick_command.specs.Marking.{marked_for}
 use Rattle.pick_command.specs.Testing.{all_tested}
 use Rattle.pick_command.specs.declared.job.PickJob.{PickJob}
 use Rattle.pick_command.specs.declared.job.PickMarks.{PickMarks}
 
--- the messages that the job's words choose of a folder with these numbers and sequences, or the refusal of the first word that is refused
+-- the messages that the job's words choose of a folder with these numbers and sequences, or the refusal of the first
+-- word that is refused
 abbrev pub chosen_from : PickJob → List Run → Marked → Result (List ℕ) CommandFault
 chosen_from job listing m = chosen_in (folder_with job.negation (numbers_of listing) (marks_of m)) job.specs
+
+-- these lines, where a job lists
+abbrev pub said_if : Bool → List (List ℕ) → Commanded Unit
+said_if true lines = lines_said lines
+said_if false lines = Return (Ok tt)
 
 -- where no message matches, a line says so, where the job lists, and it is refused
 unfoldable pub unless_none : Bool → List ℕ → Commanded (List ℕ)
@@ -71,9 +78,11 @@ pick_changes run path job p = do
   o ← lifted (of_plan job.folder) (begun run (Folder path job.folder) (Mail path) job.folder)
   bind (opened_picked run path job p o) (ended (Folder path job.folder))
 
--- the messages that the words choose, by the folder's names, the text of its sequences, of its listed messages alone, and the context
+-- the messages that the words choose, by the folder's names, the text of its sequences, of its listed messages alone,
+-- and the context
 abbrev pub chosen_seen : PickJob → List (List ℕ) → List ℕ → List NamedValue → Result (List ℕ) CommandFault
-chosen_seen job names text entries = chosen_from job (listed_runs names) (sequences_listed names text entries job.folder)
+chosen_seen job names text entries =
+    chosen_from job (listed_runs names) (sequences_listed names text entries job.folder)
 
 -- one that marks nothing takes no lock of the folder
 unfoldable pub pick_looks : ℕ → List ℕ → PickJob → Commanded Unit

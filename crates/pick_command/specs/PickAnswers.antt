@@ -18,9 +18,9 @@ use Rattle.command_stages.specs.Texts.{too_large}
 use Rattle.opened_folders.specs.Endings.{Answering, ShowsEnd}
 use Rattle.opened_folders.specs.FolderPledge.{told_within}
 use Rattle.opened_folders.specs.Reads.{HaveSeen, TellsText}
-use Rattle.mark_command.specs.Outcomes.{text_if}
 use Rattle.pick_command.specs.Lines.{lines_for}
 use Rattle.pick_command.specs.Marking.{marked_for}
+use Rattle.pick_command.specs.Outcomes.{text_if}
 use Rattle.pick_command.specs.Pick.{chosen_from, chosen_seen}
 use Rattle.pick_command.specs.Testing.{HaveTested, ReadMessage, matching, numbers_in}
 use Rattle.pick_command.specs.declared.job.PickJob.{PickJob}
@@ -39,8 +39,8 @@ pick_answers job p = record {
   refuses = λ listing m r. chosen_from job listing m ≡ Err (command.Refused r);
 }
 
--- of a `pick` that marks: the run listed the folder and read its sequences and then the context; by these the job's words
--- choose messages, and the run read and tested these, and found these of them
+-- of a `pick` that marks: the run listed the folder and read its sequences and then the context; by these the job's
+-- words choose messages, and the run read and tested these, and found these of them
 pub record HasFound (run : ℕ) (path : List ℕ) (job : PickJob) (found : List ℕ) (own : List Deed) : Type 0 where
   pub listing : List Run
   pub text : List ℕ
@@ -51,7 +51,8 @@ pub record HasFound (run : ℕ) (path : List ℕ) (job : PickJob) (found : List 
   pub tested : HaveTested (Folder path job.folder) job.expr numbers found own
 
 -- of one that marks nothing: the run listed the folder and then read its sequences; by these, and by the entries of the
--- context that were read before, the job's words choose messages, and the run read and tested these, and found these of them
+-- context that were read before, the job's words choose messages, and the run read and tested these, and found these of
+-- them
 pub record HasFoundListed (path : List ℕ) (job : PickJob) (entries : List NamedValue) (found : List ℕ) (own : List Deed)
     : Type 0 where
   pub names : List (List ℕ)
@@ -77,8 +78,8 @@ TellsNone Found job said own = Found [] own × (said ≡ text_if job.list (lines
 abbrev pub TellsFound : (List ℕ → List Deed → Type 0) → PickJob → List ℕ → List Deed → Type 0
 TellsFound Found job said own = TellsSome Found job said own ⊎ TellsNone Found job said own
 
--- what shows a fault of the tests of a `pick` that marks: of the messages that the job's words choose, which the run read,
--- none matches; or the message that was just read is too long
+-- what shows a fault of the tests of a `pick` that marks: of the messages that the job's words choose, which the run
+-- read, none matches; or the message that was just read is too long
 pub data ShowsTest (run : ℕ) (path : List ℕ) (job : PickJob) : CommandFault → List Deed → Type 0 where
   none_matches : {own : List Deed} → HasFound run path job [] own
       → ShowsTest run path job (command.Refused refusal.NoMatch) own

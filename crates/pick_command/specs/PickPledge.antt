@@ -18,7 +18,8 @@ use Rattle.pick_command.specs.Testing.{HaveTested}
 use Rattle.pick_command.specs.declared.job.PickJob.{PickJob}
 use Rattle.pick_command.specs.declared.job.PickMarks.{PickMarks}
 
--- the run read and tested the messages that the job's words choose of these numbers, and the sequences have those that match
+-- the run read and tested the messages that the job's words choose of these numbers, and the sequences have those that
+-- match
 abbrev pub Picks : List ℕ → PickJob → PickMarks → List Deed → List Run → Marked → Marked → Type 0
 Picks path job p own listing m new =
     (numbers : List ℕ) × (found : List ℕ) × (chosen_from job listing m ≡ Ok numbers) × HaveTested (Folder path job.folder) job.expr numbers found own

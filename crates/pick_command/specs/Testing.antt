@@ -62,7 +62,8 @@ abbrev pub after_reading : Place → List ReadMessage → List Deed → List Dee
 after_reading place [] own = own
 after_reading place (m ∷ ms) own = after_reading place ms (reading_of place m ∷ own)
 
--- the run read the messages of these numbers one after another, and these are the numbers of those of which the expression holds
+-- the run read the messages of these numbers one after another, and these are the numbers of those of which the
+-- expression holds
 pub record HaveTested (place : Place) (expr : Expr) (numbers found : List ℕ) (own : List Deed) : Type 0 where
   pub messages : List ReadMessage
   pub newer : List Deed

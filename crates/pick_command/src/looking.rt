@@ -1,60 +1,19 @@
 // `pick` that marks nothing.
-ghost use Rattle.std.specs.Prelude.{◌≡◌, IfOk};
+ghost use Rattle.std.specs.Prelude.{◌≡◌};
 ghost use Rattle.file_plans.specs.Follows.{Follows, by_out};
 ghost use Rattle.step_plans.specs.CommandFaults.{command_cause};
 ghost use Rattle.mh_looks.specs.Scan.{entries_seen};
-ghost use Rattle.sequence_commits.specs.Cutting.{cut_to};
-ghost use Rattle.sequence_commits.specs.Reading.{sequences_in as sequences_in_text};
-ghost use Rattle.mark_command.specs.Mark.{listed_runs};
 ghost use Rattle.pick_command.specs.Pick.{chosen_seen, pick_looks};
 ghost use Rattle.pick_command.specs.Values.{AreValue};
 
 use crate::PickJob;
 use crate::picking::{find, tell};
-use command_stages::{choose, folder_place, list_folder, noted, numbers, read_sequences_text};
+use command_stages::{choose, folder_place, list_folder, numbers, read_sequences_text};
 use folder_files::Files;
-use mh_base::{Bytes, FolderName, MsgNum, NameList, Sink};
-use mh_profile::Entries;
-use mh_sequences::{NumSet, Sequences};
-use sequence_commits::{cut_sequences, read_sequences};
-use std::alloc::{AllocError, Global};
+use mh_base::{Bytes, MsgNum, NameList, Sink};
+use std::alloc::Global;
 use step_plans::{CommandFault, Hand};
-
-/// The sequences of a text and of the context as the run has seen it.
-fn sequences_in(
-    alloc: Global,
-    hand: &Hand,
-    folder: &FolderName,
-    text: &[u8],
-) -> Result<Sequences, AllocError>
-    ensures { IfOk result (λ s. s ≡ sequences_in_text text.now (entries_seen hand.now.kept.context) folder.now) }
-{
-    match hand.context() {
-        Some(entries) => read_sequences(alloc, text, entries, folder),
-        None => read_sequences(alloc, text, &Entries::new(alloc), folder),
-    }
-}
-
-/// The same without the messages that are not listed.
-fn sequences_listed(
-    alloc: Global,
-    hand: &Hand,
-    folder: &FolderName,
-    text: &[u8],
-    listing: &NumSet,
-) -> Result<Sequences, AllocError>
-    ensures { IfOk result (λ s. s ≡ cut_to listing.now.runs (sequences_in_text text.now (entries_seen hand.now.kept.context) folder.now)) }
-{
-    let mut sequences = sequences_in(alloc, hand, folder, text)?;
-    cut_sequences(&mut sequences, listing)?;
-    Ok(sequences)
-}
-
-fn listed(alloc: Global, names: &NameList) -> Result<NumSet, AllocError>
-    ensures { IfOk result (λ s. s.runs ≡ listed_runs names.now) }
-{
-    noted(alloc, names.as_slice())?.into_set()
-}
+use told_folders::{listed, sequences_listed};
 
 /// The messages that the words choose.
 fn chosen(

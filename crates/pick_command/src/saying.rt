@@ -4,23 +4,15 @@ ghost use Rattle.folder_files.specs.Story.{FilesState};
 ghost use Rattle.file_plans.specs.Plan.{Hand};
 ghost use Rattle.file_plans.specs.Follows.{Follows, by_out};
 ghost use Rattle.step_plans.specs.CommandFaults.{command_cause};
-ghost use Rattle.mark_command.specs.Mark.{lines_said, said_if};
+ghost use Rattle.told_folders.specs.Plans.{lines_said};
 ghost use Rattle.pick_command.specs.Lines.{lines_for};
+ghost use Rattle.pick_command.specs.Pick.{said_if};
 
 use crate::lines::lines;
-use file_plans::say;
-use mh_base::{Bytes, MsgNum, Sink};
+use mh_base::{MsgNum, Sink};
 use std::alloc::Global;
 use step_plans::CommandFault;
-
-fn say_lines<O: Sink>(out: &mut O, lines: &[Bytes]) -> Result<(), CommandFault>
-    ensures { (run : ℕ) (h : Hand) (f : FilesState) → Follows run command_cause (lines_said lines.now) (by_out h f (O.state out.old)) (by_out h f (O.state out.new)) result }
-{
-    for line in lines {
-        say(out, line.as_slice())?;
-    }
-    Ok(())
-}
+use told_folders::say_lines;
 
 fn say_found<O: Sink>(alloc: Global, out: &mut O, found: &[MsgNum]) -> Result<(), CommandFault>
     ensures { (run : ℕ) (h : Hand) (f : FilesState) → Follows run command_cause (lines_said (lines_for found.now)) (by_out h f (O.state out.old)) (by_out h f (O.state out.new)) result }

@@ -40,7 +40,7 @@ use Rattle.told_folders.specs.Tasks.{Task, chosen_from}
 
 -- lines are said, and that is all
 module _ (own : List Deed) (h : Hand) (Q : Outcome (Result Unit CommandFault)) (q : Q own h (Ok tt)) where
-  lines_come : (lines : List (List ℕ)) → Comes own h (lines_said lines) Q
+  pub lines_come : (lines : List (List ℕ)) → Comes own h (lines_said lines) Q
   unfolding lines_said
   lines_come [] = comes_to own h (Ok tt) Q q
   lines_come (line ∷ lines) = comes_say own h of_sink Q line (λ told. lines_said lines) (lines_come lines)

@@ -192,7 +192,7 @@ module _ (run : ℕ) (few : run < 2 ^ 128) (path : List ℕ) (task : Task) where
       goes_at v last next k (made_current run path task.folder) (okay (StillBy_ own)) e (noted_after own next k (λ s. g.settled (f.0.settled s)) (g.listed folder_at f.1))))))
 
 -- nothing was done before
-sound_first : (w : Pledge) (h : Hand) → Sound w [] h
+pub sound_first : (w : Pledge) (h : Hand) → Sound w [] h
 sound_first w h = record { numbered = tt; unfailed = λ z. elim z [ ] }
 
 module _ (run : ℕ) (few : run < 2 ^ 128) (path : List ℕ) (task : Task) where

@@ -3,6 +3,7 @@ use Rattle.std.proofs.Common.{◌≡◌, ◌∷◌, [], ◌<◌, ◌^◌, ℕ, t
 use Rattle.std.specs.List.{list_all}
 use Rattle.mail_headers.specs.Lines.{is_name_byte}
 use Rattle.mh_sequences.proofs.Suffixes.{suffix_clean}
+use Rattle.told_folders.proofs.FrontGiven.{front_gives}
 use Rattle.told_folders.proofs.ToldAlone.{GivesWork}
 use Rattle.mh_profile.specs.declared.named_value.NamedValue.{NamedValue}
 use Rattle.mh_sequences.specs.Reading.{suffix}
@@ -12,11 +13,10 @@ use Rattle.folder_files.specs.declared.place.Place.{Place}
 use Rattle.folder_files.specs.declared.place.Place.TheVariants.{Folder, Mail}
 use Rattle.folder_files.specs.declared.refusal.Refusal.{Refusal}
 use Rattle.folder_files.specs.declared.refusal.Refusal.TheVariants as refusal
-use Rattle.folder_files.specs.declared.step.Step.TheVariants as step
 use Rattle.file_plans.specs.Contents.{Contents, mailbox_in}
 use Rattle.file_plans.specs.Giving.{Gives}
 use Rattle.file_plans.specs.Plan.{Hand, Plan, Return, bind, converted, lifted, say, ◌>>=◌}
-use Rattle.file_plans.specs.Views.{View, by_view, view_after}
+use Rattle.file_plans.specs.Views.{View, by_view}
 use Rattle.file_plans.proofs.Giving.{gives_on}
 use Rattle.step_plans.specs.declared.command_fault.CommandFault.{CommandFault}
 use Rattle.step_plans.specs.declared.command_fault.CommandFault.TheVariants as fault
@@ -47,24 +47,12 @@ use Rattle.opened_folders.specs.BegunWork.{runs_in}
 use Rattle.opened_folders.specs.Kept.{kept_of}
 use Rattle.file_plans.specs.Contents.{folder_at}
 use Rattle.file_plans.specs.Mailboxes.{Folder as FolderValue}
-use Rattle.file_plans.specs.Plan.{after}
 use Rattle.file_plans.proofs.Onward.{IsShort}
 use Rattle.step_plans.specs.ContextCommit.{LIMIT_BYTES, context_name}
 use Rattle.step_plans.proofs.Committed.{entries_at}
 use Rattle.command_stages.specs.Works.{readable}
-use Rattle.mh_base.specs.Entries.{entry_text}
-use Rattle.mh_base.specs.declared.entry.Entry.TheVariants.{Sequences}
-use Rattle.folder_files.specs.declared.step.Answer.TheVariants as answer
-use Rattle.file_plans.specs.Plan.{Recall}
-use Rattle.command_stages.specs.Listed.{folder_listed}
-use Rattle.command_stages.specs.Texts.{text_read}
 use Rattle.sequence_commits.specs.Cutting.{cut_to}
 use Rattle.sequence_commits.specs.Reading.{sequences_in}
-use Rattle.sequence_commits.specs.RunsOfAll.{runs_of_all}
-use Rattle.mh_looks.specs.Scan.{entries_seen}
-use Rattle.mh_looks.proofs.Folders.{FolderListed, IsAbsent, IsListed, Tells, folder_gives, messages_listed}
-use Rattle.mh_looks.proofs.Reading.{TextRead, after_read, text_gives}
-use Rattle.mh_looks.proofs.Scanning.{unreadable}
 use Rattle.opened_folders.proofs.FolderGiven.{IsUntouched}
 use Rattle.opened_folders.proofs.KeptGiven.{Ends, Holds, IsClear, sequences_end}
 use Rattle.opened_folders.proofs.WorkGiven.{WorkEnds, changes_give, current_gives, lifted_gives, weaker}
@@ -73,17 +61,13 @@ use Rattle.told_folders.specs.Plans.{chosen_changed, folder_changed, folder_look
 use Rattle.told_folders.specs.Tasks.{AreSome, IsOrderly, Task, checked, checked_by, chosen_from, listed_runs, sequences_listed, sequences_seen, unless_refused}
 
 -- the lines are said
-abbrev Told : View → Hand → View → Hand → List ℕ → Result Unit CommandFault → Type 0
+abbrev pub Told : View → Hand → View → Hand → List ℕ → Result Unit CommandFault → Type 0
 Told v h z j left r = (r ≡ Ok tt) × (z ≡ v) × (j ≡ h) × (left ≡ [])
 
-lines_give : (v : View) (h : Hand) (lines : List (List ℕ)) → AreSome lines → Gives (by_view true) v h (joined lines) (lines_said lines) (Told v h)
+pub lines_give : (v : View) (h : Hand) (lines : List (List ℕ)) → AreSome lines → Gives (by_view true) v h (joined lines) (lines_said lines) (Told v h)
 unfolding Gives lines_said say lifted bind ◌>>=◌
 lines_give v h [] f = (refl, refl, refl, refl)
 lines_give v h (l ∷ ls) f = (f.0, (joined ls, refl, lines_give v h ls f.1))
-
--- what is kept says nothing else
-any_contents : Contents → Type 0
-any_contents c = Unit {0}
 
 module _ (run : ℕ) (few : run < 2 ^ 128) (path : List ℕ) (task : Task) (orderly : IsOrderly task) (valid : is_folder_name task.folder ≡ true) where
   abbrev p : Place
@@ -245,9 +229,6 @@ module _ (run : ℕ) (few : run < 2 ^ 128) (path : List ℕ) (task : Task) (orde
     abbrev then_said : List Run → Marked → Plan (Result Unit CommandFault)
     then_said listing m = lines_said (task.lines listing m) >>= (λ told. made_current run path task.folder)
 
-    abbrev checks : List (List ℕ) → List ℕ → Result Marked CommandFault
-    checks names text = sequences_seen task names text entries
-
     -- what the words say, where they are looked at
     check_refuses : (specs : List (List ℕ)) (listing : List Run) (m : Marked) (e : CommandFault) → checked_by specs task listing m ≡ Err e → (r : Refusal) × (e ≡ fault.Refused r)
     check_refuses [] listing m e is = cc (is)
@@ -257,78 +238,19 @@ module _ (run : ℕ) (few : run < 2 ^ 128) (path : List ℕ) (task : Task) (orde
         go (Ok numbers) is_ f = absurd (cc (f))
         go (Err x) is_ f = let one : x ≡ e = cc (f) in subst (λ q. (r : Refusal) × (q ≡ fault.Refused r)) one (refuses (folder_with task.negation (numbers_of listing) (marks_of m)) task.specs x is_)
 
-    listed_by : (listing : List Run) (z : View) (j : Hand) (value : Result Marked CommandFault) → z.contents ≡ c → z.numbers ≡ ns → j.context ≡ Some entries → ((e : CommandFault) → value ≡ Err e → (r : Refusal) × (e ≡ fault.Refused r))
-        → Gives (by_view true) z j (listed_work path task listing k value).text (after (then_said listing) value) (WorkEnds (listed_work path task listing k value))
-    unfolding Gives
-    listed_by listing z j (Ok m) is is_ns ctx refuses_ = listed_gives run few path task orderly valid ns listing m k c z j ((λ e. is), is_ns) (holds_c j ctx)
-    listed_by listing z j (Err e) is is_ns ctx refuses_ =
-        let r = refuses_ e refl in
-        subst (λ x. WorkEnds (refused_at k.mailbox x) z j [] (Err x)) (sym r.1) (refl, refl, ap mailbox_in is)
-
-    abbrev Aim : View → Hand → Plan (Result Unit CommandFault) → Type 0
-    Aim z j p = Gives (by_view true) z j looked.text p (WorkEnds looked)
-
-    aim_at : (w : Work CommandFault) (z : View) (j : Hand) (p : Plan (Result Unit CommandFault)) → looked ≡ w → Gives (by_view true) z j w.text p (WorkEnds w) → Aim z j p
-    aim_at w z j p is g = subst (λ x. Gives (by_view true) z j x.text p (WorkEnds x)) (sym is) g
-
-    ends_at : (e : CommandFault) (r : Refusal) (z : View) (j : Hand) (left : List ℕ) → looked ≡ refused_at (mailbox_in c) e → e ≡ fault.Refused r → left ≡ looked.text → z.contents ≡ c → WorkEnds looked z j left (Err e)
-    ends_at e r z j left is what none stays =
-        subst (λ x. WorkEnds looked z j left (Err x)) (sym what) (none ∙ ap (λ x. x.text) is, ap (λ x. x.end) is ∙ ap (λ x. Err x) what, ap mailbox_in stays ∙ sym (ap (λ x. x.mailbox) is))
-
-    same_runs : (names : List (List ℕ)) → Tells c at names → runs_in old ≡ listed_runs names
-    same_runs names t = λ i. runs_of_all (λ n. messages_listed c at names t n i)
-
-    checked_so : (names : List (List ℕ)) (text : List ℕ) → Tells c at names → readable old.sequences ≡ Ok text → looked ≡ listed_work path task (listed_runs names) k (checks names text)
-    checked_so names text t reads =
-        looked_there t.there ∙ (ap (read_work path task k (runs_in old)) reads ∙ ap (λ l. listed_work path task l k (checked task l (cut_to l (sequences_in text entries task.folder)))) (same_runs names t))
-
-    abbrev then_checked : List (List ℕ) → List ℕ → Plan (Result Unit CommandFault)
-    then_checked names text = Recall (λ h. Return (sequences_seen task names text (entries_seen h.context))) >>= then_said (listed_runs names)
-
-    abbrev then_read : List (List ℕ) → Plan (Result Unit CommandFault)
-    then_read names = text_read at (entry_text Sequences) >>= (λ text. then_checked names text)
-
-    after_text : (z : View) (names : List (List ℕ)) (text : List ℕ) → z.contents ≡ c → z.numbers ≡ ns → Tells c at names → readable old.sequences ≡ Ok text → Aim z hand (then_checked names text)
-    unfolding Gives bind ◌>>=◌
-    after_text z names text is is_ns t reads =
-        subst (λ o. Aim z hand (after (then_said (listed_runs names)) (sequences_seen task names text (entries_seen o)))) (sym known)
-        (aim_at (listed_work path task (listed_runs names) k (checks names text)) z hand (after (then_said (listed_runs names)) (checks names text)) (checked_so names text t reads)
-        (listed_by (listed_runs names) z hand (checks names text) is is_ns known (λ e f. check_refuses task.specs (listed_runs names) (sequences_listed names text entries task.folder) e f)))
-
-    after_names : (z : View) (names : List (List ℕ)) → z.contents ≡ c → z.numbers ≡ ns → Tells c at names → Aim z hand (then_read names)
-    after_names z names is is_ns t =
-        gives_on (by_view true) z hand looked.text (text_read at (entry_text Sequences)) (λ text. then_checked names text) (TextRead z at (entry_text Sequences) hand looked.text) (WorkEnds looked)
-        (text_gives true z at (entry_text Sequences) hand looked.text (λ e. absurd (cc (e))))
-        (λ y j left text r. on y j left text r) (λ y j left e r. off y j left e r)
-      where
-        text_at : z.contents.texts at (entry_text Sequences) ≡ old.sequences
-        text_at = ap (λ d. d.texts at (entry_text Sequences)) is
-
-        on : (y : View) (j : Hand) (left text : List ℕ) → TextRead z at (entry_text Sequences) hand looked.text y j left (Ok text) → Gives (by_view true) y j left (then_checked names text) (WorkEnds looked)
-        on y j left text r = rw (r.view, r.hand, r.rest) (after_text (after_read z at (entry_text Sequences)) names text is is_ns t (sym (r.value ∙ ap readable text_at)))
-
-        off : (y : View) (j : Hand) (left : List ℕ) (e : CommandFault) → TextRead z at (entry_text Sequences) hand looked.text y j left (Err e) → WorkEnds looked y j left (Err e)
-        off y j left e r =
-            let unread : Err e ≡ readable old.sequences = r.value ∙ ap readable text_at in
-            let what = unreadable old.sequences e unread in
-            let w : looked ≡ refused_at (mailbox_in c) e = looked_there t.there ∙ ap (read_work path task k (runs_in old)) (sym unread) in
-            ends_at e (refusal.TooLarge what.0 LIMIT_BYTES) y j left w what.1 r.rest (ap (λ x. x.contents) r.view ∙ is)
-
     pub looks_give : Gives (by_view true) v hand looked.text (folder_looked run path task) (WorkEnds looked)
     unfolding folder_looked
     looks_give =
-        gives_on (by_view true) v hand looked.text (folder_listed at task.folder) (λ names. then_read names) (FolderListed v at task.folder hand looked.text) (WorkEnds looked)
-        (folder_gives true v at task.folder hand looked.text (λ e. absurd (cc (e))))
-        (λ z j left names l. on z j left names l) (λ z j left e a. off z j left e a)
-      where
-        on : (z : View) (j : Hand) (left : List ℕ) (names : List (List ℕ)) → IsListed v at hand looked.text names z j left → Gives (by_view true) z j left (then_read names) (WorkEnds looked)
-        on z j left names l = rw (l.view, l.hand, l.rest) (after_names (view_after v (step.List at) (answer.Names names)) names same nums (subst (λ d. Tells d at names) same l.tells))
-
-        off : (z : View) (j : Hand) (left : List ℕ) (e : CommandFault) → IsAbsent v at task.folder hand looked.text e z j left → WorkEnds looked z j left (Err e)
-        off z j left e a =
-            let none : c.there at ≡ false = ap (λ d. d.there at) (sym same) ∙ a.none in
-            let w : looked ≡ refused_at (mailbox_in c) e = looked_absent none ∙ ap (refused_at (mailbox_in c)) (sym a.fault) in
-            ends_at e (refusal.NoFolder task.folder) z j left w a.fault a.rest (a.contents ∙ same)
+        front_gives path task.folder c entries ns hand Marked (sequences_seen task) (λ names m. then_said (listed_runs names) m) v same nums known looked (read_work path task k (runs_in old)) (λ names. listed_work path task (listed_runs names) k)
+        (record {
+          absent = looked_absent;
+          there = looked_there;
+          unread = λ e. refl;
+          by_text = λ names text runs. ap (λ l. listed_work path task l k (checked task l (cut_to l (sequences_in text entries task.folder)))) runs;
+          stops = λ names e. refl;
+          refuses = λ names text e f. check_refuses task.specs (listed_runs names) (sequences_listed names text entries task.folder) e f;
+          gives = λ names text m z t so is. listed_gives run few path task orderly valid ns (listed_runs names) m k c z hand is (holds_c hand known);
+        })
 
 -- and so on every contents
 module _ (run : ℕ) (path : List ℕ) (task : Task) (orderly : IsOrderly task) where

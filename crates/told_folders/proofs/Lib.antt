@@ -3,8 +3,13 @@ pub mod ChangesMind
 pub mod ChangesPledged
 pub mod ChangesSay
 pub mod FoldersGiven
+pub mod Front
+pub mod FrontComes
+pub mod FrontGiven
+pub mod FrontSays
 pub mod LooksEnd
 pub mod LooksRefused
 pub mod LooksSay
 pub mod Loops
+pub mod MessagesStand
 pub mod ToldAlone

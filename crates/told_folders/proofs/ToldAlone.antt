@@ -44,7 +44,7 @@ use Rattle.command_stages.specs.Texts.{Commanded}
 use Rattle.opened_folders.specs.BegunWork.{Homes}
 use Rattle.opened_folders.proofs.FolderGiven.{IsUntouched}
 
-short_is : (o : Option (List ℕ)) → nat_lt LIMIT_BYTES (length (filled o)) ≡ false → IsShort LIMIT_BYTES o
+pub short_is : (o : Option (List ℕ)) → nat_lt LIMIT_BYTES (length (filled o)) ≡ false → IsShort LIMIT_BYTES o
 short_is None e = tt
 short_is (Some text) e = e
 

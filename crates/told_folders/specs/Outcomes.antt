@@ -42,7 +42,8 @@ listed_work path t listing k (Ok m) = told_work path t listing m k
 listed_work path t listing k (Err e) = refused_at k.mailbox e
 
 abbrev pub read_work : List ℕ → Task → Kept → List Run → Result (List ℕ) CommandFault → Work CommandFault
-read_work path t k listing (Ok text) = listed_work path t listing k (checked t listing (cut_to listing (sequences_in text k.entries t.folder)))
+read_work path t k listing (Ok text) =
+    listed_work path t listing k (checked t listing (cut_to listing (sequences_in text k.entries t.folder)))
 read_work path t k listing (Err e) = refused_at k.mailbox e
 
 abbrev pub there_work : List ℕ → Task → Kept → Option FolderValue → Work CommandFault

@@ -13,7 +13,8 @@ use Rattle.told_folders.specs.Tasks.{Task, chosen_from}
 
 -- the sequences are what the task makes of them by the messages that its words choose of these numbers
 abbrev pub Changes : Task → List Run → Marked → Marked → Type 0
-Changes t listing m new = (numbers : List ℕ) × (chosen_from t listing m ≡ Ok numbers) × (new ≡ t.becomes listing numbers m)
+Changes t listing m new =
+    (numbers : List ℕ) × (chosen_from t listing m ≡ Ok numbers) × (new ≡ t.becomes listing numbers m)
 
 -- it changes what marks a folder of this mail directory, and may say anything
 abbrev pub change_pledge : ℕ → List ℕ → Task → Pledge

@@ -46,7 +46,8 @@ pub record IsOrderly (t : Task) : Type 0 where
   pub current : (listing : List Run) (numbers : List ℕ) (m : Marked) → AreMsgNums numbers → IfSome m.cur IsMsgNum → IfSome (t.becomes listing numbers m).cur IsMsgNum
   pub lines : (listing : List Run) (m : Marked) → AreSome (t.lines listing m)
 
--- the messages that the task's words choose of a folder with these numbers and sequences, or the refusal of the first word that is refused
+-- the messages that the task's words choose of a folder with these numbers and sequences, or the refusal of the first
+-- word that is refused
 abbrev pub chosen_from : Task → List Run → Marked → Result (List ℕ) CommandFault
 chosen_from t listing m = chosen_in (folder_with t.negation (numbers_of listing) (marks_of m)) t.specs
 

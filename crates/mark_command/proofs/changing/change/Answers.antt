@@ -1,7 +1,7 @@
 use Rattle.std.proofs.Common.{refl}
 use Rattle.file_plans.proofs.Following.{go, no_room, stop, whole}
 use Rattle.opened_folders.proofs.EndingParts.{ends_so}
-use Rattle.mark_command.specs.Mark.{mark_changes}
+use Rattle.told_folders.specs.Plans.{folder_changed}
 use Rattle.opened_folders.proofs.EndsBeside.{ends_whole}
 use Rattle.mark_command.proofs.changing.change.Goals as goal
 
@@ -9,11 +9,11 @@ pub returns-in_err-place-clause-plan : goal.returns-in_err-place-clause-plan
 returns-in_err-place-clause-plan g c = no_room _ c.from_residual.ensures refl
 
 pub returns-in_err-opened-clause-plan : goal.returns-in_err-opened-clause-plan
-unfolding mark_changes
+unfolding folder_changed
 returns-in_err-opened-clause-plan g c = stop _ (whole c.in_err-opened.ensures.plan) c.from_residual-in_err-opened.ensures
 
 pub returns-clause-plan : goal.returns-clause-plan
-unfolding mark_changes
+unfolding folder_changed
 returns-clause-plan g c =
     go _ (whole c.in_ok-opened.ensures.plan)
     (ends_so _ _ c.mark_opened-done.result (rw (c.in_ok-opened.ensures.run, c.in_ok-opened.ensures.mail) at c.mark_opened-done.ensures.plan)

@@ -1,5 +1,5 @@
 use Rattle.mark_command.specs.Lines.{line_of, sequence_of}
-use Rattle.mark_command.proofs.Loops.{all_made}
+use Rattle.told_folders.proofs.Loops.{all_made}
 use Rattle.mark_command.proofs.lines.named_lines.Goals as goal
 
 pub returns : goal.returns

@@ -1,4 +1,4 @@
-use Rattle.mark_command.proofs.Loops.{all_made}
+use Rattle.told_folders.proofs.Loops.{all_made}
 use Rattle.pick_command.specs.Lines.{number_line}
 use Rattle.pick_command.proofs.lines.number_lines.Goals as goal
 
