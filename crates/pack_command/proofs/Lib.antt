@@ -1,6 +1,5 @@
 pub mod Counted
 pub mod InPlace
-pub mod MovesMade
 pub mod PackAlone
 pub mod PackDone
 pub mod PackEnds
@@ -10,6 +9,5 @@ pub mod PackMinds
 pub mod PackMoves
 pub mod PackPledged
 pub mod PackSays
-pub mod PlacesGiven
 pub mod SaysEnded
 pub mod Stood

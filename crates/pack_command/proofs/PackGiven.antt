@@ -6,7 +6,6 @@ use Rattle.std.specs.Str.{encode_utf8_all}
 use Rattle.mail_headers.specs.Lines.{is_name_byte}
 use Rattle.mh_base.specs.Folders.{is_folder_name}
 use Rattle.mh_base.specs.Numbers.{IsMsgNum}
-use Rattle.mh_profile.specs.Reading.{entries_in}
 use Rattle.mh_profile.specs.declared.named_value.NamedValue.{NamedValue}
 use Rattle.mh_sequences.specs.Reading.{suffix}
 use Rattle.mh_sequences.specs.Runs.{has, numbers_of}
@@ -14,12 +13,11 @@ use Rattle.mh_sequences.specs.Sequences.{Marked}
 use Rattle.msg_ranges.proofs.Rising.{lists_numbers}
 use Rattle.folder_files.specs.declared.place.Place.{Place}
 use Rattle.folder_files.specs.declared.place.Place.TheVariants.{Folder, Mail}
-use Rattle.file_plans.specs.Contents.{Contents, filled, mailbox_in}
+use Rattle.file_plans.specs.Contents.{Contents, mailbox_in}
 use Rattle.file_plans.specs.Giving.{Gives}
 use Rattle.file_plans.specs.Mailboxes.{Folder as FolderValue}
-use Rattle.file_plans.specs.Plan.{Hand, Plan, Return, bind, converted, lifted, say, ◌>>=◌}
+use Rattle.file_plans.specs.Plan.{Hand, Plan, bind, converted, lifted, say, ◌>>=◌}
 use Rattle.file_plans.specs.Views.{View, by_view}
-use Rattle.file_plans.proofs.Framing.{gives_quietly}
 use Rattle.file_plans.proofs.Giving.{gives_on}
 use Rattle.file_plans.proofs.Onward.{Is, IsShort}
 use Rattle.step_plans.specs.ContextCommit.{LIMIT_BYTES, context_name}
@@ -27,15 +25,11 @@ use Rattle.step_plans.specs.declared.command_fault.CommandFault.{CommandFault}
 use Rattle.step_plans.specs.declared.fault.PlanFault.{PlanFault}
 use Rattle.step_plans.specs.declared.fault.PlanFault.TheVariants as plan
 use Rattle.step_plans.proofs.Committed.{entries_at}
-use Rattle.held_messages.specs.HeldPairs.{with_folder_changed}
-use Rattle.sequence_commits.specs.Committing.{changed_sequences}
-use Rattle.sequence_commits.proofs.MarkedOnce.{marked_valid}
 use Rattle.command_stages.specs.Current.{made_current}
 use Rattle.command_stages.specs.Endings.{of_plan}
 use Rattle.command_stages.specs.Texts.{too_large}
 use Rattle.command_stages.specs.Works.{Work, refused_at}
-use Rattle.message_places.specs.Arranging.{arranged}
-use Rattle.message_places.specs.Places.{froms, is_in, slots}
+use Rattle.message_places.specs.Places.{AreMsgNums, froms, is_in, slots}
 use Rattle.message_places.specs.declared.moves.Move.{Move}
 use Rattle.message_places.proofs.InOrder.{slot_unlisted}
 use Rattle.message_places.proofs.NumberLists.{in_good}
@@ -43,24 +37,22 @@ use Rattle.opened_folders.specs.BegunWork.{AreHomesAt, Homes, after_commits, cur
 use Rattle.opened_folders.specs.Kept.{Commits, Kept, sequences_kept}
 use Rattle.opened_folders.specs.Opening.{Opened, opened_of}
 use Rattle.opened_folders.proofs.FolderGiven.{IsUntouched}
-use Rattle.opened_folders.proofs.KeptGiven.{Ends, Holds, IsClear}
+use Rattle.opened_folders.proofs.KeptGiven.{Holds, IsClear}
 use Rattle.opened_folders.proofs.KeptMessages.{message_at, message_of, sequences_messages}
-use Rattle.opened_folders.proofs.WorkGiven.{IsOpen, WorkEnds, changes_give, current_gives, lifted_gives, sequences_give, weaker}
+use Rattle.opened_folders.proofs.WorkGiven.{IsOpen, WorkEnds, changes_give, current_gives, lifted_gives, weaker}
 use Rattle.told_folders.specs.Plans.{lines_said}
 use Rattle.folder_command.proofs.Orderly.{summary_some}
 use Rattle.refile_command.specs.MailMoved as mail_moved
 use Rattle.refile_command.proofs.MovedShown.{message_shown}
-use Rattle.sortm_command.specs.Marking.{gone_along, withdrawn}
-use Rattle.sortm_command.specs.Sort.{last_in}
-use Rattle.sortm_command.specs.SortOutcome.{then_commits}
-use Rattle.sortm_command.proofs.Listed.{last_small}
-use Rattle.pack_command.specs.Moving.{marked_moved, moved_if, sequences_after}
-use Rattle.pack_command.specs.Pack.{line_after, opened_packed, pack}
-use Rattle.pack_command.specs.PackOutcome.{marks_along, moved_at, opened_work, pack_work, with_moved}
+use Rattle.sortm_command.specs.Marking.{withdrawn}
+use Rattle.sortm_command.specs.Moving.{sequences_after}
+use Rattle.sortm_command.proofs.MarkedGiven as stage
+use Rattle.sortm_command.proofs.MarkedGiven.{EndsAt}
+use Rattle.pack_command.specs.Pack.{line_after, opened_packed, pack, renumbered}
+use Rattle.pack_command.specs.PackOutcome.{mail_packed, moved_at, opened_work, pack_work}
 use Rattle.pack_command.specs.Places.{listing_moves, packed_listing, places_of}
 use Rattle.pack_command.specs.declared.job.PackJob.{PackJob}
 use Rattle.pack_command.proofs.PackMoves.{meant_distinct, meant_good, moving_distinct, moving_good, moving_listed, places_distinct, places_many}
-use Rattle.pack_command.proofs.PlacesGiven.{Stands, StandsSo, stands_give}
 
 -- one message, as two layers have it
 same_message : (o : Option FolderValue) (n : ℕ) → message_of o n ≡ mail_moved.message_of o n
@@ -77,9 +69,6 @@ after_all c next none = rw none refl
 
 after_long : (c : Commits) (next : Kept → Work CommandFault) (l : ℕ) → c.long ≡ Some l → after_commits c next ≡ refused_at c.kept.mailbox (too_large l)
 after_long c next l some = rw some refl
-
-then_all : (c : Commits) (next : Kept → Commits) → c.long ≡ None → then_commits c next ≡ next c.kept
-then_all c next none = rw none refl
 
 -- one line is said
 abbrev Told : View → Hand → View → Hand → List ℕ → Result Unit CommandFault → Type 0
@@ -100,31 +89,8 @@ module _ (run : ℕ) (few : run < 2 ^ 128) (path : List ℕ) (job : PackJob) (va
   Clear c = IsClear c p
 
   -- how commits ended decides; messages that moved ended at their slots
-  abbrev EndsAt : List Move → Commits → View → Hand → Result (List ℕ) PlanFault → Type 0
-  EndsAt ms commits y i (Ok ends) = (ends ≡ slots ms) × Ends Clear path y.numbers commits y i (Ok tt)
-  EndsAt ms commits y i (Err e) = Ends Clear path y.numbers commits y i (Err e)
-
-  err_here : (ns : List ℕ) (ms : List Move) (commits : Commits) (y : View) (i : Hand) (e : PlanFault) → Ends Clear path ns commits y i (Err e) → EndsAt ms commits y i (Err e)
-  err_here ns ms commits y i plan.Faulted e = e
-  err_here ns ms commits y i (plan.Locked q) e = e
-  err_here ns ms commits y i (plan.Meddled q x) e = e
-  err_here ns ms commits y i plan.Full e = e
-  err_here ns ms commits y i (plan.Absent q) e = e
-  err_here ns ms commits y i (plan.TooLarge l) e = e
-  err_here ns ms commits y i plan.Memory e = e
-
-  -- a text of the first that is too long ends both
-  first_ends : (ns : List ℕ) (ms : List Move) (c : Commits) (more : Kept → Commits) (y : View) (i : Hand) (e : PlanFault) → Ends Clear path ns c y i (Err e) → EndsAt ms (then_commits c more) y i (Err e)
-  first_ends ns ms c more y i plan.Faulted e = e
-  first_ends ns ms c more y i (plan.Locked q) e = e
-  first_ends ns ms c more y i (plan.Meddled q x) e = e
-  first_ends ns ms c more y i plan.Full e = e
-  first_ends ns ms c more y i (plan.Absent q) e = e
-  first_ends ns ms c more y i (plan.TooLarge l) e = let w = after l e.0 in (ap (λ x. x.long) w, e.1 ∙ sym (ap (λ x. x.kept.mailbox) w))
-    where
-      after : (l : ℕ) → c.long ≡ Some l → then_commits c more ≡ record { kept = c.kept; long = Some l }
-      after l some = rw some refl
-  first_ends ns ms c more y i plan.Memory e = e
+  abbrev EndsHere : List Move → Commits → View → Hand → Result (List ℕ) PlanFault → Type 0
+  EndsHere ms commits y i r = EndsAt run few path job.folder clean ms commits y i r
 
   -- the work on a folder that was begun
   module _ (o : Opened) (z : View) (j : Hand) (f : IsOpen path job.folder o z j) where
@@ -143,91 +109,41 @@ module _ (run : ℕ) (few : run < 2 ^ 128) (path : List ℕ) (job : PackJob) (va
         ap is_some (sym (message_shown d path job.folder n there ok)) ∙ (ap is_some (sym (same_message ((mailbox_in d).folders p) n)) ∙ (ap (λ x. is_some (message_at x p n)) shows ∙ (ap is_some (same n) ∙ f.stands n)))
 
     -- the messages that move
-    module _ (x : Move) (l : List Move) (are : listing_moves o.listing ≡ x ∷ l) where
-      abbrev ms : List Move
-      ms = x ∷ l
-
-      abbrev freed : Marked
-      freed = withdrawn (froms ms) m
-
-      abbrev new : Marked
-      new = gone_along ms (slots ms) m
-
-      abbrev first : Commits
-      first = sequences_kept path job.folder m freed k
-
-      abbrev second : Kept → Commits
-      second y = sequences_kept path job.folder freed new (with_moved run p ms y)
-
-      first_same : (n : ℕ) → message_at first.kept.mailbox p n ≡ message_at k.mailbox p n
-      first_same n = sequences_messages path job.folder m freed k p n
-
-      abbrev all : List Move
-      all = listing_moves o.listing
-
-      -- each stands there still, once the sequences are without it, and its slot is free or one of theirs
-      stand_then : (d : Contents) → mailbox_in d ≡ first.kept.mailbox → d.there p ≡ true → (n : ℕ) → is_in n (froms all) ≡ true → is_some (d.texts p (decimal n)) ≡ true
-      stand_then d shows there n e = shown d first.kept shows there first_same n (in_good (froms all) (moving_good o.listing f.runs) n e) ∙ moving_listed o.listing f.runs n e
-
-      free_then : (d : Contents) → mailbox_in d ≡ first.kept.mailbox → d.there p ≡ true → (n : ℕ) → is_in n (slots all) ≡ true → is_in n (froms all) ≡ false → d.texts p (decimal n) ≡ None
-      free_then d shows there n e off =
-          is_none (d.texts p (decimal n)) (shown d first.kept shows there first_same n (in_good (slots all) (meant_good o.listing f.runs) n e)
-          ∙ (sym (lists_numbers o.listing n) ∙ slot_unlisted (numbers_of o.listing) (places_of (numbers_of o.listing)) (sym (places_many (numbers_of o.listing))) (places_distinct (numbers_of o.listing)) n e off))
-
-      abbrev SoStands : Contents → Hand → Hand → View → List ℕ → Type 0
-      SoStands d i h y ends = StandsSo run few path job.folder all (moving_good o.listing f.runs) (moving_distinct o.listing f.runs) (meant_good o.listing f.runs) (meant_distinct o.listing f.runs) d i h y ends
-
-      -- they stand at their slots, and the sequences have them again
-      holds_then : (d : Contents) (i h : Hand) (y : View) (ends : List ℕ) → Holds Clear path first.kept d i → (s : SoStands d i h y ends) → Holds Clear path (with_moved run p ms first.kept) s.contents h
-      holds_then d i h y ends holds s = record {
-        shows = s.shows ∙ (ap (λ t. with_folder_changed (mailbox_in d) p (moved_at run t)) are ∙ ap (λ b. with_folder_changed b p (moved_at run ms)) holds.shows);
-        entries = holds.entries ∙ sym (ap (λ t. entries_in (filled t)) s.context);
-        known = ap (λ b. b.context) s.hand ∙ holds.known;
-        short = subst (IsShort LIMIT_BYTES) (sym s.context) holds.short;
-        still = s.clear holds.still;
-      }
-
-      abbrev Ended : View → Hand → List ℕ → Result (List ℕ) PlanFault → Type 0
-      Ended y i left r = EndsAt ms (then_commits first second) y i r
-
-      restored_gives : (d : Contents) (i h : Hand) (y : View) (ends : List ℕ) → first.long ≡ None → Holds Clear path first.kept d i → SoStands d i h y ends
-          → Gives (by_view true) y h [] (changed_sequences run p mail job.folder freed (gone_along ms ends m) >>= (λ back. Return (Ok ends))) Ended
-      unfolding Gives
-      restored_gives d i h y ends short holds s =
-          subst (λ es. Gives (by_view true) y h [] (changed_sequences run p mail job.folder freed (gone_along ms es m) >>= (λ back. Return (Ok es))) Ended) (sym (s.at_slots ∙ ap slots are))
-          (gives_quietly (by_view true) y h [] (changed_sequences run p mail job.folder freed new) (λ back. Return (Ok (slots ms))) (λ w b left r. Ends Clear path y.numbers (second first.kept) w b r) Ended
-          (sequences_give run few path job.folder clean freed new (marked_valid _ m) y.numbers (with_moved run p ms first.kept) s.contents y h ((λ e. s.is), refl) (holds_then d i h y ends holds s) [])
-          (λ w b u e. subst (λ q. EndsAt ms q w b (Ok (slots ms))) (sym (then_all first second short)) (refl, (e.0, (e.1.0, (e.1.1.0, refl), e.1.2))))
-          (λ w b e g. subst (λ q. EndsAt ms q w b (Err e)) (sym (then_all first second short)) (err_here y.numbers ms (second first.kept) w b e g)))
-
-      marked_gives : Gives (by_view true) z j [] (marked_moved run mail opened ms) Ended
-      unfolding marked_moved
-      marked_gives =
-          gives_quietly (by_view true) z j [] (changed_sequences run p mail job.folder m freed)
-          (λ free. arranged run p (froms ms) ms (last_in o.listing) >>= (λ ends. changed_sequences run p mail job.folder freed (gone_along ms ends m) >>= (λ back. Return (Ok ends))))
-          (λ y i left r. Ends Clear path f.later first y i r) Ended (sequences_give run few path job.folder clean m freed (marked_valid _ m) f.later k f.contents z j f.is f.holds [])
-          (λ y i u e.
-          gives_quietly (by_view true) y i [] (arranged run p (froms ms) ms (last_in o.listing)) (λ ends. changed_sequences run p mail job.folder freed (gone_along ms ends m) >>= (λ back. Return (Ok ends))) (Rearranged e.1.0 i) Ended
-          (subst (λ t. Gives (by_view true) y i [] (arranged run p (froms t) t (last_in o.listing)) (Rearranged e.1.0 i)) are
-          (stands_give run few path job.folder all (moving_good o.listing f.runs) (moving_distinct o.listing f.runs) (meant_good o.listing f.runs) (meant_distinct o.listing f.runs)
-          e.1.0 e.1.2.still (stand_then e.1.0 e.1.2.shows e.1.2.still.there) (free_then e.1.0 e.1.2.shows e.1.2.still.there) (last_in o.listing) (last_small o.listing f.runs) f.later y i [] e.1.1))
-          (λ w h ends s. restored_gives e.1.0 i h w ends e.0 e.1.2 s) (λ w h x s. absurd s))
-          (λ y i e g. first_ends f.later ms first second y i e g)
-        where
-          Rearranged : Contents → Hand → View → Hand → List ℕ → Result (List ℕ) PlanFault → Type 0
-          Rearranged d i y h left r = Stands run few path job.folder all (moving_good o.listing f.runs) (moving_distinct o.listing f.runs) (meant_good o.listing f.runs) (meant_distinct o.listing f.runs) d i y h left r
-
-    -- where none moves nothing is done
-    moved_gives : (l : List Move) → listing_moves o.listing ≡ l → Gives (by_view true) z j [] (moved_if run mail opened l) (λ y i left r. EndsAt l (marks_along run path job.folder m l k) y i r)
-    unfolding Gives
-    moved_gives [] are = (refl, (refl, (f.contents, (f.is.0, refl), f.holds)))
-    moved_gives (x ∷ l) are = marked_gives x l are
-
     abbrev all_moves : List Move
     all_moves = listing_moves o.listing
 
+    abbrev takes : List ℕ
+    takes = froms all_moves
+
+    abbrev first : Commits
+    first = sequences_kept path job.folder m (withdrawn takes m) k
+
+    first_same : (n : ℕ) → message_at first.kept.mailbox p n ≡ message_at k.mailbox p n
+    first_same n = sequences_messages path job.folder m (withdrawn takes m) k p n
+
+    good_takes : AreMsgNums takes
+    good_takes = moving_good o.listing f.runs
+
+    good_slots : AreMsgNums (slots all_moves)
+    good_slots = meant_good o.listing f.runs
+
+    -- each stands there still, once the sequences are without it, and its slot is free or one of theirs
+    stand_then : (d : Contents) → mailbox_in d ≡ first.kept.mailbox → d.there p ≡ true → (n : ℕ) → is_in n takes ≡ true → is_some (d.texts p (decimal n)) ≡ true
+    stand_then d shows there n e = shown d first.kept shows there first_same n (in_good takes good_takes n e) ∙ moving_listed o.listing f.runs n e
+
+    free_then : (d : Contents) → mailbox_in d ≡ first.kept.mailbox → d.there p ≡ true → (n : ℕ) → is_in n (slots all_moves) ≡ true → is_in n takes ≡ false → d.texts p (decimal n) ≡ None
+    free_then d shows there n e off =
+        is_none (d.texts p (decimal n)) (shown d first.kept shows there first_same n (in_good (slots all_moves) good_slots n e)
+        ∙ (sym (lists_numbers o.listing n) ∙ slot_unlisted (numbers_of o.listing) (places_of (numbers_of o.listing)) (sym (places_many (numbers_of o.listing))) (places_distinct (numbers_of o.listing)) n e off))
+
     abbrev commits : Commits
-    commits = marks_along run path job.folder m all_moves k
+    commits = mail_packed run path job.folder m all_moves k
+
+    -- they come to stand at their slots, and the sequences have them again
+    moved_gives : Gives (by_view true) z j [] (renumbered run mail opened all_moves) (λ y i left r. EndsHere all_moves commits y i r)
+    moved_gives =
+        stage.moved_gives run few path job.folder clean o z j f takes good_takes (moving_distinct o.listing f.runs) all_moves good_takes (moving_distinct o.listing f.runs) good_slots (meant_distinct o.listing f.runs) (λ n. refl) (moved_at run all_moves) (λ g. refl)
+        stand_then free_then all_moves refl
 
     abbrev line : List ℕ
     line = line_after job o.listing m (slots all_moves)
@@ -250,7 +166,7 @@ module _ (run : ℕ) (few : run < 2 ^ 128) (path : List ℕ) (job : PackJob) (va
         (λ w h left u g. rw (g.1, g.2, g.3) (current_gives run few path job.folder valid y.numbers line commits.kept d y i at (weaker run few path job.folder Clear commits.kept d i holds)))
         (λ w h left e g. absurd (cc (g.0))))
 
-    refused_then : (y : View) (i : Hand) (left : List ℕ) (e : PlanFault) → left ≡ work.text → EndsAt all_moves commits y i (Err e) → WorkEnds work y i left (Err (of_plan job.folder e))
+    refused_then : (y : View) (i : Hand) (left : List ℕ) (e : PlanFault) → left ≡ work.text → EndsHere all_moves commits y i (Err e) → WorkEnds work y i left (Err (of_plan job.folder e))
     refused_then y i left plan.Faulted same g = g
     refused_then y i left (plan.Locked q) same g = absurd g
     refused_then y i left (plan.Meddled q x) same g = g
@@ -264,14 +180,14 @@ module _ (run : ℕ) (few : run < 2 ^ 128) (path : List ℕ) (job : PackJob) (va
     abbrev then_said : List ℕ → Plan (Result Unit CommandFault)
     then_said ends = lines_said (line_after job o.listing m ends ∷ []) >>= (λ told. made_current run path job.folder)
 
-    good : (y : View) (i : Hand) (left ends : List ℕ) (q : Result (List ℕ) PlanFault) → left ≡ work.text → Ok ends ≡ converted (of_plan job.folder) q → EndsAt all_moves commits y i q → Gives (by_view true) y i left (then_said ends) (WorkEnds work)
+    good : (y : View) (i : Hand) (left ends : List ℕ) (q : Result (List ℕ) PlanFault) → left ≡ work.text → Ok ends ≡ converted (of_plan job.folder) q → EndsHere all_moves commits y i q → Gives (by_view true) y i left (then_said ends) (WorkEnds work)
     good y i left ends (Ok es) same r g =
         let is : es ≡ ends = cc (r) in
         subst (λ t. Gives (by_view true) y i t (then_said ends) (WorkEnds work)) (sym same)
         (subst (λ t. Gives (by_view true) y i work.text (then_said t) (WorkEnds work)) (sym g.0 ∙ is) (said_gives y i g.1.0 g.1.1.0 g.1.1.1 g.1.1.2))
     good y i left ends (Err x) same r g = absurd (cc (r))
 
-    bad : (y : View) (i : Hand) (left : List ℕ) (e : CommandFault) (q : Result (List ℕ) PlanFault) → left ≡ work.text → Err e ≡ converted (of_plan job.folder) q → EndsAt all_moves commits y i q → WorkEnds work y i left (Err e)
+    bad : (y : View) (i : Hand) (left : List ℕ) (e : CommandFault) (q : Result (List ℕ) PlanFault) → left ≡ work.text → Err e ≡ converted (of_plan job.folder) q → EndsHere all_moves commits y i q → WorkEnds work y i left (Err e)
     bad y i left e (Ok u) same r g = absurd (cc (r))
     bad y i left e (Err x) same r g = let is : e ≡ of_plan job.folder x = cc (r) in subst (λ q. WorkEnds work y i left (Err q)) (sym is) (refused_then y i left x same g)
 
@@ -281,9 +197,9 @@ module _ (run : ℕ) (few : run < 2 ^ 128) (path : List ℕ) (job : PackJob) (va
     at_opened : Gives (by_view true) z j work.text (opened_packed run path job opened) (WorkEnds work)
     unfolding opened_packed
     at_opened =
-        gives_on (by_view true) z j work.text (lifted (of_plan job.folder) (moved_if run mail opened all_moves)) then_said
-        (λ y i left r. (left ≡ work.text) × ((q : Result (List ℕ) PlanFault) × (r ≡ converted (of_plan job.folder) q) × EndsAt all_moves commits y i q)) (WorkEnds work)
-        (lifted_gives z j work.text (of_plan job.folder) (moved_if run mail opened all_moves) (λ y i left r. EndsAt all_moves commits y i r) (moved_gives all_moves refl))
+        gives_on (by_view true) z j work.text (lifted (of_plan job.folder) (renumbered run mail opened all_moves)) then_said
+        (λ y i left r. (left ≡ work.text) × ((q : Result (List ℕ) PlanFault) × (r ≡ converted (of_plan job.folder) q) × EndsHere all_moves commits y i q)) (WorkEnds work)
+        (lifted_gives z j work.text (of_plan job.folder) (renumbered run mail opened all_moves) (λ y i left r. EndsHere all_moves commits y i r) moved_gives)
         (λ y i left ends g. good y i left ends g.1.0 g.0 g.1.1 g.1.2)
         (λ y i left e g. bad y i left e g.1.0 g.0 g.1.1 g.1.2)
 

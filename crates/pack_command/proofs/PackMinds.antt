@@ -1,53 +1,42 @@
 -- Each step of `folder -pack` minds the marks of all sequences.
-use Rattle.std.proofs.Common.{◌≡◌, ◌⊎◌, inl, inr, ◌<◌, ◌^◌, ◌∷◌, [], ℕ, true, false, List, Option, Ok, refl, sym, ◌∙◌, subst}
-use Rattle.std.specs.Prelude.{IfSome}
-use Rattle.mh_base.specs.Numbers.{IsMsgNum}
+use Rattle.std.proofs.Common.{◌≡◌, inl, inr, ◌<◌, ◌^◌, ◌∷◌, [], ℕ, true, false, List, Option, refl, sym, ◌∙◌, subst}
 use Rattle.mh_sequences.specs.Runs.{AreRuns, has, numbers_of}
-use Rattle.mh_sequences.specs.Sequences.{AreSequences, Marked}
+use Rattle.mh_sequences.specs.Sequences.{Marked}
 use Rattle.mh_sequences.specs.declared.run.Run.{Run}
 use Rattle.msg_ranges.proofs.Rising.{lists_numbers}
 use Rattle.folder_files.specs.Deeds.{Deed}
 use Rattle.folder_files.specs.declared.place.Place.{Place}
 use Rattle.folder_files.specs.declared.place.Place.TheVariants.{Folder, Mail}
 use Rattle.folder_files.specs.declared.step.Step.{Step}
-use Rattle.file_plans.specs.Plan.{Hand, Plan, Return, lifted, ◌>>=◌}
+use Rattle.file_plans.specs.Plan.{Hand, Plan, lifted, ◌>>=◌}
 use Rattle.step_plans.specs.ContextCommit.{AreChanges}
 use Rattle.step_plans.specs.Pledges.{MayAsk, Pledge}
-use Rattle.step_plans.specs.declared.fault.PlanFault.{PlanFault}
 use Rattle.step_plans.proofs.Going.{Outcome, okay}
-use Rattle.message_places.specs.Arranging.{arranged}
 use Rattle.message_places.specs.Places.{AreMsgNums, froms, is_in, slots}
 use Rattle.message_places.specs.declared.moves.Move.{Move}
-use Rattle.sequence_commits.specs.Committing.{changed_sequences}
 use Rattle.command_stages.specs.Current.{current_change, made_current}
 use Rattle.command_stages.specs.Endings.{of_plan}
+use Rattle.sequence_marks.proofs.OtherEntries.{by_bool}
 use Rattle.opened_folders.specs.FolderPledge.{told_within}
-use Rattle.opened_folders.specs.Opening.{Opened, begun, opened_of}
+use Rattle.opened_folders.specs.Opening.{Opened, opened_of}
 use Rattle.opened_folders.proofs.AllMarks.{MindsAll}
-use Rattle.opened_folders.proofs.BegunSeen.{HasSeenBegun, NoneUnlinked, begun_meets}
+use Rattle.opened_folders.proofs.BegunSeen.{NoneUnlinked}
 use Rattle.opened_folders.proofs.CommitMinds.{Facts, IsTold}
-use Rattle.opened_folders.proofs.FreeMarks.{FreesOthers}
-use Rattle.opened_folders.proofs.MarksWritten.{by_bool}
-use Rattle.opened_folders.proofs.Meeting.{Meets, meets_lifted, meets_more, meets_okay, meets_return, meets_then}
-use Rattle.opened_folders.proofs.ToldMarks.{InListing, told_cur, told_valid}
+use Rattle.opened_folders.proofs.Meeting.{Meets, meets_lifted, meets_okay, meets_return, meets_then}
+use Rattle.opened_folders.proofs.ToldMarks.{InListing}
 use Rattle.opened_folders.proofs.WorkMinds.{Anyhow, current_meets}
-use Rattle.opened_folders.proofs.WorkMinds as work_minds
-use Rattle.refile_command.proofs.Meetings.{AnyAsk, meets_okay_both}
-use Rattle.sortm_command.specs.Marking.{withdrawn}
-use Rattle.sortm_command.proofs.BegunKnown.{begun_known}
 use Rattle.sortm_command.proofs.MarksKnown.{KnowsMarks}
 use Rattle.step_plans.specs.CommandFaults.{of_sink}
 use Rattle.opened_folders.proofs.Meeting.{meets_say}
 use Rattle.told_folders.specs.Plans.{lines_said}
 use Rattle.message_places.proofs.InOrder.{slot_unlisted}
-use Rattle.sortm_command.specs.Sort.{last_in}
 use Rattle.sortm_command.proofs.MovesMind as moves
-use Rattle.pack_command.specs.Moving.{marked_moved, marks_restored, moved_if}
-use Rattle.pack_command.specs.Pack.{line_after, opened_packed, pack}
+use Rattle.pack_command.specs.Pack.{line_after, opened_packed, pack, renumbered}
 use Rattle.pack_command.specs.PackPledge.{pack_pledge}
 use Rattle.pack_command.specs.Places.{listing_moves, places_of}
 use Rattle.pack_command.specs.declared.job.PackJob.{PackJob}
 use Rattle.pack_command.proofs.PackMoves.{meant_good, moving_good, places_distinct, places_many}
+use Rattle.sortm_command.proofs.KnownMinds.{work_meets}
 
 module _ (w : Pledge) (few : w.run < 2 ^ 128) (path : List ℕ) (job : PackJob) (ok : AreChanges (current_change job.folder)) where
   abbrev Of : List ℕ → Type 0
@@ -65,10 +54,6 @@ module _ (w : Pledge) (few : w.run < 2 ^ 128) (path : List ℕ) (job : PackJob) 
   abbrev M : {R : Type 0} → List Deed → Hand → Plan R → Outcome R → Type 0
   M own h plan Q = Meets (MayAsk w) A own h plan Q
 
-  -- the folder was begun, with these numbers and sequences
-  abbrev Begun : Outcome Opened
-  Begun later j o = HasSeenBegun path job.folder later o × KnowsMarks w path job.folder o.sequences later j
-
   -- the work on a folder that was begun
   module _ (names : List (List ℕ)) (listing : List Run) (runs : AreRuns listing) (text context : List ℕ) (ends_ : List (Option ℕ)) where
     abbrev told : Marked
@@ -77,12 +62,6 @@ module _ (w : Pledge) (few : w.run < 2 ^ 128) (path : List ℕ) (job : PackJob) 
     abbrev opened : Opened
     opened = opened_of p job.folder listing told ends_
 
-    valid : AreSequences told.users
-    valid = told_valid listing text context job.folder
-
-    cur : IfSome told.cur IsMsgNum
-    cur = told_cur listing text context job.folder
-
     -- each listed number is there, and no other is marked
     abbrev Known : List Deed → Hand → Type 0
     Known own h = Facts w path job.folder names (InListing listing) own × KnowsMarks w path job.folder told own h
@@ -90,47 +69,15 @@ module _ (w : Pledge) (few : w.run < 2 ^ 128) (path : List ℕ) (job : PackJob) 
     abbrev None_ : List ℕ → Type 0
     None_ z = ⊥
 
-    -- what is left once messages may have changed places
-    abbrev Ready : Outcome Unit
-    Ready later j u = Facts w path job.folder names None_ later
-
+    -- what is left once messages may have got other numbers
     abbrev ReadyAt : Outcome (List ℕ)
     ReadyAt later j ends = Facts w path job.folder names None_ later
 
-    ready : (There : List ℕ → Type 0) (own : List Deed) → Facts w path job.folder names There own → Facts w path job.folder names None_ own
-    ready = moves.ready w few path job.folder names listing runs text context
-
     -- these messages get other numbers
-    module _ (ms : List Move) (fs : AreMsgNums (froms ms)) (ss : AreMsgNums (slots ms)) (unlisted : (k : ℕ) → is_in k (slots ms) ≡ true → is_in k (froms ms) ≡ false → has listing k ≡ false) where
-      abbrev takes : List ℕ
-      takes = froms ms
-
-      free_slot : (k : ℕ) → is_in k (slots ms) ≡ true → (is_in k takes ≡ true) ⊎ (has listing k ≡ false)
-      free_slot k e = by_bool (is_in k takes) (λ i. inl i) (λ off. inr (unlisted k e off))
-
-      -- the sequences without them
-      abbrev less : Marked
-      less = withdrawn takes told
-
-      abbrev Withdrawn : Outcome Unit
-      Withdrawn = moves.Withdrawn w few path job.folder names listing runs text context ms takes fs fs ss (λ k. refl) free_slot
-
-      abbrev Moved : Outcome (List ℕ)
-      Moved = moves.Moved w few path job.folder names listing runs text context ms takes fs fs ss (λ k. refl) free_slot
-
-      marked_meets : (own : List Deed) (h : Hand) → Known own h → M own h (marked_moved w.run mail opened ms) (okay ReadyAt)
-      unfolding marked_moved
-      marked_meets own h f =
-          meets_then (MayAsk w) A own h (changed_sequences w.run p mail job.folder told less) (λ free. arranged w.run p takes ms (last_in listing) >>= (λ ends. marks_restored w.run mail opened ms ends >>= (λ back. Return (Ok ends)))) Withdrawn ReadyAt (moves.withdrawn_meets w few path job.folder names listing runs text context ms takes fs fs ss (λ k. refl) free_slot own h f)
-          (λ later j u g.
-          meets_then (MayAsk w) A later j (arranged w.run p takes ms (last_in listing)) (λ ends. marks_restored w.run mail opened ms ends >>= (λ back. Return (Ok ends))) Moved ReadyAt (moves.moving_meets w few path job.folder names listing runs text context ms takes fs fs ss (λ k. refl) free_slot later j g.0 (moves.are_withdrawn w few path job.folder names listing runs text context ms takes fs fs ss (λ k. refl) free_slot later j g.0 g.1))
-          (λ last i ends k.
-          meets_then (MayAsk w) A last i (marks_restored w.run mail opened ms ends) (λ back. Return (Ok ends)) Ready ReadyAt (moves.restored_meets w few path job.folder names listing runs text context ms takes fs fs ss (λ k. refl) free_slot ends last i k) (λ end l u q. meets_return (MayAsk w) A end l ends (okay ReadyAt) q)))
-
     moved_meets : (ms : List Move) → AreMsgNums (froms ms) → AreMsgNums (slots ms) → ((k : ℕ) → is_in k (slots ms) ≡ true → is_in k (froms ms) ≡ false → has listing k ≡ false) → (own : List Deed) (h : Hand) → Known own h
-        → M own h (moved_if w.run mail opened ms) (okay ReadyAt)
-    moved_meets [] fs ss unlisted own h f = meets_return (MayAsk w) A {E = PlanFault} own h [] (okay ReadyAt) (ready (InListing listing) own f.0)
-    moved_meets (m ∷ ms) fs ss unlisted own h f = marked_meets (m ∷ ms) fs ss unlisted own h f
+        → M own h (renumbered w.run mail opened ms) (okay ReadyAt)
+    moved_meets ms fs ss unlisted own h f =
+        moves.moved_meets w few path job.folder names listing runs text context ms (froms ms) fs fs ss (λ k. refl) (λ k e. by_bool (is_in k (froms ms)) (λ i. inl i) (λ off. inr (unlisted k e off))) ends_ own h f
 
     line_meets : (own : List Deed) (h : Hand) (line : List ℕ) → M own h (lines_said (line ∷ [])) (okay (λ later j u. later ≡ own))
     unfolding lines_said
@@ -139,8 +86,8 @@ module _ (w : Pledge) (few : w.run < 2 ^ 128) (path : List ℕ) (job : PackJob) 
     opened_okay : (own : List Deed) (h : Hand) → Known own h → M own h (opened_packed w.run path job opened) (okay (λ later j u. Unit {0}))
     unfolding opened_packed
     opened_okay own h f =
-        meets_then (MayAsk w) A own h (lifted (of_plan job.folder) (moved_if w.run mail opened (listing_moves listing))) (λ ends. lines_said (line_after job listing told ends ∷ []) >>= (λ told_. made_current w.run path job.folder)) ReadyAt (λ later j u. Unit {0})
-        (meets_lifted (MayAsk w) A own h (of_plan job.folder) (moved_if w.run mail opened (listing_moves listing)) ReadyAt
+        meets_then (MayAsk w) A own h (lifted (of_plan job.folder) (renumbered w.run mail opened (listing_moves listing))) (λ ends. lines_said (line_after job listing told ends ∷ []) >>= (λ told_. made_current w.run path job.folder)) ReadyAt (λ later j u. Unit {0})
+        (meets_lifted (MayAsk w) A own h (of_plan job.folder) (renumbered w.run mail opened (listing_moves listing)) ReadyAt
         (moved_meets (listing_moves listing) (moving_good listing runs) (meant_good listing runs)
         (λ k e off. sym (lists_numbers listing k) ∙ slot_unlisted (numbers_of listing) (places_of (numbers_of listing)) (sym (places_many (numbers_of listing))) (places_distinct (numbers_of listing)) k e off) own h f))
         (λ later j ends g.
@@ -149,25 +96,10 @@ module _ (w : Pledge) (few : w.run < 2 ^ 128) (path : List ℕ) (job : PackJob) 
         meets_okay (MayAsk w) A last i (made_current w.run path job.folder) (λ end l v. Facts w path job.folder names None_ end) (λ end l v. Unit {0}) (λ end l v k. tt)
         (current_meets w path job.folder names None_ ok last i (subst (λ z. Facts w path job.folder names None_ z) (sym e) g))))
 
-  opened_meets : (own : List Deed) (h : Hand) (o : Opened) → Begun own h o → M own h (opened_packed w.run path job o) Anyhow
-  opened_meets own h o f =
-      let b = f.0 in
-      let is : o ≡ opened_of p job.folder o.listing (told_within o.listing b.text b.context job.folder) o.ends = λ i. record { place = b.place i; folder = b.name i; listing = o.listing; sequences = b.sequences i; ends = o.ends } in
-      subst (λ x. M own h (opened_packed w.run path job x) Anyhow) (sym is)
-      (meets_more (MayAsk w) A own h (opened_packed w.run path job (opened_of p job.folder o.listing (told_within o.listing b.text b.context job.folder) o.ends)) (okay (λ later j u. Unit {0})) Anyhow (λ later j r q. tt)
-      (opened_okay b.names o.listing b.runs b.text b.context o.ends own h (b.facts, subst (λ m. KnowsMarks w path job.folder m own h) b.sequences f.1)))
-
-  begun_so : (own : List Deed) (h : Hand) → NoneUnlinked p own → M own h (lifted (of_plan job.folder) (begun w.run p mail job.folder)) (okay Begun)
-  begun_so own h none =
-      meets_lifted (MayAsk w) A own h (of_plan job.folder) (begun w.run p mail job.folder) Begun
-      (meets_okay (MayAsk w) A own h (begun w.run p mail job.folder) (λ later j o. (HasSeenBegun path job.folder later o × FreesOthers w.run path job.folder o.listing later) × KnowsMarks w path job.folder o.sequences later j) Begun (λ later j o g. (g.0.0, g.1))
-      (meets_okay_both (MayAsk w) A AnyAsk own h (begun w.run p mail job.folder) (λ later j o. HasSeenBegun path job.folder later o × FreesOthers w.run path job.folder o.listing later) (λ later j o. KnowsMarks w path job.folder o.sequences later j)
-      (begun_meets w path job.folder own h none) (begun_known w path job.folder own h)))
-
   -- each step of `folder -pack` minds all marks
   pub pack_minds : (own : List Deed) (h : Hand) → NoneUnlinked p own → M own h (pack w.run path job) Anyhow
   unfolding pack
-  pack_minds own h none = work_minds.opened_meets w path job.folder A (λ before s f. f) (opened_packed w.run path job) Begun opened_meets (lifted (of_plan job.folder) (begun w.run p mail job.folder)) own h (begun_so own h none)
+  pack_minds own h none = work_meets w path job.folder (opened_packed w.run path job) opened_okay own h none
 
 -- so of a call as it is pledged
 pub pack_meets : (run : ℕ) → run < 2 ^ 128 → (path : List ℕ) (job : PackJob) → AreChanges (current_change job.folder) → (own : List Deed) (h : Hand) → NoneUnlinked (Folder path job.folder) own

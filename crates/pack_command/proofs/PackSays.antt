@@ -36,11 +36,10 @@ use Rattle.pack_command.proofs.SaysEnded as saying
 use Rattle.folder_command.proofs.Orderly.{summary_some}
 use Rattle.refile_command.specs.RmmPledge.{every_message}
 use Rattle.refile_command.proofs.RefileMoved.{HasHeldNone}
-use Rattle.pack_command.specs.Moving.{moved_if}
-use Rattle.pack_command.specs.Pack.{line_after, opened_packed, pack}
+use Rattle.pack_command.specs.Pack.{line_after, opened_packed, pack, renumbered}
 use Rattle.pack_command.specs.PackPledge.{MakesMarks, PacksSo, TellsPacked}
 use Rattle.pack_command.specs.Places.{listing_moves, packed_listing}
-use Rattle.pack_command.specs.Moving.{sequences_after}
+use Rattle.sortm_command.specs.Moving.{sequences_after}
 use Rattle.pack_command.specs.declared.job.PackJob.{PackJob}
 use Rattle.pack_command.proofs.PackLets.{all_kept, lets, makes_kept, packing}
 use Rattle.pack_command.proofs.PackPledged as pledged
@@ -141,12 +140,12 @@ module _ (run : ℕ) (few : run < 2 ^ 128) (path : List ℕ) (job : PackJob) whe
           keeps_bind (speaking T) now_ h plan (after (λ ends. bind (lines_said (line ends ∷ [])) (after (λ told. made_current run path job.folder)))) _ Ends
           (quietly T told_kept (rules_of v) quiet F lasts now_ h plan Moves (silent_told T told_kept now_ silent)
           (goes_keeps v now_ (acts now_) h plan (okay (pledged.Packs run few path job no_piece first (acts now_) o b none)) refl sound
-          (goes_lifted v (acts now_) h (of_plan job.folder) (moved_if run mail opened (listing_moves o.listing)) (pledged.Packs run few path job no_piece first (acts now_) o b none)
-          (pledged.by_moves run few path job no_piece first (acts now_) o b none (listing_moves o.listing) refl h))))
+          (goes_lifted v (acts now_) h (of_plan job.folder) (renumbered run mail opened (listing_moves o.listing)) (pledged.Packs run few path job no_piece first (acts now_) o b none)
+          (pledged.moves_go run few path job no_piece first (acts now_) o b none h))))
           go
         where
           plan : Plan (Result (List ℕ) CommandFault)
-          plan = lifted (of_plan job.folder) (moved_if run mail opened (listing_moves o.listing))
+          plan = lifted (of_plan job.folder) (renumbered run mail opened (listing_moves o.listing))
 
           go : (later : List Deed) (j : Hand) (r : Result (List ℕ) CommandFault) → Quiet T told_kept (rules_of v) quiet F lasts Moves now_ later j r
               → Keeps (speaking T) later j (after (λ ends. bind (lines_said (line ends ∷ [])) (after (λ told. made_current run path job.folder))) r) Ends

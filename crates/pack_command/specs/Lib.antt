@@ -1,4 +1,3 @@
-pub mod Moving
 pub mod Pack
 pub mod PackAlone
 pub mod PackAnswers

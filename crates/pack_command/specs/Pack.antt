@@ -4,6 +4,7 @@ use Rattle.std.specs.Str.{encode_utf8_all}
 use Rattle.mh_sequences.specs.declared.run.Run.{Run}
 use Rattle.mh_sequences.specs.Runs.{numbers_of}
 use Rattle.mh_sequences.specs.Sequences.{Marked}
+use Rattle.folder_files.specs.declared.place.Place.{Place}
 use Rattle.folder_files.specs.declared.place.Place.TheVariants.{Folder, Mail}
 use Rattle.file_plans.specs.Plan.{bind, lifted, ◌>>=◌}
 use Rattle.command_stages.specs.Current.{made_current}
@@ -14,7 +15,10 @@ use Rattle.opened_folders.specs.Opening.{Opened, begun}
 use Rattle.told_folders.specs.Plans.{lines_said}
 use Rattle.folder_command.specs.Summary.{summary}
 use Rattle.folder_command.specs.declared.job.FolderJob.{FolderJob}
-use Rattle.pack_command.specs.Moving.{moved_if, sequences_after}
+use Rattle.step_plans.specs.PlanFaults.{Planned}
+use Rattle.message_places.specs.Places.{froms}
+use Rattle.message_places.specs.declared.moves.Move.{Move}
+use Rattle.sortm_command.specs.Moving.{moved_if, sequences_after}
 use Rattle.pack_command.specs.Places.{listing_moves, packed_listing}
 use Rattle.pack_command.specs.declared.job.PackJob.{PackJob}
 
@@ -28,12 +32,17 @@ line_of job listing m = summary (encode_utf8_all job.folder) (numbers_of listing
 
 -- the line, once the messages that move ended at these numbers
 abbrev pub line_after : PackJob → List Run → Marked → List ℕ → List ℕ
-line_after job listing m ends = line_of job (packed_listing listing ends) (sequences_after (listing_moves listing) ends m)
+line_after job listing m ends =
+    line_of job (packed_listing listing ends) (sequences_after (listing_moves listing) ends m)
+
+-- messages get other numbers, and their marks go with them; it tells where each ended
+abbrev pub renumbered : ℕ → Place → Opened → List Move → Planned (List ℕ)
+renumbered run mail o ms = moved_if run mail o (froms ms) ms
 
 -- the messages are numbered anew, the folder's line is said, and it becomes the current one
 unfoldable pub opened_packed : ℕ → List ℕ → PackJob → Opened → Commanded Unit
 opened_packed run path job o = do
-  ends ← lifted (of_plan job.folder) (moved_if run (Mail path) o (listing_moves o.listing))
+  ends ← lifted (of_plan job.folder) (renumbered run (Mail path) o (listing_moves o.listing))
   told ← lines_said (line_after job o.listing o.sequences ends ∷ [])
   made_current run path job.folder
 

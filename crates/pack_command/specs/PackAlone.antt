@@ -9,5 +9,7 @@ use Rattle.pack_command.specs.PackOutcome.{pack_work}
 use Rattle.pack_command.specs.declared.job.PackJob.{PackJob}
 
 -- the call comes to its work on the mailbox that it finds, where nothing else happens
-abbrev pub PacksIfUnfaulted : ℕ → List ℕ → PackJob → Hand → Result Unit CommandFault → FilesState → FilesState → SinkState → SinkState → Type 0
-PacksIfUnfaulted run path job h result f g x y = TellsIfUnfaulted run path job.folder h (λ entries held. pack_work run path entries held job) result f g x y
+abbrev pub PacksIfUnfaulted : ℕ → List ℕ → PackJob → Hand → Result Unit CommandFault → FilesState → FilesState
+    → SinkState → SinkState → Type 0
+PacksIfUnfaulted run path job h result f g x y =
+    TellsIfUnfaulted run path job.folder h (λ entries held. pack_work run path entries held job) result f g x y

@@ -1,52 +1,19 @@
--- What `folder -pack` answers by what it read of its folder, and what shows how it ended: its run's own deeds in the call, the newest first.
-use Rattle.std.specs.Prelude.{◌≡◌, ◌⊎◌, ℕ, true, List, length, nat_lt}
-use Rattle.mh_profile.specs.declared.named_value.NamedValue.{NamedValue}
-use Rattle.mh_sequences.specs.Printing.{private_entries, text_of}
-use Rattle.mh_sequences.specs.Reading.{suffix}
-use Rattle.mh_sequences.specs.Runs.{has}
-use Rattle.mh_sequences.specs.Sequences.{Marked}
-use Rattle.mh_sequences.specs.declared.run.Run.{Run}
+-- What `folder -pack` answers by what it read of its folder, and what shows how it ended: its run's own deeds in the
+-- call, the newest first.
+use Rattle.std.specs.Prelude.{◌⊎◌, ℕ, List}
 use Rattle.folder_files.specs.Deeds.{Deed}
-use Rattle.folder_files.specs.declared.place.Place.TheVariants.{Folder, Mail}
-use Rattle.folder_files.specs.declared.refusal.Refusal.TheVariants as refusal
-use Rattle.step_plans.specs.ContextCommit.{LIMIT_BYTES}
-use Rattle.step_plans.specs.Endings.{IsLongText}
 use Rattle.step_plans.specs.declared.command_fault.CommandFault.{CommandFault}
-use Rattle.step_plans.specs.declared.command_fault.CommandFault.TheVariants as fault
-use Rattle.message_puts.specs.Stored.{HasMetAt}
-use Rattle.sequence_commits.specs.PrivateChanges.{changes_to}
 use Rattle.opened_folders.specs.Endings.{Answering, ShowsEnd}
-use Rattle.opened_folders.specs.FolderPledge.{told_within}
-use Rattle.opened_folders.specs.Reads.{HaveSeen}
+use Rattle.sortm_command.specs.MovesAnswers.{ShowsMoves}
 use Rattle.pack_command.specs.PackPledge.{MakesMarks}
 use Rattle.pack_command.specs.declared.job.PackJob.{PackJob}
 
--- by the listing and the texts alone the sequences stay, but for what the reading cuts; and nothing refuses, for there are no words
+-- by the listing and the texts alone the sequences stay, but for what the reading cuts; and nothing refuses, for there
+-- are no words
 abbrev pub pack_answers : Answering
 pack_answers = record { makes = λ listing m new. ⊥; refuses = λ listing m r. ⊥ }
 
--- the text of sequences that it makes after its deeds is too long, with this length; or that of the context is, with the entries of the private ones
-pub record IsLongMade (run : ℕ) (path : List ℕ) (job : PackJob) (l : ℕ) (own : List Deed) : Type 0 where
-  pub listing : List Run
-  pub text : List ℕ
-  pub context : List ℕ
-  pub seen : HaveSeen run (Folder path job.folder) (Mail path) listing text context own
-  pub new : Marked
-  pub made : MakesMarks run path job own listing (told_within listing text context job.folder) new
-  pub long :
-      ((l ≡ length (text_of new)) × (nat_lt LIMIT_BYTES l ≡ true))
-      ⊎ ((entries : List NamedValue) × IsLongText (Mail path) (changes_to (suffix job.folder) (private_entries (suffix job.folder) new.users) entries) l own)
-
--- what shows that the messages can't be numbered anew
-pub data ShowsMoves (run : ℕ) (path : List ℕ) (job : PackJob) : CommandFault → List Deed → Type 0 where
-  -- the sequences as they are to be while messages move, or after that, are too long
-  long_marks : {l : ℕ} {own : List Deed} → IsLongMade run path job l own → ShowsMoves run path job (fault.Refused (refusal.TooLarge l LIMIT_BYTES)) own
-  -- the run listed a message at the last number
-  none_left : {listing : List Run} {text context : List ℕ} {own : List Deed} → HaveSeen run (Folder path job.folder) (Mail path) listing text context own → has listing 999999 ≡ true
-      → ShowsMoves run path job (fault.Refused (refusal.Full job.folder)) own
-  -- it linked one there, or met one
-  none_met : {own : List Deed} → HasMetAt (Folder path job.folder) 999999 own → ShowsMoves run path job (fault.Refused (refusal.Full job.folder)) own
-
 -- what shows each fault of `folder -pack`
 abbrev pub ShowsPack : ℕ → List ℕ → PackJob → CommandFault → List Deed → Type 0
-ShowsPack run path job e own = ShowsEnd run path job.folder pack_answers e own ⊎ ShowsMoves run path job e own
+ShowsPack run path job e own =
+    ShowsEnd run path job.folder pack_answers e own ⊎ ShowsMoves run path job.folder (MakesMarks run path job) e own

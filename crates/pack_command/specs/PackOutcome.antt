@@ -1,5 +1,5 @@
 -- What `folder -pack` comes to, by the mailbox. Nothing here knows of steps.
-use Rattle.std.specs.Prelude.{◌==◌, ◌&&◌, ◌∷◌, [], ℕ, List, None, if◌then◌else◌}
+use Rattle.std.specs.Prelude.{◌==◌, ◌&&◌, ℕ, List, None, if◌then◌else◌}
 use Rattle.mh_profile.specs.declared.named_value.NamedValue.{NamedValue}
 use Rattle.mh_sequences.specs.Sequences.{Marked}
 use Rattle.mh_sequences.specs.declared.run.Run.{Run}
@@ -12,15 +12,14 @@ use Rattle.message_places.specs.Places.{froms, is_in, slots, source_of, stood_at
 use Rattle.message_places.specs.declared.moves.Move.{Move}
 use Rattle.command_stages.specs.Works.{Work}
 use Rattle.opened_folders.specs.BegunWork.{Homes, after_commits, begun_work, current_work}
-use Rattle.opened_folders.specs.Kept.{Commits, Kept, all_made, kept_of, sequences_kept}
-use Rattle.sortm_command.specs.Marking.{gone_along, withdrawn}
-use Rattle.sortm_command.specs.SortOutcome.{then_commits}
+use Rattle.opened_folders.specs.Kept.{Commits, Kept, kept_of}
+use Rattle.sortm_command.specs.MarksAlong.{marks_along}
 use Rattle.pack_command.specs.Pack.{line_after}
 use Rattle.pack_command.specs.Places.{listing_moves}
 use Rattle.pack_command.specs.declared.job.PackJob.{PackJob}
 
--- The folder where each move's message stands at its slot; the other numbers from which one moved are free, and all else is as before. Of those that moved the
--- run holds none aside.
+-- The folder where each move's message stands at its slot; the other numbers from which one moved are free, and all
+-- else is as before. Of those that moved the run holds none aside.
 abbrev pub moved_at : ℕ → List Move → FolderValue → FolderValue
 moved_at run ms f = record {
   messages = λ k. stood_at f.messages (source_of ms (slots ms) k) (if is_in k (froms ms) then None else f.messages k);
@@ -32,18 +31,14 @@ moved_at run ms f = record {
 abbrev pub with_moved : ℕ → Place → List Move → Kept → Kept
 with_moved run p ms k = kept_of (with_folder_changed k.mailbox p (moved_at run ms)) k.entries
 
--- The messages come to their slots. Their marks go along, and so does the current message: the sequences are without those that move, and have them again
--- at their slots. Where none moves nothing is changed.
-abbrev pub marks_along : ℕ → List ℕ → List ℕ → Marked → List Move → Kept → Commits
-marks_along run path folder m [] k = all_made k
-marks_along run path folder m (x ∷ ms) k =
-    then_commits (sequences_kept path folder m (withdrawn (froms (x ∷ ms)) m) k)
-    (λ l. sequences_kept path folder (withdrawn (froms (x ∷ ms)) m) (gone_along (x ∷ ms) (slots (x ∷ ms)) m) (with_moved run (Folder path folder) (x ∷ ms) l))
+-- the messages come to their slots, and their marks go along; where none moves nothing is changed
+abbrev pub mail_packed : ℕ → List ℕ → List ℕ → Marked → List Move → Kept → Commits
+mail_packed run path folder m ms k = marks_along path folder m (froms ms) ms (with_moved run (Folder path folder) ms) k
 
 -- of a folder with these numbers and sequences: then its line is said, and it becomes the current one
 abbrev pub opened_work : ℕ → List ℕ → PackJob → List Run → Marked → Kept → Work CommandFault
 opened_work run path job listing m k =
-    after_commits (marks_along run path job.folder m (listing_moves listing) k) (current_work path job.folder (line_after job listing m (slots (listing_moves listing))))
+    after_commits (mail_packed run path job.folder m (listing_moves listing) k) (current_work path job.folder (line_after job listing m (slots (listing_moves listing))))
 
 -- `folder -pack` of this run, where the context has these entries, and what was held aside in the folder goes so
 unfoldable pub pack_work : ℕ → List ℕ → List NamedValue → Homes → PackJob → Mailbox → Work CommandFault

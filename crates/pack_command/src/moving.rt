@@ -1,22 +1,17 @@
 // Messages get other numbers, and their marks go with them.
-ghost use Rattle.std.specs.Prelude.{◌≡◌, ◌++◌, ◌∷◌, [], map, IfOk, OnOk};
+ghost use Rattle.std.specs.Prelude.{◌≡◌, IfOk};
 ghost use Rattle.file_plans.specs.Follows.{Follows, by_hand};
 ghost use Rattle.message_places.specs.Places.{froms};
-ghost use Rattle.opened_folders.specs.Opening.{with_sequences};
-ghost use Rattle.sequence_commits.specs.Committing.{changed_sequences};
-ghost use Rattle.sequence_commits.specs.Marking.{marked_by_all};
-ghost use Rattle.sequence_commits.specs.PlainMarks.{plain_mark};
 ghost use Rattle.step_plans.specs.Hands.{mail_place};
 ghost use Rattle.step_plans.specs.PlanFaults.{plan_cause};
-ghost use Rattle.sortm_command.specs.Marking.{gone_along};
-ghost use Rattle.pack_command.specs.Moving.{marked_moved, moved_if, sequences_after};
+ghost use Rattle.sortm_command.specs.Moving.{sequences_after};
+ghost use Rattle.pack_command.specs.Pack.{renumbered};
 
 use folder_files::Files;
-use message_places::{Move, arrange};
+use message_places::Move;
 use mh_base::{List, MsgNum};
-use mh_sequences::{Mark, MarkList, PairList};
-use opened_folders::{Opened, commit_marks};
-use sortm_command::{kept_marks, last, pairs, withdraw};
+use opened_folders::Opened;
+use sortm_command::move_all;
 use std::alloc::{AllocError, Global};
 use step_plans::{Hand, PlanFault};
 
@@ -31,68 +26,18 @@ fn moving(alloc: Global, moves: &[Move]) -> Result<List<MsgNum>, AllocError>
     Ok(numbers)
 }
 
-/// The sequences get back what these marks give them, and then these numbers move.
-fn restore<F: Files>(
-    alloc: Global,
-    hand: &mut Hand,
-    files: &mut F,
-    opened: &mut Opened,
-    mut marks: MarkList,
-    pairs: PairList,
-) -> Result<(), PlanFault>
-    ensures plan { Follows hand.old.run plan_cause (changed_sequences hand.old.run opened.old.place (mail_place hand.old) opened.old.folder opened.old.sequences (marked_by_all (map plain_mark marks ++ Mark.Move pairs ∷ []) opened.old.sequences)) (by_hand hand.old.kept (F.state files.old)) (by_hand hand.new.kept (F.state files.new)) result }
-    ensures left { OnOk result (opened.new ≡ with_sequences (marked_by_all (map plain_mark marks ++ Mark.Move pairs ∷ []) opened.old.sequences) opened.old) }
-    ensures same { (hand.new.run ≡ hand.old.run) × (hand.new.mail ≡ hand.old.mail) }
-{
-    marks.push(Mark::Move { pairs })?;
-    commit_marks(alloc, hand, files, opened, marks.as_slice())
-}
-
-/// The messages of these moves get their numbers: no sequence has them while they move, and then each has again what it had. It answers where each ended.
-fn move_marked<F: Files>(
+/// The messages of these moves get their numbers. It answers where each ended.
+pub(crate) fn renumber<F: Files>(
     alloc: Global,
     hand: &mut Hand,
     files: &mut F,
     opened: &mut Opened,
     moves: &[Move],
 ) -> Result<List<MsgNum>, PlanFault>
-    ensures plan { Follows hand.old.run plan_cause (marked_moved hand.old.run (mail_place hand.old) opened.old moves.now) (by_hand hand.old.kept (F.state files.old)) (by_hand hand.new.kept (F.state files.new)) result }
-    ensures left { IfOk result (λ ends. opened.new.sequences ≡ gone_along moves.now ends opened.old.sequences) }
-    ensures same { (hand.new.run ≡ hand.old.run) × (hand.new.mail ≡ hand.old.mail) }
-{
-    let numbers = moving(alloc, moves)?;
-    let highest = last(opened.listing());
-    let marks = kept_marks(alloc, opened.sequences())?;
-    withdraw(alloc, hand, files, opened, numbers.as_slice())?;
-    let ends = arrange(
-        alloc,
-        hand.run(),
-        files,
-        opened.place(),
-        numbers.as_slice(),
-        moves,
-        highest,
-    )?;
-    let pairs = pairs(alloc, moves, ends.as_slice())?;
-    restore(alloc, hand, files, opened, marks, pairs)?;
-    Ok(ends)
-}
-
-/// The same, where there are moves.
-pub(crate) fn move_all<F: Files>(
-    alloc: Global,
-    hand: &mut Hand,
-    files: &mut F,
-    opened: &mut Opened,
-    moves: &[Move],
-) -> Result<List<MsgNum>, PlanFault>
-    ensures plan { Follows hand.old.run plan_cause (moved_if hand.old.run (mail_place hand.old) opened.old moves.now) (by_hand hand.old.kept (F.state files.old)) (by_hand hand.new.kept (F.state files.new)) result }
+    ensures plan { Follows hand.old.run plan_cause (renumbered hand.old.run (mail_place hand.old) opened.old moves.now) (by_hand hand.old.kept (F.state files.old)) (by_hand hand.new.kept (F.state files.new)) result }
     ensures left { IfOk result (λ ends. opened.new.sequences ≡ sequences_after moves.now ends opened.old.sequences) }
     ensures same { (hand.new.run ≡ hand.old.run) × (hand.new.mail ≡ hand.old.mail) }
 {
-    if moves.is_empty() {
-        Ok(List::new(alloc))
-    } else {
-        move_marked(alloc, hand, files, opened, moves)
-    }
+    let takes = moving(alloc, moves)?;
+    move_all(alloc, hand, files, opened, takes.as_slice(), moves)
 }

@@ -6,13 +6,13 @@ ghost use Rattle.step_plans.specs.CommandFaults.{command_cause};
 ghost use Rattle.step_plans.specs.Hands.{mail_place};
 ghost use Rattle.command_stages.specs.Endings.{of_plan};
 ghost use Rattle.message_places.specs.Order.{moves_of};
-ghost use Rattle.pack_command.specs.Moving.{moved_if, sequences_after};
-ghost use Rattle.pack_command.specs.Pack.{opened_packed, pack as pack_plan, told_of};
+ghost use Rattle.sortm_command.specs.Moving.{sequences_after};
+ghost use Rattle.pack_command.specs.Pack.{opened_packed, pack as pack_plan, renumbered, told_of};
 ghost use Rattle.pack_command.specs.PackAlone.{PacksIfUnfaulted};
 ghost use Rattle.pack_command.specs.PackPledge.{PromisesSteps};
 
 use crate::PackJob;
-use crate::moving::move_all;
+use crate::moving::renumber;
 use crate::places::{count, listing_after, places};
 use command_stages::{fault_in, folder_place, make_current, numbers};
 use folder_command::{FolderJob, say_summary};
@@ -45,14 +45,14 @@ fn pack_messages<F: Files>(
     numbers: &[MsgNum],
     places: &[MsgNum],
 ) -> Result<List<MsgNum>, CommandFault>
-    ensures plan { Follows hand.old.run command_cause (lifted (of_plan job.now.folder) (moved_if hand.old.run (mail_place hand.old) opened.old (moves_of numbers.now places.now))) (by_hand hand.old.kept (F.state files.old)) (by_hand hand.new.kept (F.state files.new)) result }
+    ensures plan { Follows hand.old.run command_cause (lifted (of_plan job.now.folder) (renumbered hand.old.run (mail_place hand.old) opened.old (moves_of numbers.now places.now))) (by_hand hand.old.kept (F.state files.old)) (by_hand hand.new.kept (F.state files.new)) result }
     ensures left { IfOk result (λ ends. opened.new.sequences ≡ sequences_after (moves_of numbers.now places.now) ends opened.old.sequences) }
     ensures run { hand.new.run ≡ hand.old.run }
     ensures mail { hand.new.mail ≡ hand.old.mail }
 {
     let moves = moves(alloc, numbers, places)?;
     let folder = job.folder.duplicate(alloc)?;
-    match move_all(alloc, hand, files, opened, moves.as_slice()) {
+    match renumber(alloc, hand, files, opened, moves.as_slice()) {
         Ok(ends) => Ok(ends),
         Err(fault) => Err(fault_in(folder, fault)),
     }

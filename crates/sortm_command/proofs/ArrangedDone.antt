@@ -31,7 +31,7 @@ use Rattle.message_places.specs.declared.moves.Move.{Move}
 use Rattle.message_places.proofs.ArrangedGiven.{last_none}
 use Rattle.message_places.proofs.ArrangedPledged.{moved_kept}
 use Rattle.message_places.proofs.NumberLists.{in_cases, in_head, in_tail}
-use Rattle.sortm_command.specs.SortDone.{AllSettled}
+use Rattle.sortm_command.specs.MovesDone.{AllSettled}
 
 -- a part beside a fact that each step keeps
 pub comes_lasting : {A : Type 0} (F : List Deed → Type 0) → KeptBy AnyStep F → (own : List Deed) (h : Hand) (p : Planned A) (P : Outcome A) → F own → Comes own h p (okay P) → Comes own h p (okay (λ later j a. F later × P later j a))

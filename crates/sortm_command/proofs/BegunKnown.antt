@@ -49,12 +49,13 @@ use Rattle.sequence_commits.specs.Committing.{cut_committed}
 use Rattle.sequence_commits.specs.Reading.{sequences_in}
 use Rattle.sequence_commits.proofs.ReadOnce.{read_is, read_valid}
 use Rattle.sequence_commits.proofs.SequencesPledged.{sequences_name}
+use Rattle.sequence_marks.proofs.OtherEntries.{by_bool}
 use Rattle.opened_folders.specs.Existing.{numbers_settled}
 use Rattle.opened_folders.specs.FolderPledge.{told_within}
 use Rattle.opened_folders.specs.Opening.{Opened, begun, folder_locked, locked_begun, locked_by, mail_made, marks_cut, marks_read, opened_of, sequences_read, settled_read, text_by}
 use Rattle.opened_folders.proofs.AllMarks.{MindsAll}
 use Rattle.opened_folders.proofs.CommitMinds.{IsTold}
-use Rattle.opened_folders.proofs.MarksWritten.{and_both, by_bool}
+use Rattle.opened_folders.proofs.MarksWritten.{and_both}
 use Rattle.opened_folders.proofs.Meeting.{Meets, meets_end, meets_list, meets_lock, meets_make, meets_on, meets_quietly, meets_read, meets_return, meets_stop, meets_then, meets_weaker}
 use Rattle.opened_folders.proofs.SettledSeen.{AbsentFrom, HasSettled, number_ranged, settle_meets}
 use Rattle.opened_folders.proofs.ToldMarks.{read_cur, told_cur, told_valid}

@@ -57,8 +57,8 @@ use Rattle.opened_folders.proofs.NumbersStay.{takes_none}
 use Rattle.opened_folders.proofs.SequencesEnd.{Left, changed_comes}
 use Rattle.opened_folders.proofs.SettledEnds.{Shown}
 use Rattle.opened_folders.proofs.WorkPledged.{LetsBegin, sequences_goes, whenever}
-use Rattle.sortm_command.specs.Sort.{last_in}
-use Rattle.sortm_command.specs.SortDone.{AllSettled, HasSettled}
+use Rattle.sortm_command.specs.Moving.{last_in}
+use Rattle.sortm_command.specs.MovesDone.{AllSettled, HasSettled}
 use Rattle.sortm_command.proofs.ArrangedEnds as moving
 use Rattle.sortm_command.proofs.ArrangedEnds.{arranged_comes}
 

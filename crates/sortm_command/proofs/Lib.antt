@@ -7,14 +7,19 @@ pub mod Filled
 pub mod HandSame
 pub mod HeldNone
 pub mod Keyed
+pub mod KnownMinds
 pub mod Listed
+pub mod MarkedEnds
+pub mod MarkedGiven
+pub mod MarkedPledged
 pub mod MarksKnown
+pub mod MoveLets
 pub mod MovesMade
 pub mod MovesMind
 pub mod Numbered
-pub mod OrderGiven
 pub mod OrderMoves
 pub mod OrderStands
+pub mod PlacesGiven
 pub mod ReadGiven
 pub mod ReadGoes
 pub mod Replies
@@ -30,4 +35,5 @@ pub mod SortPledged
 pub mod Sorted
 pub mod Values
 pub mod Withdrawing
+pub mod WorkDone
 pub mod Zipped

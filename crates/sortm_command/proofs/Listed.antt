@@ -9,7 +9,8 @@ use Rattle.message_places.specs.Places.{AreDistinct, AreMsgNums}
 use Rattle.refile_command.proofs.Selected.{chosen_listed, chosen_numbers, chosen_rise, first_of, in_runs, rest_of}
 use Rattle.refile_command.proofs.Shown.{AreNumbers}
 use Rattle.refile_command.specs.declared.job.RmmJob.{RmmJob}
-use Rattle.sortm_command.specs.Sort.{chosen_from, last_in}
+use Rattle.sortm_command.specs.Moving.{last_in}
+use Rattle.sortm_command.specs.Sort.{chosen_from}
 use Rattle.sortm_command.specs.declared.job.SortJob.{SortJob}
 
 rise_distinct : (low : ℕ) (ns : List ℕ) → Rise low ns → AreDistinct ns

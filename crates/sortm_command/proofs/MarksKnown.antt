@@ -49,13 +49,14 @@ use Rattle.sequence_commits.specs.Telling.{same_told}
 use Rattle.sequence_commits.proofs.ChangesTo.{are_changes}
 use Rattle.sequence_commits.proofs.SequencesPledged.{LeavesText, entries_leave, sequences_name}
 use Rattle.sequence_commits.proofs.ToldAlike.{told_same}
+use Rattle.sequence_marks.proofs.OtherEntries.{by_bool}
 use Rattle.opened_folders.proofs.AllMarks.{MindsAll}
 use Rattle.opened_folders.proofs.CommitMinds.{IsTold}
 use Rattle.opened_folders.proofs.CommitSeen.{MadeTemp, NoCommit, written_meets}
 use Rattle.opened_folders.proofs.FolderSeen.{renamed_own}
 use Rattle.opened_folders.proofs.FreeMarks.{FreesRead}
 use Rattle.opened_folders.proofs.HandKept.{meets_hand, text_keeps}
-use Rattle.opened_folders.proofs.MarksWritten.{Gives, by_bool, changes_give, entries_mark, marks_given, text_back, text_marks}
+use Rattle.opened_folders.proofs.MarksWritten.{Gives, changes_give, entries_mark, marks_given, text_back, text_marks}
 use Rattle.opened_folders.proofs.Meeting.{Meets, meets_end, meets_keeping, meets_lock, meets_make, meets_more, meets_okay, meets_quietly, meets_read, meets_rename, meets_return, meets_sync_folder, meets_then, meets_weaker}
 use Rattle.opened_folders.proofs.SpokenEntries.{listed_spoken, settled_gives, text_spoken}
 use Rattle.refile_command.proofs.Meetings.{AnyAsk}

@@ -10,7 +10,8 @@ use Rattle.message_places.specs.declared.moves.Move.{Move}
 use Rattle.opened_folders.specs.Opening.{Opened}
 use Rattle.file_plans.specs.Plan.{Return}
 use Rattle.std.specs.Prelude.{Ok}
-use Rattle.sortm_command.specs.Sort.{marked_moved, moved_if}
+use Rattle.mh_sequences.specs.Sequences.{Marked}
+use Rattle.sortm_command.specs.Moving.{marked_moved, moved_if, sequences_after}
 
 abbrev pair_with : Bool → ℕ → ℕ → List Move → List Move
 pair_with b n s ms = if b then ms else record { from = n; slot = s } ∷ ms
@@ -53,10 +54,15 @@ some : (n : ℕ) → 1 ≤ n → (n == 0) ≡ false
 some n le = grind (arith, nat_tests)
 
 -- whether there are moves
-pub by_none : (run : ℕ) (mail : Place) (o : Opened) (ms : List Move) → (length ms == 0) ≡ true → moved_if run mail o ms ≡ Return (Ok tt)
-by_none run mail o [] e = refl
-by_none run mail o (m ∷ ms) e = absurd (let no : true ≡ false = sym e ∙ some (length (m ∷ ms)) (omega arith) in cc (no))
+pub by_none : (run : ℕ) (mail : Place) (o : Opened) (takes : List ℕ) (ms : List Move) → (length ms == 0) ≡ true → moved_if run mail o takes ms ≡ Return (Ok [])
+by_none run mail o takes [] e = refl
+by_none run mail o takes (m ∷ ms) e = absurd (let no : true ≡ false = sym e ∙ some (length (m ∷ ms)) (omega arith) in cc (no))
 
-pub by_moves : (run : ℕ) (mail : Place) (o : Opened) (ms : List Move) → (length ms == 0) ≡ false → moved_if run mail o ms ≡ marked_moved run mail o ms
-by_moves run mail o [] e = cc (e)
-by_moves run mail o (m ∷ ms) e = refl
+pub by_moves : (run : ℕ) (mail : Place) (o : Opened) (takes : List ℕ) (ms : List Move) → (length ms == 0) ≡ false → moved_if run mail o takes ms ≡ marked_moved run mail o takes ms
+by_moves run mail o takes [] e = cc (e)
+by_moves run mail o takes (m ∷ ms) e = refl
+
+-- the sequences then
+pub none_after : (ms : List Move) (ends : List ℕ) (m : Marked) → (length ms == 0) ≡ true → sequences_after ms ends m ≡ m
+none_after [] ends m e = refl
+none_after (x ∷ ms) ends m e = absurd (let no : true ≡ false = sym e ∙ some (length (x ∷ ms)) (omega arith) in cc (no))

@@ -1,5 +1,5 @@
 -- Messages that change places mind the marks of all sequences.
-use Rattle.std.proofs.Common.{◌≡◌, ◌⊎◌, inl, inr, ◌<◌, ◌≤◌, ◌+◌, ◌-◌, ◌^◌, ◌==◌, ◌&&◌, ◌||◌, ◌∷◌, [], ℕ, zero, suc, Bool, true, false, List, Option, Some, None, length, get_or, refl, sym, ◌∙◌, subst, arith}
+use Rattle.std.proofs.Common.{◌≡◌, ◌⊎◌, inl, inr, ◌<◌, ◌≤◌, ◌+◌, ◌-◌, ◌^◌, ◌==◌, ◌&&◌, ◌||◌, ◌∷◌, [], ℕ, zero, suc, Bool, true, false, List, Option, Some, None, Ok, length, get_or, refl, sym, ◌∙◌, subst, arith}
 use Rattle.std.specs.Prelude.{IfSome, if◌then◌else◌, not}
 use Rattle.std.specs.List.{list_any}
 use Rattle.std.proofs.lemmas.Option.{unwrap_or-slice_get}
@@ -17,7 +17,7 @@ use Rattle.folder_files.specs.declared.place.Place.{Place}
 use Rattle.folder_files.specs.declared.place.Place.TheVariants.{Folder, Mail}
 use Rattle.folder_files.specs.declared.step.Step.{Step}
 use Rattle.folder_files.proofs.Names.{both, not_both, num_same, or_case}
-use Rattle.file_plans.specs.Plan.{Hand, Plan}
+use Rattle.file_plans.specs.Plan.{Hand, Plan, Return, ◌>>=◌}
 use Rattle.step_plans.specs.Pledges.{MayAsk, Pledge}
 use Rattle.step_plans.proofs.Going.{Outcome, okay}
 use Rattle.marks_law.specs.Minding.{Sees}
@@ -30,17 +30,19 @@ use Rattle.message_places.proofs.WithdrawnMarks.{AreWithdrawn, LetsMove, known_w
 use Rattle.sequence_commits.specs.Committing.{changed_sequences}
 use Rattle.sequence_commits.specs.RunsOfAll.{set_among}
 use Rattle.sequence_commits.proofs.MarkedOnce.{marked_valid}
+use Rattle.sequence_marks.proofs.OtherEntries.{by_bool}
 use Rattle.opened_folders.specs.FolderPledge.{told_within}
+use Rattle.opened_folders.specs.Opening.{opened_of}
+use Rattle.step_plans.specs.declared.fault.PlanFault.{PlanFault}
 use Rattle.opened_folders.proofs.AllMarks.{MindsAll}
 use Rattle.opened_folders.proofs.ChosenListed.{marked_cur_is, marked_member, tested_has}
 use Rattle.opened_folders.proofs.CommitMinds.{Facts, IsTold, Within, changed_meets}
-use Rattle.opened_folders.proofs.MarksWritten.{by_bool}
-use Rattle.opened_folders.proofs.Meeting.{Meets, meets_okay}
+use Rattle.opened_folders.proofs.Meeting.{Meets, meets_okay, meets_return, meets_then}
 use Rattle.opened_folders.proofs.ToldMarks.{InListing, told_cur, told_listed, told_valid}
 use Rattle.refile_command.proofs.Meetings.{AnyAsk, meets_okay_both}
 use Rattle.refile_command.proofs.Selected.{first_or}
 use Rattle.sortm_command.specs.Marking.{gone_along, pairs_of, withdrawn}
-use Rattle.sortm_command.specs.Sort.{last_in}
+use Rattle.sortm_command.specs.Moving.{last_in, marked_moved, moved_if}
 use Rattle.sortm_command.proofs.Listed.{last_small}
 use Rattle.sortm_command.proofs.MarksKnown.{KnowsMarks, changed_known}
 
@@ -144,6 +146,9 @@ module _ (w : Pledge) (few : w.run < 2 ^ 128) (path : List ℕ) (folder : List �
     -- what is left once messages may have changed places
     abbrev pub Ready : Outcome Unit
     Ready later j u = Facts w path folder names None_ later
+
+    abbrev pub ReadyAt : Outcome (List ℕ)
+    ReadyAt later j ends = Facts w path folder names None_ later
 
     pub ready : (There : List ℕ → Type 0) (own : List Deed) → Facts w path folder names There own → Facts w path folder names None_ own
     ready There own f = (record { lock = f.0.lock; there = λ z so number. absurd so; held = f.0.held; listed = f.0.listed }, f.1)
@@ -251,3 +256,20 @@ module _ (w : Pledge) (few : w.run < 2 ^ 128) (path : List ℕ) (folder : List �
         restored_meets =
             meets_okay (MayAsk w) A own h (changed_sequences w.run p mail folder less again) (λ later j u. Facts w path folder names There later) Ready (λ later j u g. ready There later g)
             (changed_meets w path folder names There again (marked_valid (Moves (pairs_of ms ends)) told) again_cur again_within own h less f.facts)
+
+      -- the whole stage
+      pub marked_meets : (ends_ : List (Option ℕ)) (own : List Deed) (h : Hand) → Known own h → M own h (marked_moved w.run mail (opened_of p folder listing told ends_) takes ms) (okay ReadyAt)
+      unfolding marked_moved
+      marked_meets ends_ own h f =
+          meets_then (MayAsk w) A own h (changed_sequences w.run p mail folder told less) (λ free. arranged w.run p takes ms (last_in listing) >>= (λ ends. changed_sequences w.run p mail folder less (gone_along ms ends told) >>= (λ back. Return (Ok ends)))) Withdrawn ReadyAt (withdrawn_meets own h f)
+          (λ later j u g.
+          meets_then (MayAsk w) A later j (arranged w.run p takes ms (last_in listing)) (λ ends. changed_sequences w.run p mail folder less (gone_along ms ends told) >>= (λ back. Return (Ok ends))) Moved ReadyAt (moving_meets later j g.0 (are_withdrawn later j g.0 g.1))
+          (λ last i ends k.
+          meets_then (MayAsk w) A last i (changed_sequences w.run p mail folder less (gone_along ms ends told)) (λ back. Return (Ok ends)) Ready ReadyAt (restored_meets ends last i k) (λ end l u q. meets_return (MayAsk w) A end l ends (okay ReadyAt) q)))
+
+    -- also where none moves
+    pub moved_meets : (ms : List Move) (takes : List ℕ) → AreMsgNums takes → AreMsgNums (froms ms) → AreMsgNums (slots ms) → ((k : ℕ) → is_in k (froms ms) ≡ is_in k takes)
+        → ((k : ℕ) → is_in k (slots ms) ≡ true → (is_in k takes ≡ true) ⊎ (has listing k ≡ false)) → (ends_ : List (Option ℕ)) (own : List Deed) (h : Hand) → Known own h
+        → M own h (moved_if w.run mail (opened_of p folder listing told ends_) takes ms) (okay ReadyAt)
+    moved_meets [] takes ts fs ss same free_slot ends_ own h f = meets_return (MayAsk w) A {E = PlanFault} own h [] (okay ReadyAt) (ready (InListing listing) own f.0)
+    moved_meets (m ∷ ms) takes ts fs ss same free_slot ends_ own h f = marked_meets (m ∷ ms) takes ts fs ss same free_slot ends_ own h f

@@ -1,5 +1,5 @@
 -- Messages that were moved by the moves of an order stand at their slots in that order.
-use Rattle.std.proofs.Common.{◌≡◌, ◌==◌, ◌||◌, ℕ, suc, Bool, true, false, List, [], ◌∷◌, length, refl, sym, ◌∙◌, ap, subst}
+use Rattle.std.proofs.Common.{◌≡◌, ◌==◌, ◌&&◌, ◌||◌, ℕ, suc, Bool, true, false, List, [], ◌∷◌, None, length, refl, sym, ◌∙◌, ap, subst}
 use Rattle.std.specs.Prelude.{if◌then◌else◌}
 use Rattle.folder_files.proofs.Names.{num_same, or_false}
 use Rattle.file_plans.specs.Mailboxes.{Folder}
@@ -8,7 +8,8 @@ use Rattle.message_places.specs.Places.{AreDistinct, froms, is_in, rearranged, s
 use Rattle.message_places.proofs.InOrder.{from_in, slot_in, stand_in_order}
 use Rattle.message_places.proofs.NumberLists.{none_in}
 use Rattle.message_places.proofs.Standing.{others_stay}
-use Rattle.sortm_command.specs.SortOutcome.{comes_from}
+use Rattle.sortm_command.specs.SortOutcome.{comes_from, in_order_at}
+use Rattle.sortm_command.proofs.Cleared.{unheld}
 
 suc_same : (a b : ℕ) → suc a ≡ suc b → a ≡ b
 suc_same a b e = cc
@@ -39,3 +40,12 @@ module _ (ns ss : List ℕ) (many : length ns ≡ length ss) (d : AreDistinct ns
       go false i =
           others_stay f (moves_of ns ss) (slots (moves_of ns ss)) k (none_in (slots (moves_of ns ss)) ss k (slot_in ns ss k) i) (none_in (froms (moves_of ns ss)) ns k (from_in ns ss k) (same k ∙ i))
           ∙ ap f.messages (sym (stays_at ns ss k i))
+
+  -- what the moves make of the folder, where the run holds none of them aside any more
+  pub in_order_so : (run : ℕ) (f : Folder) → rearranged (moves_of ns ss) (slots (moves_of ns ss)) (unheld run (slots (moves_of ns ss)) f) ≡ in_order_at run ns ss f
+  in_order_so run f = λ i. record {
+    messages = λ k. stands_at (unheld run (slots (moves_of ns ss)) f) k i;
+    removed = f.removed;
+    held = λ r k. if (run == r) && is_in k (slots (moves_of ns ss)) then None else f.held r k;
+    sequences = f.sequences;
+  }

@@ -35,7 +35,7 @@ use Rattle.sequence_commits.specs.Committing.{changed_sequences, committed_unles
 use Rattle.sequence_commits.specs.PrivateChanges.{changes_to, entries_seen}
 use Rattle.sequence_commits.specs.Telling.{same_told}
 use Rattle.sequence_commits.proofs.SequencesPledged.{CommittedOrSame, MayReplace, changed_goes, entries_go, sequences_name, text_goes}
-use Rattle.sortm_command.specs.SortPledge.{HasCommitted}
+use Rattle.sortm_command.specs.MovePledge.{HasCommitted}
 
 -- two outcomes of a plan that goes as pledged
 pub goes_both : {R : Type 0} (w : Pledge) (own : List Deed) (h : Hand) (p : Plan R) (P Q : Outcome R) → Goes w own h p P → Goes w own h p Q → Goes w own h p (λ later j r. P later j r × Q later j r)

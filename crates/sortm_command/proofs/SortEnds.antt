@@ -32,14 +32,11 @@ use Rattle.step_plans.specs.declared.command_fault.CommandFault.TheVariants as c
 use Rattle.step_plans.specs.declared.fault.PlanFault.{PlanFault}
 use Rattle.step_plans.proofs.Coming.{Comes, NoneFailed, anything, comes_lifted, comes_more, comes_read, comes_then, comes_to}
 use Rattle.step_plans.proofs.Facts.{base_kept, lock_kept}
-use Rattle.step_plans.proofs.Going.{Outcome, okay}
+use Rattle.step_plans.proofs.Going.{Outcome}
 use Rattle.step_plans.proofs.Lasting.{KeptBy}
-use Rattle.sequence_commits.specs.Committing.{changed_sequences}
 use Rattle.sequence_commits.proofs.SequencesPledged.{sequences_name}
-use Rattle.message_puts.specs.Stored.{HasMetAt}
-use Rattle.message_places.specs.Arranging.{arranged}
 use Rattle.message_places.specs.Order.{moves_of}
-use Rattle.message_places.specs.Places.{AreDistinct, AreMsgNums, froms, is_in, slots}
+use Rattle.message_places.specs.Places.{AreDistinct, AreMsgNums, is_in, slots}
 use Rattle.message_places.specs.declared.moves.Move.{Move}
 use Rattle.message_places.proofs.NumberLists.{in_good}
 use Rattle.command_stages.specs.Chosen.{folder_with}
@@ -52,7 +49,7 @@ use Rattle.opened_folders.specs.FolderPledge.{told_within}
 use Rattle.opened_folders.specs.Opening.{Opened, begun, opened_of}
 use Rattle.opened_folders.specs.Reads.{HaveSeen}
 use Rattle.opened_folders.proofs.BeginState.{HasState, TakesNone, begin_state, locked_there, refused_there}
-use Rattle.opened_folders.proofs.CleanRuns.{Clean, clean_more, comes_both}
+use Rattle.opened_folders.proofs.CleanRuns.{Clean, clean_more}
 use Rattle.opened_folders.proofs.FolderPledged.{seen_kept}
 use Rattle.opened_folders.proofs.NamesKept.{backups_kept, met_in_kept, putting}
 use Rattle.opened_folders.proofs.SequencesEnd.{Left}
@@ -60,24 +57,21 @@ use Rattle.opened_folders.proofs.WorkEnds.{EndsBeside, EndsWith, current_comes, 
 use Rattle.refile_command.specs.RmmPledge.{every_message}
 use Rattle.refile_command.proofs.RmmPledged.{listed_runs}
 use Rattle.sortm_command.specs.Keys.{date_key, text_key}
-use Rattle.sortm_command.specs.Marking.{gone_along, withdrawn}
 use Rattle.sortm_command.specs.Ordered.{order_by_dates, order_by_texts}
 use Rattle.sortm_command.specs.Reading.{date_order_read, keys_read, message_by, message_read, order_read, text_order_read}
-use Rattle.sortm_command.specs.Sort.{chosen_from, chosen_sorted, last_in, marked_moved, moved_if, opened_sorted, sortm}
-use Rattle.sortm_command.specs.SortAnswers.{ShowsSort, long_marks, long_message, none_left, none_met, sort_answers}
-use Rattle.sortm_command.specs.SortDone.{AllSettled}
-use Rattle.sortm_command.specs.SortMoves.{HaveRead, moves_by, order_by, read_next, read_none, read_on}
+use Rattle.sortm_command.specs.Sort.{chosen_from, chosen_sorted, opened_sorted, places_changed, sortm}
+use Rattle.sortm_command.specs.MovesAnswers.{long_marks, none_left, none_met}
+use Rattle.sortm_command.specs.SortAnswers.{ShowsSort, long_message, none_moved, sort_answers}
+use Rattle.sortm_command.specs.SortMoves.{HaveRead, moves_by, order_by, read_next, read_none}
 use Rattle.sortm_command.specs.SortPledge.{AreMoves, MakesMarks, SortsSo}
 use Rattle.sortm_command.specs.declared.job.SortJob.{SortJob}
 use Rattle.sortm_command.specs.declared.job.SortKey.{SortKey}
 use Rattle.sortm_command.specs.declared.job.SortKey.TheVariants as key
-use Rattle.sortm_command.proofs.ArrangedDone as settling
-use Rattle.sortm_command.proofs.ArrangedDone.{arranged_settles}
-use Rattle.sortm_command.proofs.ArrangedEnds as moving
-use Rattle.sortm_command.proofs.ArrangedEnds.{arranged_comes}
+use Rattle.sortm_command.proofs.MarkedEnds as stage
+use Rattle.sortm_command.proofs.ReadGoes.{read_kept}
 use Rattle.sortm_command.proofs.CommitsShown as commits
 use Rattle.sortm_command.proofs.CommitsShown.{Commits}
-use Rattle.sortm_command.proofs.Listed.{last_small, sort_distinct, sort_good, sort_listed}
+use Rattle.sortm_command.proofs.Listed.{sort_distinct, sort_good, sort_listed}
 use Rattle.sortm_command.proofs.OrderMoves.{moving_distinct, moving_good, moving_taken, read_many, taken_chosen, takes_distinct, takes_good}
 use Rattle.sortm_command.proofs.SortLets.{lets, makes_kept}
 use Rattle.sortm_command.proofs.Zipped.{map_more}
@@ -113,9 +107,9 @@ module _ (run : ℕ) (few : run < 2 ^ 128) (path : List ℕ) (job : SortJob) whe
     makes = MakesMarks run path job;
     makes_kept = makes_kept run few path job;
     shows_end = λ e own f. inl f;
-    shows_long = λ l listing text context new own seen made long. inr (long_marks (record { listing = listing; text = text; context = context; seen = seen; new = new; made = made; long = long }));
-    shows_left = λ listing text context own seen last. inr (none_left seen last);
-    shows_met = λ own met. inr (none_met met);
+    shows_long = λ l listing text context new own seen made long. inr (none_moved (long_marks (record { listing = listing; text = text; context = context; seen = seen; new = new; made = made; long = long })));
+    shows_left = λ listing text context own seen last. inr (none_moved (none_left seen last));
+    shows_met = λ own met. inr (none_moved (none_met met));
   }
 
   -- how a plan on the folder ends
@@ -154,16 +148,6 @@ module _ (run : ℕ) (few : run < 2 ^ 128) (path : List ℕ) (job : SortJob) whe
 
     abbrev opened : Opened
     opened = opened_of p job.folder o.listing marked o.ends
-
-    -- the last number is taken: the run listed a message there, or linked or met one there
-    abbrev Top : List Deed → Type 0
-    Top later = commits.Top shown o.listing text context later
-
-    abbrev top_kept : KeptBy AnyStep Top
-    top_kept = commits.top_kept shown o.listing text context
-
-    abbrev top_met : (later : List Deed) → HasMetAt p 999999 later → Top later
-    top_met = commits.top_met shown o.listing text context
 
     module _ (numbers : List ℕ) (is : chosen_from job o.listing marked ≡ Ok numbers) where
       good : AreMsgNums numbers
@@ -268,103 +252,35 @@ module _ (run : ℕ) (few : run < 2 ^ 128) (path : List ℕ) (job : SortJob) whe
           (λ later j texts f. comes_to later j (Ok (order_by_texts texts numbers)) (So (Orders (key.Text field))) (f.0, record { texts = f.1.texts; read = f.1.read; are = ap (λ l. order_by_texts l numbers) f.1.are })) (λ later j e f. f)
 
       -- by what was read, these move
-      module _ (texts : List (List ℕ)) (at : List Deed) (read : HaveRead p numbers texts at) (x : Move) (l : List Move) (are : moves_by job.key texts numbers ≡ x ∷ l) where
+      module _ (texts : List (List ℕ)) (at : List Deed) (read : HaveRead p numbers texts at) where
         abbrev ms : List Move
-        ms = x ∷ l
-
-        abbrev freed : Marked
-        freed = withdrawn (slots ms) marked
+        ms = moves_by job.key texts numbers
 
         many : length texts ≡ length numbers
         many = read_many p numbers texts at read
 
         are_moves : (later : List Deed) → HaveRead p numbers texts later → AreMoves run path job o.listing marked ms later
-        are_moves later f = record { numbers = numbers; chosen = is; texts = texts; read = f; moves = sym are }
+        are_moves later f = record { numbers = numbers; chosen = is; texts = texts; read = f; moves = refl }
 
         good_takes : AreMsgNums (slots ms)
-        good_takes = subst (λ z. AreMsgNums (slots z)) are (takes_good job.key texts numbers many good distinct)
+        good_takes = takes_good job.key texts numbers many good distinct
 
-        distinct_takes : AreDistinct (slots ms)
-        distinct_takes = subst (λ z. AreDistinct (slots z)) are (takes_distinct job.key texts numbers many good distinct)
+        -- where none moves nothing is done
+        moves_come : (later : List Deed) (j : Hand) → HaveRead p numbers texts later → Reading later j → Comes later j (places_changed run mail opened ms) (Plainly Leaves)
+        moves_come later j f g =
+            stage.moved_comes shown o.listing (listed_runs run p mail o.listing text context own s.begun_there.seen) text context o.ends (HaveRead p numbers texts) (read_kept p numbers texts) (slots ms) good_takes (takes_distinct job.key texts numbers many good distinct) ms
+            (moving_good job.key texts numbers many good distinct) (moving_distinct job.key texts numbers many good distinct) good_takes (λ k e. sym (moving_taken job.key texts numbers many good distinct k) ∙ e) (λ last_ new q made. (ms, are_moves last_ q, made)) later j
+            s.begun_there.base.0 f g.seen g.lock g.was g.base (λ k e. g.met k (taken_chosen job.key texts numbers many good distinct k e)) g.left
 
-        good_moving : AreMsgNums (froms ms)
-        good_moving = subst (λ z. AreMsgNums (froms z)) are (moving_good job.key texts numbers many good distinct)
-
-        distinct_moving : AreDistinct (froms ms)
-        distinct_moving = subst (λ z. AreDistinct (froms z)) are (moving_distinct job.key texts numbers many good distinct)
-
-        among : (k : ℕ) → is_in k (froms ms) ≡ true → is_in k (slots ms) ≡ true
-        among = subst (λ z. (k : ℕ) → is_in k (froms z) ≡ true → is_in k (slots z) ≡ true) are (λ k e. sym (moving_taken job.key texts numbers many good distinct k) ∙ e)
-
-        chosen_takes : (k : ℕ) → is_in k (slots ms) ≡ true → is_in k numbers ≡ true
-        chosen_takes = subst (λ z. (k : ℕ) → is_in k (slots z) ≡ true → is_in k numbers ≡ true) are (λ k e. taken_chosen job.key texts numbers many good distinct k e)
-
-        -- what lasts
-        abbrev Lasts : List Deed → Type 0
-        Lasts later = HaveRead p numbers texts later × (WasDone (step.Lock p) later × HaveSeen run p mail o.listing text context later)
-
-        lasts_on : KeptBy AnyStep Lasts
-        lasts_on later t a any f = (read_on f.0, (on f.1.0, seen_kept run p mail o.listing text context later t a tt f.1.1))
-
-        abbrev Freed : Outcome Unit
-        Freed later j u = Lasts later × (commits.AllMet shown o.listing text context numbers good freed later × commits.Committed shown o.listing text context marked freed later j u)
-
-        freed_comes : (later : List Deed) (j : Hand) → HaveRead p numbers texts later → Reading later j → Comes later j (changed_sequences run p mail job.folder marked freed) (Plainly Freed)
-        freed_comes later j f g =
-            commits.beside shown Lasts lasts_on later j (changed_sequences run p mail job.folder marked freed) (λ last_ i u. commits.AllMet shown o.listing text context numbers good freed last_ × commits.Committed shown o.listing text context marked freed last_ i u) (f, (g.was, g.seen))
-            (commits.first_comes shown o.listing text context numbers good freed later j (g.seen, (ms, are_moves later f, inl refl)) g.met g.lock g.was s.begun_there.base.0 g.base g.left)
-
-        abbrev Moved : Outcome (List ℕ)
-        Moved later j ends = Lasts later × (moving.Calm run few path job.folder Top top_kept top_met later j × AllSettled run p ms ends later)
-
-        moved_comes : (later : List Deed) (j : Hand) → Freed later j tt → Comes later j (arranged run p (slots ms) ms (last_in o.listing)) (Plainly Moved)
-        moved_comes later j f =
-            commits.beside shown Lasts lasts_on later j (arranged run p (slots ms) ms (last_in o.listing)) (λ last_ i ends. moving.Calm run few path job.folder Top top_kept top_met last_ i × AllSettled run p ms ends last_) f.0
-            (comes_more later j (arranged run p (slots ms) ms (last_in o.listing))
-            (λ last_ i r. moving.MovedSo run few path job.folder Top top_kept top_met (λ end k ends. moving.Calm run few path job.folder Top top_kept top_met end k) last_ i r × okay (settling.AllSettle run few p ms) last_ i r)
-            (Plainly (λ last_ i ends. moving.Calm run few path job.folder Top top_kept top_met last_ i × AllSettled run p ms ends last_)) go
-            (comes_both later j (arranged run p (slots ms) ms (last_in o.listing)) (moving.MovedSo run few path job.folder Top top_kept top_met (λ end k ends. moving.Calm run few path job.folder Top top_kept top_met end k)) (okay (settling.AllSettle run few p ms))
-            (arranged_comes run few path job.folder Top top_kept top_met (slots ms) good_takes distinct_takes x l good_moving distinct_moving good_takes among (last_in o.listing) later j
-            (last_small o.listing (listed_runs run p mail o.listing text context own s.begun_there.seen)) (λ e. inl (f.0.1.1, commits.last_listed o.listing e)) f.1.1.1.clean (λ k e. f.1.0 k (chosen_takes k e)))
-            (arranged_settles run few p (slots ms) good_takes ms among (last_in o.listing) later j)))
-          where
-            go : (last_ : List Deed) (i : Hand) (r : Result (List ℕ) PlanFault)
-                → moving.MovedSo run few path job.folder Top top_kept top_met (λ end k ends. moving.Calm run few path job.folder Top top_kept top_met end k) last_ i r × okay (settling.AllSettle run few p ms) last_ i r
-                → Plainly (λ end k ends. moving.Calm run few path job.folder Top top_kept top_met end k × AllSettled run p ms ends end) last_ i r
-            go last_ i (Ok ends) g = g
-            go last_ i (Err e) g = commits.moves_show shown o.listing text context e last_ g.0
-
-        marked_comes : (later : List Deed) (j : Hand) → HaveRead p numbers texts later → Reading later j → Comes later j (marked_moved run mail opened ms) (Plainly Leaves)
-        unfolding marked_moved
-        marked_comes later j f g =
-            comes_then later j (changed_sequences run p mail job.folder marked freed) (λ free. arranged run p (slots ms) ms (last_in o.listing) >>= (λ ends. changed_sequences run p mail job.folder freed (gone_along ms ends marked))) (Plainly Freed) (Plainly Leaves)
-            (freed_comes later j f g)
-            (λ second i u q.
-            comes_then second i (arranged run p (slots ms) ms (last_in o.listing)) (λ ends. changed_sequences run p mail job.folder freed (gone_along ms ends marked)) (Plainly Moved) (Plainly Leaves) (moved_comes second i q)
-            (λ third k ends m.
-            comes_more third k (changed_sequences run p mail job.folder freed (gone_along ms ends marked)) (Plainly (commits.Committed shown o.listing text context freed (gone_along ms ends marked))) (Plainly Leaves) (only ends)
-            (commits.commit_comes shown o.listing text context freed (gone_along ms ends marked) third k (m.0.1.1, (ms, are_moves third m.0.0, inr (ends, commits.all_moved run p ms ends third m.1.1, refl))) m.0.1.0 (record { clean = m.1.0.clean; safe = m.1.0.safe })))
-            (λ third k e m. m))
-            (λ second i e q. q)
-          where
-            only : (ends : List ℕ) (last_ : List Deed) (i : Hand) (r : Result Unit PlanFault) → Plainly (commits.Committed shown o.listing text context freed (gone_along ms ends marked)) last_ i r → Plainly Leaves last_ i r
-            only ends last_ i (Ok u) q = q.1
-            only ends last_ i (Err e) q = q
-
-      -- where none moves nothing is done
-      by_moves : (texts : List (List ℕ)) (later : List Deed) (j : Hand) → HaveRead p numbers texts later → Reading later j → (l : List Move) → moves_by job.key texts numbers ≡ l → Comes later j (moved_if run mail opened l) (Plainly Leaves)
-      by_moves texts later j f g [] are = comes_to later j (Ok tt) (Plainly Leaves) g.left
-      by_moves texts later j f g (x ∷ l) are = marked_comes texts later f x l are later j f g
-
-      numbers_come : Comes own h (order_read p job.key numbers >>= (λ order. lifted (of_plan job.folder) (moved_if run mail opened (moves_of order numbers)))) (So Leaves)
+      numbers_come : Comes own h (order_read p job.key numbers >>= (λ order. lifted (of_plan job.folder) (places_changed run mail opened (moves_of order numbers)))) (So Leaves)
       numbers_come =
-          comes_then own h (order_read p job.key numbers) (λ order. lifted (of_plan job.folder) (moved_if run mail opened (moves_of order numbers))) (So (Orders job.key)) (So Leaves) (order_comes job.key)
+          comes_then own h (order_read p job.key numbers) (λ order. lifted (of_plan job.folder) (places_changed run mail opened (moves_of order numbers))) (So (Orders job.key)) (So Leaves) (order_comes job.key)
           (λ later j order f.
-          subst (λ z. Comes later j (lifted (of_plan job.folder) (moved_if run mail opened (moves_of z numbers))) (So Leaves)) (sym f.1.are)
-          (comes_lifted later j (of_plan job.folder) (moved_if run mail opened (moves_by job.key f.1.texts numbers)) (Plainly Leaves) (So Leaves) (by_moves f.1.texts later j f.1.read f.0 (moves_by job.key f.1.texts numbers) refl) (λ last_ i u g. g) (λ last_ i e g. g)))
+          subst (λ z. Comes later j (lifted (of_plan job.folder) (places_changed run mail opened (moves_of z numbers))) (So Leaves)) (sym f.1.are)
+          (comes_lifted later j (of_plan job.folder) (places_changed run mail opened (moves_by job.key f.1.texts numbers)) (Plainly Leaves) (So Leaves) (moves_come f.1.texts later f.1.read later j f.1.read f.0) (λ last_ i u g. g) (λ last_ i e g. g)))
           (λ later j e f. f)
 
-    by_value : (value : Result (List ℕ) CommandFault) → chosen_from job o.listing marked ≡ value → Comes own h (after (λ numbers. order_read p job.key numbers >>= (λ order. lifted (of_plan job.folder) (moved_if run mail opened (moves_of order numbers)))) value) (So Leaves)
+    by_value : (value : Result (List ℕ) CommandFault) → chosen_from job o.listing marked ≡ value → Comes own h (after (λ numbers. order_read p job.key numbers >>= (λ order. lifted (of_plan job.folder) (places_changed run mail opened (moves_of order numbers)))) value) (So Leaves)
     by_value (Ok numbers) is = numbers_come numbers is
     by_value (Err e) is =
         comes_to own h (Err e) (So Leaves)
@@ -391,7 +307,7 @@ module _ (run : ℕ) (few : run < 2 ^ 128) (path : List ℕ) (job : SortJob) whe
 
   never : (which : Which) (own : List Deed) → Shows (command.Faulted which) own → ⊥
   never which own (inl f) = f
-  never which own (inr f) = elim f [ ]
+  never which own (inr (none_moved f)) = elim f [ ]
 
   begins_so : (later : List Deed) (j : Hand) (r : Result Opened CommandFault) → EndsWith (ShowsEnd run path job.folder Answers) (λ end i o. State end i o) later j r → So (λ end i o. State end i o) later j r
   begins_so later j (Ok o) f = f

@@ -5,7 +5,6 @@ use Rattle.std.specs.List.{list_all}
 use Rattle.mail_headers.specs.Lines.{is_name_byte}
 use Rattle.mh_base.specs.Entries.{entry_text}
 use Rattle.mh_base.specs.Folders.{is_folder_name}
-use Rattle.mh_profile.specs.Reading.{entries_in}
 use Rattle.mh_profile.specs.declared.named_value.NamedValue.{NamedValue}
 use Rattle.mh_sequences.specs.Reading.{suffix}
 use Rattle.mh_sequences.specs.Runs.{numbers_of}
@@ -14,12 +13,12 @@ use Rattle.msg_ranges.specs.Selection.{marks_of}
 use Rattle.msg_ranges.proofs.Rising.{lists}
 use Rattle.folder_files.specs.declared.place.Place.{Place}
 use Rattle.folder_files.specs.declared.place.Place.TheVariants.{Folder, Mail}
+use Rattle.folder_files.proofs.Names.{not_both}
 use Rattle.file_plans.specs.Contents.{Contents, filled, folder_at, mailbox_in}
 use Rattle.file_plans.specs.Giving.{Gives}
 use Rattle.file_plans.specs.Mailboxes.{is_message_number}
 use Rattle.file_plans.specs.Plan.{Hand, Plan, after, bind, converted, lifted, ◌>>=◌}
 use Rattle.file_plans.specs.Views.{View, by_view}
-use Rattle.file_plans.proofs.Framing.{gives_quietly}
 use Rattle.file_plans.proofs.Giving.{gives_more, gives_on}
 use Rattle.file_plans.proofs.Onward.{Is, IsShort}
 use Rattle.step_plans.specs.ContextCommit.{LIMIT_BYTES, context_name}
@@ -27,40 +26,37 @@ use Rattle.step_plans.specs.declared.command_fault.CommandFault.{CommandFault}
 use Rattle.step_plans.specs.declared.fault.PlanFault.{PlanFault}
 use Rattle.step_plans.specs.declared.fault.PlanFault.TheVariants as plan
 use Rattle.step_plans.proofs.Committed.{entries_at}
-use Rattle.held_messages.specs.HeldPairs.{with_folder_changed}
-use Rattle.sequence_commits.specs.Committing.{changed_sequences}
-use Rattle.sequence_commits.proofs.MarkedOnce.{marked_valid}
 use Rattle.command_stages.specs.Chosen.{folder_with}
 use Rattle.command_stages.specs.Current.{made_current}
 use Rattle.command_stages.specs.Endings.{of_plan}
 use Rattle.command_stages.specs.Texts.{too_large}
 use Rattle.command_stages.specs.Works.{Work, refused_at}
 use Rattle.mh_looks.proofs.Scanning.{refuses}
-use Rattle.message_places.specs.Arranging.{arranged}
 use Rattle.message_places.specs.Order.{moves_of}
-use Rattle.message_places.specs.Places.{AreDistinct, AreMsgNums, is_in, slots}
+use Rattle.message_places.specs.Places.{AreDistinct, AreMsgNums, froms, is_in, slots}
 use Rattle.message_places.specs.declared.moves.Move.{Move}
-use Rattle.message_places.proofs.InOrder.{slot_in}
+use Rattle.message_places.proofs.InOrder.{froms_distinct, froms_good, moves_permute, slot_in, slots_distinct, slots_good}
 use Rattle.message_places.proofs.Permuted.{same_good}
 use Rattle.opened_folders.specs.BegunWork.{AreHomesAt, Homes, after_commits, current_work, unless_long}
 use Rattle.opened_folders.specs.Kept.{Commits, Kept, sequences_kept}
 use Rattle.opened_folders.specs.Opening.{Opened, opened_of}
 use Rattle.opened_folders.proofs.FolderGiven.{IsUntouched}
-use Rattle.opened_folders.proofs.KeptGiven.{Ends, Holds, IsClear}
+use Rattle.opened_folders.proofs.KeptGiven.{Holds, IsClear}
 use Rattle.opened_folders.proofs.KeptMessages.{message_at, message_of, sequences_messages}
-use Rattle.opened_folders.proofs.WorkGiven.{IsOpen, WorkEnds, changes_give, lifted_gives, sequences_give, weaker}
+use Rattle.opened_folders.proofs.WorkGiven.{IsOpen, WorkEnds, changes_give, current_gives, lifted_gives, weaker}
 use Rattle.refile_command.specs.MailMoved as mail_moved
 use Rattle.refile_command.proofs.MovedShown.{message_shown}
-use Rattle.refile_command.proofs.RefiledOpened.{Leads, leads_on}
-use Rattle.sortm_command.specs.Marking.{gone_along, withdrawn}
+use Rattle.sortm_command.specs.Marking.{withdrawn}
 use Rattle.sortm_command.specs.Reading.{order_read}
-use Rattle.sortm_command.specs.Sort.{chosen_from, chosen_sorted, last_in, marked_moved, moved_if, opened_sorted, sortm}
+use Rattle.sortm_command.specs.Sort.{chosen_from, chosen_sorted, opened_sorted, places_changed, sortm}
 use Rattle.sortm_command.specs.SortMoves.{order_by}
-use Rattle.sortm_command.specs.SortOutcome.{chosen_work, first_long, in_order_at, mail_sorted, marks_along, opened_work, read_work, sort_work, texts_in, texts_work, then_commits, with_order}
+use Rattle.sortm_command.specs.SortOutcome.{chosen_work, first_long, in_order_at, mail_sorted, opened_work, read_work, sort_work, texts_in, texts_work}
 use Rattle.sortm_command.specs.declared.job.SortJob.{SortJob}
-use Rattle.sortm_command.proofs.Listed.{last_small, sort_distinct, sort_good, sort_listed}
-use Rattle.sortm_command.proofs.OrderGiven.{StandsSo, Stands, stands_give}
+use Rattle.sortm_command.proofs.Listed.{sort_distinct, sort_good, sort_listed}
+use Rattle.sortm_command.proofs.MarkedGiven as stage
+use Rattle.sortm_command.proofs.MarkedGiven.{EndsAt}
 use Rattle.sortm_command.proofs.OrderMoves.{order_distinct, order_many, order_members, order_permutes}
+use Rattle.sortm_command.proofs.OrderStands.{in_order_so}
 use Rattle.sortm_command.proofs.ReadGiven as reading
 use Rattle.sortm_command.proofs.ReadGiven.{order_gives}
 
@@ -89,9 +85,6 @@ after_all c next none = rw none refl
 after_long : (c : Commits) (next : Kept → Work CommandFault) (l : ℕ) → c.long ≡ Some l → after_commits c next ≡ refused_at c.kept.mailbox (too_large l)
 after_long c next l some = rw some refl
 
-then_all : (c : Commits) (next : Kept → Commits) → c.long ≡ None → then_commits c next ≡ next c.kept
-then_all c next none = rw none refl
-
 mapped_many : {A B : Type 0} (f : A → B) (xs : List A) → length (map f xs) ≡ length xs
 mapped_many f [] = refl
 mapped_many f (x ∷ xs) = ap suc (mapped_many f xs)
@@ -109,42 +102,25 @@ module _ (run : ℕ) (few : run < 2 ^ 128) (path : List ℕ) (job : SortJob) (va
   abbrev Clear : Contents → Type 0
   Clear c = IsClear c p
 
-  -- how commits ended decides
-  abbrev EndsHere : Commits → View → Hand → Result Unit PlanFault → Type 0
-  EndsHere commits y i r = Ends Clear path y.numbers commits y i r
+  -- how commits ended decides; messages that moved ended at their slots
+  abbrev EndsHere : List Move → Commits → View → Hand → Result (List ℕ) PlanFault → Type 0
+  EndsHere ms commits y i r = EndsAt run few path job.folder clean ms commits y i r
 
-  ends_here : (ns : List ℕ) (commits : Commits) (y : View) (i : Hand) (r : Result Unit PlanFault) → Ends Clear path ns commits y i r → EndsHere commits y i r
-  ends_here ns commits y i (Ok u) e = (e.0, (e.1.0, (e.1.1.0, refl), e.1.2))
-  ends_here ns commits y i (Err plan.Faulted) e = e
-  ends_here ns commits y i (Err (plan.Locked q)) e = e
-  ends_here ns commits y i (Err (plan.Meddled q x)) e = e
-  ends_here ns commits y i (Err plan.Full) e = e
-  ends_here ns commits y i (Err (plan.Absent q)) e = e
-  ends_here ns commits y i (Err (plan.TooLarge l)) e = e
-  ends_here ns commits y i (Err plan.Memory) e = e
+  -- so far all is done, and the work goes on so; or it has ended
+  abbrev LeadsOn : Work CommandFault → View → Hand → List ℕ → Result (List ℕ) CommandFault → Type 0
+  LeadsOn w y i left (Ok ends) = (left ≡ []) × ((l : Kept) × (w ≡ next l) × ((d : Contents) × Is true y.numbers y d × Holds (λ e. Unit {0}) path l d i))
+  LeadsOn w y i left (Err e) = WorkEnds w y i left (Err e)
 
-  -- a text of the first that is too long ends both
-  first_ends : (ns : List ℕ) (c : Commits) (more : Kept → Commits) (y : View) (i : Hand) (e : PlanFault) → Ends Clear path ns c y i (Err e) → EndsHere (then_commits c more) y i (Err e)
-  first_ends ns c more y i plan.Faulted e = e
-  first_ends ns c more y i (plan.Locked q) e = e
-  first_ends ns c more y i (plan.Meddled q x) e = e
-  first_ends ns c more y i plan.Full e = e
-  first_ends ns c more y i (plan.Absent q) e = e
-  first_ends ns c more y i (plan.TooLarge l) e = let w = after l e.0 in (ap (λ x. x.long) w, e.1 ∙ sym (ap (λ x. x.kept.mailbox) w))
-    where
-      after : (l : ℕ) → c.long ≡ Some l → then_commits c more ≡ record { kept = c.kept; long = Some l }
-      after l some = rw some refl
-  first_ends ns c more y i plan.Memory e = e
-
-  leads : (commits : Commits) (w : Work CommandFault) → w ≡ after_commits commits next → (y : View) (i : Hand) (left : List ℕ) (q : Result Unit PlanFault) → left ≡ [] → EndsHere commits y i q → Leads run few path job.folder w next y i left (converted (of_plan job.folder) q)
-  leads commits w is y i left (Ok u) none e = (none, (commits.kept, is ∙ after_all commits next e.0, (e.1.0, (e.1.1.0, refl), weaker run few path job.folder Clear commits.kept e.1.0 i e.1.2)))
-  leads commits w is y i left (Err plan.Faulted) none e = e
-  leads commits w is y i left (Err (plan.Locked q)) none e = absurd e
-  leads commits w is y i left (Err (plan.Meddled q x)) none e = e
-  leads commits w is y i left (Err plan.Full) none e = absurd e
-  leads commits w is y i left (Err (plan.Absent q)) none e = absurd e
-  leads commits w is y i left (Err (plan.TooLarge l)) none e = subst (λ x. WorkEnds x y i left (Err (too_large l))) (sym (is ∙ after_long commits next l e.0)) (none, refl, e.1)
-  leads commits w is y i left (Err plan.Memory) none e = tt
+  leads : (ms : List Move) (commits : Commits) (w : Work CommandFault) → w ≡ after_commits commits next → (y : View) (i : Hand) (left : List ℕ) (q : Result (List ℕ) PlanFault) → left ≡ [] → EndsHere ms commits y i q → LeadsOn w y i left (converted (of_plan job.folder) q)
+  leads ms commits w is y i left (Ok ends) none e =
+      (none, (commits.kept, is ∙ after_all commits next e.1.0, (e.1.1.0, e.1.1.1, weaker run few path job.folder Clear commits.kept e.1.1.0 i e.1.1.2)))
+  leads ms commits w is y i left (Err plan.Faulted) none e = e
+  leads ms commits w is y i left (Err (plan.Locked q)) none e = absurd e
+  leads ms commits w is y i left (Err (plan.Meddled q x)) none e = e
+  leads ms commits w is y i left (Err plan.Full) none e = absurd e
+  leads ms commits w is y i left (Err (plan.Absent q)) none e = absurd e
+  leads ms commits w is y i left (Err (plan.TooLarge l)) none e = subst (λ x. WorkEnds x y i left (Err (too_large l))) (sym (is ∙ after_long commits next l e.0)) (none, refl, e.1)
+  leads ms commits w is y i left (Err plan.Memory) none e = tt
 
   -- the work on a folder that was begun
   module _ (o : Opened) (z : View) (j : Hand) (f : IsOpen path job.folder o z j) where
@@ -193,73 +169,41 @@ module _ (run : ℕ) (few : run < 2 ^ 128) (path : List ℕ) (job : SortJob) (va
       good_order : AreMsgNums order
       good_order = same_good numbers order (order_permutes job.key texts numbers many) good
 
-      -- the messages that move
-      module _ (x : Move) (l : List Move) (are : moves_of order numbers ≡ x ∷ l) where
-        abbrev ms : List Move
-        ms = x ∷ l
+      -- these messages move
+      abbrev ms : List Move
+      ms = moves_of order numbers
 
-        abbrev freed : Marked
-        freed = withdrawn (slots ms) m
+      abbrev takes : List ℕ
+      takes = slots ms
 
-        abbrev new : Marked
-        new = gone_along ms (slots ms) m
+      many_order : length order ≡ length numbers
+      many_order = order_many job.key texts numbers many good distinct
 
-        abbrev first : Commits
-        first = sequences_kept path job.folder m freed k
+      order_differs : AreDistinct order
+      order_differs = order_distinct job.key texts numbers many good distinct
 
-        abbrev second : Kept → Commits
-        second y = sequences_kept path job.folder freed new (with_order run p order numbers y)
+      members : (k : ℕ) → is_in k order ≡ is_in k numbers
+      members = order_members job.key texts numbers many good distinct
 
-        -- each stands there still, once the sequences are without it
-        stand_then : (d : Contents) → mailbox_in d ≡ first.kept.mailbox → (n : ℕ) → is_in n (slots (moves_of order numbers)) ≡ true → is_some (d.texts p (decimal n)) ≡ true
-        stand_then d shows n e =
-            stands_in d path job.folder n (ap (λ y. is_some (message_at y p n)) shows ∙ (ap is_some (sequences_messages path job.folder m freed k p n) ∙ stand_by n (slot_in order numbers n e)))
+      good_takes : AreMsgNums takes
+      good_takes = slots_good order numbers good
 
-        -- they stand in order, and the sequences have them again
-        holds_then : (d : Contents) (i h : Hand) (y : View) (ends : List ℕ) → Holds Clear path first.kept d i
-            → (s : StandsSo run few path job.folder order numbers (order_many job.key texts numbers many good distinct) (order_distinct job.key texts numbers many good distinct) distinct good_order good (order_members job.key texts numbers many good distinct) d i h y ends)
-            → Holds Clear path (with_order run p order numbers first.kept) s.contents h
-        holds_then d i h y ends holds s = record {
-          shows = s.shows ∙ ap (λ b. with_folder_changed b p (in_order_at run order numbers)) holds.shows;
-          entries = holds.entries ∙ sym (ap (λ t. entries_in (filled t)) s.context);
-          known = ap (λ b. b.context) s.hand ∙ holds.known;
-          short = subst (IsShort LIMIT_BYTES) (sym s.context) holds.short;
-          still = s.clear holds.still;
-        }
+      distinct_takes : AreDistinct takes
+      distinct_takes = slots_distinct order numbers distinct
 
-        abbrev Ended : View → Hand → List ℕ → Result Unit PlanFault → Type 0
-        Ended y i left r = EndsHere (then_commits first second) y i r
+      just : (n : ℕ) → is_in n (froms ms) ≡ is_in n takes
+      just n = sym (moves_permute order numbers many_order order_differs distinct members n)
 
-        restored_gives : (d : Contents) (i h : Hand) (y : View) (ends : List ℕ) → first.long ≡ None → Holds Clear path first.kept d i
-            → StandsSo run few path job.folder order numbers (order_many job.key texts numbers many good distinct) (order_distinct job.key texts numbers many good distinct) distinct good_order good (order_members job.key texts numbers many good distinct) d i h y ends
-            → Gives (by_view true) y h [] (changed_sequences run p mail job.folder freed (gone_along ms ends m)) Ended
-        restored_gives d i h y ends short holds s =
-            subst (λ es. Gives (by_view true) y h [] (changed_sequences run p mail job.folder freed (gone_along ms es m)) Ended) (sym (s.at_slots ∙ ap slots are))
-            (gives_more (by_view true) y h [] (changed_sequences run p mail job.folder freed new) (λ w b left r. Ends Clear path y.numbers (second first.kept) w b r) Ended
-            (sequences_give run few path job.folder clean freed new (marked_valid _ m) y.numbers (with_order run p order numbers first.kept) s.contents y h ((λ e. s.is), refl) (holds_then d i h y ends holds s) [])
-            (λ w b left r e. subst (λ q. EndsHere q w b r) (sym (then_all first second short)) (ends_here y.numbers (second first.kept) w b r e)))
+      -- each stands there still, once the sequences are without it
+      stand_then : (d : Contents) → mailbox_in d ≡ (sequences_kept path job.folder m (withdrawn takes m) k).kept.mailbox → (n : ℕ) → is_in n takes ≡ true → is_some (d.texts p (decimal n)) ≡ true
+      stand_then d shows n e =
+          stands_in d path job.folder n (ap (λ y. is_some (message_at y p n)) shows ∙ (ap is_some (sequences_messages path job.folder m (withdrawn takes m) k p n) ∙ stand_by n (slot_in order numbers n e)))
 
-        marked_gives : Gives (by_view true) z j [] (marked_moved run mail opened ms) Ended
-        unfolding marked_moved
-        marked_gives =
-            gives_quietly (by_view true) z j [] (changed_sequences run p mail job.folder m freed) (λ free. arranged run p (slots ms) ms (last_in o.listing) >>= (λ ends. changed_sequences run p mail job.folder freed (gone_along ms ends m)))
-            (λ y i left r. Ends Clear path f.later first y i r) Ended (sequences_give run few path job.folder clean m freed (marked_valid _ m) f.later k c z j f.is f.holds [])
-            (λ y i u e.
-            gives_quietly (by_view true) y i [] (arranged run p (slots ms) ms (last_in o.listing)) (λ ends. changed_sequences run p mail job.folder freed (gone_along ms ends m)) (Rearranged e.1.0 i) Ended
-            (subst (λ t. Gives (by_view true) y i [] (arranged run p (slots t) t (last_in o.listing)) (Rearranged e.1.0 i)) are
-            (stands_give run few path job.folder order numbers (order_many job.key texts numbers many good distinct) (order_distinct job.key texts numbers many good distinct) distinct good_order good (order_members job.key texts numbers many good distinct)
-            e.1.0 e.1.2.still (stand_then e.1.0 e.1.2.shows) (last_in o.listing) (last_small o.listing f.runs) f.later y i [] e.1.1))
-            (λ w h ends s. restored_gives e.1.0 i h w ends e.0 e.1.2 s) (λ w h x s. absurd s))
-            (λ y i x e. first_ends f.later first second y i x e)
-          where
-            Rearranged : Contents → Hand → View → Hand → List ℕ → Result (List ℕ) PlanFault → Type 0
-            Rearranged d i y h left r = Stands run few path job.folder order numbers (order_many job.key texts numbers many good distinct) (order_distinct job.key texts numbers many good distinct) distinct good_order good (order_members job.key texts numbers many good distinct) d i y h left r
-
-      -- where none moves nothing is done
-      moved_gives : (l : List Move) → moves_of order numbers ≡ l → Gives (by_view true) z j [] (moved_if run mail opened l) (λ y i left r. EndsHere (marks_along run path job.folder order numbers m l k) y i r)
-      unfolding Gives
-      moved_gives [] are = (refl, (c, (f.is.0, refl), f.holds))
-      moved_gives (x ∷ l) are = marked_gives x l are
+      -- they come to stand in order, and the sequences have them again
+      moved_gives : Gives (by_view true) z j [] (places_changed run mail opened ms) (λ y i left r. EndsHere ms (mail_sorted run path job.folder order numbers m k) y i r)
+      moved_gives =
+          stage.moved_gives run few path job.folder clean o z j f takes good_takes distinct_takes ms (froms_good order numbers good_order) (froms_distinct order numbers order_differs) good_takes distinct_takes just (in_order_at run order numbers)
+          (in_order_so order numbers many_order order_differs distinct members run) (λ d shows there n e. stand_then d shows n e) (λ d shows there n e off. absurd (not_both (is_in n takes) e off)) ms refl
 
   -- the messages are read, and change places
   module _ (o : Opened) (z : View) (j : Hand) (f : IsOpen path job.folder o z j) where
@@ -289,12 +233,12 @@ module _ (run : ℕ) (few : run < 2 ^ 128) (path : List ℕ) (job : SortJob) (va
       abbrev opened_so : Opened
       opened_so = opened_of p job.folder o.listing o.sequences o.ends
 
-      then_gives : (y : View) → Is true f.later y f.contents → first_long bytes ≡ None → Gives (by_view true) y j [] (lifted (of_plan job.folder) (moved_if run mail opened_so (moves_of sorted numbers))) (Leads run few path job.folder work next)
+      then_gives : (y : View) → Is true f.later y f.contents → first_long bytes ≡ None → Gives (by_view true) y j [] (lifted (of_plan job.folder) (places_changed run mail opened_so (moves_of sorted numbers))) (LeadsOn work)
       then_gives y at short =
-          gives_more (by_view true) y j [] (lifted (of_plan job.folder) (moved_if run mail opened_so (moves_of sorted numbers)))
-          (λ w i left r. (left ≡ []) × ((q : Result Unit PlanFault) × (r ≡ converted (of_plan job.folder) q) × EndsHere commits w i q)) (Leads run few path job.folder work next)
-          (lifted_gives y j [] (of_plan job.folder) (moved_if run mail opened_so (moves_of sorted numbers)) (λ w i left r. EndsHere commits w i r) (moved_gives o y j (at_view y at) numbers is (moves_of sorted numbers) refl))
-          (λ w i left r g. subst (λ q. Leads run few path job.folder work next w i left q) (sym g.1.1) (leads commits work (work_short short) w i left g.1.0 g.0 g.1.2))
+          gives_more (by_view true) y j [] (lifted (of_plan job.folder) (places_changed run mail opened_so (moves_of sorted numbers)))
+          (λ w i left r. (left ≡ []) × ((q : Result (List ℕ) PlanFault) × (r ≡ converted (of_plan job.folder) q) × EndsHere (moves_of sorted numbers) commits w i q)) (LeadsOn work)
+          (lifted_gives y j [] (of_plan job.folder) (places_changed run mail opened_so (moves_of sorted numbers)) (λ w i left r. EndsHere (moves_of sorted numbers) commits w i r) (moved_gives o y j (at_view y at) numbers is))
+          (λ w i left r g. subst (λ q. LeadsOn work w i left q) (sym g.1.1) (leads (moves_of sorted numbers) commits work (work_short short) w i left g.1.0 g.0 g.1.2))
 
       -- one that is too long refuses
       too_long_ends : (y : View) (i : Hand) (l : ℕ) → Is true f.later y f.contents → first_long bytes ≡ Some l → WorkEnds work y i [] (Err (too_large l))
@@ -303,21 +247,21 @@ module _ (run : ℕ) (few : run < 2 ^ 128) (path : List ℕ) (job : SortJob) (va
       abbrev reads : Plan (Result (List ℕ) CommandFault)
       reads = order_read p job.key numbers
 
-      abbrev goes_on : List ℕ → Plan (Result Unit CommandFault)
-      goes_on order_ = lifted (of_plan job.folder) (moved_if run mail opened_so (moves_of order_ numbers))
+      abbrev goes_on : List ℕ → Plan (Result (List ℕ) CommandFault)
+      goes_on order_ = lifted (of_plan job.folder) (places_changed run mail opened_so (moves_of order_ numbers))
 
-      numbers_give : Gives (by_view true) z j [] (reads >>= goes_on) (Leads run few path job.folder work next)
+      numbers_give : Gives (by_view true) z j [] (reads >>= goes_on) (LeadsOn work)
       numbers_give =
-          gives_on (by_view true) z j [] reads goes_on (reading.Orders p f.contents f.later j job.key numbers []) (Leads run few path job.folder work next)
+          gives_on (by_view true) z j [] reads goes_on (reading.Orders p f.contents f.later j job.key numbers []) (LeadsOn work)
           (order_gives p f.contents f.later j job.key numbers (stand o z j f numbers is) z [] f.is)
           (λ y i left order_ g. good_order_gives y i left order_ g)
           (λ y i left e g. bad_order_ends y i left e g)
         where
-          good_order_gives : (y : View) (i : Hand) (left order_ : List ℕ) → reading.Orders p f.contents f.later j job.key numbers [] y i left (Ok order_) → Gives (by_view true) y i left (goes_on order_) (Leads run few path job.folder work next)
+          good_order_gives : (y : View) (i : Hand) (left order_ : List ℕ) → reading.Orders p f.contents f.later j job.key numbers [] y i left (Ok order_) → Gives (by_view true) y i left (goes_on order_) (LeadsOn work)
           good_order_gives y i left order_ g =
-              subst (λ t. Gives (by_view true) y i t (goes_on order_) (Leads run few path job.folder work next)) (sym g.0.0)
-              (subst (λ h. Gives (by_view true) y h [] (goes_on order_) (Leads run few path job.folder work next)) (sym g.0.1)
-              (subst (λ t. Gives (by_view true) y j [] (goes_on t) (Leads run few path job.folder work next)) (sym g.1.1) (then_gives y g.0.2 g.1.0)))
+              subst (λ t. Gives (by_view true) y i t (goes_on order_) (LeadsOn work)) (sym g.0.0)
+              (subst (λ h. Gives (by_view true) y h [] (goes_on order_) (LeadsOn work)) (sym g.0.1)
+              (subst (λ t. Gives (by_view true) y j [] (goes_on t) (LeadsOn work)) (sym g.1.1) (then_gives y g.0.2 g.1.0)))
 
           bad_order_ends : (y : View) (i : Hand) (left : List ℕ) (e : CommandFault) → reading.Orders p f.contents f.later j job.key numbers [] y i left (Err e) → WorkEnds work y i left (Err e)
           bad_order_ends y i left e g = subst (λ t. WorkEnds work y i t (Err e)) (sym g.0.0) (subst (λ x. WorkEnds work y i [] (Err x)) (sym g.1.2) (too_long_ends y i g.1.0 g.0.2 g.1.1))
@@ -327,10 +271,10 @@ module _ (run : ℕ) (few : run < 2 ^ 128) (path : List ℕ) (job : SortJob) (va
     all_work = opened_work run path job o.listing o.sequences f.kept
 
     by_value : (value : Result (List ℕ) CommandFault) → chosen_from job o.listing o.sequences ≡ value
-        → Gives (by_view true) z j [] (after (λ numbers. order_read p job.key numbers >>= (λ order_. lifted (of_plan job.folder) (moved_if run mail (opened_of p job.folder o.listing o.sequences o.ends) (moves_of order_ numbers)))) value)
-        (Leads run few path job.folder (chosen_work run path job o.sequences f.kept value) next)
+        → Gives (by_view true) z j [] (after (λ numbers. order_read p job.key numbers >>= (λ order_. lifted (of_plan job.folder) (places_changed run mail (opened_of p job.folder o.listing o.sequences o.ends) (moves_of order_ numbers)))) value)
+        (LeadsOn (chosen_work run path job o.sequences f.kept value))
     unfolding Gives
-    by_value (Ok numbers) is = subst (λ t. Gives (by_view true) z j [] (reads numbers is >>= goes_on numbers is) (Leads run few path job.folder (texts_work run path job o.sequences f.kept numbers t) next)) (sym (texts_same o z j f numbers is)) (numbers_give numbers is)
+    by_value (Ok numbers) is = subst (λ t. Gives (by_view true) z j [] (reads numbers is >>= goes_on numbers is) (LeadsOn (texts_work run path job o.sequences f.kept numbers t))) (sym (texts_same o z j f numbers is)) (numbers_give numbers is)
     by_value (Err e) is =
         let r = refuses (folder_with job.negation (numbers_of o.listing) (marks_of o.sequences)) job.specs e is in
         subst (λ x. WorkEnds (refused_at f.kept.mailbox x) z j [] (Err x)) (sym r.1) (refl, refl, ap mailbox_in (f.is.0 refl) ∙ f.holds.shows)
@@ -338,7 +282,7 @@ module _ (run : ℕ) (few : run < 2 ^ 128) (path : List ℕ) (job : SortJob) (va
     same_opened : o ≡ opened_of p job.folder o.listing o.sequences o.ends
     same_opened = λ i. opened_of (f.place i) (f.name i) o.listing o.sequences o.ends
 
-    chosen_gives : Gives (by_view true) z j [] (chosen_sorted run path job (opened_of p job.folder o.listing o.sequences o.ends)) (Leads run few path job.folder all_work next)
+    chosen_gives : Gives (by_view true) z j [] (chosen_sorted run path job (opened_of p job.folder o.listing o.sequences o.ends)) (LeadsOn all_work)
     unfolding Gives chosen_sorted bind ◌>>=◌
     chosen_gives = by_value (chosen_from job o.listing o.sequences) refl
 
@@ -351,11 +295,18 @@ module _ (run : ℕ) (few : run < 2 ^ 128) (path : List ℕ) (job : SortJob) (va
     no_text (Ok numbers) = silent_by numbers (texts_in (f.kept.mailbox.folders p) numbers) (first_long (texts_in (f.kept.mailbox.folders p) numbers))
     no_text (Err e) = refl
 
+    chosen_so : Gives (by_view true) z j [] (chosen_sorted run path job o) (LeadsOn all_work)
+    chosen_so = subst (λ x. Gives (by_view true) z j [] (chosen_sorted run path job x) (LeadsOn all_work)) (sym same_opened) chosen_gives
+
     opened_gives : Gives (by_view true) z j all_work.text (opened_sorted run path job o) (WorkEnds all_work)
     unfolding opened_sorted
     opened_gives =
-        subst (λ t. Gives (by_view true) z j t (chosen_sorted run path job o >>= (λ moved. made_current run path job.folder)) (WorkEnds all_work)) (sym (no_text (chosen_from job o.listing o.sequences)))
-        (leads_on run few path job.folder valid true all_work (chosen_sorted run path job o) z j (subst (λ x. Gives (by_view true) z j [] (chosen_sorted run path job x) (Leads run few path job.folder all_work next)) (sym same_opened) chosen_gives))
+        subst (λ t. Gives (by_view true) z j t (chosen_sorted run path job o >>= (λ ends. made_current run path job.folder)) (WorkEnds all_work)) (sym (no_text (chosen_from job o.listing o.sequences)))
+        (gives_on (by_view true) z j [] (chosen_sorted run path job o) (λ ends. made_current run path job.folder) (LeadsOn all_work) (WorkEnds all_work) chosen_so
+        (λ y i left ends g.
+        subst (λ t. Gives (by_view true) y i t (made_current run path job.folder) (WorkEnds all_work)) (sym g.0)
+        (subst (λ x. Gives (by_view true) y i [] (made_current run path job.folder) (WorkEnds x)) (sym g.1.1) (current_gives run few path job.folder valid y.numbers [] g.1.0 g.1.2.0 y i g.1.2.1 g.1.2.2)))
+        (λ y i left e g. g))
 
 -- the whole, where the context has these entries and its text is not too long
 pub sortm_gives : (run : ℕ) → run < 2 ^ 128 → (path : List ℕ) (job : SortJob) → is_folder_name job.folder ≡ true → list_all is_name_byte (suffix job.folder) ≡ true → (c : Contents) (entries : List NamedValue) → entries ≡ entries_at c (Mail path) → IsShort LIMIT_BYTES (c.texts (Mail path) context_name)

@@ -1,44 +1,32 @@
 -- What the pledge of `sortm` lets its steps be.
-use Rattle.std.proofs.Common.{◌≡◌, inl, inr, ◌<◌, ◌^◌, ℕ, true, false, List, [], ◌∷◌, sym, ◌∙◌, ap, subst, arith}
-use Rattle.mh_base.specs.Entries.{entry_text, kind_of}
+use Rattle.std.proofs.Common.{◌≡◌, inl, ◌<◌, ◌^◌, ℕ, List, subst}
+use Rattle.mh_base.specs.Entries.{entry_text}
 use Rattle.mh_base.specs.Numbers.{IsMsgNum}
 use Rattle.mh_base.specs.declared.entry.Entry.TheVariants.{Number}
-use Rattle.mh_base.proofs.EntryKinds.{kind_of-entry_text}
 use Rattle.mh_sequences.specs.Sequences.{Marked}
 use Rattle.mh_sequences.specs.declared.run.Run.{Run}
-use Rattle.folder_files.specs.Careful.{WasGivenAway}
 use Rattle.folder_files.specs.Commands.{Sorting}
-use Rattle.folder_files.specs.Deeds.{Deed, on}
-use Rattle.folder_files.specs.Named.{is_committed, is_held, is_temp}
-use Rattle.folder_files.specs.Standing.{is_standing}
+use Rattle.folder_files.specs.Deeds.{Deed}
 use Rattle.folder_files.specs.declared.place.Place.{Place}
 use Rattle.folder_files.specs.declared.place.Place.TheVariants.{Folder, Mail}
-use Rattle.folder_files.proofs.Names.{held_stands, is_committed_quiet, is_temp_unheld, not_both}
 use Rattle.file_plans.proofs.Framing.{AnyStep}
 use Rattle.step_plans.specs.Pledges.{Pledge}
 use Rattle.step_plans.proofs.Lasting.{KeptBy}
 use Rattle.message_moves.proofs.MovePledged.{LetsTake}
 use Rattle.message_places.specs.declared.moves.Move.{Move}
-use Rattle.message_places.proofs.ArrangedPledged.{moved_kept}
-use Rattle.message_places.proofs.SortingKinds.{sorting_takes}
 use Rattle.opened_folders.specs.FolderPledge.{told_within}
-use Rattle.opened_folders.proofs.FolderPledged.{Begins, seen_kept}
-use Rattle.opened_folders.proofs.WorkPledged as work
+use Rattle.opened_folders.proofs.FolderPledged.{seen_kept}
 use Rattle.opened_folders.proofs.WorkPledged.{LetsBegin}
 use Rattle.refile_command.specs.RmmPledge.{every_message}
-use Rattle.refile_command.proofs.RmmPledged.{in_up}
-use Rattle.sortm_command.specs.SortDone.{HasSortedChosen, MarksWent}
-use Rattle.sortm_command.specs.SortPledge.{AreMoves, MakesMarks, SortsSo, WasChosen, WasWithdrawn, sortm_pledge}
+use Rattle.message_places.specs.Places.{slots}
+use Rattle.sortm_command.specs.MovePledge.{Taking, WasWithdrawn}
+use Rattle.sortm_command.specs.SortDone.{HasSortedChosen}
+use Rattle.sortm_command.specs.SortPledge.{AreMoves, MakesMarks, SortsSo, TakesSlots, WasChosen, sortm_pledge}
 use Rattle.sortm_command.specs.SortMoves.{moves_by, read_on}
 use Rattle.sortm_command.specs.declared.job.SortJob.{SortJob}
 use Rattle.sortm_command.proofs.ArrangedDone.{settled_kept}
-
--- a temporary name, and one that is committed, holds no message aside
-temp_unheld : (temp held : List ℕ) → is_temp (kind_of temp) ≡ true → temp ≡ held → is_held (kind_of held) ≡ true → ⊥
-temp_unheld temp held is same other = not_both (is_held (kind_of held)) other (subst (λ z. is_held (kind_of z) ≡ false) same (is_temp_unheld temp is))
-
-committed_unheld : (q : Place) (name held : List ℕ) → is_committed q name ≡ true → name ≡ held → is_held (kind_of held) ≡ true → ⊥
-committed_unheld q name held is same other = let e = is_committed_quiet q name is in let f = held_stands held other in absurd (let no : true ≡ false = sym f ∙ (ap (λ z. is_standing z) (sym same) ∙ e) in cc (no))
+use Rattle.sortm_command.proofs.MoveLets as moving
+use Rattle.sortm_command.proofs.MoveLets.{committed_unheld, marks_kept, may_take, moves_marks_kept, taken_number}
 
 module _ (run : ℕ) (few : run < 2 ^ 128) (path : List ℕ) (job : SortJob) where
   abbrev w : Pledge
@@ -53,35 +41,18 @@ module _ (run : ℕ) (few : run < 2 ^ 128) (path : List ℕ) (job : SortJob) whe
   abbrev no_piece : List Deed → List ℕ → Type 0
   no_piece own piece = ⊥
 
+  abbrev Takes : Taking
+  Takes = TakesSlots run path job
+
   pub lets : LetsBegin path job.folder (Sorting path job.folder every_message) (SortsSo run path job)
-  lets = record {
+  lets = let so = moving.lets run path job.folder Takes in record {
     kinds = λ own kind s k. inl k;
-    makes = λ own q. ((λ number held n e k h. absurd (cc (e))), (λ number held n e k h. absurd (cc (e))), (λ held e h. absurd (cc (e))), (λ r temp number e is. absurd (cc (e))));
-    creates = λ own q name bytes. ((λ number held n e k h. absurd (cc (e))), (λ number held n e k h. absurd (cc (e))), (λ held e h. absurd (cc (e))), (λ r temp number e is. absurd (cc (e))));
-    clears = λ own q temp is. (
-      (λ number held n e k h. absurd (cc (e))),
-      (λ number held n e k h. absurd (cc (e))),
-      (λ held e h. absurd (let same : temp ≡ held = cc (e) in temp_unheld temp held is same h)),
-      (λ r other number e is_temp_. absurd (cc (e))),
-    );
-    gives = λ own q held number is. (
-      (λ from other n e k h. absurd (cc (e))),
-      (λ from other n e k h. absurd (cc (e))),
-      (λ other e h. absurd (cc (e))),
-      (λ r temp other e is_temp_. absurd (let same : temp ≡ held = cc (e) in temp_unheld temp held is_temp_ same is)),
-    );
-    drops = λ own q held is away. (
-      (λ number other n e k h. absurd (cc (e))),
-      (λ number other n e k h. absurd (cc (e))),
-      (λ other e h. let same : q ≡ p = cc (e) in let alike : held ≡ other = cc (e) in subst (λ z. WasGivenAway z other own) same (subst (λ z. WasGivenAway q z own) alike away)),
-      (λ r temp number e is_temp_. absurd (cc (e))),
-    );
-    commits = λ own q temp name is. (
-      (λ number held n e k h. absurd (let same : name ≡ held = cc (e) in committed_unheld q name held is same h)),
-      (λ number held n e k h. absurd (let same : name ≡ held = cc (e) in committed_unheld q name held is same h)),
-      (λ held e h. absurd (cc (e))),
-      (λ r other number e is_temp_. absurd (cc (e))),
-    );
+    makes = λ own q. ((λ number held n e k h. absurd (cc (e))), so.makes own q);
+    creates = λ own q name bytes. ((λ number held n e k h. absurd (cc (e))), so.creates own q name bytes);
+    clears = λ own q temp is. ((λ number held n e k h. absurd (cc (e))), so.clears own q temp is);
+    gives = λ own q held number is. ((λ from other n e k h. absurd (cc (e))), so.gives own q held number is);
+    drops = λ own q held is away. ((λ number other n e k h. absurd (cc (e))), so.drops own q held is away);
+    commits = λ own q temp name is. ((λ number held n e k h. absurd (let same : name ≡ held = cc (e) in committed_unheld q name held is same h)), so.commits own q temp name is);
   }
 
   -- what it makes of sequences it makes later too
@@ -89,36 +60,17 @@ module _ (run : ℕ) (few : run < 2 ^ 128) (path : List ℕ) (job : SortJob) whe
   moves_kept listing m ms own s a any f = record { numbers = f.numbers; chosen = f.chosen; texts = f.texts; read = read_on f.read; moves = f.moves }
 
   pub makes_kept : (listing : List Run) (m new : Marked) → KeptBy AnyStep (λ own. MakesMarks run path job own listing m new)
-  makes_kept listing m new own s a any (ms, are, inl same) = (ms, moves_kept listing m ms own s a tt are, inl same)
-  makes_kept listing m new own s a any (ms, are, inr (ends, moved, same)) = (ms, moves_kept listing m ms own s a tt are, inr (ends, moved_kept run few p ms ends own s a tt moved, same))
-
-  -- the folder may be begun
-  abbrev pub begins : Begins w path job.folder
-  begins = work.begins run few path job.folder (MakesMarks run path job) (Sorting path job.folder every_message) no_piece (SortsSo run path job) lets makes_kept
+  makes_kept listing m new own s a any (ms, are, made) = (ms, moves_kept listing m ms own s a tt are, moves_marks_kept run path job.folder few (slots ms) ms m new own s a tt made)
 
   -- a message is taken that the words chose, and that no sequence has any more
-  taken_number : (n k : ℕ) (number : List ℕ) → IsMsgNum n → entry_text (Number n) ≡ number → kind_of number ≡ Number k → n ≡ k
-  taken_number n k number ok from kind = let same : Number n ≡ Number k = sym (kind_of-entry_text (Number n) ok) ∙ (ap kind_of from ∙ kind) in cc (same)
-
-  pub takes_one : (n : ℕ) (own : List Deed) → IsMsgNum n → WasChosen run path job n own → WasWithdrawn run path job n own → LetsTake w p n own
-  takes_one n own ok chosen freed = record {
-    makes = sorting_takes path job.folder every_message run n own ok (in_up 1 999999 n ok.0 (let l = ok.1 in omega (arith, l)));
-    may = (
-      (λ number held k e kind h. subst (λ z. WasChosen run path job z own) (taken_number n k number ok (let from : entry_text (Number n) ≡ number = cc (e) in from) kind) chosen),
-      (λ number held k e kind h. subst (λ z. WasWithdrawn run path job z own) (taken_number n k number ok (let from : entry_text (Number n) ≡ number = cc (e) in from) kind) freed),
-      (λ held e h. absurd (cc (e))),
-      (λ r temp number e is. absurd (cc (e))),
-    );
-  }
+  pub takes_one : (n : ℕ) (own : List Deed) → IsMsgNum n → WasChosen run path job n own → WasWithdrawn run path job.folder Takes n own → LetsTake w p n own
+  takes_one n own ok chosen freed =
+      moving.takes_one run path job.folder (MakesMarks run path job) no_piece (SortsSo run path job) n own ok (
+        (λ number held k e kind h. subst (λ z. WasChosen run path job z own) (taken_number run path job.folder n k number ok (let from : entry_text (Number n) ≡ number = cc (e) in from) kind) chosen),
+        may_take run path job.folder Takes n own ok freed,
+      )
 
   -- what was done at the end stays so
-  marks_kept : (m : Marked) (ms : List Move) (ends : List ℕ) → KeptBy AnyStep (MarksWent job.folder p m ms ends)
-  marks_kept m [] ends own s a any f = tt
-  marks_kept m (x ∷ ms) ends own s a any (inl e, inl f) = (inl e, inl f)
-  marks_kept m (x ∷ ms) ends own s a any (inl e, inr f) = (inl e, inr (on f))
-  marks_kept m (x ∷ ms) ends own s a any (inr e, inl f) = (inr (on e), inl f)
-  marks_kept m (x ∷ ms) ends own s a any (inr e, inr f) = (inr (on e), inr (on f))
-
   pub sorted_kept : KeptBy AnyStep (HasSortedChosen run path job)
   sorted_kept own s a any f = record {
     listing = f.listing;
@@ -131,5 +83,5 @@ module _ (run : ℕ) (few : run < 2 ^ 128) (path : List ℕ) (job : SortJob) whe
     read = read_on f.read;
     ends = f.ends;
     moved = settled_kept run few p (moves_by job.key f.texts f.numbers) f.ends own s a tt f.moved;
-    marks = marks_kept (told_within f.listing f.text f.context job.folder) (moves_by job.key f.texts f.numbers) f.ends own s a tt f.marks;
+    marks = marks_kept run path job.folder (told_within f.listing f.text f.context job.folder) (slots (moves_by job.key f.texts f.numbers)) (moves_by job.key f.texts f.numbers) f.ends own s a tt f.marks;
   }

@@ -1,13 +1,12 @@
 -- Each step of `sortm` minds the marks of all sequences.
-use Rattle.std.proofs.Common.{◌≡◌, ◌⊎◌, inl, ◌<◌, ◌+◌, ◌^◌, ◌++◌, ◌∷◌, [], ℕ, suc, true, false, List, Option, Ok, length, map, refl, sym, ◌∙◌, ap, subst, arith}
-use Rattle.std.specs.Prelude.{IfSome}
+use Rattle.std.proofs.Common.{◌≡◌, inl, ◌<◌, ◌+◌, ◌^◌, ◌++◌, ◌∷◌, [], ℕ, suc, List, Option, Ok, length, map, refl, sym, ◌∙◌, ap, subst, arith}
 use Rattle.std.proofs.lemmas.List.{length_push}
 use Rattle.mh_base.specs.Entries.{entry_text, kind_of}
 use Rattle.mh_base.specs.Numbers.{IsMsgNum}
 use Rattle.mh_base.specs.declared.entry.Entry.TheVariants.{Number, Sequences}
 use Rattle.mh_base.proofs.EntryKinds.{kind_of-entry_text}
-use Rattle.mh_sequences.specs.Runs.{AreRuns, has}
-use Rattle.mh_sequences.specs.Sequences.{AreSequences, Marked}
+use Rattle.mh_sequences.specs.Runs.{AreRuns}
+use Rattle.mh_sequences.specs.Sequences.{Marked}
 use Rattle.mh_sequences.specs.declared.run.Run.{Run}
 use Rattle.folder_files.specs.Deeds.{Deed, did}
 use Rattle.folder_files.specs.declared.place.Place.{Place}
@@ -21,41 +20,35 @@ use Rattle.step_plans.specs.CommandFaults.{of_stop}
 use Rattle.step_plans.specs.ContextCommit.{AreChanges, LIMIT_BYTES}
 use Rattle.step_plans.specs.Pledges.{MayAsk, Pledge}
 use Rattle.step_plans.specs.declared.command_fault.CommandFault.TheVariants as fault
-use Rattle.step_plans.specs.declared.fault.PlanFault.{PlanFault}
 use Rattle.step_plans.proofs.Facts.{base_kept}
 use Rattle.step_plans.proofs.Going.{Outcome, okay}
 use Rattle.marks_law.specs.Apart as apart
-use Rattle.message_places.specs.Arranging.{arranged}
 use Rattle.message_places.specs.Order.{moves_of}
 use Rattle.message_places.specs.Places.{AreDistinct, AreMsgNums, froms, is_in, slots}
 use Rattle.message_places.specs.declared.moves.Move.{Move}
-use Rattle.sequence_commits.specs.Committing.{changed_sequences}
 use Rattle.command_stages.specs.Current.{current_change, made_current}
 use Rattle.command_stages.specs.Endings.{of_plan}
 use Rattle.command_stages.specs.Texts.{too_large}
 use Rattle.opened_folders.specs.FolderPledge.{told_within}
-use Rattle.opened_folders.specs.Opening.{Opened, begun, opened_of}
+use Rattle.opened_folders.specs.Opening.{Opened, opened_of}
 use Rattle.opened_folders.proofs.AllMarks.{MindsAll, look_minds}
-use Rattle.opened_folders.proofs.BegunSeen.{HasSeenBegun, NoneUnlinked, begun_meets}
+use Rattle.opened_folders.proofs.BegunSeen.{NoneUnlinked}
 use Rattle.opened_folders.proofs.CommitMinds.{Facts, IsTold}
 use Rattle.opened_folders.proofs.FolderSeen.{quiet_seen}
-use Rattle.opened_folders.proofs.FreeMarks.{FreesOthers}
-use Rattle.opened_folders.proofs.Meeting.{Meets, meets_end, meets_lifted, meets_more, meets_okay, meets_read, meets_return, meets_then}
-use Rattle.opened_folders.proofs.ToldMarks.{InListing, told_cur, told_valid}
+use Rattle.opened_folders.proofs.Meeting.{Meets, meets_end, meets_lifted, meets_okay, meets_read, meets_return, meets_then}
+use Rattle.opened_folders.proofs.ToldMarks.{InListing}
 use Rattle.opened_folders.proofs.WorkMinds.{Anyhow, current_meets}
-use Rattle.opened_folders.proofs.WorkMinds as work_minds
-use Rattle.refile_command.proofs.Meetings.{AnyAsk, meets_okay_both, meets_value}
+use Rattle.refile_command.proofs.Meetings.{meets_value}
 use Rattle.sortm_command.specs.Keys.{date_key, text_key}
-use Rattle.sortm_command.specs.Marking.{withdrawn}
 use Rattle.sortm_command.specs.Ordered.{order_by_dates, order_by_texts}
 use Rattle.sortm_command.specs.Reading.{date_order_read, keys_read, message_by, message_read, order_read, text_order_read}
-use Rattle.sortm_command.specs.Sort.{chosen_from, chosen_sorted, last_in, marked_moved, marks_restored, moved_if, opened_sorted, sortm}
+use Rattle.sortm_command.specs.Sort.{chosen_from, chosen_sorted, opened_sorted, places_changed, sortm}
 use Rattle.sortm_command.specs.SortMoves.{moves_by, order_by}
 use Rattle.sortm_command.specs.SortPledge.{sortm_pledge}
 use Rattle.sortm_command.specs.declared.job.SortJob.{SortJob}
 use Rattle.sortm_command.specs.declared.job.SortKey.{SortKey}
 use Rattle.sortm_command.specs.declared.job.SortKey.TheVariants as key
-use Rattle.sortm_command.proofs.BegunKnown.{begun_known}
+use Rattle.sortm_command.proofs.KnownMinds.{work_meets}
 use Rattle.sortm_command.proofs.Listed.{sort_distinct, sort_good}
 use Rattle.sortm_command.proofs.MovesMind as moves
 use Rattle.sortm_command.proofs.MarksKnown.{KnowsMarks, outside_kept, read_kept}
@@ -81,10 +74,6 @@ module _ (w : Pledge) (few : w.run < 2 ^ 128) (path : List ℕ) (job : SortJob) 
   abbrev M : {R : Type 0} → List Deed → Hand → Plan R → Outcome R → Type 0
   M own h plan Q = Meets (MayAsk w) A own h plan Q
 
-  -- the folder was begun, with these numbers and sequences
-  abbrev Begun : Outcome Opened
-  Begun later j o = HasSeenBegun path job.folder later o × KnowsMarks w path job.folder o.sequences later j
-
   -- the work on a folder that was begun
   module _ (names : List (List ℕ)) (listing : List Run) (runs : AreRuns listing) (text context : List ℕ) (ends_ : List (Option ℕ)) where
     abbrev told : Marked
@@ -92,12 +81,6 @@ module _ (w : Pledge) (few : w.run < 2 ^ 128) (path : List ℕ) (job : SortJob) 
 
     abbrev opened : Opened
     opened = opened_of p job.folder listing told ends_
-
-    valid : AreSequences told.users
-    valid = told_valid listing text context job.folder
-
-    cur : IfSome told.cur IsMsgNum
-    cur = told_cur listing text context job.folder
 
     -- each listed number is there, and no other is marked
     abbrev Known : List Deed → Hand → Type 0
@@ -168,50 +151,21 @@ module _ (w : Pledge) (few : w.run < 2 ^ 128) (path : List ℕ) (job : SortJob) 
     None_ z = ⊥
 
     -- what is left once messages may have changed places
-    abbrev Ready : Outcome Unit
-    Ready later j u = Facts w path job.folder names None_ later
-
-    ready : (There : List ℕ → Type 0) (own : List Deed) → Facts w path job.folder names There own → Facts w path job.folder names None_ own
-    ready = moves.ready w few path job.folder names listing runs text context
+    abbrev Ready : Outcome (List ℕ)
+    Ready later j ends = Facts w path job.folder names None_ later
 
     -- these messages change places
-    module _ (ms : List Move) (fs : AreMsgNums (froms ms)) (ss : AreMsgNums (slots ms)) (same : (k : ℕ) → is_in k (froms ms) ≡ is_in k (slots ms)) where
-      abbrev takes : List ℕ
-      takes = slots ms
-
-      free_slot : (k : ℕ) → is_in k (slots ms) ≡ true → (is_in k takes ≡ true) ⊎ (has listing k ≡ false)
-      free_slot k e = inl e
-
-      -- the sequences without them
-      abbrev less : Marked
-      less = withdrawn takes told
-
-      abbrev Withdrawn : Outcome Unit
-      Withdrawn = moves.Withdrawn w few path job.folder names listing runs text context ms takes ss fs ss same free_slot
-
-      abbrev Moved : Outcome (List ℕ)
-      Moved = moves.Moved w few path job.folder names listing runs text context ms takes ss fs ss same free_slot
-
-      marked_meets : (own : List Deed) (h : Hand) → Known own h → M own h (marked_moved w.run mail opened ms) (okay Ready)
-      unfolding marked_moved
-      marked_meets own h f =
-          meets_then (MayAsk w) A own h (changed_sequences w.run p mail job.folder told less) (λ free. arranged w.run p takes ms (last_in listing) >>= (λ ends. marks_restored w.run mail opened ms ends)) Withdrawn Ready (moves.withdrawn_meets w few path job.folder names listing runs text context ms takes ss fs ss same free_slot own h f)
-          (λ later j u g.
-          meets_then (MayAsk w) A later j (arranged w.run p takes ms (last_in listing)) (λ ends. marks_restored w.run mail opened ms ends) Moved Ready (moves.moving_meets w few path job.folder names listing runs text context ms takes ss fs ss same free_slot later j g.0 (moves.are_withdrawn w few path job.folder names listing runs text context ms takes ss fs ss same free_slot later j g.0 g.1))
-          (λ last i ends k. moves.restored_meets w few path job.folder names listing runs text context ms takes ss fs ss same free_slot ends last i k))
-
     moved_meets : (ms : List Move) → AreMsgNums (froms ms) → AreMsgNums (slots ms) → ((k : ℕ) → is_in k (froms ms) ≡ is_in k (slots ms)) → (own : List Deed) (h : Hand) → Known own h
-        → M own h (moved_if w.run mail opened ms) (okay Ready)
-    moved_meets [] fs ss same own h f = meets_return (MayAsk w) A {E = PlanFault} own h tt (okay Ready) (ready (InListing listing) own f.0)
-    moved_meets (m ∷ ms) fs ss same own h f = marked_meets (m ∷ ms) fs ss same own h f
+        → M own h (places_changed w.run mail opened ms) (okay Ready)
+    moved_meets ms fs ss same own h f = moves.moved_meets w few path job.folder names listing runs text context ms (slots ms) ss fs ss same (λ k e. inl e) ends_ own h f
 
     sorted_meets : (numbers : List ℕ) → chosen_from job listing told ≡ Ok numbers → (own : List Deed) (h : Hand) → Known own h
-        → M own h (order_read p job.key numbers >>= (λ order. lifted (of_plan job.folder) (moved_if w.run mail opened (moves_of order numbers)))) (okay Ready)
+        → M own h (order_read p job.key numbers >>= (λ order. lifted (of_plan job.folder) (places_changed w.run mail opened (moves_of order numbers)))) (okay Ready)
     sorted_meets numbers is own h f =
-        meets_then (MayAsk w) A own h (order_read p job.key numbers) (λ order. lifted (of_plan job.folder) (moved_if w.run mail opened (moves_of order numbers))) (Ordered numbers) Ready (order_meets numbers good own h f)
+        meets_then (MayAsk w) A own h (order_read p job.key numbers) (λ order. lifted (of_plan job.folder) (places_changed w.run mail opened (moves_of order numbers))) (Ordered numbers) Ready (order_meets numbers good own h f)
         (λ later j order g.
-        meets_lifted (MayAsk w) A later j (of_plan job.folder) (moved_if w.run mail opened (moves_of order numbers)) Ready
-        (subst (λ l. M later j (moved_if w.run mail opened (moves_of l numbers)) (okay Ready)) (sym g.1.2)
+        meets_lifted (MayAsk w) A later j (of_plan job.folder) (places_changed w.run mail opened (moves_of order numbers)) Ready
+        (subst (λ l. M later j (places_changed w.run mail opened (moves_of l numbers)) (okay Ready)) (sym g.1.2)
         (moved_meets (moves_by job.key g.1.0 numbers) (moving_good job.key g.1.0 numbers g.1.1 good distinct) (takes_good job.key g.1.0 numbers g.1.1 good distinct) (moving_taken job.key g.1.0 numbers g.1.1 good distinct) later j g.0)))
       where
         good : AreMsgNums numbers
@@ -223,30 +177,15 @@ module _ (w : Pledge) (few : w.run < 2 ^ 128) (path : List ℕ) (job : SortJob) 
     opened_okay : (own : List Deed) (h : Hand) → Known own h → M own h (opened_sorted w.run path job opened) (okay (λ later j u. Unit {0}))
     unfolding opened_sorted chosen_sorted
     opened_okay own h f =
-        meets_then (MayAsk w) A own h (Return (chosen_from job listing told) >>= (λ numbers. order_read p job.key numbers >>= (λ order. lifted (of_plan job.folder) (moved_if w.run mail opened (moves_of order numbers))))) (λ moved. made_current w.run path job.folder) Ready (λ later j u. Unit {0})
-        (meets_value (MayAsk w) A own h (chosen_from job listing told) (λ numbers. order_read p job.key numbers >>= (λ order. lifted (of_plan job.folder) (moved_if w.run mail opened (moves_of order numbers)))) Ready (λ numbers is. sorted_meets numbers is own h f))
-        (λ later j u g.
+        meets_then (MayAsk w) A own h (Return (chosen_from job listing told) >>= (λ numbers. order_read p job.key numbers >>= (λ order. lifted (of_plan job.folder) (places_changed w.run mail opened (moves_of order numbers))))) (λ moved. made_current w.run path job.folder) Ready (λ later j u. Unit {0})
+        (meets_value (MayAsk w) A own h (chosen_from job listing told) (λ numbers. order_read p job.key numbers >>= (λ order. lifted (of_plan job.folder) (places_changed w.run mail opened (moves_of order numbers)))) Ready (λ numbers is. sorted_meets numbers is own h f))
+        (λ later j ends g.
         meets_okay (MayAsk w) A later j (made_current w.run path job.folder) (λ last i v. Facts w path job.folder names None_ last) (λ last i v. Unit {0}) (λ last i v k. tt) (current_meets w path job.folder names None_ ok later j g))
-
-  opened_meets : (own : List Deed) (h : Hand) (o : Opened) → Begun own h o → M own h (opened_sorted w.run path job o) Anyhow
-  opened_meets own h o f =
-      let b = f.0 in
-      let is : o ≡ opened_of p job.folder o.listing (told_within o.listing b.text b.context job.folder) o.ends = λ i. record { place = b.place i; folder = b.name i; listing = o.listing; sequences = b.sequences i; ends = o.ends } in
-      subst (λ x. M own h (opened_sorted w.run path job x) Anyhow) (sym is)
-      (meets_more (MayAsk w) A own h (opened_sorted w.run path job (opened_of p job.folder o.listing (told_within o.listing b.text b.context job.folder) o.ends)) (okay (λ later j u. Unit {0})) Anyhow (λ later j r q. tt)
-      (opened_okay b.names o.listing b.runs b.text b.context o.ends own h (b.facts, subst (λ m. KnowsMarks w path job.folder m own h) b.sequences f.1)))
-
-  begun_so : (own : List Deed) (h : Hand) → NoneUnlinked p own → M own h (lifted (of_plan job.folder) (begun w.run p mail job.folder)) (okay Begun)
-  begun_so own h none =
-      meets_lifted (MayAsk w) A own h (of_plan job.folder) (begun w.run p mail job.folder) Begun
-      (meets_okay (MayAsk w) A own h (begun w.run p mail job.folder) (λ later j o. (HasSeenBegun path job.folder later o × FreesOthers w.run path job.folder o.listing later) × KnowsMarks w path job.folder o.sequences later j) Begun (λ later j o g. (g.0.0, g.1))
-      (meets_okay_both (MayAsk w) A AnyAsk own h (begun w.run p mail job.folder) (λ later j o. HasSeenBegun path job.folder later o × FreesOthers w.run path job.folder o.listing later) (λ later j o. KnowsMarks w path job.folder o.sequences later j)
-      (begun_meets w path job.folder own h none) (begun_known w path job.folder own h)))
 
   -- each step of `sortm` minds all marks
   pub sortm_minds : (own : List Deed) (h : Hand) → NoneUnlinked p own → M own h (sortm w.run path job) Anyhow
   unfolding sortm
-  sortm_minds own h none = work_minds.opened_meets w path job.folder A (λ before s f. f) (opened_sorted w.run path job) Begun opened_meets (lifted (of_plan job.folder) (begun w.run p mail job.folder)) own h (begun_so own h none)
+  sortm_minds own h none = work_meets w path job.folder (opened_sorted w.run path job) opened_okay own h none
 
 -- so of a call as it is pledged
 pub sortm_meets : (run : ℕ) → run < 2 ^ 128 → (path : List ℕ) (job : SortJob) → AreChanges (current_change job.folder) → (own : List Deed) (h : Hand) → NoneUnlinked (Folder path job.folder) own

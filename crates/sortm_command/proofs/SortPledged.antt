@@ -1,32 +1,23 @@
 -- `sortm` goes as it pledges.
-use Rattle.std.proofs.Common.{◌≡◌, ◌⊎◌, inl, inr, ◌<◌, ◌^◌, ◌∷◌, [], ℕ, true, List, Result, Ok, Err, refl, sym, ◌∙◌, ap, subst, length}
+use Rattle.std.proofs.Common.{◌≡◌, ◌<◌, ◌^◌, [], ℕ, true, List, Result, Ok, Err, refl, sym, ◌∙◌, ap, subst, length}
 use Rattle.mh_base.specs.Entries.{entry_text, kind_of}
 use Rattle.mh_base.specs.Numbers.{IsMsgNum}
-use Rattle.mh_base.specs.declared.entry.Entry.TheVariants.{Held, Number, Sequences}
+use Rattle.mh_base.specs.declared.entry.Entry.TheVariants.{Number, Sequences}
 use Rattle.mh_base.proofs.EntryKinds.{kind_of-entry_text}
-use Rattle.mh_profile.specs.declared.named_value.NamedValue.{NamedValue}
-use Rattle.mh_sequences.specs.Printing.{private_entries, text_of}
-use Rattle.mh_sequences.specs.Reading.{suffix}
 use Rattle.mh_sequences.specs.Sequences.{Marked}
-use Rattle.mh_sequences.specs.declared.run.Run.{Run}
 use Rattle.folder_files.specs.Careful.{HasLock}
 use Rattle.folder_files.specs.Commands.{Sorting}
-use Rattle.folder_files.specs.Deeds.{Deed, did, on}
-use Rattle.folder_files.specs.Named.{is_committed}
+use Rattle.folder_files.specs.Deeds.{Deed}
 use Rattle.folder_files.specs.declared.place.Place.{Place}
 use Rattle.folder_files.specs.declared.place.Place.TheVariants.{Folder, Mail}
-use Rattle.folder_files.specs.declared.step.Answer.TheVariants as answer
 use Rattle.folder_files.specs.declared.step.Step.{Step}
-use Rattle.folder_files.specs.declared.step.Step.TheVariants as step
 use Rattle.file_plans.specs.Follows.{Follows, State}
 use Rattle.file_plans.specs.Plan.{Hand, after, bind, lifted, ◌>>=◌}
 use Rattle.file_plans.specs.Rules.{IfOkay, Keeps}
 use Rattle.file_plans.specs.Runs.{Deed as Done}
 use Rattle.file_plans.proofs.Acting.{acts}
-use Rattle.file_plans.proofs.Framing.{AnyStep}
 use Rattle.step_plans.specs.CommandFaults.{command_cause}
 use Rattle.step_plans.specs.Commits.{IsBase}
-use Rattle.step_plans.specs.ContextCommit.{context_name}
 use Rattle.step_plans.specs.Pledges.{Pledge}
 use Rattle.step_plans.specs.Promises.{Promises}
 use Rattle.step_plans.specs.Settled.{AreSettled}
@@ -34,21 +25,14 @@ use Rattle.step_plans.specs.declared.command_fault.CommandFault.{CommandFault}
 use Rattle.step_plans.proofs.Facts.{LeavesBase, LeavesLock, LeavesSettled, base_kept, lock_kept, settled_kept}
 use Rattle.step_plans.proofs.Going.{Goes, Outcome, Sound, goes_lifted, goes_more, goes_then, okay, okay_more}
 use Rattle.step_plans.proofs.Lasting.{KeptBy, keeping, lasting}
-use Rattle.step_plans.proofs.Pledged.{IsPledged, Of, after_written}
+use Rattle.step_plans.proofs.Pledged.{Of}
 use Rattle.step_plans.proofs.Promising.{keeps_pledge}
 use Rattle.step_plans.proofs.Ruling.{rules_of}
-use Rattle.step_plans.proofs.Stepping.{goes_end, goes_return}
-use Rattle.sequence_commits.specs.Committing.{changed_sequences}
-use Rattle.sequence_commits.specs.PrivateChanges.{changes_to}
-use Rattle.sequence_commits.specs.Telling.{same_told}
-use Rattle.sequence_commits.proofs.AsksSequences.{asks_sequences}
-use Rattle.sequence_commits.proofs.SequencesPledged.{MayReplace, sequences_name}
-use Rattle.message_places.specs.Arranging.{arranged, aside_name}
+use Rattle.step_plans.proofs.Stepping.{goes_end}
+use Rattle.sequence_commits.proofs.SequencesPledged.{sequences_name}
 use Rattle.message_places.specs.Order.{moves_of}
 use Rattle.message_places.specs.Places.{AreDistinct, AreMsgNums, froms, is_in, slots}
 use Rattle.message_places.specs.declared.moves.Move.{Move}
-use Rattle.message_places.proofs.ArrangedPledged as places
-use Rattle.message_places.proofs.ArrangedPledged.{LetsArrange, PlacesKeep, arranged_goes, lets_places, spared_untaken}
 use Rattle.message_places.proofs.NumberLists.{in_good}
 use Rattle.command_stages.specs.Current.{made_current}
 use Rattle.command_stages.specs.Endings.{of_plan}
@@ -56,28 +40,25 @@ use Rattle.opened_folders.specs.FolderPledge.{told_within}
 use Rattle.opened_folders.specs.Opening.{Opened, begun, opened_of}
 use Rattle.opened_folders.specs.Reads.{HaveSeen}
 use Rattle.opened_folders.proofs.EndedKept.{Still}
-use Rattle.opened_folders.proofs.FolderPledged.{HasBegun, begun_goes, seen_kept}
+use Rattle.opened_folders.proofs.FolderPledged.{HasBegun, seen_kept}
 use Rattle.opened_folders.proofs.WorkPledged.{current_goes, opened_keeps}
 use Rattle.refile_command.specs.RmmPledge.{every_message}
-use Rattle.refile_command.proofs.BeginsAsks.{asks_begun}
 use Rattle.refile_command.proofs.RefileMoved.{HasHeldNone}
 use Rattle.refile_command.proofs.RmmPledged.{listed_runs}
-use Rattle.sortm_command.specs.Marking.{gone_along, withdrawn}
 use Rattle.sortm_command.specs.Reading.{order_read}
-use Rattle.sortm_command.specs.Sort.{chosen_from, chosen_sorted, last_in, marked_moved, moved_if, opened_sorted, sortm}
-use Rattle.sortm_command.specs.SortDone.{AllSettled, HasSortedChosen, IsReplaced, MarksWent}
-use Rattle.sortm_command.specs.SortMoves.{HaveRead, moves_by, read_on}
-use Rattle.sortm_command.specs.SortPledge.{AreMoves, AreToldWithout, HasCommitted, MakesMarks, SortsSo, sortm_pledge}
+use Rattle.sortm_command.specs.Sort.{chosen_from, chosen_sorted, opened_sorted, places_changed, sortm}
+use Rattle.sortm_command.specs.SortDone.{HasSortedChosen}
+use Rattle.sortm_command.specs.SortMoves.{HaveRead, moves_by}
+use Rattle.sortm_command.specs.SortPledge.{AreMoves, MakesMarks, SortsSo, sortm_pledge}
 use Rattle.sortm_command.specs.declared.job.SortJob.{SortJob}
-use Rattle.sortm_command.proofs.ArrangedDone as settling
-use Rattle.sortm_command.proofs.ArrangedDone.{arranged_settles}
-use Rattle.sortm_command.proofs.HeldNone.{Spares, begins_sparing, none_kept, reads_spare, spared_of}
-use Rattle.sortm_command.proofs.Listed.{last_small, sort_distinct, sort_good}
+use Rattle.sortm_command.proofs.HeldNone.{Spares, none_kept, reads_spare}
+use Rattle.sortm_command.proofs.Listed.{sort_distinct, sort_good}
 use Rattle.sortm_command.proofs.OrderMoves.{moving_good, moving_taken, read_many, taken_chosen, takes_distinct, takes_good}
 use Rattle.sortm_command.proofs.ReadGoes.{Ordered, Orders, asks_order, order_goes, read_kept}
-use Rattle.sortm_command.proofs.SafeCommits.{Stands, goes_comes, okay_both, stands_go}
-use Rattle.sortm_command.proofs.SortLets as letting
-use Rattle.sortm_command.proofs.SortLets.{lets, makes_kept, moves_kept, sorted_kept, takes_one}
+use Rattle.message_moves.proofs.MovePledged.{LetsTake}
+use Rattle.sortm_command.specs.MovePledge.{AreToldWithout, MovesMarks}
+use Rattle.sortm_command.proofs.MarkedPledged as stage
+use Rattle.sortm_command.proofs.SortLets.{lets, makes_kept, sorted_kept, takes_one}
 
 module _ (run : ℕ) (few : run < 2 ^ 128) (path : List ℕ) (job : SortJob) where
   abbrev w : Pledge
@@ -92,60 +73,8 @@ module _ (run : ℕ) (few : run < 2 ^ 128) (path : List ℕ) (job : SortJob) whe
   abbrev no_piece : List Deed → List ℕ → Type 0
   no_piece own piece = ⊥
 
-  apart : mail ≡ p → ⊥
-  apart e = cc (e)
-
   number_named : (n : ℕ) → IsMsgNum n → entry_text (Number n) ≡ sequences_name → ⊥
   number_named n ok e = absurd (let same : Number n ≡ Sequences = sym (kind_of-entry_text (Number n) ok) ∙ (ap kind_of e ∙ kind_of-entry_text Sequences tt) in cc (same))
-
-  held_named : (n : ℕ) → IsMsgNum n → aside_name run n ≡ sequences_name → ⊥
-  held_named n ok e = absurd (let same : Held run n ≡ Sequences = sym (kind_of-entry_text (Held run n) (few, ok)) ∙ (ap kind_of e ∙ kind_of-entry_text Sequences tt) in cc (same))
-
-  -- new sequences of the folder are committed, which the command makes by its deeds
-  module _ (listing : List Run) (text context : List ℕ) (old new : Marked) where
-    abbrev told : Marked
-    told = told_within listing text context job.folder
-
-    abbrev Made : List Deed → Type 0
-    Made own = HaveSeen run p mail listing text context own × MakesMarks run path job own listing told new
-
-    made_kept : KeptBy AnyStep Made
-    made_kept own s a any f = (seen_kept run p mail listing text context own s a tt f.0, makes_kept run few path job listing told new own s a tt f.1)
-
-    entries_pledged : (seen : List NamedValue) → IsPledged w mail (changes_to (suffix job.folder) (private_entries (suffix job.folder) new.users) seen) AnyStep Made
-    entries_pledged seen = record {
-      asks = record { make = tt; lock = tt; list = tt; clear = λ temp is. tt; read = tt; create = λ temp bytes. tt; sync_file = λ temp. tt; rename = λ temp. tt; sync = tt; unlock = tt };
-      keeps = made_kept;
-      may = λ later before f. record { listing = listing; read_text = text; context = context; seen = f.0; new = new; made = inr f.1; writes = inr (inl (seen, (refl, refl, refl))) };
-      lets = λ later temp f lock m. (lets run few path job).commits later mail temp context_name refl;
-    }
-
-    made_twice : (temp : List ℕ) (own : List Deed) → Made own → Made (after_written p temp (text_of new) own)
-    made_twice temp own f = made_kept _ (step.SyncFile p temp) answer.Done tt (made_kept own (step.Create p temp (text_of new)) answer.Done tt f)
-
-    folder_commits : is_committed p sequences_name ≡ true
-    folder_commits = rw (kind_of-entry_text Sequences tt) refl
-
-    may_replace : (own : List Deed) (base : List ℕ) → Made own → HasLock p own → IsBase run p sequences_name base own → MayReplace w p base (text_of new) own
-    may_replace own base f lock is = record {
-      committed = folder_commits;
-      lock = lock;
-      base = is;
-      mark = λ temp. record { listing = listing; read_text = text; context = context; seen = (made_twice temp own f).0; new = new; made = inr (made_twice temp own f).1; writes = inl (refl, refl, refl) };
-      step_ = λ temp marked. (lets run few path job).commits (after_written p temp (text_of new) own) p temp sequences_name folder_commits;
-    }
-
-    -- what stands after it
-    abbrev Stood : List Deed → List Deed → Type 0
-    Stood own later = Stands w few p (letting.begins run few path job).serves path apart (letting.begins run few path job).mail job.folder old new Made made_kept entries_pledged own later
-
-    abbrev Commits : List Deed → Outcome Unit
-    Commits own later j u = Made later × Stood own later
-
-    commit_goes : (own : List Deed) (h : Hand) (base : List ℕ) → Made own → HasLock p own → IsBase run p sequences_name base own → Goes w own h (changed_sequences run p mail job.folder old new) (okay (Commits own))
-    commit_goes own h base f lock is =
-        lasting w Made made_kept own h (changed_sequences run p mail job.folder old new) (Of (Stood own)) f
-        (stands_go w few p (letting.begins run few path job).serves path apart (letting.begins run few path job).mail job.folder old new Made made_kept entries_pledged own h base f (may_replace own base f lock is))
 
   -- the work on a folder that was begun
   module _ (begin own : List Deed) (o : Opened) (b : HasBegun w begin path job.folder own o) (none : HasHeldNone run p own) where
@@ -181,6 +110,12 @@ module _ (run : ℕ) (few : run < 2 ^ 128) (path : List ℕ) (job : SortJob) whe
       seen : HaveSeen run p mail o.listing b.text b.context later
       done : HasSortedChosen run path job later
 
+    abbrev opened : Opened
+    opened = opened_of p job.folder o.listing m o.ends
+
+    abbrev Sorts : Outcome (List ℕ)
+    Sorts later j ends = Sorted later
+
     module _ (numbers : List ℕ) (is : chosen_from job o.listing m ≡ Ok numbers) where
       good : AreMsgNums numbers
       good = sort_good job o.listing m numbers is (listed_runs run p mail o.listing b.text b.context own b.seen)
@@ -207,179 +142,74 @@ module _ (run : ℕ) (few : run < 2 ^ 128) (path : List ℕ) (job : SortJob) whe
         abbrev takes : List ℕ
         takes = slots ms
 
-        abbrev freed : Marked
-        freed = withdrawn takes m
-
         are_moves : (later : List Deed) → HaveRead p numbers texts later → AreMoves run path job o.listing m ms later
         are_moves later f = record { numbers = numbers; chosen = is; texts = texts; read = f; moves = refl }
-
-        -- what lasts while they move
-        record Moving (later : List Deed) : Type 0 where
-          seen : HaveSeen run p mail o.listing b.text b.context later
-          read_so : HaveRead p numbers texts later
-          withdrawn_so : AreToldWithout run path job.folder m takes later
-          base : (last : List ℕ) × IsBase run p sequences_name last later
-
-        withdrawn_on : (later : List Deed) (s : Step) (a : _) → LeavesBase p sequences_name s → AreToldWithout run path job.folder m takes later → AreToldWithout run path job.folder m takes (did s a ∷ later)
-        withdrawn_on later s a leaves (inl e) = inl e
-        withdrawn_on later s a leaves (inr c) = inr (record { safe = on c.safe; base = base_kept run p sequences_name (text_of freed) later s a leaves c.base })
-
-        moving_on : KeptBy (LeavesBase p sequences_name) Moving
-        moving_on later s a leaves f = record {
-          seen = seen_kept run p mail o.listing b.text b.context later s a tt f.seen;
-          read_so = read_on f.read_so;
-          withdrawn_so = withdrawn_on later s a leaves f.withdrawn_so;
-          base = (f.base.0, base_kept run p sequences_name f.base.0 later s a leaves f.base.1);
-        }
 
         good_takes : AreMsgNums takes
         good_takes = takes_good job.key texts numbers many good distinct
 
-        good_moving : AreMsgNums (froms ms)
-        good_moving = moving_good job.key texts numbers many good distinct
-
         among : (k : ℕ) → is_in k (froms ms) ≡ true → is_in k takes ≡ true
         among k e = sym (moving_taken job.key texts numbers many good distinct k) ∙ e
 
-        lets_arrange : LetsArrange w p takes ms Moving
-        lets_arrange =
-            lets_places w few p takes ms Moving good_moving (letting.begins run few path job).settles
-            (λ later n e f.
+        takes_so : (later : List Deed) (n : ℕ) → is_in n takes ≡ true → HaveSeen run p mail o.listing b.text b.context later → HaveRead p numbers texts later → AreToldWithout run path job.folder m takes later → LetsTake w p n later
+        takes_so later n e seen f freed =
             takes_one run few path job n later (in_good takes good_takes n e)
-            (record { listing = o.listing; text = b.text; context = b.context; seen = f.seen; numbers = numbers; chosen = is; one = taken_chosen job.key texts numbers many good distinct n e })
-            (record { listing = o.listing; text = b.text; context = b.context; seen = f.seen; ms = ms; moves = are_moves later f.read_so; one = e; freed = f.withdrawn_so }))
+            (record { listing = o.listing; text = b.text; context = b.context; seen = seen; numbers = numbers; chosen = is; one = taken_chosen job.key texts numbers many good distinct n e })
+            (record { listing = o.listing; text = b.text; context = b.context; seen = seen; numbers = takes; taken = (ms, are_moves later f, refl); one = e; freed = freed })
 
-        keep : PlacesKeep run p takes ms (LeavesBase p sequences_name) Moving
-        keep = record { kept = moving_on; take = λ n e same named. held_named n (in_good takes good_takes n e) named; give = λ n k e ok. tt; drop = λ n e. tt; safe = tt }
+        makes_so : (later : List Deed) (new : Marked) → HaveRead p numbers texts later → MovesMarks run p takes ms later m new → MakesMarks run path job later o.listing m new
+        makes_so later new f made = (ms, are_moves later f, made)
 
-        -- the messages move
-        abbrev Moved : List Deed → Outcome (List ℕ)
-        Moved before later j ends = places.HasArranged w few p refl takes ms (LeavesBase p sequences_name) Moving lets_arrange keep before later ends × AllSettled run p ms ends later
+        abbrev Gone : List Deed → List ℕ → List Deed → Type 0
+        Gone before ends later =
+            stage.Gone run few path job.folder (MakesMarks run path job) no_piece (SortsSo run path job) (lets run few path job) (makes_kept run few path job) begin own o b (HaveRead p numbers texts) (read_kept p numbers texts) takes ms good_takes
+            (takes_distinct job.key texts numbers many good distinct) (moving_good job.key texts numbers many good distinct) good_takes among takes_so makes_so before ends later
 
-        moves_go : (before : List Deed) (h : Hand) → HasHeldNone run p before → HasLock p before → Moving before → Goes w before h (arranged run p takes ms (last_in o.listing)) (okay (Moved before))
-        moves_go before h unused lock f =
-            goes_more w before h (arranged run p takes ms (last_in o.listing))
-            (λ later j r. okay (places.Arranged w few p refl takes ms (LeavesBase p sequences_name) Moving lets_arrange keep before) later j r × okay (settling.AllSettle run few p ms) later j r) (okay (Moved before))
-            (okay_both (places.Arranged w few p refl takes ms (LeavesBase p sequences_name) Moving lets_arrange keep before) (settling.AllSettle run few p ms))
-            (goes_comes w before h (arranged run p takes ms (last_in o.listing)) (okay (places.Arranged w few p refl takes ms (LeavesBase p sequences_name) Moving lets_arrange keep before)) (okay (settling.AllSettle run few p ms))
-            (arranged_goes w few p refl takes ms (LeavesBase p sequences_name) Moving lets_arrange keep good_moving good_takes good_takes (takes_distinct job.key texts numbers many good distinct) among (last_in o.listing)
-            (last_small o.listing (listed_runs run p mail o.listing b.text b.context own b.seen)) before h (spared_untaken run p takes before (spared_of run p before unused takes good_takes)) lock f)
-            (arranged_settles run few p takes good_takes ms among (last_in o.listing) before h))
-
-        -- the folder as it was opened
-        abbrev opened : Opened
-        opened = opened_of p job.folder o.listing m o.ends
-
-        -- no sequence has them
-        abbrev Withdrew : List Deed → Outcome Unit
-        Withdrew before later j u = HasHeldNone run p later × (HaveRead p numbers texts later × (Made o.listing b.text b.context m freed later × Stood o.listing b.text b.context m freed before later))
-
-        withdraw_goes : (before : List Deed) (h : Hand) → Going before → HaveRead p numbers texts before → Goes w before h (changed_sequences run p mail job.folder m freed) (okay (Withdrew before))
-        withdraw_goes before h g f =
-            keeping w (Spares run few path job.folder) (HasHeldNone run p) (none_kept run few path job.folder) before h (changed_sequences run p mail job.folder m freed)
-            (λ later j u. HaveRead p numbers texts later × Commits o.listing b.text b.context m freed before later j u)
-            (asks_sequences (Spares run few path job.folder) run p mail (begins_sparing run few path job.folder).text (begins_sparing run few path job.folder).context job.folder m freed) g.unused
-            (lasting w (HaveRead p numbers texts) (read_kept p numbers texts) before h (changed_sequences run p mail job.folder m freed) (Commits o.listing b.text b.context m freed before) f
-            (commit_goes o.listing b.text b.context m freed before h b.base.0 (g.seen, (ms, are_moves before f, inl refl)) g.lock g.base))
-
-        -- each has its marks again
-        replaced_by : (later : List Deed) → AreToldWithout run path job.folder m takes later → IsReplaced job.folder p m freed later
-        replaced_by later (inl e) = inl e
-        replaced_by later (inr c) = inr c.safe
-
-        replaced_kept : (from to : Marked) → KeptBy AnyStep (IsReplaced job.folder p from to)
-        replaced_kept from to later s a any (inl e) = inl e
-        replaced_kept from to later s a any (inr f) = inr (on f)
-
-        abbrev Went : List ℕ → List Deed → Type 0
-        Went ends later = HaveRead p numbers texts later × (AllSettled run p ms ends later × IsReplaced job.folder p m freed later)
-
-        went_kept : (ends : List ℕ) → KeptBy AnyStep (Went ends)
-        went_kept ends later s a any f = (read_on f.0, (settling.settled_kept run few p ms ends later s a tt f.1.0, replaced_kept m freed later s a tt f.1.1))
-
-        marks_went : (l : List Move) (ends : List ℕ) (later : List Deed) → IsReplaced job.folder p m (withdrawn (slots l) m) later → IsReplaced job.folder p (withdrawn (slots l) m) (gone_along l ends m) later → MarksWent job.folder p m l ends later
-        marks_went [] ends later f g = tt
-        marks_went (x ∷ l) ends later f g = (f, g)
-
-        restored : (ends : List ℕ) (before later : List Deed) → Stood o.listing b.text b.context freed (gone_along ms ends m) before later → IsReplaced job.folder p freed (gone_along ms ends m) later
-        restored ends before later s = by s.committed
-          where
-            by : (same_told job.folder freed (gone_along ms ends m) ≡ true) ⊎ HasCommitted run p (text_of (gone_along ms ends m)) later → IsReplaced job.folder p freed (gone_along ms ends m) later
-            by (inl e) = inl e
-            by (inr c) = inr c.safe
-
-        sorted_so : (ends : List ℕ) (later : List Deed) → HaveSeen run p mail o.listing b.text b.context later → Went ends later → IsReplaced job.folder p freed (gone_along ms ends m) later → HasSortedChosen run path job later
-        sorted_so ends later seen f g = record {
-          listing = o.listing;
-          text = b.text;
-          context = b.context;
-          seen = seen;
-          numbers = numbers;
-          chosen = is;
-          texts = texts;
-          read = f.0;
-          ends = ends;
-          moved = f.1.0;
-          marks = marks_went ms ends later f.1.1 g;
-        }
-
-        marked_goes : (before : List Deed) (h : Hand) → Going before → HaveRead p numbers texts before → Goes w before h (marked_moved run mail opened ms) (okay (Of Sorted))
-        unfolding marked_moved
-        marked_goes before h g f =
-            goes_then w before h (changed_sequences run p mail job.folder m freed) (λ free. arranged run p takes ms (last_in o.listing) >>= (λ ends. changed_sequences run p mail job.folder freed (gone_along ms ends m))) (Withdrew before) (Of Sorted)
-            (withdraw_goes before h g f)
-            (λ second j u q.
-            goes_then w second j (arranged run p takes ms (last_in o.listing)) (λ ends. changed_sequences run p mail job.folder freed (gone_along ms ends m)) (Moved second) (Of Sorted)
-            (moves_go second j q.0 q.1.1.1.lock (record { seen = q.1.1.0.0; read_so = q.1.0; withdrawn_so = q.1.1.1.committed; base = q.1.1.1.base }))
-            (λ third k ends a.
-            goes_more w third k (changed_sequences run p mail job.folder freed (gone_along ms ends m)) (okay (λ last i v. Went ends last × Commits o.listing b.text b.context freed (gone_along ms ends m) third last i v)) (okay (Of Sorted))
-            (okay_more (λ last i v. Went ends last × Commits o.listing b.text b.context freed (gone_along ms ends m) third last i v) (Of Sorted) (λ last i v e. record {
-              settled = λ x. e.1.1.settled (a.0.stays.settled (q.1.1.1.settled (g.settled x)));
-              seen = e.1.0.0;
-              done = sorted_so ends last e.1.0.0 e.0 (restored ends third last e.1.1);
-            }))
-            (lasting w (Went ends) (went_kept ends) third k (changed_sequences run p mail job.folder freed (gone_along ms ends m)) (Commits o.listing b.text b.context freed (gone_along ms ends m) third) (a.0.stays.fact.read_so, (a.1, replaced_by third a.0.stays.fact.withdrawn_so))
-            (commit_goes o.listing b.text b.context freed (gone_along ms ends m) third k a.0.stays.fact.base.0 (a.0.stays.fact.seen, (ms, are_moves third a.0.stays.fact.read_so, inr (ends, a.0.moved, refl))) a.0.stays.lock a.0.stays.fact.base.1))))
-
-        -- where none moves nothing is done
-        by_moves : (l : List Move) → ms ≡ l → (before : List Deed) (h : Hand) → Going before → HaveRead p numbers texts before → Goes w before h (moved_if run mail opened l) (okay (Of Sorted))
-        by_moves [] e before h g f = goes_return w before h tt (okay (Of Sorted)) (record {
-          settled = g.settled;
-          seen = g.seen;
+        sorted_so : (before : List Deed) → Going before → (ends : List ℕ) (later : List Deed) → Gone before ends later → Sorted later
+        sorted_so before g ends later f = record {
+          settled = λ x. f.settled (g.settled x);
+          seen = f.seen;
           done = record {
             listing = o.listing;
             text = b.text;
             context = b.context;
-            seen = g.seen;
+            seen = f.seen;
             numbers = numbers;
             chosen = is;
             texts = texts;
-            read = f;
-            ends = [];
-            moved = subst (λ l. AllSettled run p l [] before) (sym e) tt;
-            marks = subst (λ l. MarksWent job.folder p m l [] before) (sym e) tt;
+            read = f.known;
+            ends = ends;
+            moved = f.moved;
+            marks = f.marks;
           };
-        })
-        by_moves (x ∷ l) e before h g f = subst (λ z. Goes w before h (marked_moved run mail opened z) (okay (Of Sorted))) e (marked_goes before h g f)
+        }
+
+        -- they change places
+        moves_go : (before : List Deed) (h : Hand) → Going before → HaveRead p numbers texts before → Goes w before h (places_changed run mail opened ms) (okay Sorts)
+        moves_go before h g f =
+            goes_more w before h (places_changed run mail opened ms) (okay (λ later j ends. Gone before ends later)) (okay Sorts)
+            (okay_more (λ later j ends. Gone before ends later) Sorts (λ later j ends q. sorted_so before g ends later q))
+            (stage.moved_goes run few path job.folder (MakesMarks run path job) no_piece (SortsSo run path job) (lets run few path job) (makes_kept run few path job) begin own o b (HaveRead p numbers texts) (read_kept p numbers texts) takes ms good_takes
+            (takes_distinct job.key texts numbers many good distinct) (moving_good job.key texts numbers many good distinct) good_takes among takes_so makes_so ms refl before h b.base.0 g.unused g.lock g.base g.seen f)
 
       -- the messages that were chosen are read, and change places
-      numbers_go : (h : Hand) → Goes w own h (order_read p job.key numbers >>= (λ order. lifted (of_plan job.folder) (moved_if run mail (opened_of p job.folder o.listing m o.ends) (moves_of order numbers)))) (okay (Of Sorted))
+      numbers_go : (h : Hand) → Goes w own h (order_read p job.key numbers >>= (λ order. lifted (of_plan job.folder) (places_changed run mail (opened_of p job.folder o.listing m o.ends) (moves_of order numbers)))) (okay Sorts)
       numbers_go h =
-          goes_then w own h (order_read p job.key numbers) (λ order. lifted (of_plan job.folder) (moved_if run mail (opened_of p job.folder o.listing m o.ends) (moves_of order numbers))) Read (Of Sorted) (reads_go h)
+          goes_then w own h (order_read p job.key numbers) (λ order. lifted (of_plan job.folder) (places_changed run mail (opened_of p job.folder o.listing m o.ends) (moves_of order numbers))) Read Sorts (reads_go h)
           (λ later j order f.
-          subst (λ l. Goes w later j (lifted (of_plan job.folder) (moved_if run mail (opened_of p job.folder o.listing m o.ends) (moves_of l numbers))) (okay (Of Sorted))) (sym f.1.are)
-          (goes_lifted w later j (of_plan job.folder) (moved_if run mail (opened_of p job.folder o.listing m o.ends) (moves_by job.key f.1.texts numbers)) (Of Sorted)
-          (by_moves f.1.texts later f.1.read (moves_by job.key f.1.texts numbers) refl later j f.0 f.1.read)))
+          subst (λ l. Goes w later j (lifted (of_plan job.folder) (places_changed run mail (opened_of p job.folder o.listing m o.ends) (moves_of l numbers))) (okay Sorts)) (sym f.1.are)
+          (goes_lifted w later j (of_plan job.folder) (places_changed run mail (opened_of p job.folder o.listing m o.ends) (moves_by job.key f.1.texts numbers)) Sorts
+          (moves_go f.1.texts later f.1.read later j f.0 f.1.read)))
 
     by_value : (value : Result (List ℕ) CommandFault) → chosen_from job o.listing m ≡ value → (h : Hand)
-        → Goes w own h (after (λ numbers. order_read p job.key numbers >>= (λ order. lifted (of_plan job.folder) (moved_if run mail (opened_of p job.folder o.listing m o.ends) (moves_of order numbers)))) value) (okay (Of Sorted))
+        → Goes w own h (after (λ numbers. order_read p job.key numbers >>= (λ order. lifted (of_plan job.folder) (places_changed run mail (opened_of p job.folder o.listing m o.ends) (moves_of order numbers)))) value) (okay Sorts)
     by_value (Ok numbers) is h = numbers_go numbers is h
-    by_value (Err e) is h = goes_end w own h e (Of Sorted)
+    by_value (Err e) is h = goes_end w own h e Sorts
 
     same_opened : o ≡ opened_of p job.folder o.listing m o.ends
     same_opened = λ i. opened_of (b.place i) (b.name i) o.listing (b.sequences i) o.ends
 
-    chosen_goes : (h : Hand) → Goes w own h (chosen_sorted run path job (opened_of p job.folder o.listing m o.ends)) (okay (Of Sorted))
+    chosen_goes : (h : Hand) → Goes w own h (chosen_sorted run path job (opened_of p job.folder o.listing m o.ends)) (okay Sorts)
     unfolding Goes chosen_sorted bind ◌>>=◌
     chosen_goes h = by_value (chosen_from job o.listing m) refl h
 
@@ -390,7 +220,7 @@ module _ (run : ℕ) (few : run < 2 ^ 128) (path : List ℕ) (job : SortJob) whe
     pub opened_goes : (h : Hand) → Goes w own h (opened_sorted run path job o) (okay (Of Worked))
     unfolding opened_sorted
     opened_goes h =
-        goes_then w own h (chosen_sorted run path job o) (λ moved. made_current run path job.folder) (Of Sorted) (Of Worked) (subst (λ x. Goes w own h (chosen_sorted run path job x) (okay (Of Sorted))) (sym same_opened) (chosen_goes h))
+        goes_then w own h (chosen_sorted run path job o) (λ moved. made_current run path job.folder) Sorts (Of Worked) (subst (λ x. Goes w own h (chosen_sorted run path job x) (okay Sorts)) (sym same_opened) (chosen_goes h))
         (λ later j u f.
         goes_more w later j (made_current run path job.folder) (okay (λ end i v. HasSortedChosen run path job end × (AreSettled later → AreSettled end))) (okay (Of Worked))
         (okay_more (λ end i v. HasSortedChosen run path job end × (AreSettled later → AreSettled end)) (Of Worked) (λ end i v g. ((λ s. g.1 (f.settled s)), g.0)))
@@ -402,11 +232,7 @@ module _ (run : ℕ) (few : run < 2 ^ 128) (path : List ℕ) (job : SortJob) whe
   Began own later j o = HasBegun w own path job.folder later o × HasHeldNone run p later
 
   pub begun_sparing : (own : List Deed) (h : Hand) → HasHeldNone run p own → Goes w own h (begun run p mail job.folder) (okay (Began own))
-  begun_sparing own h none =
-      goes_more w own h (begun run p mail job.folder) (okay (λ later j o. HasHeldNone run p later × HasBegun w own path job.folder later o)) (okay (Began own))
-      (okay_more (λ later j o. HasHeldNone run p later × HasBegun w own path job.folder later o) (Began own) (λ later j o f. (f.1, f.0)))
-      (keeping w (Spares run few path job.folder) (HasHeldNone run p) (none_kept run few path job.folder) own h (begun run p mail job.folder) (λ later j o. HasBegun w own path job.folder later o) (asks_begun (Spares run few path job.folder) run p mail (begins_sparing run few path job.folder) job.folder) none
-      (begun_goes w few path job.folder (letting.begins run few path job) own h))
+  begun_sparing = stage.begun_sparing run few path job.folder (MakesMarks run path job) no_piece (SortsSo run path job) (lets run few path job) (makes_kept run few path job)
 
   -- `sortm` keeps the rules of its pledge, where its run has used none of its held names before
   pub sortm_keeps : (past : List Done) (h : Hand) → HasHeldNone run p (acts past) → Sound w (acts past) h → Keeps (rules_of w) past h (sortm run path job) (IfOkay (Still (acts past)))

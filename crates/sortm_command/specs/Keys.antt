@@ -17,7 +17,8 @@ abbrev pub date_by : Option (List ℕ) → Option ℤ
 date_by None = None
 date_by (Some value) = clock_of_date (date_in (unfolded value))
 
--- the moment of the date in the message's first field of this name; none where there is no such field, or no date can be read in it
+-- the moment of the date in the message's first field of this name; none where there is no such field, or no date can
+-- be read in it
 unfoldable pub date_key : List ℕ → List ℕ → Option ℤ
 date_key field message = date_by (first_value field (fields_of message))
 

@@ -1,5 +1,10 @@
 pub mod Keys
 pub mod Marking
+pub mod MarksAlong
+pub mod MovePledge
+pub mod MovesAnswers
+pub mod MovesDone
+pub mod Moving
 pub mod Ordered
 pub mod Reading
 pub mod Sort

@@ -27,7 +27,8 @@ message_read p n = do
   reading ← lifted of_stop (read p (entry_text (Number n)) LIMIT_BYTES)
   message_by p n reading
 
--- the messages of these numbers are read, one after another, and of each its key is kept, behind those of the messages before
+-- the messages of these numbers are read, one after another, and of each its key is kept, behind those of the messages
+-- before
 unfoldable pub keys_read : {K : Type 0} → (List ℕ → K) → Place → List K → List ℕ → Commanded (List K)
 keys_read key p keys [] = Return (Ok keys)
 keys_read key p keys (n ∷ ns) = do

@@ -10,4 +10,5 @@ use Rattle.sortm_command.specs.declared.job.SortJob.{SortJob}
 
 -- the call comes to its work on the mailbox that it finds, where nothing else happens; it has nothing to say
 abbrev pub SortsIfUnfaulted : ℕ → List ℕ → SortJob → Hand → Result Unit CommandFault → FilesState → FilesState → Type 0
-SortsIfUnfaulted run path job h result f g = TellsIfUnfaulted run path job.folder h (λ entries held. sort_work run path entries held job) result f g quiet quiet
+SortsIfUnfaulted run path job h result f g =
+    TellsIfUnfaulted run path job.folder h (λ entries held. sort_work run path entries held job) result f g quiet quiet

@@ -12,13 +12,12 @@ use Rattle.step_plans.specs.declared.command_fault.CommandFault.{CommandFault}
 use Rattle.held_messages.specs.HeldPairs.{with_folder_changed}
 use Rattle.message_places.specs.Order.{moves_of}
 use Rattle.message_places.specs.Places.{is_in, slots}
-use Rattle.message_places.specs.declared.moves.Move.{Move}
 use Rattle.command_stages.specs.Texts.{too_large}
 use Rattle.command_stages.specs.Works.{Work, refused_at}
 use Rattle.opened_folders.specs.BegunWork.{Homes, after_commits, begun_work, current_work}
-use Rattle.opened_folders.specs.Kept.{Commits, Kept, all_made, kept_of, sequences_kept, too_long}
+use Rattle.opened_folders.specs.Kept.{Commits, Kept, kept_of}
 use Rattle.refile_command.specs.MailMoved.{message_of}
-use Rattle.sortm_command.specs.Marking.{gone_along, withdrawn}
+use Rattle.sortm_command.specs.MarksAlong.{marks_along}
 use Rattle.sortm_command.specs.Sort.{chosen_from}
 use Rattle.sortm_command.specs.SortMoves.{order_by}
 use Rattle.sortm_command.specs.declared.job.SortJob.{SortJob}
@@ -29,8 +28,8 @@ comes_from [] ss k = k
 comes_from (n ∷ order) [] k = k
 comes_from (n ∷ order) (s ∷ ss) k = if s == k then n else comes_from order ss k
 
--- The folder where the k-th message of the order stands at the k-th slot, and all others stay where they are. Of those that changed their places the
--- run holds none aside.
+-- The folder where the k-th message of the order stands at the k-th slot, and all others stay where they are. Of those
+-- that changed their places the run holds none aside.
 abbrev pub in_order_at : ℕ → List ℕ → List ℕ → FolderValue → FolderValue
 in_order_at run order ss f = record {
   messages = λ k. f.messages (comes_from order ss k);
@@ -48,30 +47,16 @@ abbrev pub first_long : List (List ℕ) → Option ℕ
 first_long [] = None
 first_long (t ∷ ts) = if nat_lt LIMIT_BYTES (length t) then Some (length t) else first_long ts
 
--- how it goes on after commits: not at all where a text was too long
-abbrev pub unless_too_long : Option ℕ → Kept → (Kept → Commits) → Commits
-unless_too_long None k next = next k
-unless_too_long (Some l) k next = too_long k l
-
-abbrev pub then_commits : Commits → (Kept → Commits) → Commits
-then_commits c next = unless_too_long c.long c.kept next
-
 -- the messages stand in order
 abbrev pub with_order : ℕ → Place → List ℕ → List ℕ → Kept → Kept
 with_order run p order ss k = kept_of (with_folder_changed k.mailbox p (in_order_at run order ss)) k.entries
 
--- The messages of the order come to the slots. Their marks go along, and so does the current message: the sequences are without those that move, and
--- have them again at their slots. Where all stand so already nothing is changed.
-abbrev pub marks_along : ℕ → List ℕ → List ℕ → List ℕ → List ℕ → Marked → List Move → Kept → Commits
-marks_along run path folder order ss m [] k = all_made k
-marks_along run path folder order ss m (x ∷ ms) k =
-    then_commits (sequences_kept path folder m (withdrawn (slots (x ∷ ms)) m) k)
-    (λ l. sequences_kept path folder (withdrawn (slots (x ∷ ms)) m) (gone_along (x ∷ ms) (slots (x ∷ ms)) m) (with_order run (Folder path folder) order ss l))
-
+-- the messages of the order come to the slots, and their marks go along; where all stand so already nothing is changed
 abbrev pub mail_sorted : ℕ → List ℕ → List ℕ → List ℕ → List ℕ → Marked → Kept → Commits
-mail_sorted run path folder order ss m k = marks_along run path folder order ss m (moves_of order ss) k
+mail_sorted run path folder order ss m k = marks_along path folder m (slots (moves_of order ss)) (moves_of order ss) (with_order run (Folder path folder) order ss) k
 
--- a chosen message that is too long refuses; else they come to stand at their numbers in the order that is asked for, and the folder becomes the current one
+-- a chosen message that is too long refuses; else they come to stand at their numbers in the order that is asked for,
+-- and the folder becomes the current one
 abbrev pub read_work : ℕ → List ℕ → SortJob → Marked → Kept → List ℕ → List (List ℕ) → Option ℕ → Work CommandFault
 read_work run path job m k numbers texts None = after_commits (mail_sorted run path job.folder (order_by job.key texts numbers) numbers m k) (current_work path job.folder [])
 read_work run path job m k numbers texts (Some l) = refused_at k.mailbox (too_large l)
@@ -81,7 +66,8 @@ abbrev pub texts_work : ℕ → List ℕ → SortJob → Marked → Kept → Lis
 texts_work run path job m k numbers texts = read_work run path job m k numbers texts (first_long texts)
 
 abbrev pub chosen_work : ℕ → List ℕ → SortJob → Marked → Kept → Result (List ℕ) CommandFault → Work CommandFault
-chosen_work run path job m k (Ok numbers) = texts_work run path job m k numbers (texts_in (k.mailbox.folders (Folder path job.folder)) numbers)
+chosen_work run path job m k (Ok numbers) =
+    texts_work run path job m k numbers (texts_in (k.mailbox.folders (Folder path job.folder)) numbers)
 chosen_work run path job m k (Err e) = refused_at k.mailbox e
 
 -- of a folder with these numbers and sequences

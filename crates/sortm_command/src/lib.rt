@@ -10,6 +10,6 @@ mod reading;
 mod sorting;
 
 pub use job::{SortJob, SortKey};
-pub use marks::{kept_marks, number_set, pairs};
-pub use moving::{last, moves, withdraw};
+pub use marks::number_set;
+pub use moving::{move_all, moves};
 pub use sorting::sortm;

@@ -50,7 +50,7 @@ fn set_again(alloc: Global, user: &User) -> Result<Mark, AllocError>
 }
 
 /// The marks that give all sequences back what they have now.
-pub fn kept_marks(alloc: Global, sequences: &Sequences) -> Result<MarkList, AllocError>
+pub(crate) fn kept_marks(alloc: Global, sequences: &Sequences) -> Result<MarkList, AllocError>
     ensures marks { IfOk result (λ marks. map plain_mark marks ≡ map set_again_of sequences.now.users) }
     ensures valid { AreSequences sequences.now.users }
 {
@@ -62,7 +62,7 @@ pub fn kept_marks(alloc: Global, sequences: &Sequences) -> Result<MarkList, Allo
 }
 
 /// The numbers that messages had, each with the one that it has now.
-pub fn pairs(alloc: Global, moves: &[Move], ends: &[MsgNum]) -> Result<PairList, AllocError>
+pub(crate) fn pairs(alloc: Global, moves: &[Move], ends: &[MsgNum]) -> Result<PairList, AllocError>
     ensures { IfOk result (λ pairs. pairs ≡ pairs_of moves.now ends.now) }
 {
     let mut pairs = List::new(alloc);

@@ -9,8 +9,9 @@ ghost use Rattle.sequence_commits.specs.Marking.{marked_by_all};
 ghost use Rattle.sequence_commits.specs.PlainMarks.{plain_mark};
 ghost use Rattle.step_plans.specs.Hands.{mail_place};
 ghost use Rattle.step_plans.specs.PlanFaults.{plan_cause};
-ghost use Rattle.sortm_command.specs.Marking.{withdrawn};
-ghost use Rattle.sortm_command.specs.Sort.{last_in, marked_moved, moved_if};
+ghost use Rattle.sortm_command.specs.Marking.{gone_along, withdrawn};
+ghost use Rattle.sortm_command.specs.Moving.{last_in, marked_moved, moved_if, sequences_after};
+ghost use Rattle.sortm_command.specs.Sort.{places_changed};
 
 use crate::marks::{kept_marks, pairs, withdrawing};
 use folder_files::Files;
@@ -47,7 +48,7 @@ fn moving(alloc: Global, moves: &[Move]) -> Result<List<MsgNum>, AllocError>
 }
 
 /// The last number of a listing, or 0.
-pub fn last(listing: &NumSet) -> u32
+fn last(listing: &NumSet) -> u32
     ensures value { result ≡ last_in listing.now.runs }
     ensures range { result ≤ 999999 }
 {
@@ -58,7 +59,7 @@ pub fn last(listing: &NumSet) -> u32
 }
 
 /// These messages leave all sequences.
-pub fn withdraw<F: Files>(
+fn withdraw<F: Files>(
     alloc: Global,
     hand: &mut Hand,
     files: &mut F,
@@ -83,54 +84,74 @@ fn restore<F: Files>(
     pairs: PairList,
 ) -> Result<(), PlanFault>
     ensures plan { Follows hand.old.run plan_cause (changed_sequences hand.old.run opened.old.place (mail_place hand.old) opened.old.folder opened.old.sequences (marked_by_all (map plain_mark marks ++ Mark.Move pairs ∷ []) opened.old.sequences)) (by_hand hand.old.kept (F.state files.old)) (by_hand hand.new.kept (F.state files.new)) result }
+    ensures left { OnOk result (opened.new ≡ with_sequences (marked_by_all (map plain_mark marks ++ Mark.Move pairs ∷ []) opened.old.sequences) opened.old) }
     ensures same { (hand.new.run ≡ hand.old.run) × (hand.new.mail ≡ hand.old.mail) }
 {
     marks.push(Mark::Move { pairs })?;
     commit_marks(alloc, hand, files, opened, marks.as_slice())
 }
 
-/// The messages of these moves change places: no sequence has them while they move, and then each has again what it had.
+/// The messages of these moves get their numbers: no sequence has them while they move, and then each has again what it had. It answers where each ended.
 fn move_marked<F: Files>(
     alloc: Global,
     hand: &mut Hand,
     files: &mut F,
     opened: &mut Opened,
+    takes: &[MsgNum],
     moves: &[Move],
-) -> Result<(), PlanFault>
-    ensures plan { Follows hand.old.run plan_cause (marked_moved hand.old.run (mail_place hand.old) opened.old moves.now) (by_hand hand.old.kept (F.state files.old)) (by_hand hand.new.kept (F.state files.new)) result }
+) -> Result<List<MsgNum>, PlanFault>
+    ensures plan { Follows hand.old.run plan_cause (marked_moved hand.old.run (mail_place hand.old) opened.old takes.now moves.now) (by_hand hand.old.kept (F.state files.old)) (by_hand hand.new.kept (F.state files.new)) result }
+    ensures left { IfOk result (λ ends. opened.new.sequences ≡ gone_along moves.now ends opened.old.sequences) }
     ensures same { (hand.new.run ≡ hand.old.run) × (hand.new.mail ≡ hand.old.mail) }
 {
-    let numbers = moving(alloc, moves)?;
     let highest = last(opened.listing());
     let marks = kept_marks(alloc, opened.sequences())?;
-    withdraw(alloc, hand, files, opened, numbers.as_slice())?;
+    withdraw(alloc, hand, files, opened, takes)?;
     let ends = arrange(
         alloc,
         hand.run(),
         files,
         opened.place(),
-        numbers.as_slice(),
+        takes,
         moves,
         highest,
     )?;
     let pairs = pairs(alloc, moves, ends.as_slice())?;
-    restore(alloc, hand, files, opened, marks, pairs)
+    restore(alloc, hand, files, opened, marks, pairs)?;
+    Ok(ends)
 }
 
-/// The same, where there are moves.
-pub(crate) fn move_all<F: Files>(
+/// The same, where there are moves. The first numbers are those of the messages that move, in the order in which they are taken.
+pub fn move_all<F: Files>(
+    alloc: Global,
+    hand: &mut Hand,
+    files: &mut F,
+    opened: &mut Opened,
+    takes: &[MsgNum],
+    moves: &[Move],
+) -> Result<List<MsgNum>, PlanFault>
+    ensures plan { Follows hand.old.run plan_cause (moved_if hand.old.run (mail_place hand.old) opened.old takes.now moves.now) (by_hand hand.old.kept (F.state files.old)) (by_hand hand.new.kept (F.state files.new)) result }
+    ensures left { IfOk result (λ ends. opened.new.sequences ≡ sequences_after moves.now ends opened.old.sequences) }
+    ensures same { (hand.new.run ≡ hand.old.run) × (hand.new.mail ≡ hand.old.mail) }
+{
+    if moves.is_empty() {
+        Ok(List::new(alloc))
+    } else {
+        move_marked(alloc, hand, files, opened, takes, moves)
+    }
+}
+
+/// The messages of these moves change places with one another.
+pub(crate) fn change_places<F: Files>(
     alloc: Global,
     hand: &mut Hand,
     files: &mut F,
     opened: &mut Opened,
     moves: &[Move],
-) -> Result<(), PlanFault>
-    ensures plan { Follows hand.old.run plan_cause (moved_if hand.old.run (mail_place hand.old) opened.old moves.now) (by_hand hand.old.kept (F.state files.old)) (by_hand hand.new.kept (F.state files.new)) result }
+) -> Result<List<MsgNum>, PlanFault>
+    ensures plan { Follows hand.old.run plan_cause (places_changed hand.old.run (mail_place hand.old) opened.old moves.now) (by_hand hand.old.kept (F.state files.old)) (by_hand hand.new.kept (F.state files.new)) result }
     ensures same { (hand.new.run ≡ hand.old.run) × (hand.new.mail ≡ hand.old.mail) }
 {
-    if moves.is_empty() {
-        Ok(())
-    } else {
-        move_marked(alloc, hand, files, opened, moves)
-    }
+    let takes = moving(alloc, moves)?;
+    move_all(alloc, hand, files, opened, takes.as_slice(), moves)
 }

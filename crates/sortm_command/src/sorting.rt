@@ -8,11 +8,11 @@ ghost use Rattle.sortm_command.specs.SortAlone.{SortsIfUnfaulted};
 ghost use Rattle.sortm_command.specs.SortPledge.{PromisesSteps};
 
 use crate::SortJob;
-use crate::moving::{move_all, moves};
+use crate::moving::{change_places, moves};
 use crate::reading::read_order;
 use command_stages::{choose, fault_in, folder_place, make_current, numbers};
 use folder_files::Files;
-use mh_base::Duplicate;
+use mh_base::{Duplicate, List, MsgNum};
 use mh_sequences::NumSet;
 use opened_folders::{Opened, end, open};
 use std::alloc::Global;
@@ -31,14 +31,14 @@ fn chosen(alloc: Global, job: &SortJob, opened: &Opened) -> Result<NumSet, Comma
     )
 }
 
-/// The messages that the words choose are read, and change places.
+/// The messages that the words choose are read, and change places; where those ended that moved.
 fn sort_chosen<F: Files>(
     alloc: Global,
     hand: &mut Hand,
     files: &mut F,
     job: &SortJob,
     opened: &mut Opened,
-) -> Result<(), CommandFault>
+) -> Result<List<MsgNum>, CommandFault>
     ensures plan { Follows hand.old.run command_cause (chosen_sorted hand.old.run hand.old.mail job.now opened.old) (by_hand hand.old.kept (F.state files.old)) (by_hand hand.new.kept (F.state files.new)) result }
     ensures run { hand.new.run ≡ hand.old.run }
     ensures mail { hand.new.mail ≡ hand.old.mail }
@@ -55,8 +55,8 @@ fn sort_chosen<F: Files>(
     )?;
     let moves = moves(alloc, order.as_slice(), numbers.as_slice())?;
     let folder = job.folder.duplicate(alloc)?;
-    match move_all(alloc, hand, files, opened, moves.as_slice()) {
-        Ok(()) => Ok(()),
+    match change_places(alloc, hand, files, opened, moves.as_slice()) {
+        Ok(ends) => Ok(ends),
         Err(fault) => Err(fault_in(folder, fault)),
     }
 }

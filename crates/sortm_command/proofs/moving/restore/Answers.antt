@@ -15,3 +15,9 @@ returns-clause-plan g c = rw is at c.commit_marks.ensures.plan
   where
     is : marked_by_all c.as_slice.result.now c.args.opened.now.sequences ≡ marked_by_all (map plain_mark c.args.marks ++ Move c.args.pairs ∷ []) c.args.opened.now.sequences
     is = all_plain c.as_slice.result.now c.args.opened.now.sequences ∙ ap (λ ms. marked_by_all ms c.args.opened.now.sequences) (ap (map plain_mark) (c.as_slice.ensures ∙ c.in_ok-push.ensures.ok) ∙ map_more plain_mark c.args.marks (Move c.args.pairs))
+
+pub returns-clause-left : goal.returns-clause-left
+returns-clause-left g c = rw is at c.commit_marks.ensures.marked
+  where
+    is : marked_by_all c.as_slice.result.now c.args.opened.now.sequences ≡ marked_by_all (map plain_mark c.args.marks ++ Move c.args.pairs ∷ []) c.args.opened.now.sequences
+    is = all_plain c.as_slice.result.now c.args.opened.now.sequences ∙ ap (λ ms. marked_by_all ms c.args.opened.now.sequences) (ap (map plain_mark) (c.as_slice.ensures ∙ c.in_ok-push.ensures.ok) ∙ map_more plain_mark c.args.marks (Move c.args.pairs))

@@ -38,7 +38,6 @@ use Rattle.message_places.proofs.TakenGiven.{AllStand, aside_foreign, aside_in, 
 use Rattle.refile_command.proofs.ViewsAlike.{gives_alike}
 use Rattle.sortm_command.proofs.Cleared.{aside_cleared, cleared, cleared_free, shows_cleared, unheld}
 use Rattle.sortm_command.proofs.HandSame.{arranged_same}
-use Rattle.pack_command.specs.PackOutcome.{moved_at}
 
 -- other names of the folder stay as they are
 linked_foreign : (p : Place) (hs : List HeldPair) (ends : List ℕ) → AreEnds hs (somes ends) → (c : Contents) (x : List ℕ) → is_number (kind_of x) ≡ false → (linked_in c p hs (somes ends)).texts p x ≡ c.texts p x
@@ -86,31 +85,27 @@ changed_twice m p f g = λ i. record { folders = λ q. at (same_place p q) (m.fo
     at true (Some x) = refl
     at false o = refl
 
--- moves of different messages of a folder, to different numbers
-module _ (run : ℕ) (few : run < 2 ^ 128) (path folder : List ℕ) (ms : List Move) (good_froms : AreMsgNums (froms ms)) (froms_distinct : AreDistinct (froms ms)) (good_slots : AreMsgNums (slots ms)) (slots_distinct : AreDistinct (slots ms)) where
+-- moves of different messages of a folder, to different numbers; these numbers are taken, and the folder is so then
+module _ (run : ℕ) (few : run < 2 ^ 128) (path folder : List ℕ) (takes : List ℕ) (good_takes : AreMsgNums takes) (takes_distinct : AreDistinct takes) (ms : List Move) (good_froms : AreMsgNums (froms ms)) (froms_distinct : AreDistinct (froms ms))
+    (good_slots : AreMsgNums (slots ms)) (slots_distinct : AreDistinct (slots ms)) (just : (k : ℕ) → is_in k (froms ms) ≡ is_in k takes) (moves : FolderValue → FolderValue)
+    (alike_moves : (f : FolderValue) → rearranged ms (slots ms) (unheld run takes f) ≡ moves f) where
   abbrev p : Place
   p = Folder path folder
-
-  abbrev takes : List ℕ
-  takes = froms ms
 
   abbrev moved : Contents → Contents
   moved c = arranged_in c p run takes ms (slots ms)
 
-  just : (k : ℕ) → is_in k (froms ms) ≡ is_in k takes
-  just k = refl
-
   module _ (c : Contents) (are : AreEnds (asides run (froms ms)) (somes (slots ms))) where
-    shows_moved : mailbox_in (moved c) ≡ with_folder_changed (mailbox_in c) p (moved_at run ms)
+    shows_moved : mailbox_in (moved c) ≡ with_folder_changed (mailbox_in c) p moves
     shows_moved =
-        ap (λ d. mailbox_in (settled_in d p (asides run (froms ms)) (somes (slots ms)))) (sym (aside_cleared run few path folder takes good_froms froms_distinct c))
-        ∙ (shows_arranged path folder run few takes good_froms froms_distinct ms good_froms just (cleared c p run takes) (cleared_free run few path folder takes good_froms c) (slots ms) are
-        ∙ (ap (λ m. with_folder_changed m p (rearranged ms (slots ms))) (shows_cleared run few path folder takes good_froms c)
-        ∙ (changed_twice (mailbox_in c) p (unheld run takes) (rearranged ms (slots ms)))))
+        ap (λ d. mailbox_in (settled_in d p (asides run (froms ms)) (somes (slots ms)))) (sym (aside_cleared run few path folder takes good_takes takes_distinct c))
+        ∙ (shows_arranged path folder run few takes good_takes takes_distinct ms good_froms just (cleared c p run takes) (cleared_free run few path folder takes good_takes c) (slots ms) are
+        ∙ (ap (λ m. with_folder_changed m p (rearranged ms (slots ms))) (shows_cleared run few path folder takes good_takes c)
+        ∙ (changed_twice (mailbox_in c) p (unheld run takes) (rearranged ms (slots ms)) ∙ (λ i. with_folder_changed (mailbox_in c) p (λ f. alike_moves f i)))))
 
     moved_there : (moved c).there ≡ c.there
     moved_there = dropped_place (linked_in (aside_in c p run takes) p (asides run (froms ms)) (somes (slots ms))) p (asides run (froms ms)) (somes (slots ms))
-        ∙ (linked_place (aside_in c p run takes) p (asides run (froms ms)) (somes (slots ms)) ∙ aside_there p run few takes good_froms c)
+        ∙ (linked_place (aside_in c p run takes) p (asides run (froms ms)) (somes (slots ms)) ∙ aside_there p run few takes good_takes c)
 
     unnamed : (l : List ℕ) → AreMsgNums l → (x : List ℕ) → is_held (kind_of x) ≡ false → names_one run l x ≡ false
     unnamed [] ok x other = refl
@@ -120,7 +115,7 @@ module _ (run : ℕ) (few : run < 2 ^ 128) (path folder : List ℕ) (ms : List M
     moved_temp x t =
         dropped_other p (asides run (froms ms)) (asides_are run few (froms ms) good_froms) (slots ms) are (linked_in (aside_in c p run takes) p (asides run (froms ms)) (somes (slots ms))) x (is_temp_unheld x t)
         ∙ (linked_foreign p (asides run (froms ms)) (slots ms) are (aside_in c p run takes) x (is_temp_unnumbered x t)
-        ∙ aside_foreign p run few takes good_froms c x (is_temp_unnumbered x t) (unnamed takes good_froms x (is_temp_unheld x t)))
+        ∙ aside_foreign p run few takes good_takes c x (is_temp_unnumbered x t) (unnamed takes good_takes x (is_temp_unheld x t)))
 
     pub moved_clear : IsClear c p → IsClear (moved c) p
     moved_clear clear = record { there = ap (λ t. t p) moved_there ∙ clear.there; free = λ x t. moved_temp x t ∙ clear.free x t }
@@ -135,7 +130,7 @@ module _ (run : ℕ) (few : run < 2 ^ 128) (path folder : List ℕ) (ms : List M
     pub contents : Contents
     pub is : z.contents ≡ contents
     pub hand : j ≡ h
-    pub shows : mailbox_in contents ≡ with_folder_changed (mailbox_in c) p (moved_at run ms)
+    pub shows : mailbox_in contents ≡ with_folder_changed (mailbox_in c) p moves
     pub clear : IsClear c p → IsClear contents p
     pub context : contents.texts (Mail path) context_name ≡ c.texts (Mail path) context_name
 
@@ -158,7 +153,7 @@ module _ (run : ℕ) (few : run < 2 ^ 128) (path folder : List ℕ) (ms : List M
     like v = record { contents = c; seen = all_listed; numbers = v.numbers; met = v.met }
 
     abbrev Arranged : View → View → Hand → List ℕ → Result (List ℕ) PlanFault → Type 0
-    Arranged v z j left r = giving.Arranged true p run few takes good_froms froms_distinct ms good_froms froms_distinct good_slots (λ k e. e) v.numbers (like v) c (refl, refl) (λ k ok some. refl) (all_stand c p takes stand) z j left r
+    Arranged v z j left r = giving.Arranged true p run few takes good_takes takes_distinct ms good_froms froms_distinct good_slots (λ k e. sym (just k) ∙ e) v.numbers (like v) c (refl, refl) (λ k ok some. refl) (all_stand c p takes stand) z j left r
 
     so : (v : View) (h : Hand) (z : View) (j : Hand) (left : List ℕ) (r : Result (List ℕ) PlanFault) → (j ≡ h) × Arranged v z j left r → Stands c h z j left r
     so v h z j left (Ok ends) g = by ends (g.1.at_slots refl) g.1.are g.1.contents
@@ -186,6 +181,6 @@ module _ (run : ℕ) (few : run < 2 ^ 128) (path folder : List ℕ) (ms : List M
         gives_alike (Stands c h) (alike h) v (like v) (is.0 refl) refl h text (arranged run p takes ms top)
         (gives_more (by_view true) (like v) h text (arranged run p takes ms top) (λ z j left r. (j ≡ h) × Arranged v z j left r) (Stands c h)
         (arranged_same run p (by_view true) (like v) h text takes ms top (Arranged v)
-        (arranged_gives true p run few takes good_froms froms_distinct ms good_froms froms_distinct good_slots (λ k e. e) v.numbers (like v) c (refl, refl) (λ k ok some. refl) (all_stand c p takes stand)
-        (λ e. (clear.there, slots_free p run few takes good_froms c (slots ms) good_slots free, slots_distinct)) top small h text))
+        (arranged_gives true p run few takes good_takes takes_distinct ms good_froms froms_distinct good_slots (λ k e. sym (just k) ∙ e) v.numbers (like v) c (refl, refl) (λ k ok some. refl) (all_stand c p takes stand)
+        (λ e. (clear.there, slots_free p run few takes good_takes c (slots ms) good_slots free, slots_distinct)) top small h text))
         (so v h))
