@@ -5,7 +5,7 @@ use Rattle.folder_files.specs.declared.event.Event.{Event}
 use Rattle.folder_files.specs.declared.world.World.{World}
 use Rattle.step_plans.specs.Pledges.{Pledge}
 use Rattle.step_plans.specs.Safety.{CommitsItsMarks}
-use Rattle.command_line.specs.CommandPledge.{command_pledge}
+use Rattle.command_pledges.specs.CommandPledge.{command_pledge}
 use Rattle.command_line.specs.declared.caller.Caller.{Caller}
 
 -- what a call of `mh` began with: who called, the words, and the entries of the profile and of the context that it read

@@ -3,7 +3,7 @@ use Rattle.std.proofs.Common.{◌≡◌, ◌≢◌, ◌++◌, ◌∷◌, [], ℕ
 use Rattle.format_compiler.specs.FormatOf.{format_of}
 use Rattle.format_compiler.specs.Grammar.{Format}
 use Rattle.folder_files.specs.Deeds as deeds
-use Rattle.folder_files.specs.Deeds.{HasFailed, Once, did, now, on}
+use Rattle.folder_files.specs.Deeds.{HasFailed, did, now, on}
 use Rattle.folder_files.specs.declared.place.FilePath.{FilePath}
 use Rattle.folder_files.specs.declared.place.Place.{Place}
 use Rattle.folder_files.specs.declared.refusal.Refusal.{Refusal}
@@ -13,16 +13,16 @@ use Rattle.folder_files.specs.declared.step.Answer.TheVariants as answer
 use Rattle.folder_files.specs.declared.step.Step.{Step}
 use Rattle.folder_files.specs.declared.step.Step.TheVariants as step
 use Rattle.file_plans.specs.Asking.{read_file, reading_of}
-use Rattle.file_plans.specs.Plan.{Ask, Hand, Hear, Note, Plan, Recall, Return, Say, Try, after, ask, bind, lifted, ◌>>=◌}
+use Rattle.file_plans.specs.Plan.{Hand, Return, after, ask, bind, lifted, ◌>>=◌}
 use Rattle.file_plans.specs.Rules.{IfOkay, Keeps}
-use Rattle.file_plans.specs.Runs.{Deed, Did, Heard, Said}
+use Rattle.file_plans.specs.Runs.{Deed, Did}
 use Rattle.file_plans.specs.StaysCareful.{only_looks}
 use Rattle.file_plans.specs.declared.answers.Reading.{Reading}
 use Rattle.file_plans.specs.declared.answers.Reading.TheVariants as reading
 use Rattle.file_plans.proofs.Acting.{acts, acts_append}
 use Rattle.file_plans.proofs.Framing.{AnyStep}
 use Rattle.step_plans.specs.Finished.{OnlyLooked}
-use Rattle.step_plans.specs.Pledges.{Marks, MayAsk, Pledge}
+use Rattle.step_plans.specs.Pledges.{MayAsk, Pledge}
 use Rattle.step_plans.specs.Settled.{AreSettled}
 use Rattle.step_plans.specs.declared.command_fault.CommandFault.{CommandFault}
 use Rattle.step_plans.specs.declared.command_fault.CommandFault.TheVariants as fault
@@ -38,7 +38,6 @@ use Rattle.message_lines.specs.declared.standing.Standing.{Standing}
 use Rattle.message_puts.proofs.FirstPuts.{AreOnce, once_asked}
 use Rattle.opened_folders.proofs.BegunSeen.{NoneUnlinked, still_none}
 use Rattle.opened_folders.proofs.Speaking.{silence}
-use Rattle.command_line.specs.CommandPledge.{telling}
 use Rattle.command_line.specs.Looking.{InFile, Known, Telling, WritesAs, look_found, written_by, written_with}
 
 abbrev pub file_step : FilePath → Step
@@ -160,44 +159,3 @@ file_refuses path (reading.Content text) e is = by (format_of text) is
     by (Err at) same = (refusal.BadFormat at, cc (same))
 file_refuses path (reading.Long l) e is = (refusal.TooLarge l LIMIT_FORMAT, cc (is))
 file_refuses path reading.Gone e is = (refusal.NoFile path, cc (is))
-
--- with the same pledge but for what may be said, where more lets it be said
-module _ (w : Pledge) (T : List deeds.Deed → List ℕ → Type 0) where
-  marked_told : (own : List deeds.Deed) (s : Step) → Marks w own s → Marks (telling w T) own s
-  marked_told own (step.List p) m = tt
-  marked_told own (step.Read p n limit) m = tt
-  marked_told own (step.MakeFolder p) m = tt
-  marked_told own (step.Create p n b) m = tt
-  marked_told own (step.SyncFile p n) m = tt
-  marked_told own (step.SyncFolder p) m = tt
-  marked_told own (step.Link p a b) m = tt
-  marked_told own (step.Rename p temp name) m = λ is. let k = m is in record { old = k.old; new = k.new; is_base = k.is_base; created = k.created; made = k.made }
-  marked_told own (step.Unlink p a) m = tt
-  marked_told own (step.Lock p) m = tt
-  marked_told own (step.Unlock p) m = tt
-  marked_told own (step.ReadFile f limit) m = tt
-  marked_told own (step.ReadDrop f from most) m = tt
-  marked_told own (step.CutDrop f length_) m = tt
-
-  may_told : (own : List deeds.Deed) (s : Step) → MayAsk w own s → MayAsk (telling w T) own s
-  may_told own s m = record { is_own = m.is_own; marks = marked_told own s m.marks; steps = m.steps }
-
-  module _ (F : List deeds.Deed → Type 0) (kept : KeptBy AnyStep F) (so : (own : List deeds.Deed) (piece : List ℕ) → F own → w.may_tell own piece → T own piece) where
-    fact_did : (past : List Deed) (s : Step) (a : Answer) → F (acts past) → F (acts (past ++ Did s a ∷ []))
-    fact_did past s a f = subst F (sym (acts_append [] past (Did s a ∷ []))) (kept (acts past) s a tt f)
-
-    fact_said : (past : List Deed) (piece : List ℕ) → F (acts past) → F (acts (past ++ Said piece ∷ []))
-    fact_said past piece f = subst F (sym (acts_append [] past (Said piece ∷ []))) f
-
-    fact_heard : (past : List Deed) (piece : List ℕ) → F (acts past) → F (acts (past ++ Heard piece ∷ []))
-    fact_heard past piece f = subst F (sym (acts_append [] past (Heard piece ∷ []))) f
-
-    pub keeps_telling : {R : Type 0} (past : List Deed) (h : Hand) (p : Plan R) (Q : List Deed → Hand → R → Type 0) → F (acts past) → Keeps (rules_of w) past h p Q → Keeps (rules_of (telling w T)) past h p Q
-    unfolding Keeps
-    keeps_telling past h (Return r) Q t f = f
-    keeps_telling past h (Ask s next) Q t f = (f.0, may_told (acts past) s f.1, f.2, λ a row live. keeps_telling (past ++ Did s a ∷ []) h (next a) Q (fact_did past s a t) (f.3 a row live))
-    keeps_telling past h (Try s next) Q t f = (f.0, may_told (acts past) s f.1, λ a row. keeps_telling (past ++ Did s a ∷ []) h (next a) Q (fact_did past s a t) (f.2 a row))
-    keeps_telling past h (Say piece next) Q t f = (f.0, so (acts past) piece t f.1, f.2, keeps_telling (past ++ Said piece ∷ []) h next Q (fact_said past piece t) f.3)
-    keeps_telling past h (Hear most next) Q t f = (f.0, f.1, λ piece short. keeps_telling (past ++ Heard piece ∷ []) h (next piece) Q (fact_heard past piece t) (f.2 piece short))
-    keeps_telling past h (Recall next) Q t f = keeps_telling past h (next h) Q t f
-    keeps_telling past h (Note j next) Q t f = (f.0, keeps_telling past j next Q t f.1)

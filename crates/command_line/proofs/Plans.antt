@@ -14,6 +14,7 @@ use Rattle.step_plans.specs.CommandFaults.{command_cause}
 use Rattle.step_plans.specs.Hands.{knowing}
 use Rattle.step_plans.specs.declared.command_fault.CommandFault.{CommandFault}
 use Rattle.step_plans.specs.declared.command_fault.CommandFault.TheVariants as fault
+use Rattle.step_plans.proofs.Refusals.{IsRefusal}
 use Rattle.command_words.specs.Ended.{Ending, plain, ended_cause}
 use Rattle.command_words.specs.Results.{IsNamed, IsSaid}
 use Rattle.command_words.specs.declared.ended.Ended.{Ended}
@@ -23,7 +24,6 @@ use Rattle.command_line.specs.LeavesInput.{IsNotOfInput, LeavesInput}
 use Rattle.command_line.specs.Profile.{value_or}
 use Rattle.command_line.specs.declared.name.CommandName.{CommandName}
 use Rattle.command_line.specs.declared.caller.Caller.{Caller}
-use Rattle.command_line.proofs.Refusals.{IsRefusal}
 
 plain_each : (e : CommandFault) → ended_cause (plain e) ≡ command_cause e
 plain_each e = refl

@@ -6,10 +6,10 @@ use Rattle.mh_base.specs.declared.word.WordWhy.TheVariants.{Missing}
 use Rattle.mh_profile.specs.declared.named_value.NamedValue.{NamedValue}
 use Rattle.mh_words.specs.Whole.{Wrong, read_in}
 use Rattle.mh_words.specs.declared.item.Item.{Item}
-use Rattle.folder_files.specs.declared.refusal.Refusal.{Refusal}
 use Rattle.folder_files.specs.declared.refusal.Refusal.TheVariants as refusal
 use Rattle.step_plans.specs.declared.command_fault.CommandFault.{CommandFault}
 use Rattle.step_plans.specs.declared.command_fault.CommandFault.TheVariants as fault
+use Rattle.step_plans.proofs.Refusals.{IsRefusal}
 use Rattle.command_words.specs.Ended.{wrong_at}
 use Rattle.command_words.specs.FolderWords.{folder_named, folders, named_folder, one_folder, some_named}
 use Rattle.command_words.specs.IncWords.{folder_alone, folder_said as inc_words_said, inc_said, items_said as inc_items, with_folder as inc_folder}
@@ -37,9 +37,6 @@ use Rattle.command_line.specs.Looking.{asked_by, ScanAsked, scan_asked, sight_by
 use Rattle.command_line.proofs.FormatRefuses.{format_refuses, IsFormatRefusal}
 use Rattle.command_line.specs.Profile.{folder_of, stored_of}
 use Rattle.command_line.specs.declared.caller.Caller.{Caller}
-
-abbrev pub IsRefusal : CommandFault → Type 0
-IsRefusal e = (r : Refusal) × (e ≡ fault.Refused r)
 
 abbrev Refuses : Result ScanWords Ended → Type 0
 Refuses (Ok w) = Unit {0}

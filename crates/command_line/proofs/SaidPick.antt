@@ -7,6 +7,7 @@ use Rattle.mh_words.specs.Whole.{Wrong, read_in}
 use Rattle.mh_words.specs.declared.item.Item.{Item}
 use Rattle.folder_files.specs.declared.refusal.Refusal.TheVariants as refusal
 use Rattle.step_plans.specs.declared.command_fault.CommandFault.TheVariants as fault
+use Rattle.step_plans.proofs.Refusals.{IsRefusal}
 use Rattle.pick_expr.specs.Whole.{expr_in}
 use Rattle.pick_expr.specs.declared.expr.Expr.{Expr}
 use Rattle.pick_expr.specs.declared.fault.ExprFault.{ExprFault}
@@ -21,7 +22,6 @@ use Rattle.command_words.specs.Tables.{pick_table}
 use Rattle.command_words.specs.declared.ended.Ended.{Ended}
 use Rattle.command_words.specs.declared.pick.PickWords.{PickWords}
 use Rattle.command_words.proofs.SaidFolder.{IsValid}
-use Rattle.command_line.proofs.Refusals.{IsRefusal}
 
 -- a refusal, or the name of a folder
 abbrev IsSound : Result PickWords Ended → Type 0

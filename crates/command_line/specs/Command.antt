@@ -278,8 +278,10 @@ no_command word = wrong_word (record { place = 0; why = NoCommand }) word
 -- by the command that the first word names, and who calls
 abbrev pub word_by : ℕ → Caller → List NamedValue → List ℕ → List (List ℕ) → Option CommandName → Ending Unit
 word_by run caller profile word words None = Return (Err (no_command (Some word)))
-word_by run caller profile word words (Some Inc) = inc_by run profile (job_by caller profile (inc_said profile (map chars words)))
-word_by run caller profile word words (Some Scan) = scan_by run profile (scan_asked caller (scan_said profile (map chars words)))
+word_by run caller profile word words (Some Inc) =
+    inc_by run profile (job_by caller profile (inc_said profile (map chars words)))
+word_by run caller profile word words (Some Scan) =
+    scan_by run profile (scan_asked caller (scan_said profile (map chars words)))
 word_by run caller profile word words (Some Mark) = mark_by run profile (mark_said profile (map chars words))
 word_by run caller profile word words (Some Pick) = pick_by run profile (picked_by caller profile (map chars words))
 word_by run caller profile word words (Some Refile) = refile_by run profile (refile_said profile (map chars words))

@@ -24,8 +24,8 @@ abbrev pub command_of : List (List ℕ) → Option CommandName
 command_of [] = None
 command_of (word ∷ words) = named word
 
--- it begins a folder, by its words at least; or what it tells and what shows its ends is said by its own steps, as of one that lists parts, stores them or makes a
--- message of a draft
+-- it begins a folder, by its words at least; or what it tells and what shows its ends is said by its own steps, as of
+-- one that lists parts, stores them or makes a message of a draft
 abbrev pub begins_folders : Option CommandName → Bool
 begins_folders None = false
 begins_folders (Some Inc) = true
@@ -73,7 +73,8 @@ stores_files (Some Mhlist) = false
 stores_files (Some Mhstore) = true
 stores_files (Some Mhbuild) = true
 
--- what shows how it ended is said with one folder at most that is let go; of `refile`, which lets several go, apart, and of `mhbuild`, which acts on none
+-- what shows how it ended is said with one folder at most that is let go; of `refile`, which lets several go, apart,
+-- and of `mhbuild`, which acts on none
 abbrev pub shows_ends : Option CommandName → Bool
 shows_ends None = false
 shows_ends (Some Inc) = true

@@ -70,7 +70,8 @@ inc_asked_of caller l = record {
 }
 
 -- what is to be done, or the refusal of the format of a word
-abbrev pub job_looked : Caller → List NamedValue → IncWords → List (List ℕ) → List ℕ → Result Telling CommandFault → Result IncAsked CommandFault
+abbrev pub job_looked : Caller → List NamedValue → IncWords → List (List ℕ) → List ℕ → Result Telling CommandFault
+    → Result IncAsked CommandFault
 job_looked caller profile words unseen folder (Ok t) = Ok (record {
   folder = folder;
   drop = drop_of caller.user profile words.file;
@@ -83,12 +84,15 @@ job_looked caller profile words unseen folder (Ok t) = Ok (record {
 job_looked caller profile words unseen folder (Err e) = Err e
 
 -- by the format that the words name
-abbrev pub job_on : Caller → List NamedValue → IncWords → List (List ℕ) → Result (List ℕ) CommandFault → Result IncAsked CommandFault
-job_on caller profile words unseen (Ok folder) = job_looked caller profile words unseen folder (telling_of caller words.look)
+abbrev pub job_on : Caller → List NamedValue → IncWords → List (List ℕ) → Result (List ℕ) CommandFault
+    → Result IncAsked CommandFault
+job_on caller profile words unseen (Ok folder) =
+    job_looked caller profile words unseen folder (telling_of caller words.look)
 job_on caller profile words unseen (Err e) = Err e
 
 -- its folder is the one of the words, or else the profile's, whatever the context says
-abbrev pub job_with : Caller → List NamedValue → IncWords → Result (List (List ℕ)) CommandFault → Result IncAsked CommandFault
+abbrev pub job_with : Caller → List NamedValue → IncWords → Result (List (List ℕ)) CommandFault
+    → Result IncAsked CommandFault
 job_with caller profile words (Ok unseen) = job_on caller profile words unseen (folder_of words.folder [] profile)
 job_with caller profile words (Err e) = Err e
 
@@ -99,8 +103,8 @@ abbrev pub plain_job : Result IncAsked CommandFault → Result IncAsked Ended
 plain_job (Ok job) = Ok job
 plain_job (Err e) = Err (plain e)
 
--- the job that the words and the profile make, or the refusal: of a word before that of a sequence's name in the profile, and that before the
--- profile's folder, and that before the format of a word
+-- the job that the words and the profile make, or the refusal: of a word before that of a sequence's name in the
+-- profile, and that before the profile's folder, and that before the format of a word
 abbrev pub job_by : Caller → List NamedValue → Result IncWords Ended → Result IncAsked Ended
 job_by caller profile (Ok words) = plain_job (inc_job caller profile words)
 job_by caller profile (Err e) = Err e

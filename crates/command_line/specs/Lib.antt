@@ -1,14 +1,7 @@
-pub mod BegunCauses
-pub mod BuildCauses
-pub mod Causes
 pub mod Clock
 pub mod Command
-pub mod CommandMarks
 pub mod CommandNames
-pub mod CommandPledge
 pub mod Incorporating
 pub mod LeavesInput
 pub mod Looking
-pub mod Outcomes
 pub mod Profile
-pub mod WordCauses

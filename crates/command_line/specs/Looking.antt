@@ -64,7 +64,8 @@ telling_in sight (source.Known program) = Known (coded program sight)
 telling_in sight (source.InFile path) = InFile path sight
 
 abbrev pub telling_said : Caller → LookSaid → Telling
-telling_said caller l = telling_in (record { width = l.width; moment = caller.clock.moment; user = caller.user }) l.source
+telling_said caller l =
+    telling_in (record { width = l.width; moment = caller.clock.moment; user = caller.user }) l.source
 
 -- the code found where the format is that words name; or this is the refusal, or there was not enough memory
 abbrev pub IsSource : FormatWords → Result FormatSource CommandFault → Type 0
@@ -93,7 +94,8 @@ look_found (InFile path sight) = do
   Return (Ok (formed f sight))
 
 -- a call followed the plan, to this by what is seen of it, or to this fault
-abbrev pub FollowsAs : {A B : Type 0} → (B → A) → ℕ → (CommandFault → Cause) → Commanded A → State → State → Result B CommandFault → Type 0
+abbrev pub FollowsAs : {A B : Type 0} → (B → A) → ℕ → (CommandFault → Cause) → Commanded A → State → State
+    → Result B CommandFault → Type 0
 FollowsAs view run cause plan x y (Ok b) = Follows run cause plan x y (Ok (view b))
 FollowsAs view run cause plan x y (Err e) = Follows run cause plan x y (Err e)
 

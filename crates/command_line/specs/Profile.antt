@@ -1,8 +1,13 @@
 -- What the profile says of all commands, and the folder that is acted on.
 use Rattle.std.specs.Prelude.{ℕ, List, [], Option, None, Some, unwrap_or, Result, Ok, codes}
 use Rattle.mail_text.specs.ShownBytes.{shown}
+use Rattle.mh_profile.specs.Reading.{entries_in}
 use Rattle.mh_profile.specs.declared.named_value.NamedValue.{NamedValue}
 use Rattle.mh_profile.specs.Changes.{value_of}
+use Rattle.folder_files.specs.declared.step.Answer.{Answer}
+use Rattle.file_plans.specs.Asking.{reading_of}
+use Rattle.file_plans.specs.declared.answers.Reading.{Reading}
+use Rattle.file_plans.specs.declared.answers.Reading.TheVariants as reading
 use Rattle.step_plans.specs.declared.command_fault.CommandFault.{CommandFault}
 use Rattle.command_stages.specs.Current.{current_name}
 use Rattle.command_words.specs.FolderWords.{named_folder}
@@ -35,3 +40,17 @@ stored_of context profile = value_or (value_of current_name context) (inbox_of p
 abbrev pub folder_of : Option (List ℕ) → List NamedValue → List NamedValue → Result (List ℕ) CommandFault
 folder_of (Some name) context profile = Ok name
 folder_of None context profile = named_folder (stored_of context profile)
+
+-- the text that was read; the empty one where there is none
+abbrev pub text_of : Reading → List ℕ
+text_of (reading.Content bytes) = bytes
+text_of (reading.Long l) = []
+text_of reading.Gone = []
+
+-- the entries that the answer to a reading gave
+abbrev pub entries_by : Answer → List NamedValue
+entries_by a = entries_in (text_of (reading_of a))
+
+-- the path of the mail directory, by the answer to the reading of the profile
+abbrev pub path_by : Answer → List ℕ
+path_by a = path_of (entries_by a)

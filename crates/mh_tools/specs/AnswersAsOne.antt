@@ -14,9 +14,10 @@ use Rattle.mh_tools.specs.Status.{IsVerdict}
 use Rattle.mh_tools.specs.TellsWhatItSaw.{outcome_on}
 use Rattle.mh_tools.specs.declared.status.Status.TheVariants.{Locked, Meddled}
 
--- Each of these steps that did not fail was answered as this mailbox answers it to a call that runs alone, after what the steps before it
--- made of it; all of them made it the second one. Where the call makes its folder, one that is missing there is empty once it is made; and where it
--- makes files in the current directory, that is there, and no file of it has a temporary name of the run.
+-- Each of these steps that did not fail was answered as this mailbox answers it to a call that runs alone, after what
+-- the steps before it made of it; all of them made it the second one. Where the call makes its folder, one that is
+-- missing there is empty once it is made; and where it makes files in the current directory, that is there, and no file
+-- of it has a temporary name of the run.
 pub record AreAnsweredBy (c : Call) (before after : Mailbox) (deeds : List Deed) : Type 0 where
   pub contents : Contents
   pub shown : mailbox_in contents ≡ before
@@ -26,9 +27,10 @@ pub record AreAnsweredBy (c : Call) (before after : Mailbox) (deeds : List Deed)
   pub bare : MakesFolder c → IsBare contents
   pub clear : StoresFiles c → HasClearWork c.setting.run contents
 
--- Where one mailbox answers all own steps of the call so: the output gained a prefix of what the call answers on it alone by what it heard. Done and a refusal
--- are the ones that it answers there, with the whole output, the error line, and the mailbox that its own steps made. Neither is another run's
--- lock answered, nor a name that was changed meanwhile.
+-- Where one mailbox answers all own steps of the call so: the output gained a prefix of what the call answers on it
+-- alone by what it heard. Done and a refusal are the ones that it answers there, with the whole output, the error line,
+-- and the mailbox that its own steps made. Neither is another run's lock answered, nor a name that was changed
+-- meanwhile.
 pub record AnswersAsOne (c : Call) : Type 0 where
   pub deeds : List Deed
   pub made : MadeBy c deeds

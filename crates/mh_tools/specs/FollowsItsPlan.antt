@@ -18,8 +18,8 @@ use Rattle.mh_tools.specs.declared.status.Status.{Status}
 use Rattle.mh_tools.specs.declared.status.Status.TheVariants.{Done, NoMemory}
 use Rattle.mh_tools.specs.Callers.{caller_of}
 
--- Where the count of the error output didn't rise, it gained the whole line of the status, which speaks of this word, and else a prefix of it; for want
--- of memory a prefix; nothing where all is done.
+-- Where the count of the error output didn't rise, it gained the whole line of the status, which speaks of this word,
+-- and else a prefix of it; for want of memory a prefix; nothing where all is done.
 abbrev pub TellsStatus : Option (List ℕ) → SinkState → SinkState → Status → Type 0
 TellsStatus word e d Done = d ≡ e
 TellsStatus word e d NoMemory = AddsPart e.told d.told (error_line_of word NoMemory)
@@ -31,7 +31,8 @@ told_status (Ok u) status = status
 told_status (Err sink.Failed) status = status
 told_status (Err sink.Memory) status = NoMemory
 
--- the call followed the plan of its words, which reads no input but that of `mhbuild`; its status and its error line are those of the plan's end, or memory was wanting for the line
+-- the call followed the plan of its words, which reads no input but that of `mhbuild`; its status and its error line
+-- are those of the plan's end, or memory was wanting for the line
 pub record FollowsItsPlan (c : Call) : Type 0 where
   pub outcome : Result Unit Ended
   pub left : Hand

@@ -16,20 +16,21 @@ use Rattle.mhbuild_command.specs.Heard.{Heard}
 use Rattle.step_plans.specs.declared.command_fault.CommandFault.TheVariants as fault
 use Rattle.opened_folders.specs.Endings.{IsShownBy, IsToldBy}
 use Rattle.refile_command.specs.RefileAnswers.{IsShownFirst}
-use Rattle.command_line.specs.BegunCauses.{ShowsFault, ShowsOnFolder, TellsOnFolder}
-use Rattle.command_line.specs.BuildCauses.{ShowsBuildFault, ShowsBuilt, TellsBuilt}
-use Rattle.command_line.specs.Causes.{ShowsRefusal}
+use Rattle.command_ends.specs.BegunCauses.{ShowsFault, ShowsOnFolder, TellsOnFolder}
+use Rattle.command_ends.specs.BuildCauses.{ShowsBuildFault, ShowsBuilt, TellsBuilt}
+use Rattle.command_ends.specs.Causes.{ShowsRefusal}
 use Rattle.command_line.specs.CommandNames.{command_of, shows_ends}
-use Rattle.command_line.specs.WordCauses.{IsRefusedByWords}
+use Rattle.command_ends.specs.WordCauses.{IsRefusedByWords}
 use Rattle.command_line.specs.declared.name.CommandName.TheVariants.{Refile}
 use Rattle.mh_tools.specs.Calls.{Builds, Call, LooksOnly, MadeBy}
 use Rattle.mh_tools.specs.TellsWhatItSaw.{outcome_on}
 use Rattle.mh_tools.specs.declared.status.Status.TheVariants.{Done, Refused, Faulted, Locked, Meddled}
 use Rattle.mh_tools.specs.Callers.{caller_of}
 
--- Of a command that only looks at a folder: a refusal comes only where what shows it was answered, and where no step failed; a fault of the output
--- only where there is a text to write. Locked comes only of a mail directory, after that lock was held by another run 64 times. Meddled comes only where
--- a directory was gone that the run had looked for, made or locked, or a name that it had met, or where its fresh name was taken.
+-- Of a command that only looks at a folder: a refusal comes only where what shows it was answered, and where no step
+-- failed; a fault of the output only where there is a text to write. Locked comes only of a mail directory, after that
+-- lock was held by another run 64 times. Meddled comes only where a directory was gone that the run had looked for,
+-- made or locked, or a name that it had met, or where its fresh name was taken.
 pub record IsShown (c : Call) (deeds : List Deed) : Type 0 where
   pub refused : (r : Refusal) → c.status ≡ Refused r
       → (IsRefusedByWords (caller_of c.setting) c.words (fault.Refused r) deeds ⊎ ShowsRefusal r deeds) × (Made IsFailed deeds → ⊥)
@@ -43,10 +44,10 @@ abbrev pub MayBegin : Call → Type 0
 MayBegin c = shows_ends (command_of c.words) ≡ true
 
 -- Of a command that may begin a folder: Done, a refusal, Locked and Meddled come only where what shows them was
--- answered; at Done this shows the output too. After a refusal and after Locked it may have let the folder go that it had
--- locked, as its last step. But for that step no step failed. However the command ends, the output gained nothing, or a
--- front of the text of what own steps show; and a fault of the output comes only where they show a text that is not empty,
--- as `rmm` never has.
+-- answered; at Done this shows the output too. After a refusal and after Locked it may have let the folder go that it
+-- had locked, as its last step. But for that step no step failed. However the command ends, the output gained nothing,
+-- or a front of the text of what own steps show; and a fault of the output comes only where they show a text that is
+-- not empty, as `rmm` never has.
 pub record IsShownBegun (c : Call) (deeds : List Deed) : Type 0 where
   pub done : c.status ≡ Done
       → (said : List ℕ) × Adds c.before.out.told c.after.out.told said
@@ -79,9 +80,9 @@ pub record IsShownRefiled (c : Call) (deeds : List Deed) : Type 0 where
   pub told : Adds c.before.out.told c.after.out.told []
   pub out : c.status ≢ Faulted Out
 
--- Of `mhbuild`: Done, a refusal and Meddled come only where what shows them was answered, and where no step failed; at Done
--- this shows the message too that was said. No place is locked. However the command ends, the output gained nothing, or a
--- front of the message of a draft that was the input; and a fault of the output comes only of such a one.
+-- Of `mhbuild`: Done, a refusal and Meddled come only where what shows them was answered, and where no step failed; at
+-- Done this shows the message too that was said. No place is locked. However the command ends, the output gained
+-- nothing, or a front of the message of a draft that was the input; and a fault of the output comes only of such a one.
 pub record IsShownBuilt (c : Call) (deeds : List Deed) : Type 0 where
   pub done : c.status ≡ Done
       → (said : List ℕ) × Adds c.before.out.told c.after.out.told said
@@ -97,9 +98,9 @@ pub record IsShownBuilt (c : Call) (deeds : List Deed) : Type 0 where
 
 -- Where each answer comes from, by the answers to the call's own steps. Done comes only where no step failed. A fault
 -- comes only where the count of that which failed rose: of the files where a step failed; of the input only of the
--- command that reads it. Each refusal, Locked and Meddled come only where own steps show them; and so
--- does Done of a command that may begin a folder. A fault of the output comes only where there is a text to write. Want of
--- memory alone is free.
+-- command that reads it. Each refusal, Locked and Meddled come only where own steps show them; and so does Done of a
+-- command that may begin a folder. A fault of the output comes only where there is a text to write. Want of memory
+-- alone is free.
 pub record IsCaused (c : Call) : Type 0 where
   pub deeds : List Deed
   pub made : MadeBy c deeds

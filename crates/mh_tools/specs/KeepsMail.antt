@@ -4,17 +4,19 @@ use Rattle.folder_files.specs.Deeds.{Deed}
 use Rattle.folder_files.specs.declared.step.Answer.{Answer}
 use Rattle.file_plans.specs.Plan.{fresh}
 use Rattle.step_plans.specs.Promises.{Promises}
-use Rattle.command_line.specs.CommandMarks.{KeepsCommandMarks}
+use Rattle.command_pledges.specs.CommandMarks.{KeepsCommandMarks}
 use Rattle.command_line.specs.CommandNames.{command_of}
-use Rattle.command_line.specs.CommandPledge.{HaveBegun, IsDone, command_pledge, entries_by, path_by}
+use Rattle.command_line.specs.Profile.{entries_by, path_by}
+use Rattle.command_pledges.specs.CommandPledge.{HaveBegun, IsDone, command_pledge}
 use Rattle.mh_tools.specs.Calls.{Call, MadeBy, begins, ends}
 use Rattle.mh_tools.specs.declared.status.Status.TheVariants.{Done}
 use Rattle.mh_tools.specs.Callers.{caller_of}
 
--- The call began with the profile, which names the path of a mail directory, and then with the context of that. By the pledge that these and its words make
--- its own steps are careful, under their locks and of its command's kinds; where the others are careful no mail is lost and no number taken; and where
--- they are orderly too, and locks honest, its commits are made from the texts that they replace. At Done its commits were made safe; and a command that
--- only looks at a folder made it the current one, or changed nothing.
+-- The call began with the profile, which names the path of a mail directory, and then with the context of that. By the
+-- pledge that these and its words make its own steps are careful, under their locks and of its command's kinds; where
+-- the others are careful no mail is lost and no number taken; and where they are orderly too, and locks honest, its
+-- commits are made from the texts that they replace. At Done its commits were made safe; and a command that only looks
+-- at a folder made it the current one, or changed nothing.
 pub record KeepsMail (c : Call) : Type 0 where
   pub profile : Answer
   pub context : Answer

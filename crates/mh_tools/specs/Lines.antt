@@ -48,7 +48,8 @@ refusal_text word (refusal.Full s) = codes "folder is full: +" ++ encode_utf8_al
 refusal_text word (refusal.BadDraft n) = codes "bad draft at line " ++ decimal n
 refusal_text word (refusal.NoPart s) = codes "no such part: " ++ encode_utf8_all s
 refusal_text word (refusal.WouldReplace s) = codes "file exists: " ++ s
-refusal_text word (refusal.TooLarge n limit) = (codes "too large: " ++ decimal n) ++ (codes " bytes, limit " ++ decimal limit)
+refusal_text word (refusal.TooLarge n limit) =
+    (codes "too large: " ++ decimal n) ++ (codes " bytes, limit " ++ decimal limit)
 refusal_text word refusal.DropGrown = codes "mail drop has grown"
 refusal_text word (refusal.NoFile path) = codes "no such file: " ++ path.text
 refusal_text word refusal.DropChanged = codes "mail drop has changed"
@@ -70,7 +71,8 @@ status_text word Done = []
 status_text word (Refused r) = refusal_text word r
 status_text word (Faulted w) = which_text w
 status_text word (Locked place) = place_text place ++ codes " is locked"
-status_text word (Meddled place name) = codes "name " ++ name ++ codes " in " ++ place_text place ++ codes " was changed meanwhile"
+status_text word (Meddled place name) =
+    codes "name " ++ name ++ codes " in " ++ place_text place ++ codes " was changed meanwhile"
 status_text word NoMemory = codes "no memory"
 
 -- the line of a status other than Done

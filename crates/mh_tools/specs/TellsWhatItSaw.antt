@@ -23,15 +23,16 @@ abbrev pub SomeAgrees : Option Story → List Deed → Type 0
 SomeAgrees None deeds = Unit {0}
 SomeAgrees (Some story) deeds = IsPossible story → (m : Mailbox) × MailboxAgrees m deeds
 
--- a status that the commit of the context decides, which is the last thing that a command does: another run may have changed the context since it was
--- read
+-- a status that the commit of the context decides, which is the last thing that a command does: another run may have
+-- changed the context since it was read
 abbrev pub IsLate : Status → Type 0
 IsLate s = (s ≡ Done) ⊎ ((l : ℕ) × (s ≡ Refused (TooLarge l LIMIT_BYTES)))
 
--- By each mailbox that agrees with the answers to the call's own steps: the output gained a prefix of what the call answers there alone, and at Done
--- and at a refusal the whole; and then the status is the one that it answers there, or both are those that a commit of the context decides. So what
--- decides a refusal was seen by own steps, and so was all that comes before it in the order of refusals. Where a possible story is told there is such
--- a mailbox. And so it is whatever the input has.
+-- By each mailbox that agrees with the answers to the call's own steps: the output gained a prefix of what the call
+-- answers there alone, and at Done and at a refusal the whole; and then the status is the one that it answers there, or
+-- both are those that a commit of the context decides. So what decides a refusal was seen by own steps, and so was all
+-- that comes before it in the order of refusals. Where a possible story is told there is such a mailbox. And so it is
+-- whatever the input has.
 pub record TellsWhatItSaw (c : Call) : Type 0 where
   pub deeds : List Deed
   pub made : MadeBy c deeds

@@ -1,4 +1,4 @@
-use Rattle.command_line.proofs.Pledging.{pledge_run}
+use Rattle.command_pledges.proofs.Pledging.{pledge_run}
 use Rattle.commit_fold.proofs.Pledged.{fold_of_pledges}
 use Rattle.call_fold.specs.Calls.{pledges_of}
 use Rattle.call_fold.proofs.laws.fold_of_calls.Goals as goal

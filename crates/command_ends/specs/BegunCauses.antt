@@ -1,0 +1,441 @@
+-- What shows how a command ended whose words name one that begins a folder: its run's own deeds in the call, the newest
+-- first.
+use Rattle.std.specs.Prelude.{◌≡◌, ◌⊎◌, ◌++◌, ℕ, Bool, true, false, List, [], ◌∷◌, map, Option, None, Some, Result, Ok, Err}
+use Rattle.std.specs.Str.{chars}
+use Rattle.mh_profile.specs.declared.named_value.NamedValue.{NamedValue}
+use Rattle.folder_files.specs.Deeds.{Deed, did}
+use Rattle.folder_files.specs.declared.place.Place.TheVariants.{Home, Mail}
+use Rattle.folder_files.specs.declared.refusal.Refusal.TheVariants as refusal
+use Rattle.folder_files.specs.declared.step.Answer.{Answer}
+use Rattle.folder_files.specs.declared.step.Answer.TheVariants.{Long}
+use Rattle.folder_files.specs.declared.step.Step.TheVariants.{Read}
+use Rattle.step_plans.specs.ContextCommit.{LIMIT_BYTES, context_name}
+use Rattle.step_plans.specs.declared.command_fault.CommandFault.{CommandFault}
+use Rattle.step_plans.specs.declared.command_fault.CommandFault.TheVariants as fault
+use Rattle.command_stages.specs.Texts.{too_large}
+use Rattle.opened_folders.specs.Endings.{ShowsEnd}
+use Rattle.mark_command.specs.Mark.{look_task, mark_task}
+use Rattle.mark_command.specs.declared.job.MarkAct.{MarkAct}
+use Rattle.mark_command.specs.declared.job.MarkJob.{MarkJob}
+use Rattle.pick_command.specs.PickAnswers.{HasFound, HasFoundListed, ShowsListing as ShowsPickListing, ShowsPicking, TellsNone, TellsSome}
+use Rattle.pick_command.specs.declared.job.PickJob.{PickJob}
+use Rattle.pick_command.specs.declared.job.PickMarks.{PickMarks}
+use Rattle.anno_command.specs.AnnoAnswers.{ShowsAnno}
+use Rattle.anno_command.specs.AnnoDone.{HasNotedChosen}
+use Rattle.anno_command.specs.declared.job.AnnoJob.{AnnoJob}
+use Rattle.sortm_command.specs.SortAnswers.{ShowsSort}
+use Rattle.sortm_command.specs.SortDone.{HasSortedChosen}
+use Rattle.sortm_command.specs.declared.job.SortJob.{SortJob}
+use Rattle.told_folders.specs.Answers.{HasChanged, ShowsListing, TellsFolder, change_answers}
+use Rattle.told_folders.specs.Tasks.{Task}
+use Rattle.folder_command.specs.Folder.{task_with}
+use Rattle.folder_command.specs.declared.job.FolderJob.{FolderJob}
+use Rattle.pack_command.specs.PackAnswers.{ShowsPack}
+use Rattle.pack_command.specs.PackPledge.{TellsPacked}
+use Rattle.pack_command.specs.declared.job.PackJob.{PackJob}
+use Rattle.inc_command.specs.IncAnswers.{IsTextOfNew, ShowsIncorporating}
+use Rattle.mhlist_command.specs.ListAnswers.{IsNoPart, ShowsListing as ShowsPartsListing, TellsFirstRows, TellsRows}
+use Rattle.mhlist_command.specs.declared.job.ListJob.{ListJob}
+use Rattle.mhstore_command.specs.StoreAnswers.{IsNoStoring, ShowsRefused, ShowsStoring, TellsFiles, TellsFirstFiles}
+use Rattle.mhstore_command.specs.declared.job.StoreJob.{StoreJob}
+use Rattle.message_lines.specs.MessageText.{Writing}
+use Rattle.message_lines.specs.declared.standing.Standing.{Standing}
+use Rattle.refile_command.specs.RefileAnswers.{ShowsRefile}
+use Rattle.refile_command.specs.RefileDone.{HasRefiledChosen}
+use Rattle.refile_command.specs.RmmAnswers.{HasRemovedChosen, rmm_answers}
+use Rattle.refile_command.specs.declared.job.RefileJob.{RefileJob}
+use Rattle.refile_command.specs.declared.job.RmmJob.{RmmJob}
+use Rattle.command_words.specs.IncWords.{inc_said}
+use Rattle.command_words.specs.MarkWords.{mark_said}
+use Rattle.command_words.specs.RefileWords.{refile_said}
+use Rattle.command_words.specs.RmmWords.{rmm_said}
+use Rattle.command_words.specs.TellWords.{tell_said}
+use Rattle.command_words.specs.declared.ended.Ended.{Ended}
+use Rattle.command_words.specs.declared.folder.FolderWords.{FolderWords}
+use Rattle.command_words.specs.declared.mark.MarkWords.{MarkWords}
+use Rattle.command_words.specs.declared.pick.PickWords.{PickWords}
+use Rattle.command_words.specs.declared.refile.RefileWords.{RefileWords}
+use Rattle.command_words.specs.declared.rmm.RmmWords.{RmmWords}
+use Rattle.sort_words.specs.SortWords.{sort_said}
+use Rattle.list_words.specs.ListWords.{list_said}
+use Rattle.list_words.specs.declared.words.ListWords.{ListWords}
+use Rattle.store_words.specs.StoreWords.{store_said}
+use Rattle.store_words.specs.declared.words.StoreWords.{StoreWords}
+use Rattle.command_ends.specs.Causes.{IsWrongStored, ShowsCommandFault}
+use Rattle.anno_words.specs.declared.words.AnnoWords.{AnnoWords}
+use Rattle.sort_words.specs.declared.words.SortWords.{SortWords}
+use Rattle.command_line.specs.Command.{anno_job, annotated_by, list_job, mark_job, pack_job, pick_job, picked_by, refile_job, rmm_job, tell_job, sort_job, store_job}
+use Rattle.command_line.specs.CommandNames.{named}
+use Rattle.command_line.specs.Incorporating.{IncAsked, job_by, job_writing}
+use Rattle.command_line.specs.Looking.{WritesAs}
+use Rattle.command_line.specs.Profile.{entries_by, folder_of, path_by, path_of, profile_name}
+use Rattle.command_ends.specs.WordCauses.{IsRefusedByWords}
+use Rattle.command_line.specs.declared.name.CommandName.{CommandName}
+use Rattle.command_line.specs.declared.name.CommandName.TheVariants.{Anno, Folder as FolderCommand, Inc, Mark, Mhbuild, Mhlist, Mhstore, Pick, Refile, Rmm, Scan, Sortm}
+use Rattle.command_line.specs.declared.caller.Caller.{Caller}
+
+-- what shows how it ended before it came to a folder, once the words are read
+pub data ShowsEarly : CommandFault → List Deed → Type 0 where
+  -- what is stored as the current folder is no folder's name
+  wrong_stored : {word : List ℕ} {own : List Deed} → IsWrongStored word own
+      → ShowsEarly (fault.Refused (refusal.BadFolder word)) own
+  -- the profile is too long
+  long_profile : {l : ℕ} → ShowsEarly (too_large l) (did (Read Home profile_name LIMIT_BYTES) (Long l) ∷ [])
+  -- the context is
+  long_context : {l : ℕ} {a : Answer}
+      → ShowsEarly (too_large l)
+      (did (Read (Mail (path_by a)) context_name LIMIT_BYTES) (Long l) ∷ (did (Read Home profile_name LIMIT_BYTES) a ∷ []))
+
+-- of a command that only looks at a folder: it tells of the sequences that it read, with these entries of the context; or it is refused as a
+-- command that looks, its words by what it read
+abbrev pub ShowsToldTask : ℕ → List ℕ → Task → List NamedValue → Result (List ℕ) CommandFault → List Deed → Type 0
+ShowsToldTask run path t context (Ok said) own = TellsFolder path t context said own
+ShowsToldTask run path t context (Err e) own = ShowsCommandFault run e own × ShowsListing path t context e own
+
+-- of one that changes sequences: at its end it had changed them and said this, or this shows its fault
+abbrev pub ShowsChangedTask : ℕ → List ℕ → Task → Result (List ℕ) CommandFault → List Deed → Type 0
+ShowsChangedTask run path t (Ok said) own = HasChanged run path t said own
+ShowsChangedTask run path t (Err e) own = ShowsEnd run path t.folder (change_answers t) e own
+
+-- a `mark` lists sequences, or changes them
+abbrev pub ShowsMarking : ℕ → List ℕ → MarkJob → List NamedValue → Result (List ℕ) CommandFault → List Deed
+    → Option MarkAct → Type 0
+ShowsMarking run path job context r own None = ShowsToldTask run path (look_task job) context r own
+ShowsMarking run path job context r own (Some a) = ShowsChangedTask run path (mark_task job a) r own
+
+-- a `pick` that marks nothing: at its end it had found messages, which this text tells; or it is refused as a command
+-- that looks, or since no message matches, and its words, or that none matches, by what it read
+abbrev pub ShowsFinding : ℕ → List ℕ → PickJob → List NamedValue → Result (List ℕ) CommandFault → List Deed → Type 0
+ShowsFinding run path job context (Ok said) own = TellsSome (HasFoundListed path job context) job said own
+ShowsFinding run path job context (Err e) own =
+    (ShowsCommandFault run e own ⊎ (e ≡ fault.Refused refusal.NoMatch)) × ShowsPickListing path job context e own
+
+-- one that marks them: at its end it had found messages on the folder that it began, which this text tells; or this
+-- shows its fault
+abbrev pub ShowsMarkingFound : ℕ → List ℕ → PickJob → PickMarks → Result (List ℕ) CommandFault → List Deed → Type 0
+ShowsMarkingFound run path job p (Ok said) own = TellsSome (HasFound run path job) job said own
+ShowsMarkingFound run path job p (Err e) own = ShowsPicking run path job p e own
+
+abbrev pub ShowsPickJob : ℕ → List ℕ → PickJob → List NamedValue → Result (List ℕ) CommandFault → List Deed
+    → Option PickMarks → Type 0
+ShowsPickJob run path job context r own None = ShowsFinding run path job context r own
+ShowsPickJob run path job context r own (Some p) = ShowsMarkingFound run path job p r own
+
+-- a `folder` without words tells of a folder; one with words makes the least message that they choose the current one
+abbrev pub ShowsTelling : ℕ → List ℕ → FolderJob → List NamedValue → Result (List ℕ) CommandFault → List Deed
+    → List (List ℕ) → Type 0
+ShowsTelling run path job context r own [] = ShowsToldTask run path (task_with [] job) context r own
+ShowsTelling run path job context r own (word ∷ words) = ShowsChangedTask run path (task_with (word ∷ words) job) r own
+
+-- `folder -pack`: at its end its messages had got other numbers, and it said the line of the folder as it was then; or
+-- this shows its fault
+abbrev pub ShowsPacking : ℕ → List ℕ → PackJob → Result (List ℕ) CommandFault → List Deed → Type 0
+ShowsPacking run path job (Ok said) own = TellsPacked run path job own said
+ShowsPacking run path job (Err e) own = ShowsPack run path job e own
+
+-- by whether messages are numbered anew
+abbrev pub ShowsTask : ℕ → List NamedValue → List NamedValue → List ℕ → FolderWords → Result (List ℕ) CommandFault
+    → List Deed → Bool → Type 0
+ShowsTask run profile context folder words r own true = ShowsPacking run (path_of profile) (pack_job folder) r own
+ShowsTask run profile context folder words r own false =
+    ShowsTelling run (path_of profile) (tell_job folder words profile) context r own words.specs
+
+-- `rmm` on this folder: at its end it had removed the messages that the job's words choose, and said nothing; or this
+-- shows its fault
+abbrev pub ShowsRemoving : ℕ → List ℕ → RmmJob → Result (List ℕ) CommandFault → List Deed → Type 0
+ShowsRemoving run path job (Ok said) own = HasRemovedChosen run path job own × (said ≡ [])
+ShowsRemoving run path job (Err e) own = ShowsEnd run path job.folder (rmm_answers job) e own
+
+-- `anno` on this folder: at its end it had put each message that the job's words choose anew, with the job's lines in
+-- front, and said nothing; or this shows its fault
+abbrev pub ShowsNoting : ℕ → List ℕ → AnnoJob → Result (List ℕ) CommandFault → List Deed → Type 0
+ShowsNoting run path job (Ok said) own = HasNotedChosen run path job own × (said ≡ [])
+ShowsNoting run path job (Err e) own = ShowsAnno run path job e own
+
+-- `sortm` on this folder: at its end the messages that the job's words choose had changed places so that they stand in
+-- order, and it said nothing; or this shows its fault
+abbrev pub ShowsSorting : ℕ → List ℕ → SortJob → Result (List ℕ) CommandFault → List Deed → Type 0
+ShowsSorting run path job (Ok said) own = HasSortedChosen run path job own × (said ≡ [])
+ShowsSorting run path job (Err e) own = ShowsSort run path job e own
+
+-- `mhlist` on this folder: at its end it told the parts of the messages that the job's words choose, by what it read
+-- and by these entries of the context; or it is refused as a command that looks, or since a message lacks a part, and
+-- its words, or the part that is missing, by what it read
+abbrev pub ShowsListingParts : ℕ → List ℕ → ListJob → List NamedValue → Result (List ℕ) CommandFault → List Deed
+    → Type 0
+ShowsListingParts run path job context (Ok said) own = TellsRows path job context said own
+ShowsListingParts run path job context (Err e) own =
+    (ShowsCommandFault run e own ⊎ IsNoPart e) × ShowsPartsListing path job context e own
+
+-- `mhstore` on this folder: at its end it had stored the files of the messages that the job's words choose, by what it
+-- read and by these entries of the context, and it told their lines; or it is refused as a command that looks, since a
+-- message lacks a part, or since a file is there, and by what it read and stored; or a file could not be stored, which
+-- this shows
+abbrev pub ShowsStoringParts : ℕ → List ℕ → StoreJob → List NamedValue → Result (List ℕ) CommandFault → List Deed
+    → Type 0
+ShowsStoringParts run path job context (Ok said) own = TellsFiles run path job context said own
+ShowsStoringParts run path job context (Err e) own =
+    (ShowsCommandFault run e own ⊎ (IsNoStoring e ⊎ ShowsStoring run e own)) × ShowsRefused run path job context e own
+
+-- `refile` from this folder: at its end it had brought each message that the job's words choose to all folders that
+-- they name, and said nothing; or this shows its fault
+abbrev pub ShowsRefiling : ℕ → List ℕ → RefileJob → Result (List ℕ) CommandFault → List Deed → Type 0
+ShowsRefiling run path job (Ok said) own = HasRefiledChosen run path job own × (said ≡ [])
+ShowsRefiling run path job (Err e) own = ShowsRefile run path job e own
+
+-- the words of `mark`, the context or the profile name this folder, and this shows how it ended there
+abbrev pub ShowsMark : ℕ → List NamedValue → List NamedValue → List ℕ → Result (List ℕ) CommandFault → List Deed
+    → Result MarkWords Ended → Type 0
+ShowsMark run profile context folder r own (Ok words) =
+    (folder_of words.folder context profile ≡ Ok folder)
+    × ShowsMarking run (path_of profile) (mark_job folder words profile) context r own words.act
+ShowsMark run profile context folder r own (Err x) = ⊥
+
+-- the same of `pick`
+abbrev pub ShowsPick : ℕ → List NamedValue → List NamedValue → List ℕ → Result (List ℕ) CommandFault → List Deed
+    → Result PickWords Ended → Type 0
+ShowsPick run profile context folder r own (Ok words) =
+    (folder_of words.folder context profile ≡ Ok folder)
+    × ShowsPickJob run (path_of profile) (pick_job folder words profile) context r own words.marks
+ShowsPick run profile context folder r own (Err x) = ⊥
+
+-- of `folder`
+abbrev pub ShowsTell : ℕ → List NamedValue → List NamedValue → List ℕ → Result (List ℕ) CommandFault → List Deed
+    → Result FolderWords Ended → Type 0
+ShowsTell run profile context folder r own (Ok words) =
+    (folder_of words.folder context profile ≡ Ok folder)
+    × ShowsTask run profile context folder words r own words.pack
+ShowsTell run profile context folder r own (Err x) = ⊥
+
+-- of `rmm`
+abbrev pub ShowsRmm : ℕ → List NamedValue → List NamedValue → List ℕ → Result (List ℕ) CommandFault → List Deed
+    → Result RmmWords Ended → Type 0
+ShowsRmm run profile context folder r own (Ok words) =
+    (folder_of words.folder context profile ≡ Ok folder)
+    × ShowsRemoving run (path_of profile) (rmm_job folder words profile) r own
+ShowsRmm run profile context folder r own (Err x) = ⊥
+
+-- of `anno`
+abbrev pub ShowsAnnoWords : ℕ → List NamedValue → List NamedValue → List ℕ → Result (List ℕ) CommandFault → List Deed
+    → Result AnnoWords Ended → Type 0
+ShowsAnnoWords run profile context folder r own (Ok words) =
+    (folder_of words.folder context profile ≡ Ok folder)
+    × ShowsNoting run (path_of profile) (anno_job folder words profile) r own
+ShowsAnnoWords run profile context folder r own (Err x) = ⊥
+
+-- of `sortm`
+abbrev pub ShowsSortWords : ℕ → List NamedValue → List NamedValue → List ℕ → Result (List ℕ) CommandFault → List Deed
+    → Result SortWords Ended → Type 0
+ShowsSortWords run profile context folder r own (Ok words) =
+    (folder_of words.folder context profile ≡ Ok folder)
+    × ShowsSorting run (path_of profile) (sort_job folder words profile) r own
+ShowsSortWords run profile context folder r own (Err x) = ⊥
+
+-- of `mhlist`
+abbrev pub ShowsListWords : ℕ → List NamedValue → List NamedValue → List ℕ → Result (List ℕ) CommandFault → List Deed
+    → Result ListWords Ended → Type 0
+ShowsListWords run profile context folder r own (Ok words) =
+    (folder_of words.folder context profile ≡ Ok folder)
+    × ShowsListingParts run (path_of profile) (list_job folder words profile) context r own
+ShowsListWords run profile context folder r own (Err x) = ⊥
+
+-- of `mhstore`
+abbrev pub ShowsStoreWords : ℕ → List NamedValue → List NamedValue → List ℕ → Result (List ℕ) CommandFault → List Deed
+    → Result StoreWords Ended → Type 0
+ShowsStoreWords run profile context folder r own (Ok words) =
+    (folder_of words.folder context profile ≡ Ok folder)
+    × ShowsStoringParts run (path_of profile) (store_job folder words profile) context r own
+ShowsStoreWords run profile context folder r own (Err x) = ⊥
+
+-- and of `refile`, with the folder that messages leave or are copied from
+abbrev pub ShowsRefileWords : ℕ → List NamedValue → List NamedValue → List ℕ → Result (List ℕ) CommandFault → List Deed
+    → Result RefileWords Ended → Type 0
+ShowsRefileWords run profile context folder r own (Ok words) =
+    (folder_of words.source context profile ≡ Ok folder)
+    × ShowsRefiling run (path_of profile) (refile_job folder words profile) r own
+ShowsRefileWords run profile context folder r own (Err x) = ⊥
+
+-- what `inc` is to do is to take new mail into this folder; and this shows how it ended there, which writes of messages
+-- what the words name, or what the format makes of them that the run has read from its file
+abbrev pub ShowsIncJob : ℕ → List NamedValue → List ℕ → Result (List ℕ) CommandFault → List Deed → Result IncAsked Ended
+    → Type 0
+ShowsIncJob run profile folder r own (Ok asked) =
+    (folder ≡ asked.folder)
+    × ((spoken : Standing → Writing) × WritesAs asked.telling spoken own × ShowsIncorporating run (path_of profile) (job_writing asked spoken) r own)
+ShowsIncJob run profile folder r own (Err x) = ⊥
+
+-- by the command's name
+abbrev pub ShowsNamed : ℕ → Caller → List NamedValue → List NamedValue → List ℕ → Result (List ℕ) CommandFault
+    → List Deed
+    → List (List ℕ) → Option CommandName → Type 0
+ShowsNamed run caller profile context folder r own words None = ⊥
+ShowsNamed run caller profile context folder r own words (Some Inc) =
+    ShowsIncJob run profile folder r own (job_by caller profile (inc_said profile (map chars words)))
+ShowsNamed run caller profile context folder r own words (Some Scan) = ⊥
+ShowsNamed run caller profile context folder r own words (Some Mark) =
+    ShowsMark run profile context folder r own (mark_said profile (map chars words))
+ShowsNamed run caller profile context folder r own words (Some Pick) =
+    ShowsPick run profile context folder r own (picked_by caller profile (map chars words))
+ShowsNamed run caller profile context folder r own words (Some Refile) =
+    ShowsRefileWords run profile context folder r own (refile_said profile (map chars words))
+ShowsNamed run caller profile context folder r own words (Some Rmm) =
+    ShowsRmm run profile context folder r own (rmm_said profile (map chars words))
+ShowsNamed run caller profile context folder r own words (Some FolderCommand) =
+    ShowsTell run profile context folder r own (tell_said profile (map chars words))
+ShowsNamed run caller profile context folder r own words (Some Anno) =
+    ShowsAnnoWords run profile context folder r own (annotated_by caller profile (map chars words))
+ShowsNamed run caller profile context folder r own words (Some Sortm) =
+    ShowsSortWords run profile context folder r own (sort_said profile (map chars words))
+ShowsNamed run caller profile context folder r own words (Some Mhlist) =
+    ShowsListWords run profile context folder r own (list_said profile (map chars words))
+ShowsNamed run caller profile context folder r own words (Some Mhstore) =
+    ShowsStoreWords run profile context folder r own (store_said profile (map chars words))
+ShowsNamed run caller profile context folder r own words (Some Mhbuild) = ⊥
+
+-- by the command that the first word names
+abbrev pub ShowsWords : ℕ → Caller → List NamedValue → List NamedValue → List ℕ → Result (List ℕ) CommandFault
+    → List Deed
+    → List (List ℕ) → Type 0
+ShowsWords run caller profile context folder r own [] = ⊥
+ShowsWords run caller profile context folder r own (word ∷ words) =
+    ShowsNamed run caller profile context folder r own words (named word)
+
+-- the call read the profile and then the context of the mail directory that it names; by these, the words and the
+-- user's name the command was on this folder, and the later deeds show how it ended there: done, with this output, or
+-- by this fault
+pub record ShowsOnFolder (run : ℕ) (caller : Caller) (words : List (List ℕ)) (r : Result (List ℕ) CommandFault)
+    (own : List Deed) : Type 0 where
+  pub profile : Answer
+  pub context : Answer
+  pub folder : List ℕ
+  pub newer : List Deed
+  pub begun :
+      own
+      ≡ newer
+      ++ did (Read (Mail (path_by profile)) context_name LIMIT_BYTES) context
+      ∷ did (Read Home profile_name LIMIT_BYTES) profile ∷ []
+  pub shows : ShowsWords run caller (entries_by profile) (entries_by context) folder r own words
+
+-- what shows each fault of a command that may begin a folder: its words are refused, or it ended early, or on its
+-- folder
+abbrev pub ShowsFault : ℕ → Caller → List (List ℕ) → CommandFault → List Deed → Type 0
+ShowsFault run caller words e own =
+    IsRefusedByWords caller words e own ⊎ (ShowsEarly e own ⊎ ShowsOnFolder run caller words (Err e) own)
+
+-- the words name `inc`, and this is what it is to do by them
+abbrev pub TakesInBy : Caller → List NamedValue → List (List ℕ) → IncAsked → Type 0
+TakesInBy caller profile [] asked = ⊥
+TakesInBy caller profile (word ∷ words) asked =
+    (named word ≡ Some Inc) × (job_by caller profile (inc_said profile (map chars words)) ≡ Ok asked)
+
+-- `inc` tells while it goes on: the call read the profile and the context, and this is a text of the heading and of
+-- lines of messages that it has stored, as the words say or the file that they name
+pub record TellsNewMail (run : ℕ) (caller : Caller) (words : List (List ℕ)) (text : List ℕ) (own : List Deed) : Type 0 where
+  pub profile : Answer
+  pub context : Answer
+  pub newer : List Deed
+  pub begun :
+      own
+      ≡ newer
+      ++ did (Read (Mail (path_by profile)) context_name LIMIT_BYTES) context
+      ∷ did (Read Home profile_name LIMIT_BYTES) profile ∷ []
+  pub asked : IncAsked
+  pub by_words : TakesInBy caller (entries_by profile) words asked
+  pub spoken : Standing → Writing
+  pub writes : WritesAs asked.telling spoken own
+  pub told : IsTextOfNew run (path_by profile) (job_writing asked spoken) own text
+
+-- of a `pick`, by what it marks: no message was found, and this text says so
+abbrev pub TellsNoneBy : ℕ → List ℕ → PickJob → List NamedValue → List ℕ → List Deed → Option PickMarks → Type 0
+TellsNoneBy run path job context text own None = TellsNone (HasFoundListed path job context) job text own
+TellsNoneBy run path job context text own (Some p) = TellsNone (HasFound run path job) job text own
+
+-- the words of `pick`, the context or the profile name a folder, and this is its job there
+abbrev pub IsPickOn : List NamedValue → List NamedValue → PickJob → Result PickWords Ended → Type 0
+IsPickOn profile context job (Ok words) =
+    (folder : List ℕ) × (folder_of words.folder context profile ≡ Ok folder) × (job ≡ pick_job folder words profile)
+IsPickOn profile context job (Err x) = ⊥
+
+-- the words name `pick`, and this is its job by them
+abbrev pub PicksBy : Caller → List NamedValue → List NamedValue → List (List ℕ) → PickJob → Type 0
+PicksBy caller profile context [] job = ⊥
+PicksBy caller profile context (word ∷ words) job =
+    (named word ≡ Some Pick) × IsPickOn profile context job (picked_by caller profile (map chars words))
+
+-- `pick` says that no message matches before it is refused: the call read the profile and the context, and this text
+-- says so
+pub record TellsNoMatch (run : ℕ) (caller : Caller) (words : List (List ℕ)) (text : List ℕ) (own : List Deed) : Type 0 where
+  pub profile : Answer
+  pub context : Answer
+  pub newer : List Deed
+  pub begun :
+      own
+      ≡ newer
+      ++ did (Read (Mail (path_by profile)) context_name LIMIT_BYTES) context
+      ∷ did (Read Home profile_name LIMIT_BYTES) profile ∷ []
+  pub job : PickJob
+  pub by_words : PicksBy caller (entries_by profile) (entries_by context) words job
+  pub told : TellsNoneBy run (path_by profile) job (entries_by context) text own job.marks
+
+-- the words of `mhlist`, the context or the profile name a folder, and this is its job there
+abbrev pub IsListOn : List NamedValue → List NamedValue → ListJob → Result ListWords Ended → Type 0
+IsListOn profile context job (Ok words) =
+    (folder : List ℕ) × (folder_of words.folder context profile ≡ Ok folder) × (job ≡ list_job folder words profile)
+IsListOn profile context job (Err x) = ⊥
+
+-- the words name `mhlist`, and this is its job by them
+abbrev pub ListsBy : List NamedValue → List NamedValue → List (List ℕ) → ListJob → Type 0
+ListsBy profile context [] job = ⊥
+ListsBy profile context (word ∷ words) job =
+    (named word ≡ Some Mhlist) × IsListOn profile context job (list_said profile (map chars words))
+
+-- `mhlist` tells while it goes on: the call read the profile and the context, and this is the text of the header and of
+-- the rows of the first messages that its words choose, which it has read
+pub record TellsParts (run : ℕ) (caller : Caller) (words : List (List ℕ)) (text : List ℕ) (own : List Deed) : Type 0 where
+  pub profile : Answer
+  pub context : Answer
+  pub newer : List Deed
+  pub begun :
+      own
+      ≡ newer
+      ++ did (Read (Mail (path_by profile)) context_name LIMIT_BYTES) context
+      ∷ did (Read Home profile_name LIMIT_BYTES) profile ∷ []
+  pub job : ListJob
+  pub by_words : ListsBy (entries_by profile) (entries_by context) words job
+  pub told : TellsFirstRows (path_by profile) job (entries_by context) text own
+
+-- the words of `mhstore`, the context or the profile name a folder, and this is its job there
+abbrev pub IsStoreOn : List NamedValue → List NamedValue → StoreJob → Result StoreWords Ended → Type 0
+IsStoreOn profile context job (Ok words) =
+    (folder : List ℕ) × (folder_of words.folder context profile ≡ Ok folder) × (job ≡ store_job folder words profile)
+IsStoreOn profile context job (Err x) = ⊥
+
+-- the words name `mhstore`, and this is its job by them
+abbrev pub StoresBy : List NamedValue → List NamedValue → List (List ℕ) → StoreJob → Type 0
+StoresBy profile context [] job = ⊥
+StoresBy profile context (word ∷ words) job =
+    (named word ≡ Some Mhstore) × IsStoreOn profile context job (store_said profile (map chars words))
+
+-- `mhstore` tells while it goes on: the call read the profile and the context, and this is the text of the lines of the
+-- first files that it is to store, which it has stored
+pub record TellsFilesStored (run : ℕ) (caller : Caller) (words : List (List ℕ)) (text : List ℕ) (own : List Deed) : Type 0 where
+  pub profile : Answer
+  pub context : Answer
+  pub newer : List Deed
+  pub begun :
+      own
+      ≡ newer
+      ++ did (Read (Mail (path_by profile)) context_name LIMIT_BYTES) context
+      ∷ did (Read Home profile_name LIMIT_BYTES) profile ∷ []
+  pub job : StoreJob
+  pub by_words : StoresBy (entries_by profile) (entries_by context) words job
+  pub told : TellsFirstFiles run (path_by profile) job (entries_by context) text own
+
+-- by what these deeds show, this is the text of the command on its folder: that of the sequences that `mark` made or
+-- read, where it lists; what `folder` tells; that of the messages that `pick` found, or that it found none; or what
+-- `inc`, `mhlist` or `mhstore` has told so far
+abbrev pub TellsOnFolder : ℕ → Caller → List (List ℕ) → List ℕ → List Deed → Type 0
+TellsOnFolder run caller words text own =
+    ShowsOnFolder run caller words (Ok text) own
+    ⊎ (TellsNewMail run caller words text own ⊎ (TellsNoMatch run caller words text own
+    ⊎ (TellsParts run caller words text own ⊎ TellsFilesStored run caller words text own)))

@@ -1,0 +1,4 @@
+pub mod BegunCauses
+pub mod BuildCauses
+pub mod Causes
+pub mod WordCauses

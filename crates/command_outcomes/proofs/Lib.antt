@@ -1,0 +1,4 @@
+pub mod Giving
+pub mod HeardCommand
+pub mod LookGives
+pub mod Unlinked

@@ -1,0 +1,288 @@
+-- What a command comes to, by its words and the mailbox. Nothing here knows of steps.
+use Rattle.std.specs.Prelude.{ℕ, Bool, true, false, List, [], ◌∷◌, map, Option, None, Some, Result, Ok, Err}
+use Rattle.std.specs.Str.{chars}
+use Rattle.mh_profile.specs.declared.named_value.NamedValue.{NamedValue}
+use Rattle.mh_profile.specs.Reading.{entries_in}
+use Rattle.folder_files.specs.declared.place.FilePath.{FilePath}
+use Rattle.folder_files.specs.declared.place.Place.TheVariants.{Folder, Mail}
+use Rattle.folder_files.specs.declared.refusal.Refusal.TheVariants.{NoFile}
+use Rattle.file_plans.specs.Mailboxes.{Folder as FolderValue, Mailbox}
+use Rattle.format_compiler.specs.Grammar.{Format}
+use Rattle.step_plans.specs.declared.command_fault.CommandFault.{CommandFault}
+use Rattle.step_plans.specs.declared.command_fault.CommandFault.TheVariants as fault
+use Rattle.command_stages.specs.Works.{Work, refused_at, readable}
+use Rattle.message_lines.specs.Finding.{format_within}
+use Rattle.message_lines.specs.MessageText.{Writing}
+use Rattle.message_lines.specs.declared.standing.Standing.{Standing}
+use Rattle.mh_looks.specs.Outcomes.{scan_work}
+use Rattle.opened_folders.specs.BegunWork.{Homes}
+use Rattle.opened_folders.specs.HomesOf.{homes_at}
+use Rattle.mark_command.specs.Mark.{mark_work}
+use Rattle.pick_command.specs.Outcomes.{pick_work}
+use Rattle.anno_command.specs.AnnoOutcome.{anno_work}
+use Rattle.sortm_command.specs.SortOutcome.{sort_work}
+use Rattle.folder_command.specs.Folder.{folder_work}
+use Rattle.pack_command.specs.PackOutcome.{pack_work}
+use Rattle.mhlist_command.specs.ListOutcome.{mhlist_work}
+use Rattle.mhbuild_command.specs.BuildOutcome.{build_work, text_found}
+use Rattle.mhbuild_command.specs.Heard.{Heard}
+use Rattle.mhstore_command.specs.StoreOutcome.{mhstore_work}
+use Rattle.inc_command.specs.IncOutcome.{inc_work, with_folder_made}
+use Rattle.refile_command.specs.MadeFolder.{or_empty}
+use Rattle.refile_command.specs.RefileOutcome.{refile_work}
+use Rattle.refile_command.specs.RmmOutcome.{rmm_work}
+use Rattle.command_words.specs.Ended.{plain}
+use Rattle.command_words.specs.IncWords.{inc_said}
+use Rattle.command_words.specs.MarkWords.{mark_said}
+use Rattle.command_words.specs.RefileWords.{refile_said}
+use Rattle.command_words.specs.RmmWords.{rmm_said}
+use Rattle.command_words.specs.ScanWords.{scan_said}
+use Rattle.command_words.specs.TellWords.{tell_said}
+use Rattle.command_words.specs.declared.ended.Ended.{Ended}
+use Rattle.command_words.specs.declared.folder.FolderWords.{FolderWords}
+use Rattle.command_words.specs.declared.mark.MarkWords.{MarkWords}
+use Rattle.command_words.specs.declared.pick.PickWords.{PickWords}
+use Rattle.command_words.specs.declared.refile.RefileWords.{RefileWords}
+use Rattle.command_words.specs.declared.rmm.RmmWords.{RmmWords}
+use Rattle.anno_words.specs.declared.words.AnnoWords.{AnnoWords}
+use Rattle.sort_words.specs.declared.words.SortWords.{SortWords}
+use Rattle.sort_words.specs.SortWords.{sort_said}
+use Rattle.list_words.specs.ListWords.{list_said}
+use Rattle.list_words.specs.declared.words.ListWords.{ListWords}
+use Rattle.build_words.specs.BuildWords.{build_said}
+use Rattle.build_words.specs.declared.words.BuildWords.{BuildWords}
+use Rattle.store_words.specs.StoreWords.{store_said}
+use Rattle.store_words.specs.declared.words.StoreWords.{StoreWords}
+use Rattle.command_line.specs.Command.{anno_job, annotated_by, build_job, job_of, list_job, mark_job, no_command, pack_job, pick_job, picked_by, refile_job, rmm_job, tell_job, sort_job, store_job}
+use Rattle.command_line.specs.CommandNames.{named}
+use Rattle.command_line.specs.Incorporating.{IncAsked, job_by, job_writing}
+use Rattle.command_line.specs.Looking.{InFile, Known, ScanAsked, Telling, scan_asked, written_with}
+use Rattle.command_line.specs.Profile.{folder_of, path_of, profile_name}
+use Rattle.command_line.specs.declared.caller.Caller.{Caller}
+use Rattle.command_line.specs.declared.name.CommandName.{CommandName}
+use Rattle.command_line.specs.declared.name.CommandName.TheVariants.{Anno, Folder as FolderCommand, Inc, Mark, Mhbuild, Mhlist, Mhstore, Pick, Refile, Rmm, Scan, Sortm}
+
+abbrev pub plainly : Result Unit CommandFault → Result Unit Ended
+plainly (Ok u) = Ok u
+plainly (Err e) = Err (plain e)
+
+-- a stage's work, as the command's
+abbrev pub of_stage : Work CommandFault → Work Ended
+of_stage w = record { text = w.text; end = plainly w.end; mailbox = w.mailbox }
+
+-- the work on a folder, by the context's entries and the folder
+abbrev pub FolderWork : Type 0
+FolderWork = List NamedValue → List ℕ → Work CommandFault
+
+-- the folder that is acted on
+abbrev pub in_folder : Mailbox → List NamedValue → FolderWork → Result (List ℕ) CommandFault → Work CommandFault
+in_folder m context work (Ok folder) = work context folder
+in_folder m context work (Err e) = refused_at m e
+
+-- the context that is read
+abbrev pub with_context : Mailbox → List NamedValue → Option (List ℕ) → FolderWork → Result (List ℕ) CommandFault
+    → Work CommandFault
+with_context m profile said work (Ok text) =
+    in_folder m (entries_in text) work (folder_of said (entries_in text) profile)
+with_context m profile said work (Err e) = refused_at m e
+
+-- the work on the folder that the words name, or else the context or the profile
+abbrev pub on_folder : Mailbox → List NamedValue → Option (List ℕ) → FolderWork → Work CommandFault
+on_folder m profile said work = with_context m profile said work (readable (m.context (Mail (path_of profile))))
+
+-- the format of a file outside the mailbox, where there is one
+abbrev pub format_outside : FilePath → Option (List ℕ) → Result Format CommandFault
+format_outside path None = Err (fault.Refused (NoFile path))
+format_outside path (Some text) = format_within text
+
+-- what is written of messages, by the file that is there
+abbrev pub written_there : Mailbox → Telling → Result (Standing → Writing) CommandFault
+written_there m (Known spoken) = Ok spoken
+written_there m (InFile path sight) = written_with sight (format_outside path (m.outside path))
+
+-- the work that writes so, or the refusal
+abbrev pub writing : Mailbox → ((Standing → Writing) → Work CommandFault) → Result (Standing → Writing) CommandFault
+    → Work CommandFault
+writing m work (Ok spoken) = work spoken
+writing m work (Err e) = refused_at m e
+
+-- `scan`
+abbrev pub scans : Mailbox → List NamedValue → ScanAsked → FolderWork
+scans m profile words context folder =
+    writing m (λ spoken. scan_work (path_of profile) context (job_of folder words profile spoken) m) (written_there m words.telling)
+
+abbrev pub scan_words_work : Mailbox → List NamedValue → Result ScanAsked Ended → Work Ended
+scan_words_work m profile (Ok words) = of_stage (on_folder m profile words.folder (scans m profile words))
+scan_words_work m profile (Err e) = refused_at m e
+
+-- What a command meets that begins a folder: where each message goes that other runs held aside there, and the
+-- context's entries as they are read under the folder's lock, by those that were read before; and its run's number.
+pub record Meeting : Type 0 where
+  pub homes : Option FolderValue → Homes
+  pub entries : List NamedValue → List NamedValue
+  pub run : ℕ
+
+-- alone each goes where it goes alone, and the context is what it was; this run is the one that held nothing aside
+abbrev pub alone_meeting : ℕ → Meeting
+alone_meeting run = record { homes = homes_at run; entries = λ es. es; run = run }
+
+-- `mark`: what other runs hold aside in the folder goes first
+abbrev pub marks : Meeting → Mailbox → List NamedValue → MarkWords → FolderWork
+marks g m profile words context folder =
+    mark_work (path_of profile) (mark_job folder words profile) (g.entries context) (g.homes (m.folders (Folder (path_of profile) folder))) m
+
+abbrev pub mark_words_work : Meeting → Mailbox → List NamedValue → Result MarkWords Ended → Work Ended
+mark_words_work g m profile (Ok words) = of_stage (on_folder m profile words.folder (marks g m profile words))
+mark_words_work g m profile (Err e) = refused_at m e
+
+-- `pick`: so too where it marks
+abbrev pub picks : Meeting → Mailbox → List NamedValue → PickWords → FolderWork
+picks g m profile words context folder =
+    pick_work (path_of profile) (g.entries context) (g.homes (m.folders (Folder (path_of profile) folder))) (pick_job folder words profile) m
+
+abbrev pub pick_words_work : Meeting → Mailbox → List NamedValue → Result PickWords Ended → Work Ended
+pick_words_work g m profile (Ok words) = of_stage (on_folder m profile words.folder (picks g m profile words))
+pick_words_work g m profile (Err e) = refused_at m e
+
+-- `folder`: so too where words choose messages
+abbrev pub tells : Meeting → Mailbox → List NamedValue → FolderWords → FolderWork
+tells g m profile words context folder =
+    folder_work (path_of profile) (tell_job folder words profile) (g.entries context) (g.homes (m.folders (Folder (path_of profile) folder))) m
+
+-- `folder -pack`: so too
+abbrev pub packs : Meeting → Mailbox → List NamedValue → FolderWork
+packs g m profile context folder =
+    pack_work g.run (path_of profile) (g.entries context) (g.homes (m.folders (Folder (path_of profile) folder))) (pack_job folder) m
+
+-- the one or the other
+abbrev pub tasks : Meeting → Mailbox → List NamedValue → FolderWords → Bool → FolderWork
+tasks g m profile words true = packs g m profile
+tasks g m profile words false = tells g m profile words
+
+abbrev pub tell_words_work : Meeting → Mailbox → List NamedValue → Result FolderWords Ended → Work Ended
+tell_words_work g m profile (Ok words) =
+    of_stage (on_folder m profile words.folder (tasks g m profile words words.pack))
+tell_words_work g m profile (Err e) = refused_at m e
+
+-- `rmm`: so too
+abbrev pub rmms : Meeting → Mailbox → List NamedValue → RmmWords → FolderWork
+rmms g m profile words context folder =
+    rmm_work (path_of profile) (g.entries context) (g.homes (m.folders (Folder (path_of profile) folder))) (rmm_job folder words profile) m
+
+abbrev pub rmm_words_work : Meeting → Mailbox → List NamedValue → Result RmmWords Ended → Work Ended
+rmm_words_work g m profile (Ok words) = of_stage (on_folder m profile words.folder (rmms g m profile words))
+rmm_words_work g m profile (Err e) = refused_at m e
+
+-- `anno`: so too
+abbrev pub annos : Meeting → Mailbox → List NamedValue → AnnoWords → FolderWork
+annos g m profile words context folder =
+    anno_work g.run (path_of profile) (g.entries context) (g.homes (m.folders (Folder (path_of profile) folder))) (anno_job folder words profile) m
+
+abbrev pub anno_words_work : Meeting → Mailbox → List NamedValue → Result AnnoWords Ended → Work Ended
+anno_words_work g m profile (Ok words) = of_stage (on_folder m profile words.folder (annos g m profile words))
+anno_words_work g m profile (Err e) = refused_at m e
+
+-- `sortm`: so too
+abbrev pub sorts : Meeting → Mailbox → List NamedValue → SortWords → FolderWork
+sorts g m profile words context folder =
+    sort_work g.run (path_of profile) (g.entries context) (g.homes (m.folders (Folder (path_of profile) folder))) (sort_job folder words profile) m
+
+abbrev pub sort_words_work : Meeting → Mailbox → List NamedValue → Result SortWords Ended → Work Ended
+sort_words_work g m profile (Ok words) = of_stage (on_folder m profile words.folder (sorts g m profile words))
+sort_words_work g m profile (Err e) = refused_at m e
+
+-- `mhlist`, which looks alone
+abbrev pub lists : Mailbox → List NamedValue → ListWords → FolderWork
+lists m profile words context folder = mhlist_work (path_of profile) context (list_job folder words profile) m
+
+abbrev pub list_words_work : Mailbox → List NamedValue → Result ListWords Ended → Work Ended
+list_words_work m profile (Ok words) = of_stage (on_folder m profile words.folder (lists m profile words))
+list_words_work m profile (Err e) = refused_at m e
+
+-- `mhstore`, which stores files in the current directory besides
+abbrev pub stores : Mailbox → List NamedValue → StoreWords → FolderWork
+stores m profile words context folder = mhstore_work (path_of profile) context (store_job folder words profile) m
+
+abbrev pub store_words_work : Mailbox → List NamedValue → Result StoreWords Ended → Work Ended
+store_words_work m profile (Ok words) = of_stage (on_folder m profile words.folder (stores m profile words))
+store_words_work m profile (Err e) = refused_at m e
+
+-- `mhbuild`, once the context is read
+abbrev pub builds : ℕ → Heard → Mailbox → List NamedValue → BuildWords → Result (List ℕ) CommandFault
+    → Work CommandFault
+builds run heard m profile words (Ok context) =
+    build_work run (path_of profile) (entries_in context) (build_job words (entries_in context) profile) (text_found heard m words.draft) m
+builds run heard m profile words (Err e) = refused_at m e
+
+abbrev pub build_words_work : ℕ → Heard → Mailbox → List NamedValue → Result BuildWords Ended → Work Ended
+build_words_work run heard m profile (Ok words) =
+    of_stage (builds run heard m profile words (readable (m.context (Mail (path_of profile)))))
+build_words_work run heard m profile (Err e) = refused_at m e
+
+-- `refile`: so too in each folder that it begins; one that is missing is empty
+abbrev pub refiles : Meeting → Mailbox → List NamedValue → RefileWords → FolderWork
+refiles g m profile words context folder =
+    refile_work g.run (path_of profile) (g.entries context) (λ name. g.homes (or_empty (m.folders (Folder (path_of profile) name)))) (refile_job folder words profile) m
+
+abbrev pub refile_words_work : Meeting → Mailbox → List NamedValue → Result RefileWords Ended → Work Ended
+refile_words_work g m profile (Ok words) = of_stage (on_folder m profile words.source (refiles g m profile words))
+refile_words_work g m profile (Err e) = refused_at m e
+
+-- `inc`, once the context is read: so too, in the folder of its job once that is there
+abbrev pub incs : Meeting → Mailbox → List NamedValue → IncAsked → Result (List ℕ) CommandFault → Work CommandFault
+incs g m profile asked (Ok text) =
+    writing m
+    (λ spoken. inc_work (path_of profile) (g.entries (entries_in text)) (g.homes ((with_folder_made m (Folder (path_of profile) asked.folder)).folders (Folder (path_of profile) asked.folder))) (job_writing asked spoken) m)
+    (written_there m asked.telling)
+incs g m profile asked (Err e) = refused_at m e
+
+abbrev pub inc_job_work : Meeting → Mailbox → List NamedValue → Result IncAsked Ended → Work Ended
+inc_job_work g m profile (Ok asked) = of_stage (incs g m profile asked (readable (m.context (Mail (path_of profile)))))
+inc_job_work g m profile (Err e) = refused_at m e
+
+-- the command of this name
+abbrev pub word_work : Meeting → Heard → Mailbox → Caller → List NamedValue → List ℕ → List (List ℕ)
+    → Option CommandName → Work Ended
+word_work g heard m caller profile word words None = refused_at m (no_command (Some word))
+word_work g heard m caller profile word words (Some Inc) =
+    inc_job_work g m profile (job_by caller profile (inc_said profile (map chars words)))
+word_work g heard m caller profile word words (Some Scan) =
+    scan_words_work m profile (scan_asked caller (scan_said profile (map chars words)))
+word_work g heard m caller profile word words (Some Mark) =
+    mark_words_work g m profile (mark_said profile (map chars words))
+word_work g heard m caller profile word words (Some Pick) =
+    pick_words_work g m profile (picked_by caller profile (map chars words))
+word_work g heard m caller profile word words (Some Refile) =
+    refile_words_work g m profile (refile_said profile (map chars words))
+word_work g heard m caller profile word words (Some Rmm) =
+    rmm_words_work g m profile (rmm_said profile (map chars words))
+word_work g heard m caller profile word words (Some FolderCommand) =
+    tell_words_work g m profile (tell_said profile (map chars words))
+word_work g heard m caller profile word words (Some Anno) =
+    anno_words_work g m profile (annotated_by caller profile (map chars words))
+word_work g heard m caller profile word words (Some Sortm) =
+    sort_words_work g m profile (sort_said profile (map chars words))
+word_work g heard m caller profile word words (Some Mhlist) =
+    list_words_work m profile (list_said profile (map chars words))
+word_work g heard m caller profile word words (Some Mhstore) =
+    store_words_work m profile (store_said profile (map chars words))
+word_work g heard m caller profile word words (Some Mhbuild) =
+    build_words_work g.run heard m profile (build_said profile (map chars words))
+
+abbrev pub named_work : Meeting → Heard → Mailbox → Caller → List NamedValue → List (List ℕ) → Work Ended
+named_work g heard m caller profile [] = refused_at m (no_command None)
+named_work g heard m caller profile (word ∷ words) = word_work g heard m caller profile word words (named word)
+
+-- the profile that is read
+abbrev pub with_profile : Meeting → Heard → Mailbox → Caller → List (List ℕ) → Result (List ℕ) CommandFault → Work Ended
+with_profile g heard m caller words (Ok text) = named_work g heard m caller (entries_in text) words
+with_profile g heard m caller words (Err e) = refused_at m (plain e)
+
+-- what a command comes to that hears this of its input, in its stages: the profile, the words, the context, the folder,
+-- the file of the format, the work
+unfoldable pub work_by : Meeting → Heard → Caller → List (List ℕ) → Mailbox → Work Ended
+work_by g heard caller words m = with_profile g heard m caller words (readable (m.home profile_name))
+
+-- what it comes to alone, where this is heard of the input
+abbrev pub work_of : ℕ → Caller → List (List ℕ) → Heard → Mailbox → Work Ended
+work_of run caller words heard m = work_by (alone_meeting run) heard caller words m

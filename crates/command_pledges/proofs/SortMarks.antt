@@ -1,0 +1,117 @@
+-- `sortm` keeps a pledge that minds the marks of messages.
+use Rattle.std.proofs.Common.{◌≡◌, ◌<◌, ◌^◌, ℕ, true, List, Result, Ok, Err, refl, sym, ap, subst}
+use Rattle.mh_base.specs.Folders.{is_folder_name}
+use Rattle.mh_profile.specs.declared.named_value.NamedValue.{NamedValue}
+use Rattle.folder_files.specs.Deeds.{Deed}
+use Rattle.folder_files.specs.declared.place.Place.TheVariants.{Home, Mail}
+use Rattle.folder_files.specs.declared.step.Answer.{Answer}
+use Rattle.folder_files.specs.declared.step.Step.{Step}
+use Rattle.file_plans.specs.Asking.{reading_of}
+use Rattle.file_plans.specs.Plan.{Ask, Hand, Plan}
+use Rattle.file_plans.specs.Rules.{IfOkay, Keeps}
+use Rattle.file_plans.proofs.Acting.{acts}
+use Rattle.step_plans.specs.ContextCommit.{LIMIT_BYTES, context_name}
+use Rattle.step_plans.specs.Hands.{knowing}
+use Rattle.step_plans.specs.Pledges.{Pledge}
+use Rattle.step_plans.specs.declared.command_fault.CommandFault.{CommandFault}
+use Rattle.step_plans.proofs.Going.{Sound}
+use Rattle.step_plans.proofs.Ruling.{rules_of}
+use Rattle.sequence_marks.proofs.SequencesOf.{MindsSequencesOf}
+use Rattle.command_stages.proofs.FolderLines.{current_valid}
+use Rattle.mh_looks.specs.ScanPledge.{scan_pledge}
+use Rattle.opened_folders.proofs.AllMarks.{MindsAll, pledge_minds}
+use Rattle.opened_folders.proofs.CommitMinds.{IsTold}
+use Rattle.opened_folders.proofs.EndedKept.{Still, keeps_more}
+use Rattle.opened_folders.proofs.Meeting.{keeps_met, with_step}
+use Rattle.opened_folders.proofs.WorkMinds.{Anyhow}
+use Rattle.sortm_command.specs.Sort.{sortm}
+use Rattle.sortm_command.specs.SortPledge.{sortm_pledge}
+use Rattle.sortm_command.specs.declared.job.SortJob.{SortJob}
+use Rattle.sortm_command.proofs.SortMinds.{sortm_meets}
+use Rattle.sortm_command.proofs.SortPledged.{sortm_keeps}
+use Rattle.sort_words.specs.declared.words.SortWords.{SortWords}
+use Rattle.command_words.specs.declared.ended.Ended.{Ended}
+use Rattle.command_words.proofs.SaidFolder.{IsValid}
+use Rattle.command_line.specs.Command.{sort_by, sort_job}
+use Rattle.command_pledges.specs.CommandMarks.{IsTextName}
+use Rattle.command_pledges.specs.CommandPledge.{sort_on_named, sorts_pledge}
+use Rattle.command_line.specs.Profile.{entries_by, folder_of, path_of, profile_name}
+use Rattle.command_pledges.proofs.Begun.{Any, any_so, none_read}
+use Rattle.command_line.proofs.FolderChars.{HasChars, acted_chars}
+use Rattle.command_pledges.proofs.MindingPlans.{Minding, minds_own, minds_with, ok_one, sound_so}
+use Rattle.command_pledges.proofs.MindsMarks.{minds_sequences}
+use Rattle.command_pledges.proofs.Pledging.{sort_acts, sort_onward, sort_words_keep, context_keeps, known_sound, on_context, two_unheld}
+use Rattle.command_line.proofs.SaidFolder.{acted_valid}
+use Rattle.command_line.proofs.FirstReadings.{context_step, profile_step, two_readings}
+use Rattle.command_pledges.proofs.TwoAnswers.{keeps_after, rest_by}
+
+module _ (run : ℕ) (few : run < 2 ^ 128) (profile : List NamedValue) (h : Hand) where
+  abbrev path : List ℕ
+  path = path_of profile
+
+  -- no more than that is asked of it
+  abbrev NoMore : List Deed → Step → Type 0
+  NoMore own s = Unit {0}
+
+  -- a folder to act on was found
+  module _ (words : SortWords) (es : List NamedValue) (folder : List ℕ) (valid : is_folder_name folder ≡ true) (text : IsTextName folder) where
+    abbrev job : SortJob
+    job = sort_job folder words profile
+
+    abbrev Minds : List Deed → Step → Type 0
+    Minds own s = MindsAll (λ other. IsTold folder other) run own s
+
+    abbrev moves_pledge : Pledge
+    moves_pledge = with_step (sortm_pledge run path job) Minds
+
+    moved_minds : MindsSequencesOf IsTextName (with_step moves_pledge NoMore)
+    moved_minds = minds_own folder (with_step moves_pledge NoMore) text (pledge_minds (λ other. IsTold folder other) (with_step moves_pledge NoMore) (λ own s may. may.0.1))
+
+    moves_keep : (c d : Answer) → Sound moves_pledge (acts (two_readings profile c d)) (knowing es h) → Keeps (rules_of moves_pledge) (two_readings profile c d) (knowing es h) (sort_acts run profile words folder) (IfOkay Any)
+    moves_keep c d sound =
+        let own : List Deed = acts (two_readings profile c d) in
+        let plain : Sound (sortm_pledge run path job) own (knowing es h) = sound_so (sortm_pledge run path job) Minds own (knowing es h) sound in
+        keeps_more (rules_of moves_pledge) (two_readings profile c d) (knowing es h) (sortm run path job) (IfOkay (Still own)) (IfOkay Any) (λ later i r q. any_so (Still own) later i r q)
+        (keeps_met (sortm_pledge run path job) Minds (two_readings profile c d) own (knowing es h) (sortm run path job) (IfOkay (Still own)) Anyhow refl
+        (sortm_keeps run few path job (two_readings profile c d) (knowing es h) (two_unheld run profile folder c d) plain)
+        (sortm_meets run few path job (current_valid folder valid) own (knowing es h) (none_read profile folder c d)))
+
+  abbrev sort_plan : Answer → SortWords → Plan (Result Unit Ended)
+  sort_plan b words = Ask profile_step (λ c. rest_by (context_step profile) (sort_by run profile (Ok words)) (sort_onward run profile (Ok words)) b)
+
+  pub sort_minding : (b : Answer) (value : Result SortWords Ended) → ((words : SortWords) → value ≡ Ok words → IsValid words.folder × HasChars words.folder) → Minding run NoMore h (Ask profile_step (λ c. rest_by (context_step profile) (sort_by run profile value) (sort_onward run profile value) b))
+  unfolding sort_onward
+  sort_minding b (Err e) valid = record {
+    pledge = sorts_pledge run profile (entries_by b) (Err e);
+    run_is = refl;
+    minds = minds_with (scan_pledge run path) NoMore (minds_sequences run path);
+    Q = _;
+    keeps = sort_words_keep run few profile h b (Err e);
+  }
+  sort_minding b (Ok words) valid = named_by (folder_of words.folder (entries_by b) profile) refl
+    where
+      named_by : (v : Result (List ℕ) CommandFault) → folder_of words.folder (entries_by b) profile ≡ v → Minding run NoMore h (sort_plan b words)
+      named_by (Err e) is = record {
+        pledge = sort_on_named run profile words (folder_of words.folder (entries_by b) profile);
+        run_is = ap (λ v. (sort_on_named run profile words v).run) is;
+        minds = subst (λ v. MindsSequencesOf IsTextName (with_step (sort_on_named run profile words v) NoMore)) (sym is) (minds_with (scan_pledge run path) NoMore (minds_sequences run path));
+        Q = _;
+        keeps = sort_words_keep run few profile h b (Ok words);
+      }
+      named_by (Ok folder) is =
+          let said = valid words refl in
+          acted (acted_valid words.folder (entries_by b) profile folder said.0 is) (acted_chars words.folder (entries_by b) profile folder said.1 is)
+        where
+          acted : is_folder_name folder ≡ true → IsTextName folder → Minding run NoMore h (sort_plan b words)
+          acted real text =
+              let w : Pledge = moves_pledge words (entries_by b) folder real text in
+              record {
+                pledge = w;
+                run_is = refl;
+                minds = moved_minds words (entries_by b) folder real text;
+                Q = IfOkay Any;
+                keeps = keeps_after w Home (Mail path) profile_name context_name LIMIT_BYTES h (on_context profile words.folder (sort_acts run profile words) (reading_of b)) (IfOkay Any)
+                    (λ c d sound. context_keeps w (two_readings profile c d) h sound profile words.folder (sort_acts run profile words) Any (reading_of b)
+                    (λ other known. subst (λ z. Keeps (rules_of w) (two_readings profile c d) (knowing (entries_by b) h) (sort_acts run profile words z) (IfOkay Any)) (ok_one (folder_of words.folder (entries_by b) profile) folder other is known)
+                    (moves_keep words (entries_by b) folder real text c d (known_sound w (acts (two_readings profile c d)) h (entries_by b) sound))));
+              }

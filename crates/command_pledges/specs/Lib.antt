@@ -1,0 +1,2 @@
+pub mod CommandMarks
+pub mod CommandPledge
