@@ -1,16 +1,13 @@
 -- Messages that get lines leave the context's entries as they are.
-use Rattle.std.proofs.Common.{◌≡◌, ◌++◌, ◌∷◌, [], ℕ, Bool, true, false, List, Option, Some, None, refl, length, nat_lt}
+use Rattle.std.proofs.Common.{◌≡◌, ◌++◌, ◌∷◌, [], ℕ, Bool, true, false, List, refl, length, nat_lt}
 use Rattle.std.specs.Prelude.{if◌then◌else◌}
 use Rattle.mh_profile.specs.declared.named_value.NamedValue.{NamedValue}
 use Rattle.folder_files.specs.declared.place.Place.{Place}
 use Rattle.step_plans.specs.ContextCommit.{LIMIT_BYTES}
 use Rattle.opened_folders.specs.Kept.{Commits, Kept, kept_of}
-use Rattle.refile_command.specs.MailMoved.{message_of, where_message}
+use Rattle.refile_command.specs.MailMoved.{message_of}
+use Rattle.refile_command.proofs.MovedEntries.{where_entries}
 use Rattle.anno_command.specs.AnnoOutcome.{held_long, mail_noted, with_noted}
-
-where_entries : (entries : List NamedValue) (o : Option (List ℕ)) (without : Commits) (next : List ℕ → Commits) → without.kept.entries ≡ entries → ((b : List ℕ) → (next b).kept.entries ≡ entries) → (where_message o without next).kept.entries ≡ entries
-where_entries entries None without next f g = f
-where_entries entries (Some b) without next f g = g b
 
 two_entries : (entries : List NamedValue) (u v : Bool) (a b c : Commits) → a.kept.entries ≡ entries → b.kept.entries ≡ entries → c.kept.entries ≡ entries → (if u then a else (if v then b else c)).kept.entries ≡ entries
 two_entries entries true v a b c f g h = f

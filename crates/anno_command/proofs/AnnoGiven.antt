@@ -3,7 +3,7 @@ use Rattle.std.proofs.Common.{◌≡◌, inl, inr, ◌<◌, ◌^◌, ℕ, Bool, 
 use Rattle.std.specs.Prelude.{decimal, is_some, Option, if◌then◌else◌}
 use Rattle.std.specs.List.{list_all}
 use Rattle.mail_headers.specs.Lines.{is_name_byte}
-use Rattle.mh_base.specs.Entries.{entry_text, kind_of}
+use Rattle.mh_base.specs.Entries.{entry_text}
 use Rattle.mh_base.specs.Folders.{is_folder_name}
 use Rattle.mh_profile.specs.Reading.{entries_in}
 use Rattle.mh_profile.specs.declared.named_value.NamedValue.{NamedValue}
@@ -11,10 +11,8 @@ use Rattle.mh_sequences.specs.Reading.{suffix}
 use Rattle.mh_sequences.specs.Runs.{numbers_of}
 use Rattle.msg_ranges.specs.Selection.{marks_of}
 use Rattle.msg_ranges.proofs.Rising.{Rise, lists}
-use Rattle.folder_files.specs.Named.{is_held, is_number}
 use Rattle.folder_files.specs.declared.place.Place.{Place}
 use Rattle.folder_files.specs.declared.place.Place.TheVariants.{Folder, Mail}
-use Rattle.folder_files.proofs.Names.{bytes_self, is_committed_quiet, or_false}
 use Rattle.file_plans.specs.Contents.{Contents, filled, folder_at, mailbox_in}
 use Rattle.file_plans.specs.Giving.{Gives}
 use Rattle.file_plans.specs.Mailboxes.{is_message_number}
@@ -41,7 +39,7 @@ use Rattle.opened_folders.proofs.KeptGiven.{Holds}
 use Rattle.opened_folders.proofs.KeptMessages.{message_at, message_of}
 use Rattle.opened_folders.proofs.WorkGiven.{IsOpen, WorkEnds, changes_give, lifted_gives}
 use Rattle.message_notes.specs.Noting.{messages_noted}
-use Rattle.refile_command.proofs.RefiledOpened.{Leads, leads_on}
+use Rattle.refile_command.proofs.RefiledOpened.{Leads, after_all, after_long, context_unheld, leads_on}
 use Rattle.refile_command.proofs.Selected.{chosen_listed, chosen_numbers, chosen_rise}
 use Rattle.refile_command.proofs.Shown.{AreNumbers}
 use Rattle.anno_command.specs.Anno.{anno, chosen_from, last_in, opened_noted, said_noted}
@@ -50,10 +48,6 @@ use Rattle.anno_command.specs.declared.job.AnnoJob.{AnnoJob}
 use Rattle.anno_command.proofs.AnnoEntries.{noted_entries}
 use Rattle.anno_command.proofs.Listed.{like}
 use Rattle.anno_command.proofs.NotedMail.{Went, all_noted}
-
--- the context is no held message's name
-context_unheld : is_held (kind_of context_name) ≡ false
-context_unheld = (or_false (is_number (kind_of context_name)) (is_held (kind_of context_name)) (is_committed_quiet (Mail []) context_name (bytes_self context_name))).1
 
 -- a message that is there by the mailbox is there
 stands_in : (c : Contents) (path folder : List ℕ) (n : ℕ) → is_some (message_at (mailbox_in c) (Folder path folder) n) ≡ true → is_some (c.texts (Folder path folder) (decimal n)) ≡ true
@@ -72,13 +66,6 @@ stands_in c path folder n e = go (c.there (Folder path folder)) (is_message_numb
 long_silent : (o : Option ℕ) (k : Kept) (next : Kept → Work CommandFault) → (next k).text ≡ [] → (unless_long o k next).text ≡ []
 long_silent None k next f = f
 long_silent (Some l) k next f = refl
-
--- what the definitions come to
-after_all : (c : Commits) (next : Kept → Work CommandFault) → c.long ≡ None → after_commits c next ≡ next c.kept
-after_all c next none = rw none refl
-
-after_long : (c : Commits) (next : Kept → Work CommandFault) (l : ℕ) → c.long ≡ Some l → after_commits c next ≡ refused_at c.kept.mailbox (too_large l)
-after_long c next l some = rw some refl
 
 module _ (run : ℕ) (few : run < 2 ^ 128) (path : List ℕ) (job : AnnoJob) (valid : is_folder_name job.folder ≡ true) where
   abbrev p : Place

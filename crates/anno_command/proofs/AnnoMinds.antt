@@ -1,6 +1,5 @@
 -- Each step of `anno` minds the marks of all sequences, where no message is held aside in its folder when it takes one.
-use Rattle.std.proofs.Common.{◌≡◌, inl, inr, ◌<◌, ◌≤◌, ◌+◌, ◌-◌, ◌^◌, ◌∷◌, [], ℕ, zero, suc, Bool, true, false, List, Result, Ok, Err, length, get_or, refl, sym, ◌∙◌, subst, arith}
-use Rattle.std.specs.Prelude.{IfSome, slice_get}
+use Rattle.std.proofs.Common.{◌≡◌, inl, inr, ◌<◌, ◌≤◌, ◌+◌, ◌-◌, ◌^◌, ◌∷◌, [], ℕ, zero, suc, Bool, true, false, List, Result, Ok, Err, length, get_or, refl, ◌∙◌, arith}
 use Rattle.std.proofs.lemmas.Option.{unwrap_or-slice_get}
 use Rattle.mh_sequences.specs.Runs.{AreRuns, has, numbers_of}
 use Rattle.mh_sequences.specs.Sequences.{Marked}
@@ -17,7 +16,7 @@ use Rattle.step_plans.specs.ContextCommit.{AreChanges}
 use Rattle.step_plans.specs.Pledges.{MayAsk, Pledge}
 use Rattle.step_plans.specs.declared.command_fault.CommandFault.{CommandFault}
 use Rattle.step_plans.specs.declared.fault.PlanFault.{PlanFault}
-use Rattle.step_plans.proofs.Going.{Goes, Outcome, Sound, okay}
+use Rattle.step_plans.proofs.Going.{Outcome, Sound, okay}
 use Rattle.command_stages.specs.Current.{current_change, made_current}
 use Rattle.command_stages.specs.Endings.{of_plan}
 use Rattle.message_notes.specs.Noting.{messages_noted}
@@ -33,13 +32,15 @@ use Rattle.opened_folders.proofs.Meeting.{Meets, meets_lifted, meets_more, meets
 use Rattle.opened_folders.proofs.WorkMinds.{Anyhow, current_meets}
 use Rattle.opened_folders.proofs.WorkMinds as work_minds
 use Rattle.opened_folders.proofs.WorkPledged as work
+use Rattle.opened_folders.proofs.Listed.{some_there}
 use Rattle.refile_command.specs.RefileHeld.{TakesUnheld}
 use Rattle.refile_command.specs.RmmPledge.{every_message}
 use Rattle.refile_command.proofs.FoldersMinded.{HasMinded}
 use Rattle.refile_command.proofs.Selected.{chosen_numbers, chosen_rise, first_or}
 use Rattle.refile_command.proofs.UnmarkedNumbers.{unmarked_of}
+use Rattle.refile_command.specs.RefilePledge.{MakesNothing}
 use Rattle.anno_command.specs.Anno.{anno, chosen_from, last_in, opened_noted, said_noted}
-use Rattle.anno_command.specs.AnnoPledge.{MakesNothing, NotesSo, anno_pledge}
+use Rattle.anno_command.specs.AnnoPledge.{NotesSo, anno_pledge}
 use Rattle.anno_command.specs.declared.job.AnnoJob.{AnnoJob}
 use Rattle.anno_command.proofs.AnnoEnds.{first_listed}
 use Rattle.anno_command.proofs.AnnoPledged.{lets}
@@ -56,10 +57,6 @@ top_at low (n ∷ (m ∷ ms)) (suc i) e rise k l = elim (first_or n k (m ∷ ms)
   | inl same ↦ (let next = rise.1.0 in let top = top_at (n + 1) (m ∷ ms) i (omega (arith, e)) rise.1 m (first_listed m ms) in omega (arith, same, next, top))
   | inr there ↦ top_at (n + 1) (m ∷ ms) i (omega (arith, e)) rise.1 k there
 ]
-
-some_there : (ns : List ℕ) (k : ℕ) → lists ns k ≡ true → (length ns - 1) + 1 ≡ length ns
-some_there [] k l = cc (l)
-some_there (n ∷ ns) k l = omega arith
 
 -- no message above the last of a listing was listed
 none_above : (listing : List Run) → AreRuns listing → (j : ℕ) → last_in listing < j → has listing j ≡ false

@@ -1,5 +1,5 @@
 -- `anno` goes as it pledges.
-use Rattle.std.proofs.Common.{◌≡◌, inl, inr, ◌<◌, ◌^◌, ◌++◌, ◌∷◌, [], ℕ, true, false, List, Result, Some, Ok, Err, refl, sym, ◌∙◌, ap, subst, arith}
+use Rattle.std.proofs.Common.{◌≡◌, inl, inr, ◌<◌, ◌^◌, ◌++◌, ◌∷◌, [], ℕ, true, List, Result, Some, Ok, Err, refl, sym, ◌∙◌, ap, subst, arith}
 use Rattle.mh_base.specs.Entries.{entry_text, kind_of}
 use Rattle.mh_base.specs.Numbers.{IsMsgNum}
 use Rattle.mh_base.specs.declared.entry.Entry.TheVariants.{Held, Number}
@@ -11,11 +11,10 @@ use Rattle.folder_files.specs.Annotations.{are_annotations}
 use Rattle.folder_files.specs.Careful.{WasGivenAway, WasReady, WasTaken}
 use Rattle.folder_files.specs.Commands.{Annotating, HasReadHeld, IsChosen}
 use Rattle.folder_files.specs.Deeds.{Deed, now, on}
-use Rattle.folder_files.specs.Named.{is_committed, is_held, is_temp}
-use Rattle.folder_files.specs.Standing.{is_standing}
+use Rattle.folder_files.specs.Named.{is_held}
 use Rattle.folder_files.specs.declared.place.Place.{Place}
 use Rattle.folder_files.specs.declared.place.Place.TheVariants.{Folder, Mail}
-use Rattle.folder_files.proofs.Names.{held_stands, is_committed_quiet, is_held_any, is_temp_unheld, not_both}
+use Rattle.folder_files.proofs.Names.{is_held_any}
 use Rattle.file_plans.specs.Follows.{Follows, State}
 use Rattle.file_plans.specs.Plan.{Hand, Return, after, bind, lifted, ◌>>=◌}
 use Rattle.file_plans.specs.Rules.{IfOkay, Keeps}
@@ -57,19 +56,14 @@ use Rattle.refile_command.proofs.BeginsAsks.{asks_begun}
 use Rattle.refile_command.proofs.RefileMoved.{HasHeldNone}
 use Rattle.refile_command.proofs.RmmPledged.{in_up, listed_runs}
 use Rattle.refile_command.proofs.Selected.{first_of, first_or, rest_of}
+use Rattle.refile_command.proofs.RefileLets.{committed_unheld, temp_unheld}
+use Rattle.refile_command.specs.RefilePledge.{MakesNothing}
 use Rattle.anno_command.specs.Anno.{anno, chosen_from, last_in, opened_noted, said_noted}
 use Rattle.anno_command.specs.AnnoDone.{HasNotedChosen}
-use Rattle.anno_command.specs.AnnoPledge.{MakesNothing, NotesSo, WasChosen, WasTakenAndNoted, anno_pledge}
+use Rattle.anno_command.specs.AnnoPledge.{NotesSo, WasChosen, WasTakenAndNoted, anno_pledge}
 use Rattle.anno_command.specs.declared.job.AnnoJob.{AnnoJob}
 use Rattle.anno_command.proofs.HeldNone.{Spares, begins_sparing, none_kept, spared_of}
 use Rattle.anno_command.proofs.Listed.{chosen_messages, last_small}
-
--- a temporary name, and one that is committed, holds no message aside
-temp_unheld : (temp held : List ℕ) → is_temp (kind_of temp) ≡ true → temp ≡ held → is_held (kind_of held) ≡ true → ⊥
-temp_unheld temp held is same other = not_both (is_held (kind_of held)) other (subst (λ z. is_held (kind_of z) ≡ false) same (is_temp_unheld temp is))
-
-committed_unheld : (q : Place) (name held : List ℕ) → is_committed q name ≡ true → name ≡ held → is_held (kind_of held) ≡ true → ⊥
-committed_unheld q name held is same other = let e = is_committed_quiet q name is in let f = held_stands held other in absurd (let no : true ≡ false = sym f ∙ (ap (λ z. is_standing z) (sym same) ∙ e) in cc (no))
 
 module _ (run : ℕ) (few : run < 2 ^ 128) (path : List ℕ) (job : AnnoJob) where
   abbrev w : Pledge

@@ -1,20 +1,17 @@
 -- What words choose of a listing are messages, each once; and the last of a listing is one too.
-use Rattle.std.proofs.Common.{◌≡◌, inl, inr, ◌<◌, ◌≤◌, ◌+◌, ◌-◌, ℕ, zero, suc, true, false, List, [], ◌∷◌, Ok, length, get_or, sym, ◌∙◌, subst, arith}
+use Rattle.std.proofs.Common.{◌≡◌, inl, inr, ◌≤◌, ◌+◌, ◌-◌, ℕ, zero, suc, true, false, List, [], ◌∷◌, Ok, length, get_or, sym, ◌∙◌, subst, arith}
 use Rattle.std.proofs.lemmas.Option.{unwrap_or-slice_get}
 use Rattle.mh_sequences.specs.Runs.{AreRuns, numbers_of}
 use Rattle.mh_sequences.specs.Sequences.{Marked}
 use Rattle.mh_sequences.specs.declared.run.Run.{Run}
 use Rattle.msg_ranges.proofs.Rising.{Rise, lists, lists_numbers}
-use Rattle.message_moves.proofs.RefilePledged.{AreMessages, IsNone}
+use Rattle.message_moves.proofs.RefilePledged.{AreMessages}
 use Rattle.refile_command.proofs.Selected.{chosen_numbers, chosen_rise, first_of, first_or, in_runs, rest_of}
 use Rattle.refile_command.proofs.Shown.{AreNumbers}
 use Rattle.refile_command.specs.declared.job.RmmJob.{RmmJob}
+use Rattle.refile_command.proofs.RefileMoved.{apart_from}
 use Rattle.anno_command.specs.Anno.{chosen_from, last_in}
 use Rattle.anno_command.specs.declared.job.AnnoJob.{AnnoJob}
-
-apart_from : (n : ℕ) (ns : List ℕ) → ((k : ℕ) → lists ns k ≡ true → n < k) → IsNone n ns
-apart_from n [] f = tt
-apart_from n (m ∷ ms) f = ((λ e. absurd (let lt = first_of {F = λ k. n < k} m ms f in omega (arith, lt, e))), apart_from n ms (rest_of {F = λ k. n < k} m ms f))
 
 from_on : (low : ℕ) (ns : List ℕ) → Rise low ns → (k : ℕ) → lists ns k ≡ true → low ≤ k
 from_on low [] rise k e = absurd (cc (e))

@@ -5,6 +5,7 @@ use Rattle.mh_base.specs.Entries.{entry_text, kind_of}
 use Rattle.mh_base.specs.Numbers.{IsMsgNum}
 use Rattle.mh_base.specs.declared.entry.Entry.TheVariants.{Held, Number}
 use Rattle.mh_base.proofs.EntryKinds.{kind_of-entry_text}
+use Rattle.mh_base.proofs.NumberTests.{greater_is}
 use Rattle.mh_sequences.specs.Runs.{has}
 use Rattle.mh_sequences.specs.declared.run.Run.{Run}
 use Rattle.msg_ranges.proofs.Rising.{Rise, lists}
@@ -50,7 +51,7 @@ use Rattle.anno_command.specs.Anno.{chosen_from}
 use Rattle.anno_command.specs.AnnoAnswers.{ShowsAnno, anno_answers, let_go_gone, long_lines, long_message, none_left, none_met}
 use Rattle.anno_command.specs.AnnoPledge.{WasChosen}
 use Rattle.anno_command.specs.declared.job.AnnoJob.{AnnoJob}
-use Rattle.anno_command.proofs.WishedEnds.{PutShown, Puts, ShowsPut, greater_is, put_comes}
+use Rattle.anno_command.proofs.WishedEnds.{PutShown, Puts, ShowsPut, put_comes}
 
 module _ (run : ℕ) (few : run < 2 ^ 128) (path : List ℕ) (job : AnnoJob) (listing : List Run) (text context : List ℕ) (numbers : List ℕ) (chosen : chosen_from job listing (told_within listing text context job.folder) ≡ Ok numbers) where
   abbrev p : Place

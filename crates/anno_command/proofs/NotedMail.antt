@@ -33,17 +33,13 @@ use Rattle.message_notes.specs.NotedAlone.{noted_in}
 use Rattle.message_notes.specs.Noting.{message_noted, messages_noted}
 use Rattle.message_notes.proofs.NotedGiven.{Noted, noted_gives}
 use Rattle.refile_command.specs.MailMoved.{message_of, where_message, with_aside}
-use Rattle.refile_command.proofs.MovedGiven.{AreQuiet, not_below, number_among}
+use Rattle.refile_command.proofs.MovedGiven.{AreQuiet, not_below, number_among, some_of}
 use Rattle.refile_command.proofs.MovedShown.{held_number, held_other, message_shown, shows_aside}
 use Rattle.refile_command.proofs.Roomy.{not_same}
 use Rattle.refile_command.proofs.Selected.{first_of, rest_of}
 use Rattle.refile_command.proofs.Shown.{AreNumbers}
 use Rattle.anno_command.specs.AnnoOutcome.{held_long, mail_noted, with_noted}
 use Rattle.anno_command.proofs.AnnoEntries.{by_length}
-
-some_of : (o : Option (List ℕ)) → is_some o ≡ true → (b : List ℕ) × (o ≡ Some b)
-some_of None e = cc (e)
-some_of (Some b) e = (b, refl)
 
 -- a reading that is too long
 read_long : (l : List ℕ) (e : PlanFault) → readable l ≡ Err e → (nat_lt LIMIT_BYTES (length l) ≡ true) × (e ≡ fault.TooLarge (length l))

@@ -1,7 +1,6 @@
 -- Messages get lines, one after another: each step minds all marks, where no message was left held aside there.
-use Rattle.std.proofs.Common.{◌≡◌, ◌⊎◌, inl, inr, ◌<◌, ◌≤◌, ◌+◌, ◌-◌, ◌++◌, ◌^◌, ◌∷◌, [], ℕ, zero, suc, Bool, true, false, List, Option, Some, None, Result, Ok, Err, max, length, nat_le, nat_lt, refl, sym, ◌∙◌, ap, subst, bytes_eq, arith}
+use Rattle.std.proofs.Common.{◌≡◌, ◌⊎◌, inl, inr, ◌<◌, ◌≤◌, ◌+◌, ◌-◌, ◌++◌, ◌^◌, ◌∷◌, [], ℕ, zero, suc, Bool, true, false, List, Option, Some, None, Ok, Err, max, length, nat_lt, refl, sym, ◌∙◌, ap, subst, bytes_eq, arith}
 use Rattle.std.specs.Prelude.{decimal, if◌then◌else◌}
-use Rattle.std.proofs.lemmas.Bool.Decides.{nat_tests}
 use Rattle.mh_base.specs.Entries.{entry_text, kind_of}
 use Rattle.mh_base.specs.Numbers.{IsMsgNum}
 use Rattle.mh_base.specs.declared.entry.Entry.TheVariants.{Held, Number, Sequences}
@@ -30,7 +29,6 @@ use Rattle.step_plans.specs.Locking.{removed}
 use Rattle.step_plans.specs.PlanFaults.{Planned, of_stop}
 use Rattle.step_plans.specs.Pledges.{MayAsk, Pledge}
 use Rattle.step_plans.specs.Replacing.{created, entered_once, held_to, made_safe, renamed, synced, written}
-use Rattle.step_plans.specs.declared.fault.PlanFault.{PlanFault}
 use Rattle.step_plans.specs.declared.fault.PlanFault.TheVariants as fault
 use Rattle.step_plans.proofs.Asks.{asks_named}
 use Rattle.step_plans.proofs.Facts.{LeavesBase}
@@ -44,13 +42,14 @@ use Rattle.message_moves.specs.Moving.{content_by, content_read, held_discarded,
 use Rattle.message_moves.proofs.MovePledged.{is_taken_so}
 use Rattle.message_notes.specs.Noting.{message_noted, messages_noted, stored_at}
 use Rattle.opened_folders.proofs.AllMarks.{MindsAll, clear_minds, create_minds, drop_minds, look_minds, plain_minds}
-use Rattle.opened_folders.proofs.CommitMinds.{Facts, sequences_name}
+use Rattle.opened_folders.proofs.CommitMinds.{Facts}
 use Rattle.opened_folders.proofs.CommitSeen.{NoCommit, Synced, synced_kept}
 use Rattle.opened_folders.proofs.FolderSeen.{Quiet, WasListed, created_temp, quiet_lock, quiet_seen, quiet_sees, quiet_unlinked}
-use Rattle.opened_folders.proofs.Meeting.{Meets, meets_create, meets_end, meets_link, meets_okay, meets_on, meets_quietly, meets_read, meets_rename, meets_return, meets_stop, meets_sync_file, meets_sync_folder, meets_then, meets_unlink}
+use Rattle.opened_folders.proofs.Meeting.{Meets, meets_create, meets_end, meets_link, meets_on, meets_quietly, meets_read, meets_rename, meets_return, meets_stop, meets_sync_file, meets_sync_folder, meets_then, meets_unlink}
 use Rattle.refile_command.specs.RefileHeld.{TakesUnheld}
 use Rattle.refile_command.proofs.Shown.{AreNumbers}
 use Rattle.refile_command.proofs.UnmarkedNumbers.{IsUnmarkedIn, put_minds, take_minds, unmarked_kept}
+use Rattle.sequence_commits.proofs.SequencesPledged.{sequences_name}
 
 -- the greater of two numbers is one of them, and not less than both
 two_tops : (a b : ℕ) → (a ≤ max a b) × (a ≤ 999999 → b ≤ 999999 → max a b ≤ 999999)

@@ -1,11 +1,12 @@
 -- How the plan ends by which a message is put at the number that is wished for, and what shows it.
-use Rattle.std.proofs.Common.{◌≡◌, ◌<◌, ◌≤◌, ◌+◌, ◌-◌, ◌^◌, ◌∷◌, ℕ, zero, suc, Bool, true, false, List, Option, Some, None, Result, Ok, Err, inl, inr, max, nat_le, refl, sym, ◌∙◌, ap, subst, arith}
+use Rattle.std.proofs.Common.{◌≡◌, ◌<◌, ◌≤◌, ◌+◌, ◌-◌, ◌^◌, ◌∷◌, ℕ, zero, suc, true, List, Option, Some, None, Result, Ok, Err, inl, inr, max, refl, sym, ap, subst, arith}
 use Rattle.std.specs.Prelude.{decimal}
-use Rattle.std.proofs.lemmas.Bool.Decides.{Decides-eqb, nat_tests}
+use Rattle.std.proofs.lemmas.Bool.Decides.{Decides-eqb}
 use Rattle.mh_base.specs.Entries.{kind_of}
 use Rattle.mh_base.specs.Numbers.{IsMsgNum}
 use Rattle.mh_base.specs.declared.entry.Entry.TheVariants.{Temp}
 use Rattle.mh_base.proofs.EntryKinds.{kind_of-entry_text}
+use Rattle.mh_base.proofs.NumberTests.{greater_is}
 use Rattle.folder_files.specs.Deeds.{Deed, WasDone, did, last, now, on, still}
 use Rattle.folder_files.specs.Named.{is_temp_of}
 use Rattle.folder_files.specs.declared.place.Place.{Place}
@@ -33,17 +34,6 @@ use Rattle.opened_folders.proofs.CleanRuns.{Clean, clean_more, comes_link}
 use Rattle.opened_folders.proofs.NamesKept.{last_kept, met_in_kept, putting, taking}
 use Rattle.opened_folders.proofs.SequencesEnd.{Writes, written_clean, written_comes}
 use Rattle.opened_folders.proofs.SettledEnds.{Shown}
-
--- the greater of two numbers is one of them
-pub greater_is : (C : ℕ → Type 0) (a b : ℕ) → C a → C b → C (max a b)
-greater_is C a b x y = go (nat_le a b) (at (nat_le a b) refl)
-  where
-    at : (v : Bool) → nat_le a b ≡ v → (v ≡ true → max a b ≡ b) × (v ≡ false → max a b ≡ a)
-    at v e = ((λ f. let l : a ≤ b = grind (arith, nat_tests, e ∙ f) in omega (arith, l)), (λ f. let l : b ≤ a = grind (arith, nat_tests, e ∙ f) in omega (arith, l)))
-
-    go : (v : Bool) → (v ≡ true → max a b ≡ b) × (v ≡ false → max a b ≡ a) → C (max a b)
-    go true f = subst C (sym (f.0 refl)) y
-    go false f = subst C (sym (f.1 refl)) x
 
 -- that the last number is taken lasts, and is so where a link met it
 module _ (run : ℕ) (few : run < 2 ^ 128) (path folder : List ℕ) (Answers : Answering) (Top : List Deed → Type 0) (lasts : KeptBy AnyStep Top) (tops : (own : List Deed) → HasMetAt (Folder path folder) 999999 own → Top own) where

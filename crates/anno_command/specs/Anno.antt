@@ -16,7 +16,8 @@ use Rattle.opened_folders.specs.Opening.{Opened, begun}
 use Rattle.message_notes.specs.Noting.{messages_noted}
 use Rattle.anno_command.specs.declared.job.AnnoJob.{AnnoJob}
 
--- the messages that the job's words choose of a folder with these numbers and sequences, or the refusal of the first word that is refused
+-- the messages that the job's words choose of a folder with these numbers and sequences, or the refusal of the first
+-- word that is refused
 abbrev pub chosen_from : AnnoJob → List Run → Marked → Result (List ℕ) CommandFault
 chosen_from job listing m = chosen_in (folder_with job.negation (numbers_of listing) (marks_of m)) job.specs
 

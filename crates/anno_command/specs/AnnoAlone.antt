@@ -10,4 +10,5 @@ use Rattle.anno_command.specs.declared.job.AnnoJob.{AnnoJob}
 
 -- the call comes to its work on the mailbox that it finds, where nothing else happens; it has nothing to say
 abbrev pub NotesIfUnfaulted : ℕ → List ℕ → AnnoJob → Hand → Result Unit CommandFault → FilesState → FilesState → Type 0
-NotesIfUnfaulted run path job h result f g = TellsIfUnfaulted run path job.folder h (λ entries held. anno_work run path entries held job) result f g quiet quiet
+NotesIfUnfaulted run path job h result f g =
+    TellsIfUnfaulted run path job.folder h (λ entries held. anno_work run path entries held job) result f g quiet quiet

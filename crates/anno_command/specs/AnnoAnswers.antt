@@ -1,4 +1,5 @@
--- What `anno` answers by what it read of its folder, and what shows how it ended: its run's own deeds in the call, the newest first.
+-- What `anno` answers by what it read of its folder, and what shows how it ended: its run's own deeds in the call, the
+-- newest first.
 use Rattle.std.specs.Prelude.{◌≡◌, ◌⊎◌, ◌++◌, ◌∷◌, ℕ, true, List, length, nat_lt, Err}
 use Rattle.mh_base.specs.Entries.{entry_text}
 use Rattle.mh_base.specs.declared.entry.Entry.TheVariants.{Held}

@@ -10,8 +10,8 @@ use Rattle.refile_command.specs.RmmOutcome.{is_among}
 use Rattle.anno_command.specs.Anno.{chosen_from}
 use Rattle.anno_command.specs.declared.job.AnnoJob.{AnnoJob}
 
--- the run listed the folder and read its sequences and then the context; by these the job's words choose messages, and it put each of them anew with the
--- lines in front
+-- the run listed the folder and read its sequences and then the context; by these the job's words choose messages, and
+-- it put each of them anew with the lines in front
 pub record HasNotedChosen (run : ℕ) (path : List ℕ) (job : AnnoJob) (own : List Deed) : Type 0 where
   pub listing : List Run
   pub text : List ℕ

@@ -23,10 +23,11 @@ with_noted run p n new m = with_message (with_folder_changed m p (with_aside run
 
 -- the run holds it aside, since it, or what it was to be, is too long
 abbrev pub held_long : ℕ → Place → ℕ → List ℕ → ℕ → Kept → Commits
-held_long run p n bytes l k = too_long (kept_of (with_folder_changed k.mailbox p (with_aside run n (Some bytes))) k.entries) l
+held_long run p n bytes l k =
+    too_long (kept_of (with_folder_changed k.mailbox p (with_aside run n (Some bytes))) k.entries) l
 
--- The messages of these numbers get the lines, one after another. The one that is too long, by itself or with the lines, is the last. A number that
--- has no message is left out.
+-- The messages of these numbers get the lines, one after another. The one that is too long, by itself or with the
+-- lines, is the last. A number that has no message is left out.
 unfoldable pub mail_noted : ℕ → Place → List ℕ → List ℕ → Kept → Commits
 mail_noted run p lines [] k = all_made k
 mail_noted run p lines (n ∷ ns) k =
@@ -38,7 +39,8 @@ mail_noted run p lines (n ∷ ns) k =
 
 -- the chosen messages get the lines, and the folder becomes the current one
 abbrev pub chosen_work : ℕ → List ℕ → AnnoJob → Kept → Result (List ℕ) CommandFault → Work CommandFault
-chosen_work run path job k (Ok numbers) = after_commits (mail_noted run (Folder path job.folder) job.lines numbers k) (current_work path job.folder [])
+chosen_work run path job k (Ok numbers) =
+    after_commits (mail_noted run (Folder path job.folder) job.lines numbers k) (current_work path job.folder [])
 chosen_work run path job k (Err e) = refused_at k.mailbox e
 
 -- of a folder with these numbers and sequences

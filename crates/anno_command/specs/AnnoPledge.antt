@@ -2,7 +2,6 @@
 use Rattle.std.specs.Prelude.{◌≡◌, ◌⊎◌, ◌++◌, ◌<◌, ◌^◌, ℕ, true, List, Ok}
 use Rattle.mh_base.specs.Entries.{kind_of}
 use Rattle.mh_base.specs.declared.entry.Entry.TheVariants.{Number}
-use Rattle.mh_sequences.specs.Sequences.{Marked}
 use Rattle.mh_sequences.specs.declared.run.Run.{Run}
 use Rattle.folder_files.specs.Annotations.{are_annotations}
 use Rattle.folder_files.specs.Careful.{WasGivenAway, WasReady, WasTaken}
@@ -21,12 +20,9 @@ use Rattle.opened_folders.specs.Reads.{HaveSeen}
 use Rattle.message_notes.specs.Noted.{HasPutAnew}
 use Rattle.refile_command.specs.RmmOutcome.{is_among}
 use Rattle.refile_command.specs.RmmPledge.{every_message}
+use Rattle.refile_command.specs.RefilePledge.{MakesNothing}
 use Rattle.anno_command.specs.Anno.{chosen_from}
 use Rattle.anno_command.specs.declared.job.AnnoJob.{AnnoJob}
-
--- the sequences stay, but for what the reading cuts
-abbrev pub MakesNothing : List Deed → List Run → Marked → Marked → Type 0
-MakesNothing own listing m new = ⊥
 
 -- the job's words choose this number, of the folder as the run has listed and read it
 pub record WasChosen (run : ℕ) (path : List ℕ) (job : AnnoJob) (n : ℕ) (own : List Deed) : Type 0 where
@@ -43,13 +39,14 @@ abbrev pub TakesChosen : ℕ → List ℕ → AnnoJob → List Deed → Step →
 TakesChosen run path job own s =
     (number held : List ℕ) (n : ℕ) → s ≡ step.Rename (Folder path job.folder) number held → kind_of number ≡ Number n → is_held (kind_of held) ≡ true → WasChosen run path job n own
 
--- the run took the message of this held name, and then read it and put it anew with the lines in front, and made that safe
+-- the run took the message of this held name, and then read it and put it anew with the lines in front, and made that
+-- safe
 pub record WasTakenAndNoted (run : ℕ) (p : Place) (held lines : List ℕ) (own : List Deed) : Type 0 where
   pub anew : HasPutAnew run p held lines own
   pub taken : WasTaken run p held anew.before
 
--- a held name goes only once its message was given a number, as one that another run left, and that was made safe; or once the run has taken the message and put
--- it anew
+-- a held name goes only once its message was given a number, as one that another run left, and that was made safe; or
+-- once the run has taken the message and put it anew
 abbrev pub LetsGoNoted : ℕ → List ℕ → AnnoJob → List Deed → Step → Type 0
 LetsGoNoted run path job own s =
     (held : List ℕ) → s ≡ step.Unlink (Folder path job.folder) held → is_held (kind_of held) ≡ true
@@ -63,12 +60,15 @@ PutsNoted run path job own s =
 
 -- all that is asked of its steps besides
 abbrev pub NotesSo : ℕ → List ℕ → AnnoJob → List Deed → Step → Type 0
-NotesSo run path job own s = TakesChosen run path job own s × LetsGoNoted run path job own s × PutsNoted run path job own s
+NotesSo run path job own s =
+    TakesChosen run path job own s × LetsGoNoted run path job own s × PutsNoted run path job own s
 
--- `anno` begins the folder and keeps its marks, and puts the lines in front of messages that its words choose; it says nothing
+-- `anno` begins the folder and keeps its marks, and puts the lines in front of messages that its words choose; it says
+-- nothing
 abbrev pub anno_pledge : ℕ → List ℕ → AnnoJob → Pledge
 anno_pledge run path job = folder_pledge run path job.folder MakesNothing (Annotating path job.folder every_message job.lines) (λ own piece. ⊥) (NotesSo run path job)
 
 -- what a call promises of its steps, where its lines are such lines
 abbrev pub PromisesSteps : ℕ → List ℕ → AnnoJob → State → State → Type 0
-PromisesSteps run path job x y = run < 2 ^ 128 → are_annotations job.lines ≡ true → Promises (anno_pledge run path job) x y
+PromisesSteps run path job x y =
+    run < 2 ^ 128 → are_annotations job.lines ≡ true → Promises (anno_pledge run path job) x y

@@ -8,28 +8,23 @@ use Rattle.mh_profile.specs.declared.named_value.NamedValue.{NamedValue}
 use Rattle.mh_words.specs.Whole.{Wrong, read_in}
 use Rattle.mh_words.specs.declared.item.Item.{Item}
 use Rattle.folder_files.specs.Annotations.{are_annotations}
-use Rattle.folder_files.specs.declared.refusal.Refusal.{Refusal}
 use Rattle.folder_files.specs.declared.refusal.Refusal.TheVariants as refusal
-use Rattle.step_plans.specs.declared.command_fault.CommandFault.{CommandFault}
 use Rattle.step_plans.specs.declared.command_fault.CommandFault.TheVariants as fault
+use Rattle.step_plans.proofs.Refusals.{IsRefusal}
 use Rattle.annotation_lines.specs.Lines.{is_component, is_on_a_line}
 use Rattle.annotation_lines.proofs.Annotating.{lines_annotate}
 use Rattle.command_words.specs.BadValues.{earliest, first_of, unless_bad}
 use Rattle.command_words.specs.FieldNames.{is_field_name, is_name}
-use Rattle.command_words.specs.FolderWords.{folder_named, folders, one_folder, some_named}
+use Rattle.command_words.specs.FolderWords.{folders, one_folder, some_named}
 use Rattle.command_words.specs.Switches.{last_of, values}
 use Rattle.command_words.specs.declared.ended.Ended.{Ended}
 use Rattle.command_words.proofs.SaidFolder.{IsValid}
 use Rattle.anno_words.specs.AnnoWords.{anno_line, anno_said, component_of, date_of, folder_said, is_dated, items_said, lines_of, named_said, text_of, with_folder, word_said}
 use Rattle.anno_words.specs.Table.{anno_table}
-use Rattle.anno_words.specs.WrongValues.{is_wrong, wrong_values}
+use Rattle.anno_words.specs.WrongValues.{wrong_values}
 use Rattle.anno_words.specs.declared.table.TheConstants.{COMPONENT, TEXT}
 use Rattle.anno_words.specs.declared.words.AnnoWords.{AnnoWords}
 use Rattle.anno_words.proofs.Values.{last_so, none_of}
-
--- a refusal
-abbrev pub IsRefusal : CommandFault → Type 0
-IsRefusal e = (r : Refusal) × (e ≡ fault.Refused r)
 
 -- a refusal; or the name of a folder, or none, and lines that annotate
 abbrev IsSound : Result AnnoWords Ended → Type 0

@@ -27,7 +27,8 @@ is_dated items = unwrap_or (last_choice DATE NODATE items) true
 
 -- the name of the lines' field: the last that is given, where there is a date or a text to say under it
 abbrev pub component_of : List Item → Option (List ℕ)
-component_of items = if length (values TEXT items) == 0 && not (is_dated items) then None else last_of (values COMPONENT items)
+component_of items =
+    if length (values TEXT items) == 0 && not (is_dated items) then None else last_of (values COMPONENT items)
 
 -- the bytes of the last text that is given
 abbrev pub text_of : List Item → Option (List ℕ)
@@ -70,7 +71,9 @@ module _ (moment offset : ℤ) where
 abbrev pub anno_line : List NamedValue → List (List ℕ) → List (List ℕ)
 anno_line profile words = profile_words (codes "anno") profile ++ words
 
--- what the words of `anno` say, those of the profile first, or the refusal: of a switch; then of a second folder or of a wrong value, the earlier first;
--- then for want of a field's name, or of something to say under it; and then of a folder's name
+-- what the words of `anno` say, those of the profile first, or the refusal: of a switch; then of a second folder or of
+-- a wrong value, the earlier first; then for want of a field's name, or of something to say under it; and then of a
+-- folder's name
 abbrev pub anno_said : ℤ → ℤ → List NamedValue → List (List ℕ) → Result AnnoWords Ended
-anno_said moment offset profile words = items_said moment offset (anno_line profile words) (read_in anno_table 0 (anno_line profile words))
+anno_said moment offset profile words =
+    items_said moment offset (anno_line profile words) (read_in anno_table 0 (anno_line profile words))

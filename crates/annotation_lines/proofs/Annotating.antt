@@ -1,5 +1,5 @@
 -- The lines annotate a message.
-use Rattle.std.proofs.Common.{◌≡◌, ℕ, ◌+◌, ◌-◌, ◌<◌, ◌==◌, ◌&&◌, not, true, false, List, [], ◌∷◌, ◌++◌, length, take, Option, None, Some, IfSome, refl, sym, ap, ◌∙◌, arith, codes, bytes_eq, length-append}
+use Rattle.std.proofs.Common.{◌≡◌, ℕ, ◌+◌, ◌<◌, ◌==◌, ◌&&◌, not, true, false, List, [], ◌∷◌, ◌++◌, length, take, Option, None, Some, IfSome, refl, sym, ap, ◌∙◌, arith, codes, bytes_eq}
 use Rattle.std.proofs.Math.Bool.{and-true}
 use Rattle.std.proofs.Math.Seq.{take-append_seam, get_or-append_seam}
 use Rattle.std.specs.List.{All, list_all, slice_split, prefix_len}
@@ -14,6 +14,7 @@ use Rattle.mail_dates.specs.Shown.{tws_of}
 use Rattle.mail_headers.specs.Lines.{is_name_byte}
 use Rattle.mail_headers.specs.Fields.{name_in, after_name}
 use Rattle.folder_files.specs.Annotations.{is_annotation, are_annotations}
+use Rattle.folder_files.proofs.Noting.{last_place, some}
 use Rattle.annotation_lines.specs.Lines.{line_of, annotation_lines, is_component, is_line_byte, is_on_a_line}
 use Rattle.annotation_lines.proofs.Showing.{no_ends}
 
@@ -24,13 +25,6 @@ HasNoFeed text = All (λ b. (b == 10) ≡ false) text
 -- a line without its feed
 abbrev line_without : List ℕ → List ℕ → List ℕ
 line_without component text = component ++ codes ": " ++ text
-
-last_place : (rest : List ℕ) (x : ℕ) → length (rest ++ x ∷ []) - 1 ≡ length rest
-last_place rest x = let n = length-append rest (x ∷ []) in omega (arith, n)
-
-some : (rest : List ℕ) (x : ℕ) → bytes_eq (rest ++ x ∷ []) [] ≡ false
-some [] x = refl
-some (y ∷ rest) x = refl
 
 -- a text that ends in a line feed is annotation lines where all lines before it are such
 fed : (rest : List ℕ) → are_annotations (rest ++ 10 ∷ []) ≡ list_all is_annotation (slice_split (λ b. b == 10) rest)

@@ -8,7 +8,8 @@ unfoldable pub first_from : (ℕ → Bool) → ℕ → ℕ → ℕ
 first_from test zero n = n
 first_from test (suc more) n = if test n then n else first_from test more (n + 1)
 
--- The days between 1 January of the year -10000 and the day on which these seconds fall. They are counted from 1969-12-31 00:00:00, by the clock.
+-- The days between 1 January of the year -10000 and the day on which these seconds fall. They are counted from
+-- 1969-12-31 00:00:00, by the clock.
 abbrev pub count_in : ℕ → ℕ
 count_in seconds = day_count (pos 1969) 12 31 + seconds / 86400
 

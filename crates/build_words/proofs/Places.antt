@@ -1,12 +1,9 @@
 -- The places of words of a sort, one word after another.
-use Rattle.std.proofs.Common.{◌≡◌, ◌++◌, ◌∷◌, [], ℕ, suc, ◌+◌, ◌<◌, ◌≤◌, List, refl, sym, ◌∙◌, ap, drop, get_or, length, add-one, append_assoc, append-nil}
-use Rattle.std.proofs.Math.Seq.{drop-cons}
+use Rattle.std.proofs.Common.{◌≡◌, ◌++◌, ◌∷◌, [], ℕ, ◌+◌, ◌<◌, ◌≤◌, List, refl, sym, ◌∙◌, ap, drop, get_or, length, append_assoc, append-nil}
 use Rattle.std.proofs.lemmas.List.{drop_all}
+use Rattle.command_stages.proofs.Listing.{next}
 use Rattle.build_words.specs.Sorts.{is_of, place_if, places}
 use Rattle.build_words.specs.declared.sort.Sort.{Sort}
-
-next : (l : List (List ℕ)) (i : ℕ) (x : List ℕ) → i < length l → x ≡ get_or l i x → drop i l ≡ x ∷ drop (i + 1) l
-next l i x h is = rw (add-one, drop-cons l i x) (ap (λ y. y ∷ drop (suc i) l) (sym is))
 
 first_place : (sort : Sort) (i : ℕ) (word : List ℕ) (words : List (List ℕ)) → places sort i (word ∷ words) ≡ place_if (is_of sort word) i ++ places sort (i + 1) words
 unfolding places

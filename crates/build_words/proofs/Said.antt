@@ -4,10 +4,9 @@ use Rattle.std.specs.Prelude.{◌++◌, codes, if◌then◌else◌}
 use Rattle.std.specs.Str.{encode_utf8_all}
 use Rattle.mh_profile.specs.declared.named_value.NamedValue.{NamedValue}
 use Rattle.mh_words.specs.Whole.{Wrong}
-use Rattle.folder_files.specs.declared.refusal.Refusal.{Refusal}
 use Rattle.folder_files.specs.declared.refusal.Refusal.TheVariants as refusal
-use Rattle.step_plans.specs.declared.command_fault.CommandFault.{CommandFault}
 use Rattle.step_plans.specs.declared.command_fault.CommandFault.TheVariants as fault
+use Rattle.step_plans.proofs.Refusals.{IsRefusal}
 use Rattle.command_stages.specs.Chosen.{word_at}
 use Rattle.command_words.specs.BadValues.{first_of}
 use Rattle.command_words.specs.Words.{profile_words}
@@ -17,10 +16,6 @@ use Rattle.build_words.specs.BuildWords.{build_said, by_name, draft_named, extra
 use Rattle.build_words.specs.Sorts.{places}
 use Rattle.build_words.specs.declared.sort.Sort.TheVariants.{Switch, Name}
 use Rattle.build_words.specs.declared.words.BuildWords.{BuildWords}
-
--- a refusal
-abbrev pub IsRefusal : CommandFault → Type 0
-IsRefusal e = (r : Refusal) × (e ≡ fault.Refused r)
 
 -- a draft's name, where there is a name
 abbrev pub IsValid : Option (List ℕ) → Type 0

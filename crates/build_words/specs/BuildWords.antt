@@ -24,7 +24,8 @@ by_name word = if is_draft_name word then Some (record { draft = Some word }) el
 
 -- the draft that a word names, if it names one
 abbrev pub draft_named : List ℕ → Option BuildWords
-draft_named word = if is_input (encode_utf8_all word) then Some (record { draft = None }) else by_name (encode_utf8_all word)
+draft_named word =
+    if is_input (encode_utf8_all word) then Some (record { draft = None }) else by_name (encode_utf8_all word)
 
 abbrev pub extra : ℕ → Wrong
 extra place = record { place = place; why = Extra }
@@ -61,7 +62,7 @@ or_wrong words (Err wrong) = Err (wrong_at words wrong)
 abbrev pub line_said : List (List ℕ) → Result BuildWords Ended
 line_said words = or_wrong words (unless_switch words (first_of (places Switch 0 words)))
 
--- what the words of `mhbuild` say, those of the profile first: the one draft, or the refusal; of a switch, and then of the earliest word that is too many,
--- that is missing, or that is no draft's name
+-- what the words of `mhbuild` say, those of the profile first: the one draft, or the refusal; of a switch, and then of
+-- the earliest word that is too many, that is missing, or that is no draft's name
 abbrev pub build_said : List NamedValue → List (List ℕ) → Result BuildWords Ended
 build_said profile words = line_said (profile_words (codes "mhbuild") profile ++ words)

@@ -12,10 +12,10 @@ use Rattle.file_plans.specs.Sightings.{has_number, is_this}
 pub inside_one : (k n : ℕ) → inside (record { from = k; to = k }) n ≡ is_this n (Some k)
 inside_one k n = let e : (nat_le k n && nat_le n k) ≡ (k == n) = grind (arith, nat_tests) in e
 
-next : (l : List (List ℕ)) (i : ℕ) (x : List ℕ) → i < length l → x ≡ get_or l i x → drop i l ≡ x ∷ drop (i + 1) l
+pub next : (l : List (List ℕ)) (i : ℕ) (x : List ℕ) → i < length l → x ≡ get_or l i x → drop i l ≡ x ∷ drop (i + 1) l
 next l i x h is = rw (add-one, drop-cons l i x) (ap (λ y. y ∷ drop (suc i) l) (sym is))
 
-swap : (a b c : Bool) → (a || b) || c ≡ b || (a || c)
+pub swap : (a b c : Bool) → (a || b) || c ≡ b || (a || c)
 swap true true c = refl
 swap true false c = refl
 swap false true c = refl
@@ -27,7 +27,7 @@ pub one_noted : (names : List (List ℕ)) (i : ℕ) (x : List ℕ) (old new : Li
 one_noted names i x old new h is put left n =
     ap (λ b. b || has_number n (drop (i + 1) names)) (put n) ∙ swap (is_this n (number_of x)) (has old n) (has_number n (drop (i + 1) names)) ∙ ap (λ l. has old n || has_number n l) (sym (next names i x h is)) ∙ left n
 
-or_none : (b : Bool) → b || false ≡ b
+pub or_none : (b : Bool) → b || false ≡ b
 or_none true = refl
 or_none false = refl
 

@@ -1,18 +1,15 @@
 -- The items of words, one after another.
-use Rattle.std.proofs.Common.{◌≡◌, ◌++◌, ◌∷◌, [], ℕ, suc, ◌+◌, ◌<◌, ◌≤◌, Bool, List, Option, None, Some, Ok, Err, refl, sym, ◌∙◌, ap, drop, get_or, length, add-one, append_assoc, append-nil}
+use Rattle.std.proofs.Common.{◌≡◌, ◌++◌, ◌∷◌, [], ℕ, ◌+◌, ◌<◌, ◌≤◌, Bool, List, Option, None, Some, Ok, Err, refl, sym, ◌∙◌, ap, drop, get_or, length, append_assoc, append-nil}
 use Rattle.std.specs.Prelude.{option_map, map}
 use Rattle.std.specs.Borrow.{Bor}
 use Rattle.std.specs.List.{flat_map}
-use Rattle.std.proofs.Math.Seq.{drop-cons}
 use Rattle.std.proofs.lemmas.List.{drop_all}
 use Rattle.mh_base.specs.declared.word.WordWhy.TheVariants.{Extra}
 use Rattle.mh_words.specs.declared.item.Item.{Item}
+use Rattle.step_plans.proofs.Rounds.{next}
 use Rattle.command_words.specs.FolderWords.{folders, one_folder, remaining, IsFolderSeen}
 use Rattle.command_words.specs.Results.{IsOneFolder}
 use Rattle.command_words.specs.Switches.{choice_in, last_or, last_choice}
-
-pub next : {A : Type 0} (l : List A) (i : ℕ) (x : A) → i < length l → x ≡ get_or l i x → drop i l ≡ x ∷ drop (i + 1) l
-next l i x h is = rw (add-one, drop-cons l i x) (ap (λ y. y ∷ drop (suc i) l) (sym is))
 
 abbrev pub IsLeft : List Item → ℕ → Option (Bor (List ℕ)) → Type 0
 IsLeft items i found = remaining (option_map (λ w. w.now) found) (folders (drop i items)) ≡ one_folder (folders items)

@@ -10,6 +10,7 @@ use Rattle.mh_words.specs.declared.item.Item.TheVariants.{Folder, Message, Switc
 use Rattle.folder_files.specs.declared.refusal.Refusal.TheVariants as refusal
 use Rattle.step_plans.specs.declared.command_fault.CommandFault.{CommandFault}
 use Rattle.step_plans.specs.declared.command_fault.CommandFault.TheVariants as fault
+use Rattle.step_plans.proofs.Rounds.{next}
 use Rattle.command_words.specs.Ended.{plain, wrong_at}
 use Rattle.command_words.specs.FolderWords.{FolderWord, folders, named_folder, one_folder}
 use Rattle.command_words.specs.RefileFolders.{AreBehind, AreNamed, AreTargets, IsFirstWrong, IsNoted, IsTargetNoted, IsUnchanged, IsValueNoted, IsWordNoted}
@@ -20,7 +21,6 @@ use Rattle.command_words.specs.declared.ended.Ended.{Ended}
 use Rattle.command_words.specs.declared.refile.FoldersNamed.{FoldersNamed}
 use Rattle.command_words.specs.declared.refile.RefileWords.{RefileWords}
 use Rattle.command_words.specs.declared.tables.TheConstants.{SRC}
-use Rattle.command_words.proofs.Items.{next}
 use Rattle.command_words.proofs.SaidFolder.{no_ok, ok_same}
 
 last_append : (before : Option (List ℕ)) (xs ys : List (List ℕ)) → last_or before (xs ++ ys) ≡ last_or (last_or before xs) ys

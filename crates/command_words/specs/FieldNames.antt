@@ -20,7 +20,8 @@ abbrev pub bad_name_in : Item → List ℕ
 bad_name_in (Folder text place) = []
 bad_name_in (Message text place) = []
 bad_name_in (Switch index None place) = []
-bad_name_in (Switch index (Some value) place) = if index == PICK_DATEFIELD && not (is_field_name value) then place ∷ [] else []
+bad_name_in (Switch index (Some value) place) =
+    if index == PICK_DATEFIELD && not (is_field_name value) then place ∷ [] else []
 bad_name_in (Component name value place) = if is_field_name name then [] else place ∷ []
 
 -- the places of all of them

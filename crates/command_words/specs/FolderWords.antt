@@ -41,12 +41,15 @@ remaining (Some text) (f ∷ fs) = Err (record { place = f.place; why = Extra })
 
 -- one item more was seen, or it is a second folder
 abbrev pub IsFolderSeen : Option (List ℕ) → Item → Result (Option (Bor (List ℕ))) ℕ → Type 0
-IsFolderSeen found item (Ok later) = (rest : List FolderWord) → remaining found (folder_in item ++ rest) ≡ remaining (option_map (λ w. w.now) later) rest
-IsFolderSeen found item (Err place) = (rest : List FolderWord) → remaining found (folder_in item ++ rest) ≡ Err (record { place = place; why = Extra })
+IsFolderSeen found item (Ok later) =
+    (rest : List FolderWord) → remaining found (folder_in item ++ rest) ≡ remaining (option_map (λ w. w.now) later) rest
+IsFolderSeen found item (Err place) =
+    (rest : List FolderWord) → remaining found (folder_in item ++ rest) ≡ Err (record { place = place; why = Extra })
 
 -- a folder's name, or the refusal of the word that is none
 abbrev pub named_folder : List ℕ → Result (List ℕ) CommandFault
-named_folder word = if is_folder_name (without_plus word) then Ok (without_plus word) else Err (fault.Refused (refusal.BadFolder word))
+named_folder word =
+    if is_folder_name (without_plus word) then Ok (without_plus word) else Err (fault.Refused (refusal.BadFolder word))
 
 abbrev pub some_named : Result (List ℕ) CommandFault → Result (Option (List ℕ)) CommandFault
 some_named (Ok name) = Ok (Some name)

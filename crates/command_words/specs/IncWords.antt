@@ -42,8 +42,8 @@ alone (Err wrong) (Some place) = Err (extra (min wrong.place place))
 abbrev pub folder_alone : List Item → Result (Option (List ℕ)) Wrong
 folder_alone items = alone (one_folder (folders items)) (first_of (message_places items))
 
--- what the items say beside the folder: of two switches that say the same or the contrary the last counts, and a file that is named stays whole
--- unless words say otherwise
+-- what the items say beside the folder: of two switches that say the same or the contrary the last counts, and a file
+-- that is named stays whole unless words say otherwise
 abbrev pub words_of : Option (List ℕ) → List Item → IncWords
 words_of folder items = record {
   folder = folder;
@@ -70,7 +70,7 @@ abbrev pub items_said : List (List ℕ) → Result (List Item) Wrong → Result 
 items_said words (Ok items) = folder_said words items (unless_bad (first_of (wrong_widths items)) (folder_alone items))
 items_said words (Err wrong) = Err (wrong_at words wrong)
 
--- what the words of `inc` say, those of the profile first, or the refusal: of a switch before that of a word that is too many or of a width
--- that is none, the earlier first, and that before a wrong name
+-- what the words of `inc` say, those of the profile first, or the refusal: of a switch before that of a word that is
+-- too many or of a width that is none, the earlier first, and that before a wrong name
 abbrev pub inc_said : List NamedValue → List (List ℕ) → Result IncWords Ended
 inc_said profile words = items_said (profile_words (codes "inc") profile ++ words) (read_in inc_table 0 (profile_words (codes "inc") profile ++ words))

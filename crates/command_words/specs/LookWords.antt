@@ -32,7 +32,8 @@ abbrev pub format_in : Item → List FormatWords
 format_in (Folder text place) = []
 format_in (Message text place) = []
 format_in (Switch index None place) = []
-format_in (Switch index (Some value) place) = if index == FORMAT then Word value ∷ [] else (if index == FORM then File value ∷ [] else [])
+format_in (Switch index (Some value) place) =
+    if index == FORMAT then Word value ∷ [] else (if index == FORM then File value ∷ [] else [])
 format_in (Component name value place) = []
 
 -- of all formats, files of formats and widths that words name the last counts; 80 columns without one
@@ -48,7 +49,8 @@ abbrev pub wrong_width_in : Item → List ℕ
 wrong_width_in (Folder text place) = []
 wrong_width_in (Message text place) = []
 wrong_width_in (Switch index None place) = []
-wrong_width_in (Switch index (Some value) place) = if index == WIDTH then if_none place (columns_in (encode_utf8_all value)) else []
+wrong_width_in (Switch index (Some value) place) =
+    if index == WIDTH then if_none place (columns_in (encode_utf8_all value)) else []
 wrong_width_in (Component name value place) = []
 
 -- the places of all of them

@@ -60,7 +60,8 @@ marks_of names items =
     if length names == 0 then None
     else Some (record { names = names; public = last_choice PICK_PUBLIC PICK_NOPUBLIC items; act = act_of items })
 
--- what the items say; the messages that match are listed where no sequence is named, unless the last of `-list` and `-nolist` says otherwise
+-- what the items say; the messages that match are listed where no sequence is named, unless the last of `-list` and
+-- `-nolist` says otherwise
 abbrev pub words_of : Option (List ℕ) → List (List ℕ) → Expr → List Item → PickWords
 words_of folder names expr items = record {
   folder = folder;
@@ -96,7 +97,9 @@ module _ (moment offset : ℤ) where
 abbrev pub pick_line : List NamedValue → List (List ℕ) → List (List ℕ)
 pick_line profile words = profile_words (codes "pick") profile ++ words
 
--- what the words of `pick` say, those of the profile first, or the refusal: of a switch; then of a second folder or of a name that no field may have,
--- the earlier first; then of a folder's name; then of the first wrong name of a sequence; then of the expression
+-- what the words of `pick` say, those of the profile first, or the refusal: of a switch; then of a second folder or of
+-- a name that no field may have, the earlier first; then of a folder's name; then of the first wrong name of a
+-- sequence; then of the expression
 abbrev pub pick_said : ℤ → ℤ → List NamedValue → List (List ℕ) → Result PickWords Ended
-pick_said moment offset profile words = items_said moment offset (pick_line profile words) (read_in pick_table 0 (pick_line profile words))
+pick_said moment offset profile words =
+    items_said moment offset (pick_line profile words) (read_in pick_table 0 (pick_line profile words))

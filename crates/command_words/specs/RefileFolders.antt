@@ -20,21 +20,26 @@ AreTargets named names = AreBehind named.target named.others names
 
 -- a word names no folder, and is the first of these
 abbrev pub IsFirstWrong : CommandFault → List (List ℕ) → Type 0
-IsFirstWrong e words = (word : List ℕ) × (others : List (List ℕ)) × (words ≡ word ∷ others) × (e ≡ fault.Refused (refusal.BadFolder word))
+IsFirstWrong e words =
+    (word : List ℕ) × (others : List (List ℕ)) × (words ≡ word ∷ others) × (e ≡ fault.Refused (refusal.BadFolder word))
 
 -- one more of them was noted
 abbrev pub IsTargetNoted : FoldersNamed → List ℕ → FoldersNamed → Type 0
-IsTargetNoted old name new = (new.source ≡ old.source) × ((names : List (List ℕ)) → AreTargets old names → AreTargets new (names ++ name ∷ []))
+IsTargetNoted old name new =
+    (new.source ≡ old.source) × ((names : List (List ℕ)) → AreTargets old names → AreTargets new (names ++ name ∷ []))
 
 -- the folder that messages leave was noted, or the word names none
 abbrev pub IsSourceNoted : FoldersNamed → List ℕ → FoldersNamed → Result Unit CommandFault → Type 0
 IsSourceNoted old word new (Ok u) = (new.source ≡ Some (without_plus word)) × (new.target ≡ old.target) × (new.others ≡ old.others) × (is_folder_name (without_plus word) ≡ true)
-IsSourceNoted old word new (Err e) = ((is_folder_name (without_plus word) ≡ false) × (e ≡ fault.Refused (refusal.BadFolder word))) ⊎ (e ≡ fault.Memory)
+IsSourceNoted old word new (Err e) =
+    ((is_folder_name (without_plus word) ≡ false) × (e ≡ fault.Refused (refusal.BadFolder word))) ⊎ (e ≡ fault.Memory)
 
 -- a word that is a folder for messages to go to was noted, or it names none
 abbrev pub IsWordNoted : FoldersNamed → List ℕ → FoldersNamed → Result Unit CommandFault → Type 0
-IsWordNoted old word new (Ok u) = IsTargetNoted old (without_plus word) new × (is_folder_name (without_plus word) ≡ true)
-IsWordNoted old word new (Err e) = ((is_folder_name (without_plus word) ≡ false) × (e ≡ fault.Refused (refusal.BadFolder word))) ⊎ (e ≡ fault.Memory)
+IsWordNoted old word new (Ok u) =
+    IsTargetNoted old (without_plus word) new × (is_folder_name (without_plus word) ≡ true)
+IsWordNoted old word new (Err e) =
+    ((is_folder_name (without_plus word) ≡ false) × (e ≡ fault.Refused (refusal.BadFolder word))) ⊎ (e ≡ fault.Memory)
 
 -- nothing was noted
 abbrev pub IsUnchanged : FoldersNamed → FoldersNamed → Result Unit CommandFault → Type 0
@@ -56,5 +61,6 @@ IsNoted old (Component name value place) new r = IsUnchanged old new r
 
 -- these items name just these folders, and each word that names one is a folder's name
 abbrev pub AreNamed : List Item → Result FoldersNamed CommandFault → Type 0
-AreNamed items (Ok named) = (named.source ≡ source_of items) × AreTargets named (targets items) × (wrong_names items ≡ [])
+AreNamed items (Ok named) =
+    (named.source ≡ source_of items) × AreTargets named (targets items) × (wrong_names items ≡ [])
 AreNamed items (Err e) = IsFirstWrong e (wrong_names items) ⊎ (e ≡ fault.Memory)

@@ -71,12 +71,14 @@ unless_wrong words (word ∷ others) = Err (plain (fault.Refused (refusal.BadFol
 -- a folder that is missing comes first, then a wrong name of one
 abbrev pub targets_said : List (List ℕ) → List Item → List (List ℕ) → Result RefileWords Ended
 targets_said words items [] = Err (wrong_at words (missing_after words))
-targets_said words items (target ∷ others) = unless_wrong (words_of (source_of items) target others items) (wrong_names items)
+targets_said words items (target ∷ others) =
+    unless_wrong (words_of (source_of items) target others items) (wrong_names items)
 
 abbrev pub items_said : List (List ℕ) → Result (List Item) Wrong → Result RefileWords Ended
 items_said words (Ok items) = targets_said words items (targets items)
 items_said words (Err wrong) = Err (wrong_at words wrong)
 
--- what the words of `refile` say, those of the profile first, or the refusal: of a switch, then for want of a folder, then of the first wrong name of one
+-- what the words of `refile` say, those of the profile first, or the refusal: of a switch, then for want of a folder,
+-- then of the first wrong name of one
 abbrev pub refile_said : List NamedValue → List (List ℕ) → Result RefileWords Ended
 refile_said profile words = items_said (profile_words (codes "refile") profile ++ words) (read_in refile_table 0 (profile_words (codes "refile") profile ++ words))

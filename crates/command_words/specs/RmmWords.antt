@@ -34,6 +34,7 @@ abbrev pub items_said : List (List ℕ) → Result (List Item) Wrong → Result 
 items_said words (Ok items) = folder_said words items (one_folder (folders items))
 items_said words (Err wrong) = Err (wrong_at words wrong)
 
--- what the words of `rmm` say, those of the profile first, or the refusal: of a switch before that of a second folder, and that before a wrong name
+-- what the words of `rmm` say, those of the profile first, or the refusal: of a switch before that of a second folder,
+-- and that before a wrong name
 abbrev pub rmm_said : List NamedValue → List (List ℕ) → Result RmmWords Ended
 rmm_said profile words = items_said (profile_words (codes "rmm") profile ++ words) (read_in rmm_table 0 (profile_words (codes "rmm") profile ++ words))

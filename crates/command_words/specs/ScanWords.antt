@@ -33,10 +33,11 @@ folder_said words items (Ok word) = said_folder items word
 folder_said words items (Err wrong) = Err (wrong_at words wrong)
 
 abbrev pub items_said : List (List ℕ) → Result (List Item) Wrong → Result ScanWords Ended
-items_said words (Ok items) = folder_said words items (unless_bad (first_of (wrong_widths items)) (one_folder (folders items)))
+items_said words (Ok items) =
+    folder_said words items (unless_bad (first_of (wrong_widths items)) (one_folder (folders items)))
 items_said words (Err wrong) = Err (wrong_at words wrong)
 
--- what the words of `scan` say, those of the profile first, or the refusal: of a switch before that of a second folder or of a width that is
--- none, the earlier first, and that before a wrong name
+-- what the words of `scan` say, those of the profile first, or the refusal: of a switch before that of a second folder
+-- or of a width that is none, the earlier first, and that before a wrong name
 abbrev pub scan_said : List NamedValue → List (List ℕ) → Result ScanWords Ended
 scan_said profile words = items_said (profile_words (codes "scan") profile ++ words) (read_in scan_table 0 (profile_words (codes "scan") profile ++ words))

@@ -30,12 +30,14 @@ second_from true places = first_of places
 abbrev pub is_packed : List Item → Bool
 is_packed items = unwrap_or (last_choice PACK NOPACK items) false
 
--- of these places of messages' names the first that is too many: where the messages are numbered anew each is, else the second
+-- of these places of messages' names the first that is too many: where the messages are numbered anew each is, else the
+-- second
 abbrev pub too_many : Bool → List ℕ → Option ℕ
 too_many true places = first_of places
 too_many false places = second_of places
 
--- one folder or none, and one message's name or none, and none where the messages are numbered anew: the earliest word that is too many is refused
+-- one folder or none, and one message's name or none, and none where the messages are numbered anew: the earliest word
+-- that is too many is refused
 abbrev pub folder_and_message : List Item → Result (Option (List ℕ)) Wrong
 folder_and_message items = alone (one_folder (folders items)) (too_many (is_packed items) (message_places items))
 
@@ -59,7 +61,7 @@ abbrev pub items_said : List (List ℕ) → Result (List Item) Wrong → Result 
 items_said words (Ok items) = folder_said words items (folder_and_message items)
 items_said words (Err wrong) = Err (wrong_at words wrong)
 
--- what the words of `folder` say, those of the profile first, or the refusal: of a switch before that of a word that is too many, and that before a
--- wrong name
+-- what the words of `folder` say, those of the profile first, or the refusal: of a switch before that of a word that is
+-- too many, and that before a wrong name
 abbrev pub tell_said : List NamedValue → List (List ℕ) → Result FolderWords Ended
 tell_said profile words = items_said (profile_words (codes "folder") profile ++ words) (read_in folder_table 0 (profile_words (codes "folder") profile ++ words))

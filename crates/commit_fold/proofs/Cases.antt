@@ -1,5 +1,5 @@
 -- What an act does to the text of a committed name.
-use Rattle.std.proofs.Common.{◌≡◌, ℕ, Bool, true, false, ◌&&◌, ◌⊎◌, inl, inr, List, ◌∷◌, bytes_eq, Option, Some, refl, sym, ◌∙◌, ap, subst}
+use Rattle.std.proofs.Common.{◌≡◌, ℕ, Bool, true, false, ◌&&◌, ◌⊎◌, inl, inr, List, ◌∷◌, bytes_eq, refl, sym, ◌∙◌, ap, subst}
 use Rattle.mh_base.specs.Entries.{kind_of}
 use Rattle.folder_files.specs.Deeds.{WasDone, HasFailed}
 use Rattle.folder_files.specs.Directory.{now_in}
@@ -20,25 +20,14 @@ use Rattle.folder_files.specs.declared.step.Step.TheVariants as step
 use Rattle.folder_files.specs.declared.world.World.{World}
 use Rattle.step_plans.specs.Commits.{text_of, text_at, IsNoSync}
 use Rattle.folder_files.proofs.Sameness.{place_same, place_is}
-use Rattle.folder_files.proofs.Names.{not_both, both, bytes_true, bytes_self}
+use Rattle.folder_files.proofs.Names.{both, bytes_true, bytes_self}
 use Rattle.folder_files.proofs.Effects.{IsNext, answered, failed, refused, left, left_directory, fits_as, world_next}
 use Rattle.step_plans.proofs.Inv.{Inv}
 use Rattle.step_plans.proofs.Discipline.{Cares, committed_lock, careful_rename}
 use Rattle.step_plans.proofs.Committing.{Spares, stays, commit_of, left_spares, torn_commit, commit_leads, text_spared}
+use Rattle.step_plans.proofs.Crashing.{sync_case}
+use Rattle.step_plans.proofs.CutCommits.{some_answer}
 use Rattle.commit_fold.specs.Counting.{is_done, commits, done_in}
-
--- whether the directory is synced by the step
-sync_case : (p : Place) (r : ℕ) (s : Step) (a : Answer) (m : After) → ((s ≡ step.SyncFolder p) × (m ≡ Made)) ⊎ IsNoSync p (Act r s a m)
-sync_case p r (step.SyncFolder q) a Made = go (same_place q p) refl
-  where
-    go : (v : Bool) → same_place q p ≡ v → ((step.SyncFolder q ≡ step.SyncFolder p) × (Made ≡ Made)) ⊎ (step.SyncFolder q ≡ step.SyncFolder p → Made ≡ Made → ⊥)
-    go true e = inl (ap step.SyncFolder (place_same q p e), refl)
-    go false e = inr (λ z k. not_both (same_place q q) (place_is q) (subst (λ (y : Place). same_place q y ≡ false) (place_of z) e))
-      where
-        place_of : step.SyncFolder q ≡ step.SyncFolder p → p ≡ q
-        place_of z = cc (z)
-sync_case p r (step.SyncFolder q) a m = inr (λ z k. cc (k))
-sync_case p r s a m = inr (λ z k. cc (z))
 
 -- what the tests tell
 pub commits_tell : (p : Place) (x : List ℕ) (s : Step) → commits p x s ≡ true → (t : List ℕ) × (s ≡ step.Rename p t x)
@@ -104,9 +93,6 @@ uncounted p x s = go (commits p x s)
     go : (v : Bool) → (v && false) ≡ false
     go true = refl
     go false = refl
-
-pub some_answer : (u : Option ℕ) (f : ℕ) → u ≡ Some f → Done ≡ name_answer u
-some_answer u f e = rw e refl
 
 pub act_case : (may : ℕ → ℕ → List ℕ → List ℕ → Type 0) (start : World) (past : List Event) (o : ℕ) (s : Step) {a : Answer} {m : After} (p : Place) (x : List ℕ) → is_committed p x ≡ true → Cares o (own o past) s → IsNext (world_after start past) o s a m → Inv start past
     → Writes may start p x o s past

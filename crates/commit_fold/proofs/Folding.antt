@@ -1,5 +1,5 @@
 -- The laws: commits that are made of their bases, and what the texts say.
-use Rattle.std.proofs.Common.{◌≡◌, ℕ, Bool, true, false, if◌then◌else◌, List, [], ◌∷◌, refl, sym, ◌∙◌, ap, subst}
+use Rattle.std.proofs.Common.{◌≡◌, ℕ, Bool, true, List, [], ◌∷◌, refl, sym, ◌∙◌, ap, subst}
 use Rattle.folder_files.specs.Deeds.{Deed, HasFailed}
 use Rattle.folder_files.specs.Histories.{world_after, own, IsLegal, begins, answers, fails, is_dead, delivers, crashes, crashes_within, stops, AreCareful, AreHonest, AreOrderly}
 use Rattle.folder_files.specs.Named.{is_committed}
@@ -15,24 +15,16 @@ use Rattle.folder_files.specs.declared.step.Step.{Step}
 use Rattle.folder_files.specs.declared.step.Step.TheVariants as step
 use Rattle.folder_files.specs.declared.world.World.{World}
 use Rattle.step_plans.specs.Commits.{text_at, IsBase}
-use Rattle.step_plans.specs.Moments.{IsTriedAt, live, cut}
+use Rattle.step_plans.specs.Moments.{IsTriedAt}
 use Rattle.step_plans.specs.Starts.{HasNoneOfTheirs}
 use Rattle.step_plans.proofs.Discipline.{committed_lock, careful_rename}
 use Rattle.step_plans.proofs.Law.{none_before}
 use Rattle.step_plans.proofs.Tried.{tried, careful_then, none_then}
 use Rattle.step_plans.proofs.Locks.{honest_before}
-use Rattle.step_plans.proofs.Bases.{base_is}
+use Rattle.step_plans.proofs.Bases.{base_is, honest_then, orderly_then}
 use Rattle.commit_fold.specs.Counting.{Commit, Counts, begins, done, failed, syncs, crash, within, on, done_in}
 use Rattle.commit_fold.specs.Folding.{Changes, AreChanges, Replaces, AreReplacing, OwnAreReplacing, Makes, none, more, by, marking, fold, Tells, IsFold}
 use Rattle.commit_fold.proofs.Telling.{fold_so}
-
-honest_then : {start : World} {r : ℕ} {moment past : List Event} → IsTriedAt start r moment past → AreHonest start past → AreHonest start moment
-honest_then (live lv) h = h
-honest_then (cut o lv) h = h
-
-orderly_then : {start : World} {r : ℕ} {moment past : List Event} → IsTriedAt start r moment past → AreOrderly past → AreOrderly moment
-orderly_then (live lv) h = h
-orderly_then (cut o lv) h = h
 
 -- whatever base a run has is the text that its commit replaces
 pub base_text : (start : World) (past : List Event) (r : ℕ) (p : Place) (t x : List ℕ) (a : Answer) (m : After) → IsStart start → IsLegal start (Act r (step.Rename p t x) a m ∷ past) → AreCareful (Act r (step.Rename p t x) a m ∷ past)

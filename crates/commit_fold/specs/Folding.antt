@@ -28,7 +28,8 @@ AreChanges may p name (Deliver path piece ∷ past) = AreChanges may p name past
 AreChanges may p name (Crash v ∷ past) = AreChanges may p name past
 AreChanges may p name (End r ∷ past) = AreChanges may p name past
 
--- a commit of the name writes what its change may make of the text that it replaces: that which the file has when the step is tried
+-- a commit of the name writes what its change may make of the text that it replaces: that which the file has when the
+-- step is tried
 abbrev pub Replaces : (ℕ → ℕ → List ℕ → List ℕ → Type 0) → World → Place → List ℕ → ℕ → Step → List Event → Type 0
 Replaces may start p name run s past =
     (temp : List ℕ) → s ≡ Rename p temp name → (moment : List Event) → IsTriedAt start run moment past
@@ -37,7 +38,8 @@ Replaces may start p name run s past =
 -- each commit of the name in these events does
 abbrev pub AreReplacing : (ℕ → ℕ → List ℕ → List ℕ → Type 0) → World → Place → List ℕ → List Event → Type 0
 AreReplacing may start p name [] = Unit {0}
-AreReplacing may start p name (Act r s a m ∷ past) = Replaces may start p name r s past × AreReplacing may start p name past
+AreReplacing may start p name (Act r s a m ∷ past) =
+    Replaces may start p name r s past × AreReplacing may start p name past
 AreReplacing may start p name (Deliver path piece ∷ past) = AreReplacing may start p name past
 AreReplacing may start p name (Crash v ∷ past) = AreReplacing may start p name past
 AreReplacing may start p name (End r ∷ past) = AreReplacing may start p name past
@@ -45,7 +47,8 @@ AreReplacing may start p name (End r ∷ past) = AreReplacing may start p name p
 -- each commit of the name that this run made does: what a command promises of its own
 abbrev pub OwnAreReplacing : (ℕ → ℕ → List ℕ → List ℕ → Type 0) → ℕ → World → Place → List ℕ → List Event → Type 0
 OwnAreReplacing may run start p name [] = Unit {0}
-OwnAreReplacing may run start p name (Act r s a m ∷ past) = (r ≡ run → Replaces may start p name r s past) × OwnAreReplacing may run start p name past
+OwnAreReplacing may run start p name (Act r s a m ∷ past) =
+    (r ≡ run → Replaces may start p name r s past) × OwnAreReplacing may run start p name past
 OwnAreReplacing may run start p name (Deliver path piece ∷ past) = OwnAreReplacing may run start p name past
 OwnAreReplacing may run start p name (Crash v ∷ past) = OwnAreReplacing may run start p name past
 OwnAreReplacing may run start p name (End r ∷ past) = OwnAreReplacing may run start p name past
@@ -60,15 +63,18 @@ pub data Makes (may : ℕ → ℕ → List ℕ → List ℕ → Type 0) (old : L
   none : Makes may old [] old
   more : {c : Commit} {cs : List Commit} {text new : List ℕ} → Makes may old cs text → may c.run c.turn text new → Makes may old (c ∷ cs) new
 
--- a commit whose text says what its mark makes of what the old one says: of each sequence by its name, which numbers it has
-abbrev pub marking : (List ℕ → List ℕ → ℕ → Bool) → (ℕ → ℕ → (List ℕ → ℕ → Bool) → List ℕ → ℕ → Bool) → ℕ → ℕ → List ℕ → List ℕ → Type 0
+-- a commit whose text says what its mark makes of what the old one says: of each sequence by its name, which numbers it
+-- has
+abbrev pub marking : (List ℕ → List ℕ → ℕ → Bool) → (ℕ → ℕ → (List ℕ → ℕ → Bool) → List ℕ → ℕ → Bool) → ℕ → ℕ → List ℕ
+    → List ℕ → Type 0
 marking says mark run turn old new = says new ≡ mark run turn (says old)
 
 -- a change that has one outcome
 abbrev pub by : (ℕ → ℕ → List ℕ → List ℕ) → ℕ → ℕ → List ℕ → List ℕ → Type 0
 by change run turn old new = new ≡ change run turn old
 
--- the run's commits among these are its first ones: all those that were answered Done or fewer, or these and one more that was answered Failed
+-- the run's commits among these are its first ones: all those that were answered Done or fewer, or these and one more
+-- that was answered Failed
 abbrev pub HasFront : Place → List ℕ → List Deed → ℕ → List Commit → Type 0
 HasFront p name own run cs = (n : ℕ) × (turns_of run cs ≡ below n) × ((n ≤ done_in p name own) ⊎ ((n ≤ suc (done_in p name own)) × HasFailed own))
 
@@ -88,7 +94,8 @@ pub record Tells (start : World) (p : Place) (name : List ℕ) (Made : List Comm
   -- of a run none of whose steps failed, and that synced after its commits, all count and are firm
   pub whole : (run : ℕ) → (HasFailed (own run past) → ⊥) → AreSynced p name (own run past) → HasWhole p name (own run past) run firm × (turns_of run loose ≡ [])
 
--- the text of the name after these events, and at each moment before, is what the commits make that count then, in their order
+-- the text of the name after these events, and at each moment before, is what the commits make that count then, in
+-- their order
 pub record IsFold (start : World) (p : Place) (name : List ℕ) (Made : List Commit → List ℕ → Type 0) (past : List Event) : Type 0 where
   pub loose : List Commit
   pub firm : List Commit

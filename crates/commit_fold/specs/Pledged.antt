@@ -11,7 +11,8 @@ use Rattle.commit_fold.specs.Counting.{done_in}
 abbrev pub IsBack : List Deed → List Deed → Type 0
 IsBack deeds all = (newer : List Deed) × (newer ++ deeds ≡ all)
 
--- by the run's pledge, its commit of the name that has so many before it may make this text of that one, at deeds that the run had when it had made so many
+-- by the run's pledge, its commit of the name that has so many before it may make this text of that one, at deeds that
+-- the run had when it had made so many
 abbrev pub as_pledged : (ℕ → Pledge) → Place → List ℕ → List Event → ℕ → ℕ → List ℕ → List ℕ → Type 0
 as_pledged pledges p name past run turn old new =
     (deeds : List Deed) × IsBack deeds (own run past) × (done_in p name deeds ≡ turn) × (pledges run).may_mark deeds p name old new

@@ -12,8 +12,8 @@ use Rattle.step_plans.specs.declared.fault.PlanFault.{PlanFault}
 use Rattle.step_plans.specs.declared.fault.PlanFault.TheVariants as plan
 use Rattle.command_stages.specs.Texts.{Commanded, too_large}
 
--- What a fault of a plan on this name of the current directory is to the command. There is no number to run out of there and no directory to be missing,
--- so of these two none comes.
+-- What a fault of a plan on this name of the current directory is to the command. There is no number to run out of
+-- there and no directory to be missing, so of these two none comes.
 abbrev pub of_work : List ℕ → PlanFault → CommandFault
 of_work name plan.Faulted = command.Faulted Files
 of_work name (plan.Locked place) = command.Locked place
@@ -23,8 +23,9 @@ of_work name (plan.Absent place) = command.Meddled place name
 of_work name (plan.TooLarge l) = too_large l
 of_work name plan.Memory = command.Memory
 
--- The message is made under a temporary name and made safe; then the draft is set aside, and then the message takes its name, and the current directory is made
--- safe. So at each step the draft stands whole under its name, or under the one where it is set aside.
+-- The message is made under a temporary name and made safe; then the draft is set aside, and then the message takes its
+-- name, and the current directory is made safe. So at each step the draft stands whole under its name, or under the one
+-- where it is set aside.
 unfoldable pub set_in_place : ℕ → List ℕ → List ℕ → Planned Unit
 set_in_place run name message = do
   temp ← written run Work message

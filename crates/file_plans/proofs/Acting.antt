@@ -12,6 +12,7 @@ use Rattle.folder_files.specs.declared.event.Event.{Event}
 use Rattle.folder_files.specs.declared.event.Event.TheVariants.{Act, Deliver, Crash, End}
 use Rattle.folder_files.specs.declared.step.Step.{Step}
 use Rattle.folder_files.specs.declared.step.Answer.{Answer}
+use Rattle.folder_files.proofs.OwnDeeds.{own_one}
 use Rattle.file_plans.specs.Follows.{Turn, Filed, Spoke, Took, filed_in, deeds_in}
 use Rattle.file_plans.specs.Runs.{Deed, Did, Said, Heard}
 use Rattle.file_plans.specs.Sightings.{AreMade, events_since}
@@ -36,7 +37,7 @@ acts_append past (Heard piece ∷ a) b = acts_append past a b
 deed_mine : (run : ℕ) (s : Step) (a : Answer) (b : Bool) → b ≡ true → (if b then did s a ∷ [] else []) ≡ did s a ∷ []
 deed_mine run s a b e = rw e refl
 
-deed_other : (run : ℕ) (e : Event) → IsOther run e → deed_of run e ≡ []
+pub deed_other : (run : ℕ) (e : Event) → IsOther run e → deed_of run e ≡ []
 deed_other run (Act r s a f) o = rw (num_not r run o) refl
 deed_other run (Deliver path piece) o = refl
 deed_other run (Crash v) o = refl
@@ -46,10 +47,6 @@ pub own_append : (run : ℕ) (a b : List Event) → own run (a ++ b) ≡ own run
 unfolding own
 own_append run [] b = refl
 own_append run (e ∷ a) b = ap (λ t. deed_of run e ++ t) (own_append run a b) ∙ sym (append_assoc (deed_of run e) (own run a) (own run b))
-
-own_one : (run : ℕ) (e : Event) → own run (e ∷ []) ≡ deed_of run e
-unfolding own
-own_one run e = append-nil (deed_of run e)
 
 -- one more event at the end of a list that is turned round
 own_turned : (run : ℕ) (e : Event) (es : List Event) → own run (reverse (e ∷ es)) ≡ own run (reverse es) ++ deed_of run e

@@ -4,6 +4,7 @@ pub mod Beside
 pub mod Both
 pub mod Clearing
 pub mod Contents
+pub mod EmptyFolders
 pub mod Existing
 pub mod Failing
 pub mod Following

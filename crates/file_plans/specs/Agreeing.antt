@@ -14,7 +14,8 @@ use Rattle.file_plans.specs.Views.{View, first_view, number_put, is_exists, by_v
 -- each step that did not fail has a fitting answer, and this state comes after it; the newest first
 abbrev pub FitPast : {S : Type 0} → Table S → S → List Deed → S → Type 0
 FitPast t s [] z = z ≡ s
-FitPast {S = S} t s (d ∷ ds) z = (y : S) × FitPast t s ds y × (d.answer ≢ Failed → t.fits y d.step d.answer) × (z ≡ t.after y d.step d.answer)
+FitPast {S = S} t s (d ∷ ds) z =
+    (y : S) × FitPast t s ds y × (d.answer ≢ Failed → t.fits y d.step d.answer) × (z ≡ t.after y d.step d.answer)
 
 abbrev pub with_number : Option ℕ → List ℕ → List ℕ
 with_number None ns = ns
@@ -27,37 +28,15 @@ numbers_put (d ∷ ds) later = numbers_put ds (with_number (number_put d.step d.
 
 -- a Link to this name was answered Exists
 abbrev pub met_by : Step → Answer → Place → List ℕ → Bool
-met_by (step.List q) a p x = false
-met_by (step.Read q n limit) a p x = false
-met_by (step.MakeFolder q) a p x = false
-met_by (step.Create q n b) a p x = false
-met_by (step.SyncFile q n) a p x = false
-met_by (step.SyncFolder q) a p x = false
 met_by (step.Link q n m) a p x = is_exists a && is_at q m p x
-met_by (step.Rename q n m) a p x = false
-met_by (step.Unlink q n) a p x = false
-met_by (step.Lock q) a p x = false
-met_by (step.Unlock q) a p x = false
-met_by (step.ReadFile path limit) a p x = false
-met_by (step.ReadDrop path from most) a p x = false
-met_by (step.CutDrop path n) a p x = false
+met_by s a p x = false
 
 -- the step led this name to a file
 abbrev pub made_by : Step → Answer → Place → List ℕ → Bool
-made_by (step.List q) a p x = false
-made_by (step.Read q n limit) a p x = false
-made_by (step.MakeFolder q) a p x = false
 made_by (step.Create q n b) a p x = where_done a (is_at q n p x) false
-made_by (step.SyncFile q n) a p x = false
-made_by (step.SyncFolder q) a p x = false
 made_by (step.Link q n m) a p x = where_done a (is_at q m p x) false
 made_by (step.Rename q n m) a p x = where_done a (is_at q m p x) false
-made_by (step.Unlink q n) a p x = false
-made_by (step.Lock q) a p x = false
-made_by (step.Unlock q) a p x = false
-made_by (step.ReadFile path limit) a p x = false
-made_by (step.ReadDrop path from most) a p x = false
-made_by (step.CutDrop path n) a p x = false
+made_by s a p x = false
 
 -- an own step led this name to a file
 abbrev pub is_made : List Deed → Place → List ℕ → Bool
@@ -73,7 +52,8 @@ is_first_met (d ∷ ds) p x = (met_by d.step d.answer p x && not (is_made ds p x
 -- contents, as a call met them, agree with the answers to its own steps: wherever a name still led to what stood there
 -- at first, and an answer was the first to tell of it, it told what these contents have there
 abbrev pub AgreesWith : Contents → List Deed → Type 0
-AgreesWith c deeds = (z : View) × FitPast (by_view false) (first_view c (numbers_put deeds []) (is_first_met deeds)) deeds z
+AgreesWith c deeds =
+    (z : View) × FitPast (by_view false) (first_view c (numbers_put deeds []) (is_first_met deeds)) deeds z
 
 -- a mailbox agrees with the answers where contents of which it is the mailbox do
 pub record MailboxAgrees (m : Mailbox) (deeds : List Deed) : Type 0 where

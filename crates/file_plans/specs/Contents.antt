@@ -12,7 +12,7 @@ use Rattle.folder_files.specs.declared.place.FilePath.{FilePath}
 use Rattle.folder_files.specs.declared.step.Step.{Step}
 use Rattle.folder_files.specs.declared.step.Step.TheVariants as step
 use Rattle.folder_files.specs.declared.step.Answer.{Answer}
-use Rattle.folder_files.specs.declared.step.Answer.TheVariants.{Done, Names, Content, Piece, Long, Gone, Exists, Busy, Grown, Failed}
+use Rattle.folder_files.specs.declared.step.Answer.TheVariants.{Done, Names, Gone, Exists}
 use Rattle.file_plans.specs.Giving.{Table}
 use Rattle.file_plans.specs.Mailboxes.{Folder, Mailbox, numbered, text_in, where_folder, where_mail}
 
@@ -64,32 +64,17 @@ with_cut c path n = record { there = c.there; texts = c.texts; outside = λ f. i
 
 abbrev pub where_done : {A : Type 0} → Answer → A → A → A
 where_done Done x y = x
-where_done (Names names) x y = y
-where_done (Content b) x y = y
-where_done (Piece b l) x y = y
-where_done (Long l) x y = y
-where_done Gone x y = y
-where_done Exists x y = y
-where_done Busy x y = y
-where_done Grown x y = y
-where_done Failed x y = y
+where_done other x y = y
 
 -- what a step with its answer makes of them
 abbrev pub changed_by : Contents → Step → Answer → Contents
-changed_by c (step.List p) a = c
-changed_by c (step.Read p n limit) a = c
 changed_by c (step.MakeFolder p) a = with_folder c p
 changed_by c (step.Create p n b) a = where_done a (with_text c p n (Some b)) c
-changed_by c (step.SyncFile p n) a = c
-changed_by c (step.SyncFolder p) a = c
 changed_by c (step.Link p n m) a = where_done a (with_text c p m (c.texts p n)) c
 changed_by c (step.Rename p n m) a = where_done a (with_moved c p n m) c
 changed_by c (step.Unlink p n) a = where_done a (with_text c p n None) c
-changed_by c (step.Lock p) a = c
-changed_by c (step.Unlock p) a = c
-changed_by c (step.ReadFile path limit) a = c
-changed_by c (step.ReadDrop path from most) a = c
 changed_by c (step.CutDrop path n) a = with_cut c path n
+changed_by c s a = c
 
 abbrev pub name_answer : Option (List ℕ) → Answer
 name_answer None = Gone
@@ -111,16 +96,9 @@ pub record IsListingIn (c : Contents) (p : Place) (names : List (List ℕ)) : Ty
   pub all : (x : List ℕ) → has_text x names ≡ is_some (c.texts p x)
 
 abbrev pub IsListedIn : Contents → Place → Answer → Type 0
-IsListedIn c p Done = ⊥
 IsListedIn c p (Names names) = (c.there p ≡ true) × IsListingIn c p names
-IsListedIn c p (Content b) = ⊥
-IsListedIn c p (Piece b n) = ⊥
-IsListedIn c p (Long n) = ⊥
 IsListedIn c p Gone = c.there p ≡ false
-IsListedIn c p Exists = ⊥
-IsListedIn c p Busy = ⊥
-IsListedIn c p Grown = ⊥
-IsListedIn c p Failed = ⊥
+IsListedIn c p other = ⊥
 
 -- the answer that a step has there, where no other run has a lock
 abbrev pub FitsIn : Contents → Step → Answer → Type 0

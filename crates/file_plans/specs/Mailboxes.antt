@@ -9,14 +9,16 @@ use Rattle.folder_files.specs.declared.place.Place.{Place}
 use Rattle.folder_files.specs.declared.place.Place.TheVariants.{Home, Work}
 use Rattle.folder_files.specs.declared.place.FilePath.{FilePath}
 
--- a folder: its messages by number, the removed ones, those held aside by run (below 2^128) and number, and the text of its sequences
+-- a folder: its messages by number, the removed ones, those held aside by run (below 2^128) and number, and the text of
+-- its sequences
 pub record Folder : Type 0 where
   pub messages : ℕ → Option (List ℕ)
   pub removed : ℕ → Option (List ℕ)
   pub held : ℕ → ℕ → Option (List ℕ)
   pub sequences : Option (List ℕ)
 
--- a mailbox: its folders, the files of the home and the current directory, the context of each mail directory, and the files outside
+-- a mailbox: its folders, the files of the home and the current directory, the context of each mail directory, and the
+-- files outside
 pub record Mailbox : Type 0 where
   pub folders : Place → Option Folder
   pub home : List ℕ → Option (List ℕ)
@@ -68,7 +70,8 @@ mailbox_of w = record {
 -- those of so many numbers from n on that have a message, ascending
 unfoldable pub numbers_from : (ℕ → Option (List ℕ)) → ℕ → ℕ → List ℕ
 numbers_from messages n zero = []
-numbers_from messages n (suc k) = if is_some (messages n) then n ∷ numbers_from messages (n + 1) k else numbers_from messages (n + 1) k
+numbers_from messages n (suc k) =
+    if is_some (messages n) then n ∷ numbers_from messages (n + 1) k else numbers_from messages (n + 1) k
 
 -- the numbers of a folder's messages, ascending
 unfoldable pub numbers_of : Folder → List ℕ

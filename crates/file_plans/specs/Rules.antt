@@ -7,7 +7,8 @@ use Rattle.folder_files.specs.Rows.{IsAnswerOf}
 use Rattle.file_plans.specs.Plan.{Hand, Plan, Return, Ask, Try, Say, Hear, Recall, Note}
 use Rattle.file_plans.specs.Runs.{Exit, Returned, FilesFailed, InFailed, OutFailed, NoMemory, Deed, Did, Said, Heard}
 
--- what may be asked and said after these deeds, whether the input may be read, and what holds of the deeds and the hand at each point
+-- what may be asked and said after these deeds, whether the input may be read, and what holds of the deeds and the hand
+-- at each point
 pub record Rules : Type 1 where
   pub may_ask : List Deed → Step → Type 0
   pub may_say : List Deed → List ℕ → Type 0
@@ -40,18 +41,18 @@ AreKept u past [] = Unit {0}
 AreKept u past (d ∷ ds) = IsKept u past d × AreKept u (past ++ d ∷ []) ds
 
 -- what holds where a plan returned; and the input fails only where it may be read
-abbrev pub Gave : {R : Type 0} → Rules → (List Deed → Hand → R → Type 0) → List Deed → Hand → Exit R → Type 0
-Gave u Q past h (Returned r) = Q past h r
-Gave u Q past h FilesFailed = Unit {0}
-Gave u Q past h InFailed = u.may_hear past
-Gave u Q past h OutFailed = Unit {0}
-Gave u Q past h NoMemory = Unit {0}
+abbrev pub IsKeptExit : {R : Type 0} → Rules → (List Deed → Hand → R → Type 0) → List Deed → Hand → Exit R → Type 0
+IsKeptExit u Q past h (Returned r) = Q past h r
+IsKeptExit u Q past h FilesFailed = Unit {0}
+IsKeptExit u Q past h InFailed = u.may_hear past
+IsKeptExit u Q past h OutFailed = Unit {0}
+IsKeptExit u Q past h NoMemory = Unit {0}
 
 -- what a run of the plan keeps, at every exit
 pub record Kept {R : Type 0} (u : Rules) (past ds : List Deed) (h : Hand) (exit : Exit R) (Q : List Deed → Hand → R → Type 0) : Type 0 where
   pub kept : AreKept u past ds
   pub holds : u.holds (past ++ ds) h
-  pub gave : Gave u Q (past ++ ds) h exit
+  pub gave : IsKeptExit u Q (past ++ ds) h exit
 
 -- what holds where a call is Ok
 abbrev pub IfOkay : {A E : Type 0} → (List Deed → Hand → A → Type 0) → List Deed → Hand → Result A E → Type 0

@@ -1,4 +1,5 @@
--- What a call did to the files: its story goes on, stays a possible one, and the call's own steps in it are careful and of its command's kinds.
+-- What a call did to the files: its story goes on, stays a possible one, and the call's own steps in it are careful and
+-- of its command's kinds.
 use Rattle.std.specs.Prelude.{◌≡◌, ◌++◌, ℕ, List, [], ◌∷◌, length, Option, Some, None}
 use Rattle.folder_files.specs.Careful.{Kind, Keeps, IsLook}
 use Rattle.folder_files.specs.Commands.{Manner, MakesStep}
@@ -11,8 +12,8 @@ use Rattle.folder_files.specs.declared.event.Event.TheVariants.{Act}
 use Rattle.folder_files.specs.declared.step.Answer.{Answer}
 use Rattle.folder_files.specs.declared.step.Step.{Step}
 
--- after these deeds of the run a step looks; or none has failed, and it changes something in a kind, and where, commands of this manner do,
--- names of a folder or the mail directory only under its lock
+-- after these deeds of the run a step looks; or none has failed, and it changes something in a kind, and where,
+-- commands of this manner do, names of a folder or the mail directory only under its lock
 pub data IsOwnStep (run : ℕ) (manner : Manner) (own : List deeds.Deed) (s : Step) : Type 0 where
   only_looks : IsLook s → IsOwnStep run manner own s
   careful : (deeds.HasFailed own → ⊥) → (kind : Kind) → Keeps run own kind s → MakesStep manner own kind s → IsOrderly own s → IsOwnStep run manner own s
@@ -32,7 +33,8 @@ abbrev pub HoldOwnSteps : ℕ → Manner → List Event → List ℕ → Type 0
 HoldOwnSteps run manner history [] = Unit {0}
 HoldOwnSteps run manner history (n ∷ ns) = HoldsOwnStep run manner history n × HoldOwnSteps run manner history ns
 
--- the story went on from the same start; if it was possible, it is; and at each place that the call added to the asked ones stands such a step
+-- the story went on from the same start; if it was possible, it is; and at each place that the call added to the asked
+-- ones stands such a step
 pub record GoesOnCarefully (run : ℕ) (manner : Manner) (old new : Story) : Type 0 where
   pub start : new.start ≡ old.start
   pub more : List Event

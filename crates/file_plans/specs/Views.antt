@@ -72,40 +72,19 @@ abbrev pub with_place : Seen → Place → Seen
 with_place k q = record { names = k.names; places = λ p. same_place q p || k.places p; files = k.files }
 
 abbrev pub after_list : (Place → List ℕ → Bool) → Seen → Place → Answer → Seen
-after_list met k p Done = k
 after_list met k p (Names names) = with_listing met (with_place k p) p names
-after_list met k p (Content b) = k
-after_list met k p (Piece b l) = k
-after_list met k p (Long l) = k
 after_list met k p Gone = with_place k p
-after_list met k p Exists = k
-after_list met k p Busy = k
-after_list met k p Grown = k
-after_list met k p Failed = k
+after_list met k p other = k
 
 abbrev pub after_link : Seen → Place → List ℕ → List ℕ → Answer → Seen
 after_link k p a b Done = sight_moved k p a b
-after_link k p a b (Names names) = k
-after_link k p a b (Content bytes) = k
-after_link k p a b (Piece bytes l) = k
-after_link k p a b (Long l) = k
-after_link k p a b Gone = k
 after_link k p a b Exists = with_sight k p b (noticed (k.names p b))
-after_link k p a b Busy = k
-after_link k p a b Grown = k
-after_link k p a b Failed = k
+after_link k p a b other = k
 
 abbrev pub by_piece : {A : Type 0} → Answer → (List ℕ → ℕ → A) → A → A → A
-by_piece Done f g x = x
-by_piece (Names names) f g x = x
-by_piece (Content b) f g x = x
 by_piece (Piece b l) f g x = f b l
-by_piece (Long l) f g x = x
 by_piece Gone f g x = g
-by_piece Exists f g x = x
-by_piece Busy f g x = x
-by_piece Grown f g x = x
-by_piece Failed f g x = x
+by_piece other f g x = x
 
 -- the first piece tells the length, and each that begins where the one before it ended tells more of so many bytes
 abbrev pub spied_by : Spied → ℕ → Answer → Spied
@@ -159,53 +138,23 @@ PlaceTells true there b = Unit {0}
 PlaceTells false there b = there ≡ b
 
 abbrev pub ListTells : (Place → List ℕ → Bool) → Contents → Seen → Place → Answer → Type 0
-ListTells met c k p Done = Unit {0}
 ListTells met c k p (Names names) = PlaceTells (k.places p) (c.there p) true × ((x : List ℕ) → is_standing x ≡ true → ListingTells (k.names p x) (c.texts p x) (has_text x names || met p x))
-ListTells met c k p (Content b) = Unit {0}
-ListTells met c k p (Piece b l) = Unit {0}
-ListTells met c k p (Long l) = Unit {0}
 ListTells met c k p Gone = PlaceTells (k.places p) (c.there p) false
-ListTells met c k p Exists = Unit {0}
-ListTells met c k p Busy = Unit {0}
-ListTells met c k p Grown = Unit {0}
-ListTells met c k p Failed = Unit {0}
+ListTells met c k p other = Unit {0}
 
 -- a Link tells whether its new name was there
 abbrev pub LinkTells : Sight → Option (List ℕ) → Answer → Type 0
 LinkTells s o Done = ListingTells s o false
-LinkTells s o (Names names) = Unit {0}
-LinkTells s o (Content b) = Unit {0}
-LinkTells s o (Piece b l) = Unit {0}
-LinkTells s o (Long l) = Unit {0}
-LinkTells s o Gone = Unit {0}
 LinkTells s o Exists = ListingTells s o true
-LinkTells s o Busy = Unit {0}
-LinkTells s o Grown = Unit {0}
-LinkTells s o Failed = Unit {0}
+LinkTells s o other = Unit {0}
 
 abbrev pub is_gone : Answer → Bool
 is_gone Gone = true
-is_gone Done = false
-is_gone (Names names) = false
-is_gone (Content b) = false
-is_gone (Piece b l) = false
-is_gone (Long l) = false
-is_gone Exists = false
-is_gone Busy = false
-is_gone Grown = false
-is_gone Failed = false
+is_gone other = false
 
 abbrev pub is_exists : Answer → Bool
 is_exists Exists = true
-is_exists Done = false
-is_exists (Names names) = false
-is_exists (Content b) = false
-is_exists (Piece b l) = false
-is_exists (Long l) = false
-is_exists Gone = false
-is_exists Busy = false
-is_exists Grown = false
-is_exists Failed = false
+is_exists other = false
 
 abbrev pub FileTells : Spied → Option (List ℕ) → ℕ → Answer → Type 0
 FileTells Hidden o limit a = a ≡ read_file_answer limit o
@@ -214,7 +163,8 @@ FileTells Spent o limit a = Unit {0}
 
 -- a piece tells of the bytes that come next
 abbrev pub DropTells : Spied → Option (List ℕ) → ℕ → ℕ → Answer → Type 0
-DropTells Hidden o from most a = (((b : List ℕ) (l : ℕ) → a ≡ Piece b l → from ≡ 0 → a ≡ piece_answer from most o)) × (a ≡ Gone → o ≡ None)
+DropTells Hidden o from most a =
+    (((b : List ℕ) (l : ℕ) → a ≡ Piece b l → from ≡ 0 → a ≡ piece_answer from most o)) × (a ≡ Gone → o ≡ None)
 DropTells (Upto whole told) o from most a = (b : List ℕ) (l : ℕ) → a ≡ Piece b l → from ≡ told → take (length (take (whole - told) b)) (drop told (filled o)) ≡ take (whole - told) b
 DropTells Spent o from most a = Unit {0}
 
@@ -223,34 +173,17 @@ abbrev pub Tells : (Place → List ℕ → Bool) → Contents → Seen → Step 
 Tells met c k (step.List p) a = ListTells met c k p a
 Tells met c k (step.Read p n limit) a = ReadTells (k.names p n) (c.texts p n) limit a
 Tells met c k (step.MakeFolder p) a = PlaceTells (k.places p) (c.there p) (is_exists a)
-Tells met c k (step.Create p n b) a = Unit {0}
-Tells met c k (step.SyncFile p n) a = Unit {0}
-Tells met c k (step.SyncFolder p) a = Unit {0}
 Tells met c k (step.Link p n m) a = LinkTells (k.names p m) (c.texts p m) a
-Tells met c k (step.Rename p n m) a = Unit {0}
-Tells met c k (step.Unlink p n) a = Unit {0}
 Tells met c k (step.Lock p) a = PlaceTells (k.places p) (c.there p) (if is_gone a then false else true)
-Tells met c k (step.Unlock p) a = Unit {0}
 Tells met c k (step.ReadFile path limit) a = FileTells (k.files path) (c.outside path) limit a
 Tells met c k (step.ReadDrop path from most) a = DropTells (k.files path) (c.outside path) from most a
-Tells met c k (step.CutDrop path n) a = Unit {0}
+Tells met c k s a = Unit {0}
 
 -- the number that a put or a give gets by a step with this answer: a Temp or a Held name was linked to it
 abbrev pub number_put : Step → Answer → Option ℕ
-number_put (step.List p) x = None
-number_put (step.Read p n limit) x = None
-number_put (step.MakeFolder p) x = None
-number_put (step.Create p n b) x = None
-number_put (step.SyncFile p n) x = None
-number_put (step.SyncFolder p) x = None
-number_put (step.Link p a b) x = where_done x (if is_temp (kind_of a) || is_held (kind_of a) then number_of b else None) None
-number_put (step.Rename p a b) x = None
-number_put (step.Unlink p n) x = None
-number_put (step.Lock p) x = None
-number_put (step.Unlock p) x = None
-number_put (step.ReadFile path limit) x = None
-number_put (step.ReadDrop path from most) x = None
-number_put (step.CutDrop path n) x = None
+number_put (step.Link p a b) x =
+    where_done x (if is_temp (kind_of a) || is_held (kind_of a) then number_of b else None) None
+number_put s x = None
 
 -- these are the numbers of all puts that are still to come, and that step's is the next of them
 abbrev pub IsNextOf : Option ℕ → List ℕ → Type 0

@@ -17,6 +17,8 @@ summary_by name k (Some least) (Some greatest) cur =
 summary_by name k (Some least) None cur = name ++ codes "+ has no messages.\n"
 summary_by name k None greatest cur = name ++ codes "+ has no messages.\n"
 
--- the line of the folder of this name, in bytes, whose messages have these numbers, ascending; of an empty one no current message is told
+-- the line of the folder of this name, in bytes, whose messages have these numbers, ascending; of an empty one no
+-- current message is told
 unfoldable pub summary : List ℕ → List ℕ → Option ℕ → List ℕ
-summary name numbers cur = summary_by name (length numbers) (slice_get numbers 0) (slice_get numbers (length numbers - 1)) cur
+summary name numbers cur =
+    summary_by name (length numbers) (slice_get numbers 0) (slice_get numbers (length numbers - 1)) cur

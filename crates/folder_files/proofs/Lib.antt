@@ -1,8 +1,10 @@
-pub mod Worked
-pub mod Kinding
-pub mod Walking
-pub mod Names
-pub mod Sameness
+pub mod Beginning
 pub mod Changes
 pub mod Effects
-pub mod Beginning
+pub mod Kinding
+pub mod Names
+pub mod Noting
+pub mod OwnDeeds
+pub mod Sameness
+pub mod Walking
+pub mod Worked

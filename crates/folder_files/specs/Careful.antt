@@ -22,7 +22,8 @@ WasSynced p temp own = Once (λ d older. (d ≡ did (step.SyncFile p temp) Done)
 
 -- the same with these bytes
 abbrev pub WasReady : Place → List ℕ → List ℕ → List Deed → Type 0
-WasReady p temp bytes own = Once (λ d older. (d ≡ did (step.SyncFile p temp) Done) × WasDone (step.Create p temp bytes) older) own
+WasReady p temp bytes own =
+    Once (λ d older. (d ≡ did (step.SyncFile p temp) Done) × WasDone (step.Create p temp bytes) older) own
 
 -- a file that this run made is ready to be seen
 abbrev pub IsReady : ℕ → Place → List ℕ → List Deed → Type 0
@@ -44,7 +45,8 @@ WasPutFrom run q temp own = Once (λ d older. IsPutLink run q temp d) own
 
 -- a message with these bytes was put into a folder, as a file that was not put before
 abbrev pub IsFirstPut : ℕ → Place → List ℕ → Deed → List Deed → Type 0
-IsFirstPut run q bytes d older = (temp : List ℕ) × IsPutLink run q temp d × WasReady q temp bytes older × (WasPutFrom run q temp older → ⊥)
+IsFirstPut run q bytes d older =
+    (temp : List ℕ) × IsPutLink run q temp d × WasReady q temp bytes older × (WasPutFrom run q temp older → ⊥)
 
 -- the run renamed a number to its held name of that number
 abbrev pub WasTaken : ℕ → Place → List ℕ → List Deed → Type 0
@@ -64,7 +66,8 @@ IsRead p n bytes d = (limit : ℕ) × (d ≡ did (step.Read p n limit) (Content 
 
 -- a file was made with the bytes, or with lines before them
 abbrev pub WasCopied : Place → List ℕ → List ℕ → List Deed → Type 0
-WasCopied q temp bytes own = Once (λ d older. (copy : List ℕ) × (d ≡ did (step.Create q temp copy) Done) × Annotates bytes copy) own
+WasCopied q temp bytes own =
+    Once (λ d older. (copy : List ℕ) × (d ≡ did (step.Create q temp copy) Done) × Annotates bytes copy) own
 
 -- such a file was put into a folder
 abbrev pub IsCopyPut : ℕ → List ℕ → Deed → List Deed → Type 0
@@ -76,7 +79,8 @@ WasReadAs p held copy own = Once (λ d older. (bytes : List ℕ) × IsRead p hel
 
 -- after such a reading a file was made with the copy
 abbrev pub WasCopiedFrom : Place → List ℕ → Place → List ℕ → List Deed → Type 0
-WasCopiedFrom p held q temp own = Once (λ d older. (copy : List ℕ) × (d ≡ did (step.Create q temp copy) Done) × WasReadAs p held copy older) own
+WasCopiedFrom p held q temp own =
+    Once (λ d older. (copy : List ℕ) × (d ≡ did (step.Create q temp copy) Done) × WasReadAs p held copy older) own
 
 -- a successor of the held file was put into the folder q
 abbrev pub IsSuccessorPut : ℕ → Place → List ℕ → Place → Deed → List Deed → Type 0
@@ -88,13 +92,16 @@ IsSucceeded run p held newer d = (bytes : List ℕ) → IsRead p held bytes d �
 
 -- where the deed puts a successor, its folder was synced after it
 abbrev pub IsSuccessorSynced : ℕ → Place → List ℕ → List Deed → Deed → List Deed → Type 0
-IsSuccessorSynced run p held newer d older = (q : Place) → IsSuccessorPut run p held q d older → WasDone (step.SyncFolder q) newer
+IsSuccessorSynced run p held newer d older =
+    (q : Place) → IsSuccessorPut run p held q d older → WasDone (step.SyncFolder q) newer
 
 -- the run took the message and then read it
 abbrev pub WasTakenAndRead : ℕ → Place → List ℕ → List Deed → Type 0
-WasTakenAndRead run p held own = Once (λ d older. ((bytes : List ℕ) × IsRead p held bytes d) × WasTaken run p held older) own
+WasTakenAndRead run p held own =
+    Once (λ d older. ((bytes : List ℕ) × IsRead p held bytes d) × WasTaken run p held older) own
 
--- a message that the run took and read stands elsewhere: after each reading a copy was put, and after each such put its folder was synced
+-- a message that the run took and read stands elsewhere: after each reading a copy was put, and after each such put its
+-- folder was synced
 pub record MayDiscard (run : ℕ) (p : Place) (held : List ℕ) (own : List Deed) : Type 0 where
   pub not_given_away : WasGivenAway p held own → ⊥
   pub taken_and_read : WasTakenAndRead run p held own
@@ -135,8 +142,8 @@ pub data HasPieces (f : FilePath) : List ℕ → List Deed → Type 0 where
 abbrev pub IsNoFirst : FilePath → Deed → Type 0
 IsNoFirst f d = (most : ℕ) → d.step ≢ step.ReadDrop f 0 most
 
--- these messages, the last first, were put one after another since the last piece from place 0, each as a file of its own, and each one's
--- folder was synced after it
+-- these messages, the last first, were put one after another since the last piece from place 0, each as a file of its
+-- own, and each one's folder was synced after it
 pub data HasStored (run : ℕ) (f : FilePath) : List Deed → List (List ℕ) → List Deed → Type 0 where
   all : {newer own : List Deed} → HasStored run f newer [] own
   put : {newer own : List Deed} {d : Deed} (q : Place) {message : List ℕ} {messages : List (List ℕ)} → IsFirstPut run q message d own → WasDone (step.SyncFolder q) newer

@@ -12,7 +12,8 @@ use Rattle.folder_files.specs.declared.place.FilePath.{FilePath}
 use Rattle.folder_files.specs.declared.step.Step.{Step}
 use Rattle.folder_files.specs.declared.step.Step.TheVariants as step
 
--- what a command may change, and where: folders by their names in one mail directory, and the numbers that its words chose
+-- what a command may change, and where: folders by their names in one mail directory, and the numbers that its words
+-- chose
 pub data Manner : Type 0 where
   -- it looks, and changes nothing
   Looking : Manner
@@ -45,7 +46,8 @@ abbrev pub IsMadeIn : Place → Step → Type 0
 IsMadeIn p (step.MakeFolder q) = p ≡ q
 IsMadeIn p s = Changes p s
 
--- kinds that serve a file that is written anew: its directory is made, files are made, one takes the name, and temporary names are cleared
+-- kinds that serve a file that is written anew: its directory is made, files are made, one takes the name, and
+-- temporary names are cleared
 abbrev pub serves_commit : Kind → Bool
 serves_commit Makes = true
 serves_commit Creates = true
@@ -72,7 +74,8 @@ KeepsContext mail kind s = (serves_commit kind ≡ true) × IsMadeIn (Mail mail)
 
 -- what begins a folder and keeps its marks, and the context with them
 abbrev pub KeepsFolder : List ℕ → List ℕ → Kind → Step → Type 0
-KeepsFolder mail folder kind s = ((begins_folder kind ≡ true) × IsMadeIn (Folder mail folder) s) ⊎ KeepsContext mail kind s
+KeepsFolder mail folder kind s =
+    ((begins_folder kind ≡ true) × IsMadeIn (Folder mail folder) s) ⊎ KeepsContext mail kind s
 
 -- the same of one of these folders
 abbrev pub KeepsOneOf : List ℕ → List (List ℕ) → Kind → Step → Type 0
@@ -84,7 +87,8 @@ StoresFile kind s = (serves_store kind ≡ true) × Changes Work s
 
 -- the step takes, or removes, a chosen number of this folder
 abbrev pub TakesChosen : Place → List ℕ → Kind → Step → Type 0
-TakesChosen p chosen kind s = (kind ≡ Takes) × (number : List ℕ) × IsChosen chosen number × (held : List ℕ) × (s ≡ step.Rename p number held)
+TakesChosen p chosen kind s =
+    (kind ≡ Takes) × (number : List ℕ) × IsChosen chosen number × (held : List ℕ) × (s ≡ step.Rename p number held)
 
 abbrev pub RemovesChosen : Place → List ℕ → Kind → Step → Type 0
 RemovesChosen p chosen kind s =
@@ -92,14 +96,17 @@ RemovesChosen p chosen kind s =
 
 -- a message that this run holds aside in this folder was read, or a chosen one that stands there, and had these bytes
 abbrev pub HasReadHeld : Place → List ℕ → List Deed → Type 0
-HasReadHeld p bytes own = Once (λ d older. (held : List ℕ) × (is_held (kind_of held) ≡ true) × IsRead p held bytes d) own
+HasReadHeld p bytes own =
+    Once (λ d older. (held : List ℕ) × (is_held (kind_of held) ≡ true) × IsRead p held bytes d) own
 
 abbrev pub HasReadChosen : Place → List ℕ → List ℕ → List Deed → Type 0
-HasReadChosen p chosen bytes own = Once (λ d older. (number : List ℕ) × IsChosen chosen number × IsRead p number bytes d) own
+HasReadChosen p chosen bytes own =
+    Once (λ d older. (number : List ℕ) × IsChosen chosen number × IsRead p number bytes d) own
 
 -- the step puts a file of these bytes into this folder
 abbrev pub PutsBytes : Place → List ℕ → List Deed → Kind → Step → Type 0
-PutsBytes p bytes own kind s = (kind ≡ Puts) × (temp number : List ℕ) × (s ≡ step.Link p temp number) × WasReady p temp bytes own
+PutsBytes p bytes own kind s =
+    (kind ≡ Puts) × (temp number : List ℕ) × (s ≡ step.Link p temp number) × WasReady p temp bytes own
 
 -- it puts into one of these folders what was read so
 abbrev pub PutsRead : List ℕ → List (List ℕ) → (List ℕ → Type 0) → List Deed → Kind → Step → Type 0
@@ -120,8 +127,10 @@ MakesStep (Refiling mail source chosen targets) own kind s =
     ⊎ (PutsRead mail targets (λ bytes. HasReadHeld (Folder mail source) bytes own) own kind s ⊎ ((kind ≡ Discards) × Changes (Folder mail source) s))))
 MakesStep (Linking mail source chosen targets) own kind s =
     KeepsFolder mail source kind s ⊎ (KeepsOneOf mail targets kind s ⊎ PutsRead mail targets (λ bytes. HasReadChosen (Folder mail source) chosen bytes own) own kind s)
-MakesStep (Removing mail folder chosen) own kind s = KeepsFolder mail folder kind s ⊎ RemovesChosen (Folder mail folder) chosen kind s
-MakesStep (Sorting mail folder chosen) own kind s = KeepsFolder mail folder kind s ⊎ TakesChosen (Folder mail folder) chosen kind s
+MakesStep (Removing mail folder chosen) own kind s =
+    KeepsFolder mail folder kind s ⊎ RemovesChosen (Folder mail folder) chosen kind s
+MakesStep (Sorting mail folder chosen) own kind s =
+    KeepsFolder mail folder kind s ⊎ TakesChosen (Folder mail folder) chosen kind s
 MakesStep (Annotating mail folder chosen lines) own kind s =
     KeepsFolder mail folder kind s
     ⊎ (TakesChosen (Folder mail folder) chosen kind s

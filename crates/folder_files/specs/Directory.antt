@@ -51,4 +51,5 @@ AllKept x (c ∷ cs) keep = (touches c x ≡ true → keep (length cs) ≡ true)
 -- with each kept change every earlier one that touches one of its names is kept
 abbrev pub IsClosed : List Change → (ℕ → Bool) → Type 0
 IsClosed [] keep = Unit {0}
-IsClosed (c ∷ cs) keep = (keep (length cs) ≡ true → (x : List ℕ) → touches c x ≡ true → AllKept x cs keep) × IsClosed cs keep
+IsClosed (c ∷ cs) keep =
+    (keep (length cs) ≡ true → (x : List ℕ) → touches c x ≡ true → AllKept x cs keep) × IsClosed cs keep

@@ -25,7 +25,8 @@ Grows-trans run a b c l m p q =
       possible = λ old. q.possible (p.possible old);
     }
 
-pub GrowsBy-trans : (run : ℕ) (a b c : Option Story) (l m : List Moment) → GrowsBy run a b l → GrowsBy run b c m → GrowsBy run a c (l ++ m)
+pub GrowsBy-trans : (run : ℕ) (a b c : Option Story) (l m : List Moment) → GrowsBy run a b l → GrowsBy run b c m
+    → GrowsBy run a c (l ++ m)
 GrowsBy-trans run None None None l m p q = tt
 GrowsBy-trans run (Some a) (Some b) (Some c) l m p q = Grows-trans run a b c l m p q
 GrowsBy-trans run None (Some b) c l m p q = absurd p

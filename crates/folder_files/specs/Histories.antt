@@ -65,8 +65,8 @@ has_acted (End r ∷ past) run = has_acted past run
 abbrev pub IsLive : ℕ → WorldMap → Type 0
 IsLive run w = w.ended run ≡ false
 
--- a legal history: each step has an answer, and leaves what it may leave; a crash leaves an image; a crash within a step leaves an image
--- of the world with that step made, and the step stands after it as failed
+-- a legal history: each step has an answer, and leaves what it may leave; a crash leaves an image; a crash within a
+-- step leaves an image of the world with that step made, and the step stands after it as failed
 pub data IsLegal (start : World) : List Event → Type 0 where
   begins : IsLegal start []
   answers : (run : ℕ) (s : Step) (a : Answer) {past : List Event} → IsLegal start past → IsLive run (world_after start past) → Fits (world_after start past) run s a
@@ -122,7 +122,8 @@ HeldByNoOther w p run = (other : ℕ) → other ≢ run → w.holds p other ≡ 
 -- no lock is had by two runs
 abbrev pub AreHonest : World → List Event → Type 0
 AreHonest start [] = Unit {0}
-AreHonest start (Act run (step.Lock p) Done m ∷ past) = HeldByNoOther (world_after start past) p run × AreHonest start past
+AreHonest start (Act run (step.Lock p) Done m ∷ past) =
+    HeldByNoOther (world_after start past) p run × AreHonest start past
 AreHonest start (e ∷ past) = AreHonest start past
 
 -- a step that changes the names of this directory
@@ -133,7 +134,8 @@ Changes p (step.Rename q a b) = p ≡ q
 Changes p (step.Unlink q a) = p ≡ q
 Changes p s = ⊥
 
--- after these deeds of its run the step changes names of a folder or the mail directory only under that directory's lock
+-- after these deeds of its run the step changes names of a folder or the mail directory only under that directory's
+-- lock
 abbrev pub IsOrderly : List Deed → Step → Type 0
 IsOrderly own s = (p : Place) → IsLockable p → Changes p s → HasLock p own
 
@@ -158,7 +160,8 @@ AreConsecutive (n ∷ (m ∷ places)) = (m ≡ n + 1) × AreConsecutive (m ∷ p
 -- before the first of these places of a history no other run has a lock
 abbrev pub AreUnlocked : ℕ → World → List Event → List ℕ → Type 0
 AreUnlocked run start history [] = Unit {0}
-AreUnlocked run start history (n ∷ places) = (p : Place) → HeldByNoOther (world_after start (past_of (take n history))) p run
+AreUnlocked run start history (n ∷ places) =
+    (p : Place) → HeldByNoOther (world_after start (past_of (take n history))) p run
 
 -- the steps at these places were made alone: nothing else happened between them, and no other run had a lock
 pub record IsAlone (run : ℕ) (start : World) (history : List Event) (places : List ℕ) : Type 0 where

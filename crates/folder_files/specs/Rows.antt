@@ -7,120 +7,69 @@ use Rattle.folder_files.specs.declared.step.Answer.TheVariants.{Done, Names, Con
 
 -- the names, or no such directory; or failed
 abbrev pub IsNamesRow : Answer → Type 0
-IsNamesRow Done = ⊥
 IsNamesRow (Names ns) = Unit {0}
-IsNamesRow (Content b) = ⊥
-IsNamesRow (Piece b l) = ⊥
-IsNamesRow (Long l) = ⊥
 IsNamesRow Gone = Unit {0}
-IsNamesRow Exists = ⊥
-IsNamesRow Busy = ⊥
-IsNamesRow Grown = ⊥
 IsNamesRow Failed = Unit {0}
+IsNamesRow other = ⊥
 
 -- the bytes, or the length of a longer file, or no such file; or failed
 abbrev pub IsReadRow : Answer → Type 0
-IsReadRow Done = ⊥
-IsReadRow (Names ns) = ⊥
 IsReadRow (Content b) = Unit {0}
-IsReadRow (Piece b l) = ⊥
 IsReadRow (Long l) = Unit {0}
 IsReadRow Gone = Unit {0}
-IsReadRow Exists = ⊥
-IsReadRow Busy = ⊥
-IsReadRow Grown = ⊥
 IsReadRow Failed = Unit {0}
+IsReadRow other = ⊥
 
 -- made, or there already; or failed
 abbrev pub IsMakeRow : Answer → Type 0
 IsMakeRow Done = Unit {0}
-IsMakeRow (Names ns) = ⊥
-IsMakeRow (Content b) = ⊥
-IsMakeRow (Piece b l) = ⊥
-IsMakeRow (Long l) = ⊥
-IsMakeRow Gone = ⊥
 IsMakeRow Exists = Unit {0}
-IsMakeRow Busy = ⊥
-IsMakeRow Grown = ⊥
 IsMakeRow Failed = Unit {0}
+IsMakeRow other = ⊥
 
 -- made, or the name is taken, or no such name or directory; or failed
 abbrev pub IsNewRow : Answer → Type 0
 IsNewRow Done = Unit {0}
-IsNewRow (Names ns) = ⊥
-IsNewRow (Content b) = ⊥
-IsNewRow (Piece b l) = ⊥
-IsNewRow (Long l) = ⊥
 IsNewRow Gone = Unit {0}
 IsNewRow Exists = Unit {0}
-IsNewRow Busy = ⊥
-IsNewRow Grown = ⊥
 IsNewRow Failed = Unit {0}
+IsNewRow other = ⊥
 
 -- done, or no such name or directory; or failed
 abbrev pub IsOldRow : Answer → Type 0
 IsOldRow Done = Unit {0}
-IsOldRow (Names ns) = ⊥
-IsOldRow (Content b) = ⊥
-IsOldRow (Piece b l) = ⊥
-IsOldRow (Long l) = ⊥
 IsOldRow Gone = Unit {0}
-IsOldRow Exists = ⊥
-IsOldRow Busy = ⊥
-IsOldRow Grown = ⊥
 IsOldRow Failed = Unit {0}
+IsOldRow other = ⊥
 
 -- held, or held by another run, or no such directory; or failed
 abbrev pub IsLockRow : Answer → Type 0
 IsLockRow Done = Unit {0}
-IsLockRow (Names ns) = ⊥
-IsLockRow (Content b) = ⊥
-IsLockRow (Piece b l) = ⊥
-IsLockRow (Long l) = ⊥
 IsLockRow Gone = Unit {0}
-IsLockRow Exists = ⊥
 IsLockRow Busy = Unit {0}
-IsLockRow Grown = ⊥
 IsLockRow Failed = Unit {0}
+IsLockRow other = ⊥
 
 -- let go; or failed
 abbrev pub IsUnlockRow : Answer → Type 0
 IsUnlockRow Done = Unit {0}
-IsUnlockRow (Names ns) = ⊥
-IsUnlockRow (Content b) = ⊥
-IsUnlockRow (Piece b l) = ⊥
-IsUnlockRow (Long l) = ⊥
-IsUnlockRow Gone = ⊥
-IsUnlockRow Exists = ⊥
-IsUnlockRow Busy = ⊥
-IsUnlockRow Grown = ⊥
 IsUnlockRow Failed = Unit {0}
+IsUnlockRow other = ⊥
 
 -- cut, or of another length, or no such file; or failed
 abbrev pub IsCutRow : Answer → Type 0
 IsCutRow Done = Unit {0}
-IsCutRow (Names ns) = ⊥
-IsCutRow (Content b) = ⊥
-IsCutRow (Piece b l) = ⊥
-IsCutRow (Long l) = ⊥
 IsCutRow Gone = Unit {0}
-IsCutRow Exists = ⊥
-IsCutRow Busy = ⊥
 IsCutRow Grown = Unit {0}
 IsCutRow Failed = Unit {0}
+IsCutRow other = ⊥
 
 -- a piece of at most so many bytes, or no such file; or failed
 abbrev pub IsPieceRow : ℕ → Answer → Type 0
-IsPieceRow most Done = ⊥
-IsPieceRow most (Names ns) = ⊥
-IsPieceRow most (Content b) = ⊥
 IsPieceRow most (Piece b l) = length b ≤ most
-IsPieceRow most (Long l) = ⊥
 IsPieceRow most Gone = Unit {0}
-IsPieceRow most Exists = ⊥
-IsPieceRow most Busy = ⊥
-IsPieceRow most Grown = ⊥
 IsPieceRow most Failed = Unit {0}
+IsPieceRow most other = ⊥
 
 -- an answer that this step may have
 abbrev pub IsAnswerOf : Step → Answer → Type 0

@@ -13,7 +13,7 @@ use Rattle.folder_files.specs.declared.world.Change.TheVariants as change
 use Rattle.folder_files.specs.declared.step.Step.{Step}
 use Rattle.folder_files.specs.declared.step.Step.TheVariants as step
 use Rattle.folder_files.specs.declared.step.Answer.{Answer}
-use Rattle.folder_files.specs.declared.step.Answer.TheVariants.{Done, Names, Content, Piece, Long, Gone, Exists, Busy, Grown, Failed}
+use Rattle.folder_files.specs.declared.step.Answer.TheVariants.{Done, Names, Content, Piece, Long, Gone, Exists, Busy, Grown}
 use Rattle.folder_files.specs.declared.event.After.{After}
 use Rattle.folder_files.specs.declared.event.After.TheVariants.{Before, Made, Torn}
 
@@ -57,58 +57,30 @@ abbrev pub with_made : DirectoryMap → DirectoryMap
 with_made d = record { there = true; safe = d.safe; pending = d.pending }
 
 abbrev pub directory_after : WorldMap → Step → Place → DirectoryMap
-directory_after w (step.List q) p = w.directories p
-directory_after w (step.Read q n limit) p = w.directories p
-directory_after w (step.MakeFolder q) p = if same_place q p || is_parent p q then with_made (w.directories p) else w.directories p
-directory_after w (step.Create q n b) p = if same_place q p then with_created (w.directories p) n w.next_file else w.directories p
-directory_after w (step.SyncFile q n) p = w.directories p
+directory_after w (step.MakeFolder q) p =
+    if same_place q p || is_parent p q then with_made (w.directories p) else w.directories p
+directory_after w (step.Create q n b) p =
+    if same_place q p then with_created (w.directories p) n w.next_file else w.directories p
 directory_after w (step.SyncFolder q) p = if same_place q p then synced (w.directories p) else w.directories p
 directory_after w (step.Link q a b) p = if same_place q p then with_linked (w.directories p) a b else w.directories p
 directory_after w (step.Rename q a b) p = if same_place q p then with_renamed (w.directories p) a b else w.directories p
 directory_after w (step.Unlink q a) p = if same_place q p then with_unlinked (w.directories p) a else w.directories p
-directory_after w (step.Lock q) p = w.directories p
-directory_after w (step.Unlock q) p = w.directories p
-directory_after w (step.ReadFile path limit) p = w.directories p
-directory_after w (step.ReadDrop path from most) p = w.directories p
-directory_after w (step.CutDrop path length_) p = w.directories p
+directory_after w s p = w.directories p
 
 abbrev pub is_led : Option ℕ → ℕ → Bool
 is_led (Some f) g = f == g
 is_led None g = false
 
 abbrev pub file_after : WorldMap → Step → ℕ → FileState
-file_after w (step.List q) f = w.files f
-file_after w (step.Read q n limit) f = w.files f
-file_after w (step.MakeFolder q) f = w.files f
 file_after w (step.Create q n b) f =
     if is_created (w.directories q) n && w.next_file == f then record { bytes = b; safe = false } else w.files f
 file_after w (step.SyncFile q n) f =
     if is_led (now_in (w.directories q) n) f then record { bytes = (w.files f).bytes; safe = true } else w.files f
-file_after w (step.SyncFolder q) f = w.files f
-file_after w (step.Link q a b) f = w.files f
-file_after w (step.Rename q a b) f = w.files f
-file_after w (step.Unlink q a) f = w.files f
-file_after w (step.Lock q) f = w.files f
-file_after w (step.Unlock q) f = w.files f
-file_after w (step.ReadFile path limit) f = w.files f
-file_after w (step.ReadDrop path from most) f = w.files f
-file_after w (step.CutDrop path length_) f = w.files f
+file_after w s f = w.files f
 
 abbrev pub next_after : WorldMap → Step → ℕ
-next_after w (step.List q) = w.next_file
-next_after w (step.Read q n limit) = w.next_file
-next_after w (step.MakeFolder q) = w.next_file
 next_after w (step.Create q n b) = if is_created (w.directories q) n then w.next_file + 1 else w.next_file
-next_after w (step.SyncFile q n) = w.next_file
-next_after w (step.SyncFolder q) = w.next_file
-next_after w (step.Link q a b) = w.next_file
-next_after w (step.Rename q a b) = w.next_file
-next_after w (step.Unlink q a) = w.next_file
-next_after w (step.Lock q) = w.next_file
-next_after w (step.Unlock q) = w.next_file
-next_after w (step.ReadFile path limit) = w.next_file
-next_after w (step.ReadDrop path from most) = w.next_file
-next_after w (step.CutDrop path length_) = w.next_file
+next_after w s = w.next_file
 
 -- nothing, where the bytes have this length
 abbrev pub cut_at : ℕ → Option (List ℕ) → Option (List ℕ)
@@ -116,37 +88,14 @@ cut_at n None = None
 cut_at n (Some bytes) = if length bytes == n then Some [] else Some bytes
 
 abbrev pub outside_after : WorldMap → Step → FilePath → Option (List ℕ)
-outside_after w (step.List q) f = w.outside f
-outside_after w (step.Read q n limit) f = w.outside f
-outside_after w (step.MakeFolder q) f = w.outside f
-outside_after w (step.Create q n b) f = w.outside f
-outside_after w (step.SyncFile q n) f = w.outside f
-outside_after w (step.SyncFolder q) f = w.outside f
-outside_after w (step.Link q a b) f = w.outside f
-outside_after w (step.Rename q a b) f = w.outside f
-outside_after w (step.Unlink q a) f = w.outside f
-outside_after w (step.Lock q) f = w.outside f
-outside_after w (step.Unlock q) f = w.outside f
-outside_after w (step.ReadFile path limit) f = w.outside f
-outside_after w (step.ReadDrop path from most) f = w.outside f
 outside_after w (step.CutDrop path length_) f = if same_path path f then cut_at length_ (w.outside f) else w.outside f
+outside_after w s f = w.outside f
 
 -- the locks after this run's step: a Lock takes it where the directory is there, an Unlock lets this run's own fall
 abbrev pub holds_after : WorldMap → ℕ → Step → Place → ℕ → Bool
-holds_after w run (step.List q) p r = w.holds p r
-holds_after w run (step.Read q n limit) p r = w.holds p r
-holds_after w run (step.MakeFolder q) p r = w.holds p r
-holds_after w run (step.Create q n b) p r = w.holds p r
-holds_after w run (step.SyncFile q n) p r = w.holds p r
-holds_after w run (step.SyncFolder q) p r = w.holds p r
-holds_after w run (step.Link q a b) p r = w.holds p r
-holds_after w run (step.Rename q a b) p r = w.holds p r
-holds_after w run (step.Unlink q a) p r = w.holds p r
 holds_after w run (step.Lock q) p r = ((w.directories q).there && same_place q p && run == r) || w.holds p r
 holds_after w run (step.Unlock q) p r = not (same_place q p && run == r) && w.holds p r
-holds_after w run (step.ReadFile path limit) p r = w.holds p r
-holds_after w run (step.ReadDrop path from most) p r = w.holds p r
-holds_after w run (step.CutDrop path length_) p r = w.holds p r
+holds_after w run s p r = w.holds p r
 
 -- the world after this run's step
 unfoldable pub made : WorldMap → ℕ → Step → WorldMap
@@ -210,29 +159,16 @@ name_answer (Some f) = Done
 
 -- the names, or no such directory
 abbrev pub IsListed : DirectoryMap → Answer → Type 0
-IsListed d Done = ⊥
 IsListed d (Names names) = (d.there ≡ true) × IsListing d names
-IsListed d (Content b) = ⊥
-IsListed d (Piece b n) = ⊥
-IsListed d (Long n) = ⊥
 IsListed d Gone = d.there ≡ false
-IsListed d Exists = ⊥
-IsListed d Busy = ⊥
-IsListed d Grown = ⊥
-IsListed d Failed = ⊥
+IsListed d other = ⊥
 
 -- the lock is had, though another run may hold it too; it is busy only where another run holds it
 abbrev pub IsLocked : WorldMap → ℕ → Place → Answer → Type 0
 IsLocked w run p Done = (w.directories p).there ≡ true
-IsLocked w run p (Names names) = ⊥
-IsLocked w run p (Content b) = ⊥
-IsLocked w run p (Piece b n) = ⊥
-IsLocked w run p (Long n) = ⊥
 IsLocked w run p Gone = (w.directories p).there ≡ false
-IsLocked w run p Exists = ⊥
 IsLocked w run p Busy = ((w.directories p).there ≡ true) × ((other : ℕ) × (other ≢ run) × (w.holds p other ≡ true))
-IsLocked w run p Grown = ⊥
-IsLocked w run p Failed = ⊥
+IsLocked w run p other = ⊥
 
 -- the answers of a step that does not fail
 abbrev pub Fits : WorldMap → ℕ → Step → Answer → Type 0
@@ -254,15 +190,7 @@ Fits w run (step.CutDrop path n) a = a ≡ cut_answer n (w.outside path)
 -- a lock that is busy is not taken
 abbrev pub made_by : WorldMap → ℕ → Step → Answer → WorldMap
 made_by w run s Busy = w
-made_by w run s Done = made w run s
-made_by w run s (Names names) = made w run s
-made_by w run s (Content b) = made w run s
-made_by w run s (Piece b n) = made w run s
-made_by w run s (Long n) = made w run s
-made_by w run s Gone = made w run s
-made_by w run s Exists = made w run s
-made_by w run s Grown = made w run s
-made_by w run s Failed = made w run s
+made_by w run s other = made w run s
 
 -- a Create of other bytes
 abbrev pub torn : Step → List ℕ → Step

@@ -96,7 +96,8 @@ AreSlots files (s ∷ ss) = (has_name s.name ss ≡ false) × (has_id s.file fil
 -- no place twice, nothing pending
 abbrev pub AreDirectories : List File → List Directory → Type 0
 AreDirectories files [] = Unit {0}
-AreDirectories files (d ∷ ds) = (has_place d.place ds ≡ false) × (d.pending ≡ []) × AreSlots files d.safe × AreDirectories files ds
+AreDirectories files (d ∷ ds) =
+    (has_place d.place ds ≡ false) × (d.pending ≡ []) × AreSlots files d.safe × AreDirectories files ds
 
 -- no id twice, every file safe
 abbrev pub AreFiles : List File → Type 0

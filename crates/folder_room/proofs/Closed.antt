@@ -9,6 +9,7 @@ use Rattle.std.specs.List.{list_any}
 use Rattle.folder_files.specs.Directory.{Slots, touches, after_change, kept_lead, AllKept, IsClosed}
 use Rattle.folder_files.specs.declared.world.Change.{Change}
 use Rattle.folder_files.specs.declared.world.Change.TheVariants.{Set, Gone, Moved}
+use Rattle.mh_base.proofs.NumberTests.{or_right}
 use Rattle.folder_room.specs.Closing.{names_of, touches_any, is_kept, touched_by, kept_set}
 use Rattle.folder_room.specs.Crashing.{HasAsked, IsLeastClosed}
 
@@ -18,10 +19,6 @@ either false b e = inr e
 
 or_left : (a b : Bool) → a ≡ true → a || b ≡ true
 or_left a b e = ap (λ x. x || b) e
-
-or_right : (a b : Bool) → b ≡ true → a || b ≡ true
-or_right true b e = refl
-or_right false b e = e
 
 self : (n : ℕ) → (n == n) ≡ true
 self n = (Decides-eqb n n).1 refl

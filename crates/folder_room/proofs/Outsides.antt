@@ -13,17 +13,12 @@ use Rattle.folder_files.specs.declared.place.FilePath.{FilePath}
 use Rattle.folder_files.specs.declared.step.Step.TheVariants as step
 use Rattle.folder_files.specs.declared.world.Outside.{Outside}
 use Rattle.folder_files.specs.declared.world.World.{World}
+use Rattle.folder_files.proofs.Sameness.{flag_same}
 
 both_of : (a b : Bool) → a && b ≡ true → (a ≡ true) × (b ≡ true)
 both_of true true e = (refl, refl)
 both_of true false e = absurd (cc (e))
 both_of false b e = absurd (cc (e))
-
-flag_same : (a b : Bool) → same_flag a b ≡ true → a ≡ b
-flag_same true true e = refl
-flag_same true false e = absurd (cc (e))
-flag_same false true e = absurd (cc (e))
-flag_same false false e = refl
 
 flag_is : (a : Bool) → same_flag a a ≡ true
 flag_is true = refl

@@ -11,7 +11,8 @@ abbrev pub has_number : List ℕ → ℕ → Bool
 has_number [] i = false
 has_number (n ∷ ns) i = (n == i) || has_number ns i
 
--- which pending changes of a place are asked for, by their places from the oldest, which has 0: of a place that isn't listed, all
+-- which pending changes of a place are asked for, by their places from the oldest, which has 0: of a place that isn't
+-- listed, all
 abbrev pub asked_at : List Keep → Place → ℕ → Bool
 asked_at [] p i = true
 asked_at (k ∷ ks) p i = if same_place k.place p then has_number k.changes i else asked_at ks p i
@@ -26,7 +27,8 @@ pub record IsLeastClosed (pending : List Change) (asked keep : ℕ → Bool) : T
   pub has : HasAsked pending asked keep
   pub least : (other : ℕ → Bool) → IsClosed pending other → HasAsked pending asked other → HasAsked pending keep other
 
--- the directory holds the least closed set of its pending changes that has those that are asked for, and nothing is pending
+-- the directory holds the least closed set of its pending changes that has those that are asked for, and nothing is
+-- pending
 pub record IsCutDirectory (asked : ℕ → Bool) (old new : DirectoryMap) : Type 0 where
   pub keep : ℕ → Bool
   pub least : IsLeastClosed old.pending asked keep
@@ -38,7 +40,8 @@ pub record IsCutDirectory (asked : ℕ → Bool) (old new : DirectoryMap) : Type
 abbrev pub filled : ℕ → FileState → FileState
 filled fill file = record { bytes = if file.safe then file.bytes else map (λ b. fill) file.bytes; safe = true }
 
--- what the crash leaves of a world: directories and files so, outside files as they were, no lock, and these runs ended beside those that had
+-- what the crash leaves of a world: directories and files so, outside files as they were, no lock, and these runs ended
+-- beside those that had
 pub record IsCrashBy (keeps : List Keep) (fill : ℕ) (acted : ℕ → Bool) (old new : WorldMap) : Type 0 where
   pub directories : (p : Place) → IsCutDirectory (asked_at keeps p) (old.directories p) (new.directories p)
   pub files : (f : ℕ) → new.files f ≡ filled fill (old.files f)

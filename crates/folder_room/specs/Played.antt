@@ -76,7 +76,8 @@ pub data PlaysOne (start : World) (run : ℕ) : Happening → List Event → Lis
   crashes : (keeps : List Keep) (fill : ℕ) (is_made : Bool) (v : World) {past : List Event} → IsCrashBy keeps fill (has_acted_or_is run past) (world_after start past) (shown v)
       → PlaysOne start run (Crash keeps fill is_made) past (event.Crash v ∷ past)
 
--- a turn was played from its first prompt on, until these were left; a crash within the step of a run that is live is left
+-- a turn was played from its first prompt on, until these were left; a crash within the step of a run that is live is
+-- left
 pub data Plays (start : World) (run : ℕ) (left : List Happening) : List Happening → List Event → List Event → Type 0 where
   stops : {past : List Event} → Plays start run left left past past
   plays : (what : Happening) (turn : List Happening) {past mid now : List Event} → (is_within what turn ≡ true → (world_after start past).ended run ≡ true)
@@ -89,7 +90,8 @@ failing s (Torn c) = Before
 failing s Before = Before
 failing s Made = Made
 
--- how the call ends after the prompts: what its run asked is answered, or it fails by a Fail, by the crash within it that is left, or since the run has ended
+-- how the call ends after the prompts: what its run asked is answered, or it fails by a Fail, by the crash within it
+-- that is left, or since the run has ended
 pub data IsAnswered (start : World) (run : ℕ) (s : Step) (fail : Option After) (past : List Event) : List Happening → Answer → List Event → Type 0 where
   is_dead : (world_after start past).ended run ≡ true → IsAnswered start run s fail past [] Failed (event.Act run s Failed Before ∷ past)
   fails_by : (m : After) → IsLive run (world_after start past) → fail ≡ Some m → IsAnswered start run s fail past [] Failed (event.Act run s Failed (failing s m) ∷ past)
@@ -98,7 +100,8 @@ pub data IsAnswered (start : World) (run : ℕ) (s : Step) (fail : Option After)
   crashes_within : (keeps : List Keep) (fill : ℕ) (v : World) → IsLive run (world_after start past) → IsCrashBy keeps fill (has_acted_or_is run past) (made (world_after start past) run s) (shown v)
       → IsAnswered start run s fail past (Crash keeps fill true ∷ []) Failed (event.Act run s Failed Before ∷ (event.Crash v ∷ past))
 
--- a call that answers plays its whole turn, but for a crash within the step, and then ends; one that wants memory plays a part and makes no step
+-- a call that answers plays its whole turn, but for a crash within the step, and then ends; one that wants memory plays
+-- a part and makes no step
 abbrev pub IsPlayed : World → ℕ → Step → List Happening → List Event → Result Answer AllocError → List Event → Type 0
 IsPlayed start run s turn past (Ok a) now = (left : List Happening) × (mid : List Event) × Plays start run left turn past mid × IsAnswered start run s (fail_of turn) mid left a now
 IsPlayed start run s turn past (Err e) now = (left : List Happening) × Plays start run left turn past now

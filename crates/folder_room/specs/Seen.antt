@@ -5,11 +5,12 @@ use Rattle.folder_files.specs.Story.{Story}
 use Rattle.folder_files.specs.Worlds.{shown}
 use Rattle.folder_files.specs.declared.event.Event.{Event}
 use Rattle.folder_files.specs.declared.step.Answer.{Answer}
-use Rattle.folder_files.specs.declared.step.Answer.TheVariants.{Done, Names, Content, Piece, Long, Gone, Exists, Busy, Grown, Failed}
+use Rattle.folder_files.specs.declared.step.Answer.TheVariants.{Failed}
 use Rattle.folder_files.specs.declared.world.World.{World}
 use Rattle.folder_room.specs.declared.script.Prompt.{Prompt}
 
--- the start, the events since, the places of the steps that calls asked for, the script, how many calls there were, and how many failed
+-- the start, the events since, the places of the steps that calls asked for, the script, how many calls there were, and
+-- how many failed
 pub record Seen : Type 0 where
   pub start : World
   pub history : List Event
@@ -28,15 +29,7 @@ one_more n = min (n + 1) (2 ^ 64 - 1)
 -- the count of faults after this answer
 abbrev pub faults_after : ℕ → Answer → ℕ
 faults_after n Failed = one_more n
-faults_after n Done = n
-faults_after n (Names names) = n
-faults_after n (Content bytes) = n
-faults_after n (Piece bytes length_) = n
-faults_after n (Long length_) = n
-faults_after n Gone = n
-faults_after n Exists = n
-faults_after n Busy = n
-faults_after n Grown = n
+faults_after n other = n
 
 -- the world is the history's, which may have happened
 pub record IsNow (start world : World) (history : List Event) : Type 0 where

@@ -1,10 +1,10 @@
 -- What is wrong stays wrong, whatever stands behind.
-use Rattle.std.proofs.Common.{◌≡◌, ℕ, zero, suc, ◌+◌, ◌<◌, ◌≤◌, ◌==◌, ◌&&◌, not, Bool, true, false, List, [], ◌∷◌, ◌++◌, length, take, drop, Option, Some, None, Ok, Err, refl, sym, ap, ◌∙◌, subst, arith, cond, eqb, ℤ, length-drop}
+use Rattle.std.proofs.Common.{◌≡◌, ℕ, zero, suc, ◌+◌, ◌<◌, ◌≤◌, ◌==◌, ◌&&◌, not, Bool, true, false, List, [], ◌∷◌, ◌++◌, length, take, drop, Option, Some, None, Ok, Err, refl, sym, ap, ◌∙◌, subst, arith, cond, ℤ, length-drop}
 use Rattle.std.specs.Prelude.{if◌then◌else◌}
 use Rattle.std.specs.List.{prefix_len}
 use Rattle.std.proofs.lemmas.List.{take-append-le, drop-append-le}
 use Rattle.std.proofs.lemmas.List.Folds.{prefix_len-append}
-use Rattle.std.proofs.lemmas.Bool.Decides.{nat_tests}
+use Rattle.mh_base.proofs.NumberTests.{less_test}
 use Rattle.format_compiler.specs.declared.argument.Argument.{Argument}
 use Rattle.format_compiler.specs.declared.argument.Argument.TheVariants.{Nothing, Literal, Number, Component}
 use Rattle.format_compiler.specs.declared.call.Call.{Call}
@@ -53,9 +53,6 @@ character_keeps grow more c x (d ∷ text) =
 pub record FrontKeeps (p : ℕ → Bool) (text more rest : List ℕ) : Type 0 where
   pub front : take (prefix_len p (text ++ more)) (text ++ more) ≡ take (prefix_len p text) text
   pub behind : drop (prefix_len p (text ++ more)) (text ++ more) ≡ rest ++ more
-
-less_test : (a b : ℕ) → a < b → eqb a b ≡ false
-less_test a b lt = grind (arith, nat_tests)
 
 shorter : (n : ℕ) (text : List ℕ) (c : ℕ) (behind : List ℕ) → drop n text ≡ c ∷ behind → n < length text
 shorter n text c behind is = let e = ap length is in let d = length-drop n text in omega (arith, e, d)

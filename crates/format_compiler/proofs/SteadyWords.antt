@@ -1,11 +1,12 @@
 -- Words that are wrong stay wrong, whatever stands behind.
-use Rattle.std.proofs.Common.{◌≡◌, ◌≢◌, ℕ, zero, suc, ◌+◌, ◌≤◌, ◌==◌, ◌||◌, Bool, true, false, List, [], ◌∷◌, ◌++◌, length, take, drop, Option, Some, None, Ok, Err, refl, sym, ap, ◌∙◌, subst, arith, cond, eqb, length-append, length-drop}
+use Rattle.std.proofs.Common.{◌≡◌, ◌≢◌, ℕ, zero, suc, ◌+◌, ◌≤◌, ◌==◌, ◌||◌, Bool, true, false, List, [], ◌∷◌, ◌++◌, length, take, drop, Option, Some, None, Ok, Err, refl, sym, ap, ◌∙◌, subst, arith, cond, length-append, length-drop}
 use Rattle.std.specs.Prelude.{if◌then◌else◌, is_some, nat_lt}
 use Rattle.std.specs.List.{prefix_len}
 use Rattle.std.proofs.Math.Seq.{take-length, take-append-add}
 use Rattle.std.proofs.lemmas.List.Folds.{prefix_len-append}
 use Rattle.std.proofs.lemmas.List.Sums.{prefix_len-le-length}
 use Rattle.std.proofs.lemmas.Bool.Decides.{nat_tests}
+use Rattle.mh_base.proofs.NumberTests.{equal_test}
 use Rattle.format_compiler.specs.declared.one_test.Test.TheVariants.{Component as OfComponent, Call as OfCall}
 use Rattle.format_compiler.specs.declared.piece.Piece.TheVariants.{Character, Component as PrintedComponent, Call as PrintedCall}
 use Rattle.format_compiler.specs.declared.width.Width.{Width}
@@ -90,9 +91,6 @@ sized_wrong room whole digits (c ∷ rest) h k = ap (printed_by room whole c res
 pub record AllFront (p : ℕ → Bool) (text more : List ℕ) : Type 0 where
   pub front : take (prefix_len p text) text ≡ text
   pub longer : take (prefix_len p (text ++ more)) (text ++ more) ≡ text ++ take (prefix_len p more) more
-
-equal_test : (a b : ℕ) → a ≡ b → eqb a b ≡ true
-equal_test a b e = grind (arith, nat_tests)
 
 pub all_front : (p : ℕ → Bool) (text more : List ℕ) → drop (prefix_len p text) text ≡ [] → AllFront p text more
 all_front p text more none =

@@ -27,7 +27,8 @@ function_by in_test text name (c ∷ behind) = fitting in_test text (c ∷ behin
 
 -- the function whose name stands here
 abbrev pub function_in : Bool → List ℕ → Read Function
-function_in in_test text = function_by in_test text (take (prefix_len is_in_name text) text) (drop (prefix_len is_in_name text) text)
+function_in in_test text =
+    function_by in_test text (take (prefix_len is_in_name text) text) (drop (prefix_len is_in_name text) text)
 
 -- a call with all that belongs to it; or a function whose argument is another function, which stands behind its opening
 -- parenthesis, and where that argument begins
@@ -92,8 +93,8 @@ abbrev pub whole_by : (List ℕ → List ℕ → Read Call) → Front → List �
 whole_by inner (Whole call) behind = Ok (call, behind)
 whole_by inner (Around f whole) text = inner whole text >>= λ call behind. then_character 41 (with_around f call) behind
 
--- the call that stands behind an opening parenthesis, with at most so many functions in one another; where there are more,
--- it is wrong from where the first of them that is too deep begins
+-- the call that stands behind an opening parenthesis, with at most so many functions in one another; where there are
+-- more, it is wrong from where the first of them that is too deep begins
 unfoldable pub call_in : ℕ → Bool → List ℕ → List ℕ → Read Call
 call_in zero in_test whole text = Err whole
 call_in (suc room) in_test whole text = front_in in_test text >>= whole_by (call_in room false)

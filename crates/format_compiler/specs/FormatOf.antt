@@ -4,7 +4,6 @@ use Rattle.std.specs.Str.{is_utf8}
 use Rattle.format_compiler.specs.declared.fault.FormatFault.{FormatFault}
 use Rattle.format_compiler.specs.declared.fault.FormatFault.TheVariants.{Bad, Memory}
 use Rattle.format_compiler.specs.declared.instruction.Instruction.{Instruction}
-use Rattle.format_compiler.specs.declared.one_test.Test.{Test}
 use Rattle.format_compiler.specs.declared.word.Word.{Word}
 use Rattle.format_compiler.specs.declared.word.Word.TheVariants.{Nothing, Print, If, ElseIf, Else, End}
 use Rattle.format_compiler.specs.Code.{IsCodeOf}
@@ -13,7 +12,8 @@ use Rattle.format_compiler.specs.Reading.{Read, ◌>>=◌}
 use Rattle.format_compiler.specs.Texts.{characters_in, place_of, without_feed}
 use Rattle.format_compiler.specs.Words.{behind_word, is_inside, Open, word_in}
 
--- the words of a text, of which there are so many at most, where these conditionals are open; at its end none may be open
+-- the words of a text, of which there are so many at most, where these conditionals are open; at its end none may be
+-- open
 unfoldable pub words_within : ℕ → Open → List ℕ → Read (List Word)
 words_within most o [] = if is_inside o then Err [] else Ok ([], [])
 words_within zero o (c ∷ text) = Err (c ∷ text)
@@ -29,7 +29,8 @@ pub record Ways : Type 0 where
   pub other : Format
   pub behind : Format
 
--- the items that stand at the front of words, and the ways of the conditionals that end behind them, the innermost first
+-- the items that stand at the front of words, and the ways of the conditionals that end behind them, the innermost
+-- first
 pub record Items : Type 0 where
   pub here : Format
   pub around : List Ways

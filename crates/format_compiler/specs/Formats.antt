@@ -13,7 +13,8 @@ use Rattle.format_compiler.specs.Texts.{characters_in, place_of, without_feed}
 use Rattle.format_compiler.specs.Unfinished.{WordEndsInNone}
 use Rattle.format_compiler.specs.Words.{behind_word, Open, word_in}
 
--- these words stand at the front of a text where these conditionals are open; behind them those are open and that is left
+-- these words stand at the front of a text where these conditionals are open; behind them those are open and that is
+-- left
 abbrev pub Stand : List Word → Open → List ℕ → Open → List ℕ → Type 0
 Stand [] open_ones text after left = (open_ones ≡ after) × (text ≡ left)
 Stand (word ∷ words) open_ones text after left =
@@ -95,8 +96,8 @@ pub record BeginSome (front : List ℕ) : Type 0 where
   pub format : Format
   pub denoted : Denote (front ++ more) format
 
--- in the word behind those that stand the characters end, within a function's name, or a number, that none begins with; so
--- nothing is left of them, and nothing behind them makes them a format
+-- in the word behind those that stand the characters end, within a function's name, or a number, that none begins with;
+-- so nothing is left of them, and nothing behind them makes them a format
 pub record EndInNone (characters left : List ℕ) : Type 0 where
   pub words : List Word
   pub after : Open

@@ -5,8 +5,8 @@ use Rattle.format_compiler.specs.declared.piece.Piece.{Piece}
 use Rattle.format_compiler.specs.declared.word.Word.{Word}
 use Rattle.format_compiler.specs.declared.word.Word.TheVariants.{Nothing, Print, If, ElseIf, Else, End}
 
--- a format: what it prints, and conditionals, one behind the other; a conditional has what counts where its test holds and
--- what counts where it doesn't, and before `%?` stands a conditional that has another in the second place
+-- a format: what it prints, and conditionals, one behind the other; a conditional has what counts where its test holds
+-- and what counts where it doesn't, and before `%?` stands a conditional that has another in the second place
 pub data Format : Type 0 where
   Done : Format
   Then : Piece → Format → Format
@@ -22,8 +22,8 @@ AreOver (ElseIf test ∷ words) = Unit {0}
 AreOver (Else ∷ words) = Unit {0}
 AreOver (End ∷ words) = Unit {0}
 
--- The words begin with all items that stand here, or with all that stands between a conditional's first items and the words
--- behind its end, and the rest stands behind them.
+-- The words begin with all items that stand here, or with all that stands between a conditional's first items and the
+-- words behind its end, and the rest stands behind them.
 mutual
   pub data AreItems : List Word → List Word → Format → Type 0 where
     over : {rest : List Word} → AreOver rest → AreItems rest rest Done

@@ -1,5 +1,5 @@
--- Texts that end within a function's name, or within a number, that none begins with. 32 is a space, 37 a percent sign, 40
--- a parenthesis, 48 a zero, 60 an angle bracket and 63 a question mark.
+-- Texts that end within a function's name, or within a number, that none begins with. 32 is a space, 37 a percent sign,
+-- 40 a parenthesis, 48 a zero, 60 an angle bracket and 63 a question mark.
 use Rattle.std.specs.Prelude.{◌≡◌, ℕ, ◌&&◌, ◌||◌, not, Bool, true, false, List, [], ◌∷◌, ◌++◌, length, take, drop, is_some, bytes_eq, Ok, if◌then◌else◌}
 use Rattle.std.specs.List.{prefix_len}
 use Rattle.format_compiler.specs.declared.function.ArgumentKind.TheVariants.{Number as TakesNumber}
@@ -29,8 +29,8 @@ begins_name in_test name = begins_name_among in_test name every_function
 abbrev pub begins_number : List ℕ → Bool
 begins_number literal = is_some (number_of literal) || is_some (number_of (literal ++ 48 ∷ []))
 
--- what stands behind an opening parenthesis ends within a function's name, or a number, that none begins with: of the call, or
--- of a function in it
+-- what stands behind an opening parenthesis ends within a function's name, or a number, that none begins with: of the
+-- call, or of a function in it
 pub data CallEndsInNone : Bool → List ℕ → Type 0 where
   in_name : {in_test : Bool} {name : List ℕ} → IsAll is_in_name name → begins_name in_test name ≡ false → CallEndsInNone in_test name
   in_number : {in_test : Bool} {text literal : List ℕ} {f : Function} → function_in in_test text ≡ Ok (f, 32 ∷ literal) → kind_of f ≡ TakesNumber

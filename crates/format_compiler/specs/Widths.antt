@@ -10,7 +10,8 @@ digit_value c = if is_digit c then c - 48 else 0
 
 -- a width of this number of columns, written with this digit first: a zero asks for zeros as fill
 abbrev pub columns_by : ℕ → ℕ → Option (Option Width)
-columns_by first columns = if columns == 0 then None else Some (Some (record { columns = columns; zeros = first == 48 }))
+columns_by first columns =
+    if columns == 0 then None else Some (Some (record { columns = columns; zeros = first == 48 }))
 
 -- the width that these digits write: none without digits; else 1 to 3 of them, of which one isn't 0
 abbrev pub width_of : List ℕ → Option (Option Width)

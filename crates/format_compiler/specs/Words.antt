@@ -77,11 +77,13 @@ mark_in true word whole text = Ok (word, text)
 
 -- the component behind an opening brace, printed with this width
 abbrev pub printed_component_in : Option Width → List ℕ → List ℕ → Read Word
-printed_component_in width whole text = component_in whole text >>= λ name behind. Ok (Print (Component width name), behind)
+printed_component_in width whole text =
+    component_in whole text >>= λ name behind. Ok (Print (Component width name), behind)
 
 -- the call behind an opening parenthesis, printed with this width
 abbrev pub printed_call_in : ℕ → Option Width → List ℕ → List ℕ → Read Word
-printed_call_in room width whole text = call_in room false whole text >>= λ call behind. Ok (Print (Call width call), behind)
+printed_call_in room width whole text =
+    call_in room false whole text >>= λ call behind. Ok (Print (Call width call), behind)
 
 -- a component or a function, printed with this width, if it is one
 abbrev pub printed_by : ℕ → List ℕ → ℕ → List ℕ → Option (Option Width) → Read Word
@@ -95,7 +97,8 @@ sized_by room whole digits (c ∷ text) = printed_by room whole c text (width_of
 
 -- what is printed behind a percent sign, with its width
 abbrev pub printed_in : ℕ → List ℕ → List ℕ → Read Word
-printed_in room whole text = sized_by room whole (take (prefix_len is_digit text) text) (drop (prefix_len is_digit text) text)
+printed_in room whole text =
+    sized_by room whole (take (prefix_len is_digit text) text) (drop (prefix_len is_digit text) text)
 
 -- the word that a percent sign begins: 59 is a semicolon, 60 and 62 are angle brackets, 63 is a question mark and 124 a
 -- bar

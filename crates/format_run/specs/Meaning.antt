@@ -25,7 +25,8 @@ use Rattle.format_run.specs.Numbers.{is_not_zero, truth}
 use Rattle.line_rows.specs.Fields.{printed_text}
 use Rattle.format_run.specs.Values.{value_of}
 
--- the state: a number, a text, and all that was written so far on a line of this width, of which the line shows what fits
+-- the state: a number, a text, and all that was written so far on a line of this width, of which the line shows what
+-- fits
 pub record Progress : Type 0 where
   pub number : ℤ
   pub text : List ℕ
@@ -97,7 +98,8 @@ width_inside (f ∷ around) w = None
 -- the functions around a call, from the inside on
 abbrev pub evaluated_around : Viewed → Option Width → List Function → Evaluated → Evaluated
 evaluated_around view w [] e = e
-evaluated_around view w (f ∷ around) e = evaluated_around view w around (applied view (width_inside around w) f Nothing e.state)
+evaluated_around view w (f ∷ around) e =
+    evaluated_around view w around (applied view (width_inside around w) f Nothing e.state)
 
 -- a call
 abbrev pub evaluated : Viewed → Option Width → Call → Progress → Evaluated
@@ -142,7 +144,8 @@ tested view (tests.Call call) s = judged_result (evaluated view None call s)
 abbrev pub holds : Progress → Bool
 holds s = is_not_zero s.number
 
--- a format: its parts in order; of a conditional, what counts where its test holds, or else what counts where it doesn't
+-- a format: its parts in order; of a conditional, what counts where its test holds, or else what counts where it
+-- doesn't
 abbrev pub meaning : Viewed → Format → Progress → Progress
 meaning view Done s = s
 meaning view (Then piece f) s = meaning view f (printed view piece s)

@@ -11,7 +11,8 @@ unfoldable pub run : Viewed → ℕ → List Instruction → LineState → LineS
 run view skipped [] s = s
 run view (suc skipped) (i ∷ code) s = run view skipped code s
 run view zero (Print piece ∷ code) s = run view 0 code (printed view piece s)
-run view zero (Unless test count ∷ code) s = run view (if holds (tested view test s) then 0 else count) code (tested view test s)
+run view zero (Unless test count ∷ code) s =
+    run view (if holds (tested view test s) then 0 else count) code (tested view test s)
 run view zero (Skip count ∷ code) s = run view count code s
 
 -- the line that instructions give, in this width

@@ -74,7 +74,8 @@ applied view w f a s = settled (answer_of view (seen (given view f a s)) w f a) 
 -- the functions around a call, from the inside on
 abbrev pub evaluated_around : Viewed → Option Width → List Function → Evaluated → Evaluated
 evaluated_around view w [] e = e
-evaluated_around view w (f ∷ around) e = evaluated_around view w around (applied view (width_inside around w) f Nothing e.state)
+evaluated_around view w (f ∷ around) e =
+    evaluated_around view w around (applied view (width_inside around w) f Nothing e.state)
 
 -- a call
 abbrev pub evaluated : Viewed → Option Width → Call → LineState → Evaluated

@@ -18,7 +18,8 @@ is_space c = c == 32
 abbrev pub trimmed : List ℕ → List ℕ
 trimmed text = take (length text - suffix_len is_space text) text
 
--- a text without quote marks, in which each backslash is dropped before a character, which stays; a last one stays itself
+-- a text without quote marks, in which each backslash is dropped before a character, which stays; a last one stays
+-- itself
 unfoldable pub unquoted : List ℕ → List ℕ
 unquoted [] = []
 unquoted (c ∷ []) = if c == 34 then [] else c ∷ []

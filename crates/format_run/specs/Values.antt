@@ -16,7 +16,8 @@ abbrev pub shown_field : Option (List ℕ) → List ℕ
 shown_field None = []
 shown_field (Some value) = shown (unfolded value)
 
--- the value of the component of this name, in bytes, whose case doesn't count: the body, or the first field of this name
+-- the value of the component of this name, in bytes, whose case doesn't count: the body, or the first field of this
+-- name
 abbrev pub value_named : List ℕ → List ℕ → List ℕ
 value_named name message =
     if same_name name (codes "body") then shown_body message else shown_field (first_value name (fields_of message))

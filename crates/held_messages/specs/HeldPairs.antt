@@ -2,7 +2,7 @@
 use Rattle.std.specs.Prelude.{◌≡◌, ◌&&◌, ◌||◌, ◌==◌, ◌+◌, ◌^◌, ℕ, zero, suc, Bool, true, false, not, max, nat_lt, List, [], ◌∷◌, Option, Some, None, is_some, option_map, if◌then◌else◌}
 use Rattle.mh_base.specs.Entries.{entry_text, kind_of}
 use Rattle.mh_base.specs.declared.entry.Entry.{Entry}
-use Rattle.mh_base.specs.declared.entry.Entry.TheVariants.{Number, Backup, Held, Temp, Sequences, LockFile, Other}
+use Rattle.mh_base.specs.declared.entry.Entry.TheVariants.{Held}
 use Rattle.folder_files.specs.Places.{same_place}
 use Rattle.folder_files.specs.declared.place.Place.{Place}
 use Rattle.file_plans.specs.Mailboxes.{Folder, Mailbox}
@@ -94,12 +94,7 @@ inserted h (k ∷ ks) = if is_before h k then h ∷ (k ∷ ks) else (if is_befor
 -- the pairs of a listing, in order, but for those of this run
 abbrev pub with_kind : ℕ → Entry → List HeldPair → List HeldPair
 with_kind own (Held run n) hs = if run == own then hs else inserted (record { run = run; number = n }) hs
-with_kind own (Number n) hs = hs
-with_kind own (Backup n) hs = hs
-with_kind own (Temp run k) hs = hs
-with_kind own Sequences hs = hs
-with_kind own LockFile hs = hs
-with_kind own Other hs = hs
+with_kind own kind hs = hs
 
 unfoldable pub held_pairs : ℕ → List (List ℕ) → List HeldPair
 held_pairs own [] = []
@@ -118,12 +113,7 @@ top_all (end ∷ ends) top = top_all ends (top_after end top)
 -- the pair that a name of this kind has, where it is another run's
 abbrev pub pair_in : ℕ → Entry → Option HeldPair
 pair_in own (Held run n) = if run == own then None else Some (record { run = run; number = n })
-pair_in own (Number n) = None
-pair_in own (Backup n) = None
-pair_in own (Temp run k) = None
-pair_in own Sequences = None
-pair_in own LockFile = None
-pair_in own Other = None
+pair_in own kind = None
 
 abbrev pub alone : Option HeldPair → List HeldPair
 alone None = []

@@ -43,4 +43,5 @@ SettlesInStory own p s (Some old) None = ⊥
 
 -- and no step failed
 abbrev pub SettlesIfUnfaulted : ℕ → Place → Settled → FilesState → FilesState → Type 0
-SettlesIfUnfaulted own p s x y = is_folder p ≡ true → (Rose x.faults y.faults → ⊥) → SettlesInStory own p s x.story y.story
+SettlesIfUnfaulted own p s x y =
+    is_folder p ≡ true → (Rose x.faults y.faults → ⊥) → SettlesInStory own p s x.story y.story

@@ -11,8 +11,8 @@ use Rattle.mbox_drop.specs.Places.{ended, is_lost, stage_of, turn}
 use Rattle.mbox_drop.specs.Readings.{Reading, all_of, at, read, reading, took, unread}
 use Rattle.mbox_drop.specs.declared.place.Match.{Match}
 use Rattle.mbox_drop.specs.declared.place.Match.TheVariants.{Nothing, F, Fr, Fro, From}
-use Rattle.mbox_drop.specs.declared.place.Place.{Place}
-use Rattle.mbox_drop.specs.declared.place.Place.TheVariants.{First, Lost, Separator, Start, Return, Middle, Blank}
+use Rattle.mbox_drop.specs.declared.place.DropState.{DropState}
+use Rattle.mbox_drop.specs.declared.place.DropState.TheVariants.{First, Lost, Separator, Start, Return, Middle, Blank}
 use Rattle.mbox_drop.specs.declared.place.Stage.{Stage}
 use Rattle.mbox_drop.specs.declared.place.Stage.TheVariants.{Unread, NoDrop, Begun}
 use Rattle.mbox_drop.specs.declared.place.Turn.{Turn}
@@ -57,7 +57,7 @@ not_overlong n le = go (nat_lt 67108871 n) refl
     go false f = refl
 
 -- how much longer than the bytes before the last empty line those in hand may be
-abbrev IsNear : Place → ℕ → ℕ → Type 0
+abbrev IsNear : DropState → ℕ → ℕ → Type 0
 IsNear (First m) body hand = Unit {0}
 IsNear Lost body hand = Unit {0}
 IsNear Separator body hand = Unit {0}
@@ -94,7 +94,7 @@ near_blank From s b le = elim (grows From b) [ more n g x ↦ rw g (longer From 
 near_first : (m : Match) (s : Reading) (b : ℕ) → Near (took s b (turn (First m) b))
 near_first m s b = elim (grows m b) [ more n g x ↦ rw g tt | whole g x ↦ rw g tt | broken g k ↦ rw g tt ]
 
-near_took : (place : Place) (s : Reading) (b : ℕ) → IsNear place (length s.body) (length s.hand) → Near (took s b (turn place b))
+near_took : (place : DropState) (s : Reading) (b : ℕ) → IsNear place (length s.body) (length s.hand) → Near (took s b (turn place b))
 near_took (First m) s b le = near_first m s b
 near_took Lost s b le = tt
 near_took Separator s b le = elim (split (b == 10)) [ inl e ↦ rw e tt | inr e ↦ rw e tt ]
@@ -137,7 +137,7 @@ separator_no b = elim (split (b == 10)) [ inl e ↦ rw e refl | inr e ↦ rw e r
 middle_no : (b : ℕ) → is_begins (turn Middle b) ≡ false
 middle_no b = elim (split (b == 10)) [ inl e ↦ rw e refl | inr e ↦ rw e refl ]
 
-begins_near : (place : Place) (b body hand : ℕ) → IsNear place body hand → is_begins (turn place b) ≡ true → hand ≤ body + 7
+begins_near : (place : DropState) (b body hand : ℕ) → IsNear place body hand → is_begins (turn place b) ≡ true → hand ≤ body + 7
 begins_near (First m) b body hand le e = absurd (false≢true (sym (first_no m b) ∙ e))
 begins_near Lost b body hand le e = cc (e)
 begins_near Separator b body hand le e = absurd (false≢true (sym (separator_no b) ∙ e))
@@ -146,7 +146,7 @@ begins_near Return b body hand le e = absurd (false≢true (sym (return_no b) �
 begins_near Middle b body hand le e = absurd (false≢true (sym (middle_no b) ∙ e))
 begins_near (Blank m) b body hand le e = let few = few_of m in omega (arith, le, few)
 
-ends_near : (place : Place) (body hand : List ℕ) → IsNear place (length body) (length hand) → length hand ≤ length (ended place body hand) + 7
+ends_near : (place : DropState) (body hand : List ℕ) → IsNear place (length body) (length hand) → length hand ≤ length (ended place body hand) + 7
 ends_near (First m) body hand le = omega arith
 ends_near Lost body hand le = omega arith
 ends_near Separator body hand le = omega arith
@@ -192,7 +192,7 @@ lost_is : (d : List ℕ) (s : Reading) → IsLost d s → s ≡ at [] [] [] Lost
 lost_is d s k = k.reading_is
 
 -- none of a reading's messages is too long where none of the drop's is
-all_short : (place : Place) (d : List ℕ) (s : Reading) → Knows place d s → first_long (messages d) ≡ None → first_long (all_of s) ≡ None
+all_short : (place : DropState) (d : List ℕ) (s : Reading) → Knows place d s → first_long (messages d) ≡ None → first_long (all_of s) ≡ None
 all_short (First m) d s k e = subst (λ x. first_long (all_of x) ≡ None) (sym (first_is m d s k)) refl
 all_short Lost d s k e = subst (λ x. first_long (all_of x) ≡ None) (sym (lost_is d s k)) refl
 all_short Separator d s k e = ap first_long (sym k.whole_is) ∙ e

@@ -7,6 +7,7 @@ use Rattle.mail_headers.specs.Lines.{is_name_byte}
 use Rattle.mh_base.specs.Entries.{entry_text}
 use Rattle.mh_base.specs.Folders.{is_folder_name}
 use Rattle.mh_base.specs.declared.entry.Entry.TheVariants.{Backup, Held, Number, Sequences}
+use Rattle.mh_base.proofs.NumberTests.{over_max, under_max}
 use Rattle.mbox_drop.specs.Drops.{is_drop, messages}
 use Rattle.mbox_drop.specs.Long.{first_long}
 use Rattle.mh_profile.specs.Reading.{entries_in}
@@ -38,6 +39,7 @@ use Rattle.file_plans.proofs.Giving.{gives_more, gives_on}
 use Rattle.file_plans.specs.MailboxChanges.{with_context_text}
 use Rattle.file_plans.proofs.Showing.{is_number_of}
 use Rattle.file_plans.proofs.Onward.{Is, IsShort, fits_at, onward}
+use Rattle.file_plans.proofs.EmptyFolders.{numbered_none}
 use Rattle.step_plans.specs.CommandFaults.{of_sink}
 use Rattle.step_plans.specs.ContextCommit.{LIMIT_BYTES, changed, commit_context, context_name, says}
 use Rattle.step_plans.specs.declared.change.ChangeEntry.{ChangeEntry}
@@ -106,13 +108,6 @@ unfolding marked_by_all
 all_valid [] m f = f
 all_valid (mark ∷ marks) m f = all_valid marks (marked_by mark m) (marked_valid mark m)
 
--- no number of a listing is above its top
-under_max : (k a b : ℕ) → k ≤ a → k ≤ max a b
-under_max k a b le = omega (arith, le)
-
-over_max : (k a b : ℕ) → k ≤ b → k ≤ max a b
-over_max k a b le = omega (arith, le)
-
 listed_low : (runs : List Run) (n : ℕ) → has runs n ≡ true → n ≤ top_of runs
 listed_low [] n e = cc (e)
 listed_low (r ∷ runs) n e = go (nat_le r.from n) (nat_le n r.to) refl e (λ f. listed_low runs n f)
@@ -172,14 +167,6 @@ outside_sequences path folder old new k = go (same_told folder old new) (nat_lt 
 outside_shown : (c : Contents) (m : Mailbox) → mailbox_in c ≡ m → c.outside ≡ m.outside
 unfolding mailbox_in
 outside_shown c m e = ap (λ x. x.outside) e
-
-numbered_none : (n : ℕ) (o : Option (List ℕ)) → o ≡ None → numbered n o ≡ None
-numbered_none n None e = go (is_message_number n)
-  where
-    go : (b : Bool) → ◌≡◌ {A = Option (List ℕ)} (if b then None else None) None
-    go true = refl
-    go false = refl
-numbered_none n (Some x) e = cc (e)
 
 held_none : (b : Bool) (n : ℕ) (o : Option (List ℕ)) → o ≡ None → (if b then numbered n o else None) ≡ None
 held_none true n o e = numbered_none n o e

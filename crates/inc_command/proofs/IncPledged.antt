@@ -46,19 +46,17 @@ use Rattle.step_plans.proofs.Stepping.{goes_cut, goes_end, goes_on, goes_return,
 use Rattle.sequence_commits.specs.Committing.{changed_sequences}
 use Rattle.sequence_commits.specs.Marking.{marked_by_all}
 use Rattle.sequence_commits.proofs.AsksSequences.{asks_sequences}
-use Rattle.sequence_commits.proofs.RunTests.{all_runs}
-use Rattle.held_messages.specs.Settle.{Settled}
 use Rattle.message_puts.proofs.FirstPuts.{AreOnce, none_once, once_asked}
 use Rattle.message_puts.proofs.PutPledged.{MayReach, PutsMessages}
 use Rattle.command_stages.specs.Current.{current_change, made_current}
 use Rattle.command_stages.specs.Endings.{of_plan}
-use Rattle.opened_folders.specs.Existing.{numbers_settled}
 use Rattle.opened_folders.specs.FolderPledge.{told_within}
 use Rattle.opened_folders.specs.Opening.{Opened}
 use Rattle.opened_folders.specs.Reads.{HaveSeen}
 use Rattle.opened_folders.proofs.EndedKept.{Still}
 use Rattle.opened_folders.proofs.FolderPledged.{Begins, HasBegun, seen_kept}
 use Rattle.opened_folders.proofs.WorkPledged.{LetsBegin, begins, committed_goes, current_goes, made_keeps}
+use Rattle.opened_folders.proofs.Listed.{settled_runs}
 use Rattle.inc_command.specs.Counting.{drop_counted}
 use Rattle.inc_command.specs.DropTaken.{drop_taken, where_of}
 use Rattle.inc_command.specs.Inc.{are_some, cut_by, cut_if, drop_ended, heading, heading_told, if_room, inc, new_marked, new_marks, opened_incorporated, room_counted, telling_of, told_taken, top_of}
@@ -111,10 +109,6 @@ top_known low (r ∷ rs) f = go (nat_le (top_of rs) r.to) refl (top_known (r.to 
         let lt : r.to < top_of rs = grind (arith, nat_tests, e) in
         let top : max r.to (top_of rs) ≡ top_of rs = omega (arith, lt) in
         inr (subst (λ n. (nat_le r.from n && nat_le n r.to) || has rs n ≡ true) (sym top) (or_there (nat_le r.from (top_of rs) && nat_le (top_of rs) r.to) (has rs (top_of rs)) there))
-
-settled_runs : (run : ℕ) (s : Settled) → AreRuns (numbers_settled run s)
-unfolding numbers_settled
-settled_runs run s = all_runs _
 
 top_small : (run : ℕ) (p mail : Place) (listing : List Run) (text context : List ℕ) (own : List Deed) → HaveSeen run p mail listing text context own → top_of listing ≤ 999999
 top_small run p mail listing text context own f = top_low 1 listing (subst AreRuns (sym f.listed.1) (settled_runs run f.listed.0))

@@ -1,5 +1,5 @@
 -- What `inc` says: the heading, and lines of messages that it has stored.
-use Rattle.std.proofs.Common.{◌≡◌, ◌≢◌, ◌++◌, ◌∷◌, [], ℕ, List, inl, inr, refl, sym, ◌∙◌, ap, subst, append_assoc, append-nil}
+use Rattle.std.proofs.Common.{◌≡◌, ◌≢◌, ◌++◌, ◌∷◌, [], ℕ, List, inl, inr, sym, ◌∙◌, ap, subst, append_assoc, append-nil}
 use Rattle.folder_files.specs.Deeds as deeds
 use Rattle.folder_files.specs.Deeds.{did, on}
 use Rattle.folder_files.specs.declared.step.Answer.{Answer}
@@ -14,17 +14,11 @@ use Rattle.file_plans.proofs.Framing.{AnyStep}
 use Rattle.step_plans.proofs.Lasting.{KeptBy}
 use Rattle.step_plans.proofs.Ruling.{rules_of}
 use Rattle.opened_folders.specs.Endings.{IsToldBy}
-use Rattle.opened_folders.proofs.Speaking.{said_did, said_more, speaking}
+use Rattle.opened_folders.proofs.Speaking.{said_did, said_heard, said_more, speaking}
 use Rattle.inc_command.specs.Inc.{heading}
 use Rattle.inc_command.specs.IncAnswers.{IsTextOfNew, nothing, piece as one_more}
 use Rattle.inc_command.specs.IncPledge.{TellsNew, inc_pledge, new_line}
 use Rattle.inc_command.specs.IncJob.{IncJob}
-
-said_heard : (past : List Deed) (piece : List ℕ) → said_of (past ++ Heard piece ∷ []) ≡ said_of past
-said_heard [] piece = refl
-said_heard (Did t b ∷ past) piece = said_heard past piece
-said_heard (Said q ∷ past) piece = ap (λ t. q ++ t) (said_heard past piece)
-said_heard (Heard q ∷ past) piece = said_heard past piece
 
 line_some : (line : List ℕ) → line ++ 10 ∷ [] ≢ []
 line_some [] e = cc

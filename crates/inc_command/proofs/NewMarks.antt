@@ -1,39 +1,22 @@
 -- The marks on new messages, and the highest number of a folder.
-use Rattle.std.proofs.Common.{◌≡◌, ◌<◌, ◌≤◌, ◌+◌, ◌-◌, ◌||◌, ◌&&◌, ◌==◌, ◌∷◌, [], ℕ, suc, Bool, true, false, List, Some, None, length, drop, get_or, slice_get, refl, sym, ◌∙◌, ap, subst, arith, add-one}
-use Rattle.std.specs.List.{list_any}
-use Rattle.std.specs.Prelude.{nat_le}
+use Rattle.std.proofs.Common.{◌≡◌, ◌<◌, ◌≤◌, ◌+◌, ◌-◌, ◌||◌, ◌==◌, ◌∷◌, [], ℕ, suc, List, Some, None, length, drop, get_or, slice_get, refl, sym, ◌∙◌, ap, subst, arith, add-one}
 use Rattle.std.proofs.Math.Seq.{drop-cons}
 use Rattle.std.proofs.lemmas.List.{drop_all}
-use Rattle.std.proofs.lemmas.Bool.Decides.{nat_tests}
 use Rattle.mh_sequences.specs.declared.run.Run.{Run}
 use Rattle.mh_sequences.specs.Runs.{AreRunsFrom, has, inside}
+use Rattle.mh_sequences.proofs.OneRun.{inside_one, last_there}
+use Rattle.command_stages.proofs.Listing.{or_none, swap}
+use Rattle.mh_base.proofs.NumberTests.{is_one}
 use Rattle.inc_command.specs.Inc.{top_of}
-
-inside_one : (k n : ℕ) → inside (record { from = k; to = k }) n ≡ (k == n)
-inside_one k n = let e : (nat_le k n && nat_le n k) ≡ (k == n) = grind (arith, nat_tests) in e
 
 next : (l : List ℕ) (i x : ℕ) → i < length l → x ≡ get_or l i x → drop i l ≡ x ∷ drop (i + 1) l
 next l i x h is = rw (add-one, drop-cons l i x) (ap (λ y. y ∷ drop (suc i) l) (sym is))
-
-swap : (a b c : Bool) → (a || b) || c ≡ b || (a || c)
-swap true true c = refl
-swap true false c = refl
-swap false true c = refl
-swap false false c = refl
-
--- one number more: what was added, or is still to be
-abbrev pub is_one : ℕ → List ℕ → Bool
-is_one n numbers = list_any (λ m. m == n) numbers
 
 pub one_added : (numbers : List ℕ) (i x : ℕ) (old new : List Run) → i < length numbers → x ≡ get_or numbers i x → ((n : ℕ) → has new n ≡ (inside (record { from = x; to = x }) n || has old n))
     → ((n : ℕ) → has old n || is_one n (drop i numbers) ≡ is_one n numbers) → (n : ℕ) → has new n || is_one n (drop (i + 1) numbers) ≡ is_one n numbers
 one_added numbers i x old new h is put left n =
     ap (λ b. b || is_one n (drop (i + 1) numbers)) (put n ∙ ap (λ b. b || has old n) (inside_one x n))
     ∙ (swap (x == n) (has old n) (is_one n (drop (i + 1) numbers)) ∙ (ap (λ l. has old n || is_one n l) (sym (next numbers i x h is)) ∙ left n))
-
-or_none : (b : Bool) → b || false ≡ b
-or_none true = refl
-or_none false = refl
 
 pub all_added : (numbers : List ℕ) (i : ℕ) (runs : List Run) → length numbers ≤ i → ((n : ℕ) → has runs n || is_one n (drop i numbers) ≡ is_one n numbers) → (n : ℕ) → has runs n ≡ is_one n numbers
 all_added numbers i runs h left n = sym (or_none (has runs n)) ∙ (ap (λ l. has runs n || is_one n l) (sym (drop_all i numbers h)) ∙ left n)
@@ -52,12 +35,6 @@ last_top low (s ∷ (t ∷ rs)) r f e =
     let up : t.from ≤ t.to = f.3.1 in
     let most : t.to ≤ top_of (t ∷ rs) = first_low (s.to + 2) t rs f.3 in
     omega (arith, rest, after, up, most)
-
-last_there : (r : Run) (runs : List Run) → slice_get (r ∷ runs) (length (r ∷ runs) - 1) ≡ None → ⊥
-last_there r [] e = cc (e)
-last_there r (t ∷ runs) e =
-    let index : suc (suc (length runs)) - 1 ≡ suc (suc (length runs) - 1) = omega arith in
-    last_there t runs (subst (λ n. slice_get (r ∷ (t ∷ runs)) n ≡ None) index e)
 
 pub none_top : (runs : List Run) → slice_get runs (length runs - 1) ≡ None → 0 ≡ top_of runs
 none_top [] e = refl

@@ -33,13 +33,14 @@ use Rattle.marks_law.specs.Minding.{Minds, Sees, by_base, linked, met, plain}
 use Rattle.sequence_marks.specs.SequenceMarks.{private_marks, public_marks, says_public}
 use Rattle.message_puts.specs.Putting.{linked_first, message_put, number_got, numbered}
 use Rattle.opened_folders.proofs.AllMarks.{MindsAll, clear_minds, look_minds}
-use Rattle.opened_folders.proofs.CommitMinds.{Facts, IsTold, one_folder, one_mail, sequences_name, text_name}
+use Rattle.opened_folders.proofs.CommitMinds.{Facts, IsTold, one_folder, one_mail, text_name}
 use Rattle.opened_folders.proofs.CommitSeen.{MadeTemp, NoCommit, synced_kept, written_meets}
 use Rattle.opened_folders.proofs.FolderSeen.{Quiet, quiet_seen}
 use Rattle.opened_folders.proofs.FreeMarks.{FreesOthers, free_kept}
 use Rattle.opened_folders.proofs.Meeting.{Meets, meets_end, meets_link, meets_okay, meets_return, meets_sync_folder, meets_then, meets_unlink}
 use Rattle.opened_folders.proofs.SettledSeen.{grows_link, kind_numbered}
 use Rattle.opened_folders.proofs.ToldMarks.{InListing}
+use Rattle.sequence_commits.proofs.SequencesPledged.{sequences_name}
 use Rattle.inc_command.specs.Inc.{top_of}
 use Rattle.inc_command.specs.IncPledge.{inc_pledge}
 use Rattle.message_puts.specs.Putting.{message_stored}

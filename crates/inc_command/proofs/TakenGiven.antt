@@ -32,6 +32,7 @@ use Rattle.message_puts.proofs.StoredGiven.{Stores, stored_gives}
 use Rattle.command_stages.specs.Endings.{of_plan}
 use Rattle.message_lines.specs.MessageText.{line_of, Writing}
 use Rattle.mh_looks.proofs.Apart.{names_apart}
+use Rattle.mh_looks.proofs.AllShown.{line_some}
 use Rattle.opened_folders.proofs.WorkGiven.{lifted_gives}
 use Rattle.inc_command.specs.IncOutcome.{lines_from, numbers_up, with_messages}
 use Rattle.inc_command.specs.Intake.{all_taken, with_number}
@@ -174,10 +175,6 @@ all_show (m ∷ ms) c path folder n one few =
     all_show ms (with_text c (Folder path folder) (decimal n) (Some m)) path folder (n + 1) (omega arith) (omega (arith, few))
     ∙ (ap (λ x. with_folder_changed x (Folder path folder) (with_messages (n + 1) ms)) (shows_message n (message_number n one (omega (arith, few))) c path folder m)
     ∙ changed_twice (mailbox_in c) (Folder path folder) (folder_with n m) (with_messages (n + 1) ms))
-
-line_some : (line : List ℕ) → line ++ 10 ∷ [] ≡ [] → ⊥
-line_some [] e = cc
-line_some (x ∷ line) e = cc
 
 -- one number more changes nothing of which is the first
 first_more : (numbers : List ℕ) (n m : ℕ) → first_of (numbers ++ n ∷ []) m ≡ first_of numbers n

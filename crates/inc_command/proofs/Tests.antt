@@ -1,6 +1,5 @@
 -- Tests of numbers as what they decide.
-use Rattle.std.proofs.Common.{◌≡◌, ◌<◌, ◌≤◌, ◌==◌, ℕ, Bool, true, false, nat_le, nat_lt, refl, arith}
-use Rattle.std.proofs.lemmas.Bool.{le-leb, leb-true}
+use Rattle.std.proofs.Common.{◌≡◌, ◌<◌, ◌≤◌, ◌==◌, ℕ, Bool, true, false, nat_lt, refl, arith}
 use Rattle.std.proofs.lemmas.Bool.Decides.{Decides-eqb, Decides-ltb}
 
 pub apart : (a b : ℕ) → (a ≡ b → ⊥) → (a == b) ≡ false
@@ -20,15 +19,5 @@ pub not_below : (a b : ℕ) → b ≤ a → nat_lt a b ≡ false
 not_below a b l = go (nat_lt a b) (Decides-ltb a b).0
   where
     go : (v : Bool) → (v ≡ true → a < b) → v ≡ false
-    go true g = absurd (let k = g refl in omega (arith, k, l))
-    go false g = refl
-
-pub at_most : (a b : ℕ) → a ≤ b → nat_le a b ≡ true
-at_most a b l = le-leb a b l
-
-pub above : (a b : ℕ) → b < a → nat_le a b ≡ false
-above a b l = go (nat_le a b) (leb-true a b)
-  where
-    go : (v : Bool) → (v ≡ true → a ≤ b) → v ≡ false
     go true g = absurd (let k = g refl in omega (arith, k, l))
     go false g = refl

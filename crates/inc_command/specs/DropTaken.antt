@@ -1,4 +1,5 @@
--- The plan of the second pass over a drop: it is read again from its begin, and each message is taken in that a piece finishes.
+-- The plan of the second pass over a drop: it is read again from its begin, and each message is taken in that a piece
+-- finishes.
 use Rattle.std.specs.Prelude.{◌-◌, ◌++◌, ◌∷◌, [], ◌==◌, ℕ, zero, suc, Bool, true, false, List, length, min, nat_lt, Option, None, Some, Ok, Err, if◌then◌else◌}
 use Rattle.folder_files.specs.declared.place.FilePath.{FilePath}
 use Rattle.folder_files.specs.declared.place.Place.{Place}

@@ -1,4 +1,5 @@
--- The plan of `inc`: the drop is counted, its messages are stored and told of, the marks and the context are committed, and only then is the drop cut.
+-- The plan of `inc`: the drop is counted, its messages are stored and told of, the marks and the context are committed,
+-- and only then is the drop cut.
 use Rattle.std.specs.Prelude.{◌+◌, ◌++◌, ◌∷◌, [], ℕ, Bool, true, false, max, nat_le, List, map, codes, Option, None, Some, Ok, Err}
 use Rattle.std.specs.Str.{encode_utf8_all}
 use Rattle.mh_sequences.specs.declared.mark.Mark.{Mark}

@@ -53,7 +53,8 @@ pub data ShowsIntake (run : ℕ) (path : List ℕ) (job : IncJob) : CommandFault
   empty_file : {most : ℕ} {bytes : List ℕ} {older : List Deed} → ShowsIntake run path job (fault.Refused refusal.NoMail) (did (ReadDrop job.drop 0 most) (Piece bytes 0) ∷ older)
   long_file : {most l : ℕ} {bytes : List ℕ} {older : List Deed} → nat_lt LONGEST l ≡ true
       → ShowsIntake run path job (fault.Refused (refusal.TooLarge l LONGEST)) (did (ReadDrop job.drop 0 most) (Piece bytes l) ∷ older)
-  -- what was read is no drop, or has a message that is too long, or more messages than there are numbers above the folder's highest
+  -- what was read is no drop, or has a message that is too long, or more messages than there are numbers above the
+  -- folder's highest
   no_drop : {drop : List ℕ} {own : List Deed} → HasPieces job.drop drop own → is_drop drop ≡ false → ShowsIntake run path job (fault.Refused refusal.NotADrop) own
   long_message : {drop : List ℕ} {l : ℕ} {own : List Deed} → HasPieces job.drop drop own → first_long (messages drop) ≡ Some l
       → ShowsIntake run path job (fault.Refused (refusal.TooLarge l LIMIT)) own

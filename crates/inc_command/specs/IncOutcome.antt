@@ -92,7 +92,8 @@ marked_work path job m numbers k =
     after_commits (sequences_kept path job.folder m (marked_by_all (new_marks job numbers) m) k) (λ l. after_commits (context_kept path (current_change job.folder) l) (cut_work job))
 
 abbrev pub stored_in : List ℕ → IncJob → ℕ → List (List ℕ) → Kept → Kept
-stored_in path job n mail k = kept_of (with_folder_changed k.mailbox (Folder path job.folder) (with_messages n mail)) k.entries
+stored_in path job n mail k =
+    kept_of (with_folder_changed k.mailbox (Folder path job.folder) (with_messages n mail)) k.entries
 
 -- the messages stand from this number on
 abbrev pub taken_work : List ℕ → IncJob → ℕ → List (List ℕ) → Marked → Kept → Work CommandFault
@@ -128,6 +129,8 @@ file_work path job top (Some bytes) m k = bytes_work path job top bytes m k
 abbrev pub opened_work : List ℕ → IncJob → List Run → Marked → Kept → Work CommandFault
 opened_work path job listing m k = file_work path job (top_of listing) (k.mailbox.outside job.drop) m k
 
--- `inc`, where the context has these entries, and what was held aside in the folder goes so: the folder is made where it is missing
+-- `inc`, where the context has these entries, and what was held aside in the folder goes so: the folder is made where
+-- it is missing
 unfoldable pub inc_work : List ℕ → List NamedValue → Homes → IncJob → Mailbox → Work CommandFault
-inc_work path entries h job m = begun_work path job.folder entries h (with_folder_made m (Folder path job.folder)) (opened_work path job)
+inc_work path entries h job m =
+    begun_work path job.folder entries h (with_folder_made m (Folder path job.folder)) (opened_work path job)

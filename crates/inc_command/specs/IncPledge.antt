@@ -63,8 +63,8 @@ PutsNear run path job own s =
     (temp number : List ℕ) → s ≡ step.Link (Folder path job.folder) temp number → is_temp (kind_of temp) ≡ true
     → (n : ℕ) × (number ≡ decimal n) × (m : ℕ) × (n ≤ m + 1) × HasSeenNumber run path job.folder m own
 
--- of the drop the run needs no more than the last bytes that it read, 65,536 at most, and the message in which these begin: the messages that the
--- bytes before them finish are stored, as the first of the drop, and perhaps more
+-- of the drop the run needs no more than the last bytes that it read, 65,536 at most, and the message in which these
+-- begin: the messages that the bytes before them finish are stored, as the first of the drop, and perhaps more
 pub record HoldsOne (run : ℕ) (f : FilePath) (own : List Deed) : Type 0 where
   pub before : List ℕ
   pub piece : List ℕ

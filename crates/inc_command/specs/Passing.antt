@@ -13,7 +13,8 @@ use Rattle.inc_command.specs.declared.intake.Taken.{Taken}
 
 -- the plan read some bytes, as many as the drop has, and these were counted; or it ended by this fault
 abbrev pub Passes : ℕ → ℕ → Commanded (List ℕ) → State → State → Result DropCounter CommandFault → Type 0
-Passes run l plan x y (Ok counter) = (d : List ℕ) × HasCounted counter d × (length d ≡ l) × Follows run command_cause plan x y (Ok d)
+Passes run l plan x y (Ok counter) =
+    (d : List ℕ) × HasCounted counter d × (length d ≡ l) × Follows run command_cause plan x y (Ok d)
 Passes run l plan x y (Err e) = Follows run command_cause plan x y (Err e)
 
 -- the plan read some bytes, so many, which the cutter took, and these messages were taken in; or it ended by this fault

@@ -18,4 +18,5 @@ abbrev pub AreStoredAt : ℕ → Place → List ℕ → List (List ℕ) → List
 AreStoredAt run p [] [] own = Unit {0}
 AreStoredAt run p [] (message ∷ messages) own = ⊥
 AreStoredAt run p (number ∷ numbers) [] own = ⊥
-AreStoredAt run p (number ∷ numbers) (message ∷ messages) own = HasStoredAt run p number message own × AreStoredAt run p numbers messages own
+AreStoredAt run p (number ∷ numbers) (message ∷ messages) own =
+    HasStoredAt run p number message own × AreStoredAt run p numbers messages own

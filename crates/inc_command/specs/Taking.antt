@@ -20,7 +20,8 @@ abbrev pub first_of : List ℕ → ℕ → ℕ
 first_of [] n = n
 first_of (first ∷ numbers) n = first
 
--- how a new message stands: where the first new message becomes the current one it is that, and else the one that was marked before
+-- how a new message stands: where the first new message becomes the current one it is that, and else the one that was
+-- marked before
 abbrev pub standing_for : Bool → Bool → Option ℕ → ℕ → ℕ → Standing
 standing_for change_cur unseen cur first n = record { current = if change_cur then first == n else is_at cur n; unseen = unseen }
 

@@ -24,7 +24,8 @@ pub record Kept : Type 0 where
 abbrev pub free : Kept → ℕ
 free line = if line.closed then 0 else line.width - columns_of line.characters
 
--- the line with the longest front of a text that fits; where that isn't all of it, the line is closed, and takes nothing more
+-- the line with the longest front of a text that fits; where that isn't all of it, the line is closed, and takes
+-- nothing more
 unfoldable pub with_more : Kept → List ℕ → Kept
 with_more line more =
     if line.closed then line

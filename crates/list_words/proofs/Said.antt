@@ -5,10 +5,9 @@ use Rattle.mh_base.specs.Folders.{is_folder_name, without_plus}
 use Rattle.mh_profile.specs.declared.named_value.NamedValue.{NamedValue}
 use Rattle.mh_words.specs.Whole.{Wrong, read_in}
 use Rattle.mh_words.specs.declared.item.Item.{Item}
-use Rattle.folder_files.specs.declared.refusal.Refusal.{Refusal}
 use Rattle.folder_files.specs.declared.refusal.Refusal.TheVariants as refusal
-use Rattle.step_plans.specs.declared.command_fault.CommandFault.{CommandFault}
 use Rattle.step_plans.specs.declared.command_fault.CommandFault.TheVariants as fault
+use Rattle.step_plans.proofs.Refusals.{IsRefusal}
 use Rattle.command_words.specs.BadValues.{first_of, unless_bad}
 use Rattle.command_words.specs.FolderWords.{folder_named, folders, one_folder, some_named}
 use Rattle.command_words.specs.declared.ended.Ended.{Ended}
@@ -17,10 +16,6 @@ use Rattle.list_words.specs.Parts.{wrong_parts}
 use Rattle.list_words.specs.ListWords.{folder_said, items_said, list_line, list_said, with_folder}
 use Rattle.list_words.specs.Table.{list_table}
 use Rattle.list_words.specs.declared.words.ListWords.{ListWords}
-
--- a refusal
-abbrev pub IsRefusal : CommandFault → Type 0
-IsRefusal e = (r : Refusal) × (e ≡ fault.Refused r)
 
 -- a refusal, or the name of a folder, or none
 abbrev IsSound : Result ListWords Ended → Type 0

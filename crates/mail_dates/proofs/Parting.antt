@@ -1,16 +1,11 @@
 -- The first word of a text.
-use Rattle.std.proofs.Common.{◌≡◌, ℕ, suc, Bool, true, false, List, [], ◌∷◌, take, drop, refl, sym, ap, ◌∙◌, arith}
+use Rattle.std.proofs.Common.{◌≡◌, ℕ, Bool, true, false, List, [], ◌∷◌, take, drop, refl, sym, ap, ◌∙◌}
 use Rattle.std.specs.Prelude.{not}
 use Rattle.std.specs.List.{prefix_len}
 use Rattle.std.proofs.lemmas.List.{take-append-drop}
+use Rattle.mh_base.proofs.Prefixes.{prefix_more, prefix_none}
 use Rattle.mail_dates.specs.Words.{words, ends_word}
 use Rattle.mail_dates.proofs.Cutting.{IsToken, separator_passed, no_words, word_cut}
-
-prefix_more : (p : ℕ → Bool) (b : ℕ) (rest : List ℕ) → p b ≡ true → prefix_len p (b ∷ rest) ≡ suc (prefix_len p rest)
-prefix_more p b rest e = rw e (omega arith)
-
-prefix_none : (p : ℕ → Bool) (b : ℕ) (rest : List ℕ) → p b ≡ false → prefix_len p (b ∷ rest) ≡ 0
-prefix_none p b rest e = rw e refl
 
 skipped_by : (p : ℕ → Bool) (t : Bool) (b : ℕ) (rest : List ℕ) → p b ≡ t → words p rest ≡ words p (drop (prefix_len p rest) rest) → words p (b ∷ rest) ≡ words p (drop (prefix_len p (b ∷ rest)) (b ∷ rest))
 skipped_by p true b rest e more = rw (prefix_more p b rest e) (separator_passed p b rest e ∙ more)

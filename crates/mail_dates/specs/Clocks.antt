@@ -5,7 +5,8 @@ use Rattle.mail_dates.specs.declared.mail_date.MailDate.{MailDate}
 
 -- the calendar has this day
 abbrev pub day_exists : ℕ → ℕ → ℕ → Bool
-day_exists year month day = nat_le 1 month && nat_le month 12 && nat_le 1 day && nat_le day (days_in_month (pos year) month)
+day_exists year month day =
+    nat_le 1 month && nat_le month 12 && nat_le 1 day && nat_le day (days_in_month (pos year) month)
 
 -- parts within their ranges
 pub record IsMailDate (d : MailDate) : Type 0 where

@@ -78,7 +78,8 @@ second_in hour minute (Some word) = time_to_second hour minute (short_number wor
 -- a time with a minute that was read, and perhaps a second behind it
 abbrev pub time_to_minute : ℕ → Option Lead → Option Time
 time_to_minute hour None = None
-time_to_minute hour (Some lead) = if length lead.rest == 0 then time_within hour lead.value 0 else second_in hour lead.value (after_colon lead.rest)
+time_to_minute hour (Some lead) =
+    if length lead.rest == 0 then time_within hour lead.value 0 else second_in hour lead.value (after_colon lead.rest)
 
 -- a time whose minute stands behind a colon
 abbrev pub minute_in : ℕ → Option (List ℕ) → Option Time

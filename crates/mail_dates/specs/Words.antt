@@ -1,8 +1,8 @@
 -- The words of a header's date.
 use Rattle.std.specs.Prelude.{ℕ, zero, suc, ◌==◌, ◌||◌, Bool, true, List, [], ◌∷◌, if◌then◌else◌}
 
--- a text without its comments, which begins inside so many: parentheses, which may nest, and a backslash in them protects
--- the byte behind it (RFC 5322, section 3.2.2); a comment without its end runs to the end of the text
+-- a text without its comments, which begins inside so many: parentheses, which may nest, and a backslash in them
+-- protects the byte behind it (RFC 5322, section 3.2.2); a comment without its end runs to the end of the text
 unfoldable pub outside : ℕ → List ℕ → List ℕ
 outside depth [] = []
 outside zero (b ∷ rest) = if b == 40 then outside 1 rest else b ∷ outside 0 rest

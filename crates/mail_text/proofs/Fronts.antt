@@ -1,18 +1,12 @@
 -- Bytes shown, front by front.
-use Rattle.std.proofs.Common.{◌≡◌, ℕ, zero, suc, ◌+◌, ◌<◌, ◌≤◌, true, false, eqb, List, [], ◌∷◌, ◌++◌, length, take, drop, refl, sym, ap, ◌∙◌, arith, inl, inr, length-drop, append_assoc}
+use Rattle.std.proofs.Common.{◌≡◌, ℕ, zero, suc, ◌+◌, ◌<◌, ◌≤◌, List, [], ◌∷◌, ◌++◌, length, take, drop, refl, sym, ap, ◌∙◌, arith, inl, inr, length-drop, append_assoc}
 use Rattle.std.specs.Str.{chars, IsUtf8}
 use Rattle.std.specs.Str.Lossy.{utf8_valid_len}
 use Rattle.std.proofs.lemmas.Bool.{cases_lt}
-use Rattle.std.proofs.lemmas.Bool.Decides.{nat_tests}
 use Rattle.std.proofs.lemmas.Str.{utf8_valid_len-IsUtf8, utf8_valid_len_le}
 use Rattle.std.proofs.lemmas.List.{drop-drop}
+use Rattle.mh_base.proofs.NumberTests.{equal_test, less_test}
 use Rattle.mail_text.specs.ShownBytes.{shown, shown_up_to}
-
-equal_test : (a b : ℕ) → a ≡ b → eqb a b ≡ true
-equal_test a b e = grind (arith, nat_tests)
-
-less_test : (a b : ℕ) → a < b → eqb a b ≡ false
-less_test a b lt = grind (arith, nat_tests)
 
 -- all is UTF-8
 pub whole_up_to : (n : ℕ) (bytes : List ℕ) → utf8_valid_len bytes ≡ length bytes → shown_up_to n bytes ≡ chars bytes

@@ -4,7 +4,7 @@ use Rattle.std.specs.List.{position_or_len, before_first, after_first}
 use Rattle.std.proofs.lemmas.List.{drop_more, drop_all, drop-drop}
 use Rattle.mail_text.specs.declared.marks.Inside.{Inside}
 use Rattle.mail_text.specs.declared.marks.Mark.{Mark}
-use Rattle.mail_text.specs.declared.marks.Place.{Place}
+use Rattle.mail_text.specs.declared.marks.Surrounding.{Surrounding}
 use Rattle.mail_text.specs.Marks.{inside_behind, place_of, marks_from}
 
 abbrev mark : Inside → ℕ → Mark
@@ -19,7 +19,7 @@ unfolding marks_from
 none_marked inside = refl
 
 -- one character more
-pub one_marked : (inside next : Inside) (place : Place) (c i : ℕ) (text : List ℕ) (old new all : List Mark) → i < length text → c ≡ get_or text i c → place ≡ place_of inside → next ≡ inside_behind inside c →
+pub one_marked : (inside next : Inside) (place : Surrounding) (c i : ℕ) (text : List ℕ) (old new all : List Mark) → i < length text → c ≡ get_or text i c → place ≡ place_of inside → next ≡ inside_behind inside c →
     new ≡ old ++ record { place = place; c = c } ∷ [] →
     old ++ marks_from inside (drop i text) ≡ all → new ++ marks_from next (drop (i + 1) text) ≡ all
 one_marked inside next place c i text old new all lt is ep en ew e =

@@ -7,8 +7,8 @@ use Rattle.std.specs.List.{flat_map, list_all, list_any, position_or_len, before
 use Rattle.mail_text.specs.declared.address.Shown.{Shown}
 use Rattle.mail_text.specs.declared.marks.Inside.TheVariants.{Nothing, Quotes, ProtectedInQuotes, Comments, ProtectedInComments, Brackets}
 use Rattle.mail_text.specs.declared.marks.Mark.{Mark}
-use Rattle.mail_text.specs.declared.marks.Place.{Place}
-use Rattle.mail_text.specs.declared.marks.Place.TheVariants.{Outside, InQuotes, Comment as InComment, WithinComment, Elsewhere}
+use Rattle.mail_text.specs.declared.marks.Surrounding.{Surrounding}
+use Rattle.mail_text.specs.declared.marks.Surrounding.TheVariants.{Outside, InQuotes, Comment as InComment, WithinComment, Elsewhere}
 use Rattle.mail_text.specs.Marks.{place_of, is_outside, is_in_comment, is_in_one_comment}
 use Rattle.mail_text.specs.Addresses.{is_bracket, opens_comment, closes_comment, is_of_name, is_plain as is_plain_mark, closes_bracket, characters_in, trimmed, first_address, note_of, pers_of, addr_of, mbox_in, host_in}
 use Rattle.mail_text.specs.ShownAddress.{shown_address}
@@ -127,7 +127,7 @@ unclosed_never q is d (StopsInComment front inner) =
     never_both q (comment_marks d front) (at (Comments d) 40 ∷ unclosed_marks (d + 1) inner) (comment_never q is d front)
     (is (at (Comments d) 40) (in_comments d), unclosed_never q is (d + 1) inner)
 
-by_place : (place : Place) → is_in_comment place ≡ true → is_outside place ≡ false
+by_place : (place : Surrounding) → is_in_comment place ≡ true → is_outside place ≡ false
 by_place Outside e = cc e
 by_place InQuotes e = refl
 by_place InComment e = refl

@@ -57,7 +57,7 @@ whole_shown : (bytes : List ℕ) → IsUtf8 bytes → IsShownAs bytes (chars byt
 whole_shown bytes utf8 =
     subst (λ b. IsShownAs b (chars bytes)) (append-nil bytes) (subst (λ t. IsShownAs (bytes ++ []) t) (append-nil (chars bytes)) (valid_shown bytes [] [] utf8 ([], refl, refl)))
 
-front_by : (t : Bool) (bytes : List ℕ) (n k : ℕ) → is_utf8 (take (suc n) bytes) ≡ t → is_utf8 (take k bytes) ≡ true → is_utf8 (take (if t then suc n else k) bytes) ≡ true
+pub front_by : (t : Bool) (bytes : List ℕ) (n k : ℕ) → is_utf8 (take (suc n) bytes) ≡ t → is_utf8 (take k bytes) ≡ true → is_utf8 (take (if t then suc n else k) bytes) ≡ true
 front_by true bytes n k e front = e
 front_by false bytes n k e front = front
 

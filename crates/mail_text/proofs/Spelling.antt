@@ -1,21 +1,16 @@
 -- An encoded word and its spelling.
-use Rattle.std.proofs.Common.{◌≡◌, ℕ, suc, Bool, true, false, eqb, Some, None, List, [], ◌∷◌, ◌++◌, length, take, drop, refl, sym, ap, subst, ◌∙◌, arith}
+use Rattle.std.proofs.Common.{◌≡◌, ℕ, suc, Bool, true, false, eqb, Some, None, List, [], ◌∷◌, ◌++◌, length, take, drop, refl, sym, ap, subst, ◌∙◌}
 use Rattle.std.specs.Prelude.{option_and_then, if◌then◌else◌}
 use Rattle.std.specs.List.{prefix_len, list_all}
 use Rattle.std.proofs.Math.Seq.{take-append_seam, drop-append_seam}
 use Rattle.std.proofs.lemmas.Bool.{and_parts, eqb-true}
 use Rattle.std.proofs.lemmas.List.{take-append-drop}
+use Rattle.mh_base.proofs.Prefixes.{prefix_more, prefix_none}
 use Rattle.mail_text.specs.declared.charset.Charset.{Charset}
 use Rattle.mail_text.specs.declared.encoding.Encoding.{Encoding}
 use Rattle.mail_text.specs.EncodedWords.{WordText, after, is_inner, is_text, charset_named, encoding_of, encoding_first, closed, word_of, lettered, named, first_word}
 use Rattle.mail_text.specs.WordPieces.{BeginsWith}
 use Rattle.mail_text.proofs.Wording.{then_some}
-
-prefix_more : (p : ℕ → Bool) (b : ℕ) (rest : List ℕ) → p b ≡ true → prefix_len p (b ∷ rest) ≡ suc (prefix_len p rest)
-prefix_more p b rest e = rw e (omega arith)
-
-prefix_none : (p : ℕ → Bool) (b : ℕ) (rest : List ℕ) → p b ≡ false → prefix_len p (b ∷ rest) ≡ 0
-prefix_none p b rest e = rw e refl
 
 -- a front that passes before one that does not
 pub prefix_exact : (p : ℕ → Bool) (front rest : List ℕ) (c : ℕ) → list_all p front ≡ true → p c ≡ false → prefix_len p (front ++ c ∷ rest) ≡ length front

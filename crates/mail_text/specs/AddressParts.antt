@@ -42,8 +42,8 @@ pub data UnclosedText : Type 0 where
   Stops : CommentText → Stop → UnclosedText
   StopsInComment : CommentText → UnclosedText → UnclosedText
 
--- a value is made of plain characters, quotes, comments and addresses in brackets; what is unclosed reaches the end of the
--- text
+-- a value is made of plain characters, quotes, comments and addresses in brackets; what is unclosed reaches the end of
+-- the text
 pub data Part : Type 0 where
   Plain : (c : ℕ) → is_plain c ≡ true → Part
   Quoted : List QuotedItem → Part
@@ -155,7 +155,8 @@ pers_in parts =
 
 -- the inside of the first brackets, or where there are none, all but comments
 abbrev pub addr_in : List Part → List ℕ
-addr_in parts = if list_any has_brackets parts then in_first address_in parts else trimmed (flat_map without_comment parts)
+addr_in parts =
+    if list_any has_brackets parts then in_first address_in parts else trimmed (flat_map without_comment parts)
 
 -- what the parts before the first comma show
 abbrev pub shown_by : List Part → Shown

@@ -83,7 +83,8 @@ without_gap text =
     let behind = drop (prefix_len is_blank text) text in
     if is_some (first_word behind) then behind else text
 
--- the first word's characters and then what stands behind it, or where no word begins, the first character and then the rest
+-- the first word's characters and then what stands behind it, or where no word begins, the first character and then the
+-- rest
 abbrev pub decoded_by : Option WordText → ℕ → List ℕ → (List ℕ → List ℕ) → List ℕ
 decoded_by None c rest more = c ∷ more rest
 decoded_by (Some w) c rest more = characters_of w ++ more (without_gap w.behind)

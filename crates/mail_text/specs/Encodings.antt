@@ -7,8 +7,8 @@ use Rattle.mime_codes.specs.QuotedPrintable.{with_escaped}
 use Rattle.mail_text.specs.declared.encoding.Encoding.{Encoding}
 use Rattle.mail_text.specs.declared.encoding.Encoding.TheVariants.{B, Q}
 
--- the bytes for which a text in the encoding Q stands once so many bytes are passed: _ is a space, an equals sign and two
--- hexadecimal digits are a byte, and every other byte stands for itself (RFC 2047, section 4.2)
+-- the bytes for which a text in the encoding Q stands once so many bytes are passed: _ is a space, an equals sign and
+-- two hexadecimal digits are a byte, and every other byte stands for itself (RFC 2047, section 4.2)
 unfoldable pub q_behind : ℕ → List ℕ → List ℕ
 q_behind n [] = []
 q_behind (suc n) (b ∷ rest) = q_behind n rest

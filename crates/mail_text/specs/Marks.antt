@@ -3,11 +3,12 @@ use Rattle.std.specs.Prelude.{ℕ, ◌+◌, ◌-◌, ◌==◌, Bool, true, false
 use Rattle.mail_text.specs.declared.marks.Inside.{Inside}
 use Rattle.mail_text.specs.declared.marks.Inside.TheVariants.{Nothing, Quotes, ProtectedInQuotes, Comments, ProtectedInComments, Brackets}
 use Rattle.mail_text.specs.declared.marks.Mark.{Mark}
-use Rattle.mail_text.specs.declared.marks.Place.{Place}
-use Rattle.mail_text.specs.declared.marks.Place.TheVariants.{Outside, InQuotes, Comment, WithinComment, Elsewhere}
+use Rattle.mail_text.specs.declared.marks.Surrounding.{Surrounding}
+use Rattle.mail_text.specs.declared.marks.Surrounding.TheVariants.{Outside, InQuotes, Comment, WithinComment, Elsewhere}
 
 -- where the character behind this one stands: quotes, comments and angle brackets begin outside each other; a backslash
--- protects the character behind it in quotes and comments; comments nest, here in so many others (RFC 5322, section 3.2)
+-- protects the character behind it in quotes and comments; comments nest, here in so many others (RFC 5322, section
+-- 3.2)
 abbrev pub inside_behind : Inside → ℕ → Inside
 inside_behind Nothing c =
     if c == 34 then Quotes else (if c == 40 then Comments 0 else (if c == 60 then Brackets else Nothing))
@@ -21,7 +22,7 @@ inside_behind (ProtectedInComments depth) c = Comments depth
 inside_behind Brackets c = if c == 62 then Nothing else Brackets
 
 -- what is kept of it
-abbrev pub place_of : Inside → Place
+abbrev pub place_of : Inside → Surrounding
 place_of Nothing = Outside
 place_of Quotes = InQuotes
 place_of ProtectedInQuotes = Elsewhere
@@ -38,7 +39,7 @@ abbrev pub marks : List ℕ → List Mark
 marks text = marks_from Nothing text
 
 -- it stands in no quotes, comments or brackets
-abbrev pub is_outside : Place → Bool
+abbrev pub is_outside : Surrounding → Bool
 is_outside Outside = true
 is_outside InQuotes = false
 is_outside Comment = false
@@ -46,7 +47,7 @@ is_outside WithinComment = false
 is_outside Elsewhere = false
 
 -- it stands in quotes, and isn't protected
-abbrev pub is_in_quotes : Place → Bool
+abbrev pub is_in_quotes : Surrounding → Bool
 is_in_quotes Outside = false
 is_in_quotes InQuotes = true
 is_in_quotes Comment = false
@@ -54,7 +55,7 @@ is_in_quotes WithinComment = false
 is_in_quotes Elsewhere = false
 
 -- it stands in a comment
-abbrev pub is_in_comment : Place → Bool
+abbrev pub is_in_comment : Surrounding → Bool
 is_in_comment Outside = false
 is_in_comment InQuotes = false
 is_in_comment Comment = true
@@ -62,7 +63,7 @@ is_in_comment WithinComment = true
 is_in_comment Elsewhere = false
 
 -- it stands in one comment only, and isn't protected
-abbrev pub is_in_one_comment : Place → Bool
+abbrev pub is_in_one_comment : Surrounding → Bool
 is_in_one_comment Outside = false
 is_in_one_comment InQuotes = false
 is_in_one_comment Comment = true

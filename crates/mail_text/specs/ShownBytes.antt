@@ -3,8 +3,8 @@ use Rattle.std.specs.Prelude.{ℕ, zero, suc, ◌+◌, ◌==◌, List, ◌∷◌
 use Rattle.std.specs.Str.{chars}
 use Rattle.std.specs.Str.Lossy.{utf8_valid_len}
 
--- the characters of the longest front that is UTF-8, then a question mark for the byte behind it, with which no character
--- begins, and so on behind that byte, for at most so many such bytes
+-- the characters of the longest front that is UTF-8, then a question mark for the byte behind it, with which no
+-- character begins, and so on behind that byte, for at most so many such bytes
 abbrev pub shown_up_to : ℕ → List ℕ → List ℕ
 shown_up_to zero bytes = chars bytes
 shown_up_to (suc n) bytes =

@@ -50,16 +50,16 @@ impl Inside {
     }
 
     /// Where a character stands.
-    fn place(self) -> Place
+    fn place(self) -> Surrounding
         ensures { result ≡ place_of self }
     {
         match self {
-            Inside::Nothing => Place::Outside,
-            Inside::Quotes => Place::InQuotes,
-            Inside::ProtectedInQuotes => Place::Elsewhere,
-            Inside::Comments(depth) if depth == 0 => Place::Comment,
-            Inside::Comments(_) | Inside::ProtectedInComments(_) => Place::WithinComment,
-            Inside::Brackets => Place::Elsewhere,
+            Inside::Nothing => Surrounding::Outside,
+            Inside::Quotes => Surrounding::InQuotes,
+            Inside::ProtectedInQuotes => Surrounding::Elsewhere,
+            Inside::Comments(depth) if depth == 0 => Surrounding::Comment,
+            Inside::Comments(_) | Inside::ProtectedInComments(_) => Surrounding::WithinComment,
+            Inside::Brackets => Surrounding::Elsewhere,
         }
     }
 }
@@ -81,7 +81,7 @@ fn comment_behind(depth: usize, c: char) -> Inside
 
 /// What is kept of where a character stands, in one byte.
 #[derive(Clone, Copy, Drop)]
-pub(crate) enum Place {
+pub(crate) enum Surrounding {
     Outside,
     /// Not protected there.
     InQuotes,
@@ -93,12 +93,12 @@ pub(crate) enum Place {
     Elsewhere,
 }
 
-impl Place {
+impl Surrounding {
     fn is_outside(self) -> bool
         ensures { result ≡ stands_outside self }
     {
         match self {
-            Place::Outside => true,
+            Surrounding::Outside => true,
             _ => false,
         }
     }
@@ -107,7 +107,7 @@ impl Place {
         ensures { result ≡ stands_in_quotes self }
     {
         match self {
-            Place::InQuotes => true,
+            Surrounding::InQuotes => true,
             _ => false,
         }
     }
@@ -116,7 +116,7 @@ impl Place {
         ensures { result ≡ stands_in_comment self }
     {
         match self {
-            Place::Comment | Place::WithinComment => true,
+            Surrounding::Comment | Surrounding::WithinComment => true,
             _ => false,
         }
     }
@@ -125,7 +125,7 @@ impl Place {
         ensures { result ≡ stands_in_one_comment self }
     {
         match self {
-            Place::Comment => true,
+            Surrounding::Comment => true,
             _ => false,
         }
     }
@@ -134,7 +134,7 @@ impl Place {
 /// A character, and where it stands.
 #[derive(Clone, Copy, Drop)]
 pub(crate) struct Mark {
-    pub(crate) place: Place,
+    pub(crate) place: Surrounding,
     pub(crate) c: char,
 }
 

@@ -5,7 +5,7 @@ use Rattle.step_plans.proofs.Discipline.{Cares, committed_lock}
 use Rattle.folder_files.specs.Careful.{HasLock}
 use Rattle.folder_files.specs.Deeds.{Deed, did, Once, HasFailed, WasDone, still, now, on}
 use Rattle.folder_files.specs.Directory.{now_in}
-use Rattle.folder_files.specs.Histories.{world_after, own, IsLive, IsLegal, begins, answers, fails, is_dead, delivers, crashes, crashes_within, stops, AreCareful, AreHonest, AreOrderly, IsLockable, Changes, after_delivery, after_end}
+use Rattle.folder_files.specs.Histories.{world_after, own, IsLive, IsLegal, begins, answers, fails, is_dead, delivers, crashes, crashes_within, stops, AreCareful, AreHonest, AreOrderly, Changes, after_delivery, after_end}
 use Rattle.folder_files.specs.Named.{is_committed, is_temp_of}
 use Rattle.folder_files.specs.Places.{is_folder}
 use Rattle.folder_files.specs.Steps.{name_answer, directory_after, MayLeave}
@@ -15,7 +15,6 @@ use Rattle.folder_files.specs.declared.event.After.TheVariants.{Before, Made, To
 use Rattle.folder_files.specs.declared.event.Event.{Event}
 use Rattle.folder_files.specs.declared.event.Event.TheVariants.{Act, Crash}
 use Rattle.folder_files.specs.declared.place.Place.{Place}
-use Rattle.folder_files.specs.declared.place.Place.TheVariants.{Home, Work, Mail, Folder}
 use Rattle.folder_files.specs.declared.step.Answer.{Answer}
 use Rattle.folder_files.specs.declared.step.Answer.TheVariants.{Done, Failed}
 use Rattle.folder_files.specs.declared.step.Step.{Step}
@@ -32,7 +31,7 @@ use Rattle.step_plans.proofs.Inv.{Inv}
 use Rattle.step_plans.proofs.Told.{lives_before}
 use Rattle.step_plans.proofs.Drops.{own_split}
 use Rattle.step_plans.proofs.Law.{inv, none_before}
-use Rattle.step_plans.proofs.Bases.{base_is, after_read, after_missing, after_commit}
+use Rattle.step_plans.proofs.Bases.{after_commit, after_missing, after_read, base_is}
 use Rattle.step_plans.proofs.Locks.{gone_crash, gone_within, live_end, honest_before, one_holder}
 use Rattle.step_plans.proofs.Committing.{Spares, spares_now, left_spares, apart_own, temp_own}
 use Rattle.marks_law.specs.Bearers.{Marking, marks}
@@ -118,12 +117,6 @@ text_once (found e l) = now tt
 text_once (missing e l) = now tt
 text_once (committed e t w l) = now tt
 text_once (on n u h) = on (text_once h)
-
-lockable : (p : Place) (x : List ℕ) → is_committed p x ≡ true → IsLockable p
-lockable Home x c = absurd (cc (c))
-lockable Work x c = absurd (cc (c))
-lockable (Mail path) x c = tt
-lockable (Folder path name) x c = tt
 
 -- an own step that neither commits the text nor fails
 module _ (start : World) (past : List Event) (o : ℕ) (s : Step) (a : Answer) (m : After) (k : Marking) (c : is_committed k.place k.name ≡ true) (careful : Cares o (own o past) s) (i : Inv start past) (nx : IsNext (world_after start past) o s a m) where

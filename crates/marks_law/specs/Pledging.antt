@@ -18,7 +18,8 @@ CommitsText k s = (temp : List ℕ) × (s ≡ Rename k.place temp k.name)
 
 -- each step that the pledge lets be, and that changes the folder, minds its marks
 abbrev pub MindsMarks : Pledge → Marking → Type 0
-MindsMarks w k = (own : List Deed) (s : Step) → w.may_step own s → Changes k.folder s → Minds w.run k (by_base w.run k) own s
+MindsMarks w k =
+    (own : List Deed) (s : Step) → w.may_step own s → Changes k.folder s → Minds w.run k (by_base w.run k) own s
 
 -- the same of marks whose text stands in another directory, and of each commit of that text
 abbrev pub MindsMarksApart : Pledge → Marking → Type 0
@@ -26,10 +27,12 @@ MindsMarksApart w k = (own : List Deed) (s : Step) → w.may_step own s → Chan
 
 -- each step of the other runs that changes the folder minds its marks
 abbrev pub OthersAreMindful : ℕ → Marking → List Event → Type 0
-OthersAreMindful run k past = AtSteps (λ r. r ≢ run) (λ r own s. Changes k.folder s → Minds r k (by_base r k) own s) past
+OthersAreMindful run k past =
+    AtSteps (λ r. r ≢ run) (λ r own s. Changes k.folder s → Minds r k (by_base r k) own s) past
 
 abbrev pub OthersAreMindfulApart : ℕ → Marking → List Event → Type 0
-OthersAreMindfulApart run k past = AtSteps (λ r. r ≢ run) (λ r own s. Changes k.folder s ⊎ CommitsText k s → Minds r k (by_text r k) own s) past
+OthersAreMindfulApart run k past =
+    AtSteps (λ r. r ≢ run) (λ r own s. Changes k.folder s ⊎ CommitsText k s → Minds r k (by_text r k) own s) past
 
 -- each commit of the text by another run is under the folder's lock, or keeps the marks
 abbrev pub OthersAreConsiderate : ℕ → Marking → List Event → Type 0

@@ -10,7 +10,7 @@ use Rattle.mbox_drop.proofs.ReadingLemmas.{read-append}
 use Rattle.mbox_drop.proofs.Counts.{reading_sized, CountsOn}
 use Rattle.mbox_drop.proofs.Leaps.{read_plain, is_middle-place}
 use Rattle.mbox_drop.specs.declared.counter.DropCounter.{DropCounter}
-use Rattle.mbox_drop.specs.declared.place.Place.TheVariants.{Middle}
+use Rattle.mbox_drop.specs.declared.place.DropState.TheVariants.{Middle}
 
 take_on : (i j : ℕ) (xs : List ℕ) → i ≤ j → j ≤ length xs → take j xs ≡ take i xs ++ take (j - i) (drop i xs)
 take_on i j xs h k =

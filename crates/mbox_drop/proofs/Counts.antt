@@ -13,8 +13,8 @@ use Rattle.mbox_drop.specs.Counting.{one_more, counted, Counts, HasCounted}
 use Rattle.mbox_drop.proofs.ReadingLemmas.{is_begun_at, Staged, staged, messages-none, read-push, Knows, IsBegun, knows}
 use Rattle.mbox_drop.specs.declared.counter.DropCounter.{DropCounter}
 use Rattle.mbox_drop.specs.declared.place.Match.TheVariants.{Nothing, F, Fr, Fro, From}
-use Rattle.mbox_drop.specs.declared.place.Place.{Place}
-use Rattle.mbox_drop.specs.declared.place.Place.TheVariants.{First, Lost, Separator, Start, Return, Middle, Blank}
+use Rattle.mbox_drop.specs.declared.place.DropState.{DropState}
+use Rattle.mbox_drop.specs.declared.place.DropState.TheVariants.{First, Lost, Separator, Start, Return, Middle, Blank}
 use Rattle.mbox_drop.specs.declared.place.Turn.{Turn}
 use Rattle.mbox_drop.specs.declared.place.Turn.TheVariants.{Joins, Empties, Begins, Passes}
 
@@ -113,7 +113,7 @@ counted_end c d h e =
     let b : IsBegun d (reading d) = is_begun_at d c.place k.place e in
     one_more-below c.count (omega arith) ∙ ap (λ n. n + 1) k.count ∙ sym (length_push (reading d).done _) ∙ ap length (sym b.whole_is)
 
-ended-length : (place : Place) (body hand : List ℕ) → ended place (length body) (length hand) ≡ length (ended place body hand)
+ended-length : (place : DropState) (body hand : List ℕ) → ended place (length body) (length hand) ≡ length (ended place body hand)
 ended-length (First m) body hand = refl
 ended-length Lost body hand = refl
 ended-length Separator body hand = refl
@@ -151,11 +151,11 @@ pub counted_long : (c : DropCounter) (d : List ℕ) → HasCounted c d → is_dr
 counted_long c d h drop = long_is (stage_of c.place) c d h.counts (staged (stage_of c.place) d c.place h.counts.place refl) drop
 
 -- before a separator there is nothing to count
-empty_long : (c : DropCounter) (place : Place) → ended {A = List ℕ} place [] [] ≡ [] → Counts c (at [] [] [] place) → option_or c.long (long_of (ended c.place c.body c.size)) ≡ None
+empty_long : (c : DropCounter) (place : DropState) → ended {A = List ℕ} place [] [] ≡ [] → Counts c (at [] [] [] place) → option_or c.long (long_of (ended c.place c.body c.size)) ≡ None
 empty_long c place e h =
     ap (λ o. option_or o (long_of (ended c.place c.body c.size))) h.long ∙ ap (λ n. long_of n) (ended_is c (at [] [] [] place) h) ∙ ap (λ x. long_of (length x)) e
 
-no_long_at : (place : Place) (c : DropCounter) (d : List ℕ) (s : Reading) → Knows place d s → Counts c s → is_drop d ≡ false → option_or c.long (long_of (ended c.place c.body c.size)) ≡ None
+no_long_at : (place : DropState) (c : DropCounter) (d : List ℕ) (s : Reading) → Knows place d s → Counts c s → is_drop d ≡ false → option_or c.long (long_of (ended c.place c.body c.size)) ≡ None
 no_long_at (First m) c d s k h e = empty_long c (First m) refl (subst (λ x. Counts c x) k.reading_is h)
 no_long_at Lost c d s k h e = empty_long c Lost refl (subst (λ x. Counts c x) k.reading_is h)
 no_long_at Separator c d s k h e = absurd (false≢true (sym e ∙ k.drop))

@@ -22,8 +22,8 @@ use Rattle.mbox_drop.specs.declared.fault.CutFault.{CutFault}
 use Rattle.mbox_drop.specs.declared.fault.CutFault.TheVariants.{NotADrop, TooLong, Memory}
 use Rattle.mbox_drop.specs.declared.place.Match.{Match}
 use Rattle.mbox_drop.specs.declared.place.Match.TheVariants.{Nothing, F, Fr, Fro, From}
-use Rattle.mbox_drop.specs.declared.place.Place.{Place}
-use Rattle.mbox_drop.specs.declared.place.Place.TheVariants.{First, Lost, Separator, Start, Return, Middle, Blank}
+use Rattle.mbox_drop.specs.declared.place.DropState.{DropState}
+use Rattle.mbox_drop.specs.declared.place.DropState.TheVariants.{First, Lost, Separator, Start, Return, Middle, Blank}
 use Rattle.mbox_drop.specs.declared.find.Found.{Found}
 use Rattle.mbox_drop.specs.declared.find.Found.TheVariants.{End}
 use Rattle.mbox_drop.specs.declared.find.Skipped.{Skipped}
@@ -45,7 +45,7 @@ sound_start Fr = record { begins = (111 ∷ 109 ∷ 32 ∷ [], refl); done_is = 
 sound_start Fro = record { begins = (109 ∷ 32 ∷ [], refl); done_is = refl; hand_is = refl }
 sound_start From = record { begins = (32 ∷ [], refl); done_is = refl; hand_is = refl }
 
-sound_at : (place : Place) (d : List ℕ) (s : Reading) → Knows place d s → is_lost place ≡ false → IsSound d s
+sound_at : (place : DropState) (d : List ℕ) (s : Reading) → Knows place d s → is_lost place ≡ false → IsSound d s
 sound_at (First m) d s k h = subst (λ x. IsSound x s) (sym k.text_is) (subst (λ y. IsSound (text_of m) y) (sym k.reading_is) (sound_start m))
 sound_at Lost d s k h = cc
 sound_at Separator d s k h = sound_begun d s k
@@ -57,7 +57,7 @@ sound_at (Blank m) d s k h = sound_begun d s k
 pub sound : (d : List ℕ) → is_lost (reading d).place ≡ false → IsSound d (reading d)
 sound d h = sound_at (reading d).place d (reading d) (knows d) h
 
-lost_at : (place : Place) (d : List ℕ) (s : Reading) → Knows place d s → is_lost place ≡ true → BeginsDrop d → ⊥
+lost_at : (place : DropState) (d : List ℕ) (s : Reading) → Knows place d s → is_lost place ≡ true → BeginsDrop d → ⊥
 lost_at (First m) d s k h b = absurd (false≢true h)
 lost_at Lost d s k h b = false≢true (sym (k.no_drop b.0) ∙ b.1)
 lost_at Separator d s k h b = absurd (false≢true h)
@@ -76,7 +76,7 @@ lost d h = lost_at (reading d).place d (reading d) (knows d) h
 pub open_is : (d : List ℕ) → is_lost (reading d).place ≡ false → open_bytes d ≡ (reading d).hand
 open_is d h = (sound d h).hand_is
 
-begun_sound : (place : Place) → is_begun place ≡ true → is_lost place ≡ false
+begun_sound : (place : DropState) → is_begun place ≡ true → is_lost place ≡ false
 begun_sound (First m) h = refl
 begun_sound Lost h = absurd (false≢true h)
 begun_sound Separator h = refl
@@ -114,7 +114,7 @@ module _ (c : DropCutter) (d piece rest : List ℕ) (h : HasTaken c d) where
   }
 
   -- a piece that finishes no message
-  pub feeds_hold : (new : DropCutter) (place : Place) (body : ℕ) (result : Result (List (List ℕ)) CutFault) →
+  pub feeds_hold : (new : DropCutter) (place : DropState) (body : ℕ) (result : Result (List (List ℕ)) CutFault) →
       reading (d ++ piece) ≡ at (reading d).done (c.hand.items ++ rest) (take body (c.hand.items ++ rest)) place →
       Holds c place body rest new result → Feeds d piece new result
   feeds_hold new place body (Ok given) e w =
@@ -145,7 +145,7 @@ module _ (c : DropCutter) (d piece rest : List ℕ) (h : HasTaken c d) where
   feeds_hold new place body (Err Memory) e w = feeds_kept new w
 
   -- a piece that finishes messages, where its first separator follows these bytes
-  parts_reading : (body next : ℕ) (given : List (List ℕ)) (text : List ℕ) (place : Place) (last : ℕ) (long : Option ℕ) →
+  parts_reading : (body next : ℕ) (given : List (List ℕ)) (text : List ℕ) (place : DropState) (last : ℕ) (long : Option ℕ) →
       reading (d ++ piece) ≡ read (at ((reading d).done ++ take body (c.hand.items ++ rest) ∷ []) [] [] Separator) (drop next rest) →
       ReadsParts body (drop next rest) given text place last long →
       reading (d ++ piece) ≡ at ((reading d).done ++ take body (c.hand.items ++ rest) ∷ given) text (take last text) place

@@ -11,8 +11,8 @@ use Rattle.mbox_drop.proofs.ReadingLemmas.{read-turn}
 use Rattle.mbox_drop.proofs.Finds.{found-cut}
 use Rattle.mbox_drop.specs.declared.place.Match.{Match}
 use Rattle.mbox_drop.specs.declared.place.Match.TheVariants.{Nothing, F, Fr, Fro, From}
-use Rattle.mbox_drop.specs.declared.place.Place.{Place}
-use Rattle.mbox_drop.specs.declared.place.Place.TheVariants.{First, Lost, Separator, Start, Return, Middle, Blank}
+use Rattle.mbox_drop.specs.declared.place.DropState.{DropState}
+use Rattle.mbox_drop.specs.declared.place.DropState.TheVariants.{First, Lost, Separator, Start, Return, Middle, Blank}
 use Rattle.mbox_drop.specs.declared.place.Turn.{Turn}
 use Rattle.mbox_drop.specs.declared.place.Turn.TheVariants.{Joins, Empties, Begins, Passes}
 use Rattle.mbox_drop.specs.declared.find.Found.{Found}
@@ -21,8 +21,8 @@ use Rattle.mbox_drop.specs.declared.find.Skipped.{Skipped}
 
 -- a turn in a message
 data Inner : Turn → Type 0 where
-  joins : (p : Place) → is_inside p ≡ true → Inner (Joins p)
-  empties : (p : Place) → is_inside p ≡ true → Inner (Empties p)
+  joins : (p : DropState) → is_inside p ≡ true → Inner (Joins p)
+  empties : (p : DropState) → is_inside p ≡ true → Inner (Empties p)
   begins : Inner Begins
 
 inner_start : (b : ℕ) → Inner (turn Start b)
@@ -38,7 +38,7 @@ inner_blank Fr b = elim (grows Fr b) [ more n g x ↦ rw g (joins (Blank n) refl
 inner_blank Fro b = elim (grows Fro b) [ more n g x ↦ rw g (joins (Blank n) refl) | whole g x ↦ rw g begins | broken g k ↦ rw g (inner_middle b) ]
 inner_blank From b = elim (grows From b) [ more n g x ↦ rw g (joins (Blank n) refl) | whole g x ↦ rw g begins | broken g k ↦ rw g (inner_middle b) ]
 
-inner : (place : Place) (b : ℕ) → is_inside place ≡ true → Inner (turn place b)
+inner : (place : DropState) (b : ℕ) → is_inside place ≡ true → Inner (turn place b)
 inner (First m) b h = cc
 inner Lost b h = cc
 inner Separator b h = cc
@@ -50,7 +50,7 @@ inner (Blank m) b h = inner_blank m b
 outer_first : (m : Match) (b : ℕ) → turn (First m) b ≡ Passes (place_after (turn (First m) b))
 outer_first m b = elim (grows m b) [ more n g x ↦ rw g refl | whole g x ↦ rw g refl | broken g k ↦ rw g refl ]
 
-outer : (place : Place) (b : ℕ) → is_inside place ≡ false → turn place b ≡ Passes (place_after (turn place b))
+outer : (place : DropState) (b : ℕ) → is_inside place ≡ false → turn place b ≡ Passes (place_after (turn place b))
 outer (First m) b h = outer_first m b
 outer Lost b h = refl
 outer Separator b h = elim (split (b == 10)) [ inl e ↦ rw e refl | inr e ↦ rw e refl ]
@@ -60,12 +60,12 @@ outer Middle b h = cc
 outer (Blank m) b h = cc
 
 -- the bytes before a message are passed
-pub record Passed (done : List (List ℕ)) (hand body : List ℕ) (place : Place) (pre bs : List ℕ) (to : Skipped) : Type 0 where
+pub record Passed (done : List (List ℕ)) (hand body : List ℕ) (place : DropState) (pre bs : List ℕ) (to : Skipped) : Type 0 where
   pub reads : read (at done hand body place) bs ≡ read (at done hand body to.place) (drop to.next (pre ++ bs))
   pub within : to.next ≤ length (pre ++ bs)
   pub ready : (is_inside to.place ≡ true) ⊎ (to.next ≡ length (pre ++ bs))
 
-passed_on : (done : List (List ℕ)) (hand body : List ℕ) (place next : Place) (pre : List ℕ) (b : ℕ) (bs : List ℕ) (to : Skipped) →
+passed_on : (done : List (List ℕ)) (hand body : List ℕ) (place next : DropState) (pre : List ℕ) (b : ℕ) (bs : List ℕ) (to : Skipped) →
     turn place b ≡ Passes next → Passed done hand body next (pre ++ b ∷ []) bs to → Passed done hand body place pre (b ∷ bs) to
 passed_on done hand body place next pre b bs to e w =
     let same : (pre ++ b ∷ []) ++ bs ≡ pre ++ b ∷ bs = append_assoc pre (b ∷ []) bs in
@@ -75,7 +75,7 @@ passed_on done hand body place next pre b bs to e w =
       ready = subst (λ x. (is_inside to.place ≡ true) ⊎ (to.next ≡ length x)) same w.ready;
     }
 
-pub passed : (bs pre : List ℕ) (done : List (List ℕ)) (hand body : List ℕ) (place : Place) → Passed done hand body place pre bs (skipped place (length pre) bs)
+pub passed : (bs pre : List ℕ) (done : List (List ℕ)) (hand body : List ℕ) (place : DropState) → Passed done hand body place pre bs (skipped place (length pre) bs)
 unfolding skipped
 passed [] pre done hand body place = record {
   reads = ap (λ x. read (at done hand body place) x) (sym (drop_at pre [] (length pre) refl));
@@ -89,7 +89,7 @@ passed (b ∷ bs) pre done hand body place = elim (split (is_inside place)) [
     ready = inl e;
   })
   | inr e ↦
-      let next : Place = place_after (turn place b) in
+      let next : DropState = place_after (turn place b) in
       rw e (subst (λ n. Passed done hand body place pre (b ∷ bs) (skipped next n bs)) (length_push pre b)
       (passed_on done hand body place next pre b bs (skipped next (length (pre ++ b ∷ [])) bs) (outer place b e) (passed bs (pre ++ b ∷ []) done hand body next)))
 ]
@@ -99,12 +99,12 @@ abbrev pub after_found : List (List ℕ) → List ℕ → List ℕ → Found →
 after_found done text full (Cut body next) = read (at (done ++ take body text ∷ []) [] [] Separator) (drop next full)
 after_found done text full (End place body) = at done text (take body text) place
 
-pub record Searched (done : List (List ℕ)) (held pre bs : List ℕ) (body : ℕ) (place : Place) (f : Found) : Type 0 where
+pub record Searched (done : List (List ℕ)) (held pre bs : List ℕ) (body : ℕ) (place : DropState) (f : Found) : Type 0 where
   pub reads : read (at done (held ++ pre) (take body (held ++ pre)) place) bs ≡ after_found done (held ++ (pre ++ bs)) (pre ++ bs) f
   pub fits : IsWithin (length held) (length (pre ++ bs)) f
 
 -- at the end, at any place
-pub searched_none : (done : List (List ℕ)) (held pre : List ℕ) (body : ℕ) (place : Place) → body ≤ length (held ++ pre) →
+pub searched_none : (done : List (List ℕ)) (held pre : List ℕ) (body : ℕ) (place : DropState) → body ≤ length (held ++ pre) →
     Searched done held pre [] body place (found (length held) (End place body) (length pre) [])
 unfolding found read
 searched_none done held pre body place h = record {
@@ -112,7 +112,7 @@ searched_none done held pre body place h = record {
   fits = rw append-nil (omega (arith, length-append held pre));
 }
 
-searched_on : (done : List (List ℕ)) (held pre : List ℕ) (b : ℕ) (bs : List ℕ) (body body' : ℕ) (place next : Place) (t : Turn) (f : Found) →
+searched_on : (done : List (List ℕ)) (held pre : List ℕ) (b : ℕ) (bs : List ℕ) (body body' : ℕ) (place next : DropState) (t : Turn) (f : Found) →
     turn place b ≡ t →
     took (at done (held ++ pre) (take body (held ++ pre)) place) b t ≡ at done (held ++ (pre ++ b ∷ [])) (take body' (held ++ (pre ++ b ∷ []))) next →
     Searched done held (pre ++ b ∷ []) bs body' next f → Searched done held pre (b ∷ bs) body place f
@@ -125,13 +125,13 @@ searched_on done held pre b bs body body' place next t f et ek w =
     }
 
 -- one more byte of the message
-took-joins : (done : List (List ℕ)) (held pre : List ℕ) (b body : ℕ) (place next : Place) → body ≤ length (held ++ pre) →
+took-joins : (done : List (List ℕ)) (held pre : List ℕ) (b body : ℕ) (place next : DropState) → body ≤ length (held ++ pre) →
     took (at done (held ++ pre) (take body (held ++ pre)) place) b (Joins next) ≡ at done (held ++ (pre ++ b ∷ [])) (take body (held ++ (pre ++ b ∷ []))) next
 took-joins done held pre b body place next h =
     ap (λ x. at done x (take body (held ++ pre)) next) (append_assoc held pre (b ∷ []))
     ∙ ap (λ x. at done (held ++ (pre ++ b ∷ [])) x next) (sym (take-append-le body (held ++ pre) (b ∷ []) h) ∙ ap (λ x. take body x) (append_assoc held pre (b ∷ [])))
 
-took-empties : (done : List (List ℕ)) (held pre : List ℕ) (b body : ℕ) (place next : Place) →
+took-empties : (done : List (List ℕ)) (held pre : List ℕ) (b body : ℕ) (place next : DropState) →
     took (at done (held ++ pre) (take body (held ++ pre)) place) b (Empties next)
     ≡ at done (held ++ (pre ++ b ∷ [])) (take (length held + length pre) (held ++ (pre ++ b ∷ []))) next
 took-empties done held pre b body place next =
@@ -139,7 +139,7 @@ took-empties done held pre b body place next =
     ∙ ap (λ x. at done (held ++ (pre ++ b ∷ [])) x next)
     (sym (take_at (held ++ pre) (b ∷ []) (length held + length pre) (length-append held pre)) ∙ ap (λ x. take (length held + length pre) x) (append_assoc held pre (b ∷ [])))
 
-searched_cut : (done : List (List ℕ)) (held pre : List ℕ) (b : ℕ) (bs : List ℕ) (body : ℕ) (place : Place) → turn place b ≡ Begins → body ≤ length (held ++ pre) →
+searched_cut : (done : List (List ℕ)) (held pre : List ℕ) (b : ℕ) (bs : List ℕ) (body : ℕ) (place : DropState) → turn place b ≡ Begins → body ≤ length (held ++ pre) →
     Searched done held pre (b ∷ bs) body place (Cut body (length pre + 1))
 searched_cut done held pre b bs body place et h =
     let front : take body (held ++ pre) ≡ take body (held ++ (pre ++ b ∷ bs)) =
@@ -154,10 +154,10 @@ searched_cut done held pre b bs body place et h =
     }
 
 pub record Searches (bs : List ℕ) : Type 0 where
-  pub go : (done : List (List ℕ)) (held pre : List ℕ) (body : ℕ) (place : Place) → is_inside place ≡ true → body ≤ length (held ++ pre) →
+  pub go : (done : List (List ℕ)) (held pre : List ℕ) (body : ℕ) (place : DropState) → is_inside place ≡ true → body ≤ length (held ++ pre) →
       Searched done held pre bs body place (found (length held) (End place body) (length pre) bs)
 
-searched_turn : {t : Turn} (bs : List ℕ) (ih : Searches bs) (done : List (List ℕ)) (held pre : List ℕ) (b body : ℕ) (place : Place) → body ≤ length (held ++ pre) →
+searched_turn : {t : Turn} (bs : List ℕ) (ih : Searches bs) (done : List (List ℕ)) (held pre : List ℕ) (b body : ℕ) (place : DropState) → body ≤ length (held ++ pre) →
     Inner t → turn place b ≡ t → Searched done held pre (b ∷ bs) body place (found (length held) (found_by (length held) body (length pre) t) (length pre + 1) bs)
 searched_turn bs ih done held pre b body place h (joins p u) et =
     let k : body ≤ length (held ++ (pre ++ b ∷ [])) = omega (arith, h, length-append held pre, length-append held (pre ++ b ∷ []), length_push pre b) in
@@ -181,7 +181,7 @@ searches [] = record { go = λ done held pre body place u h. searched_none done 
 searches (b ∷ bs) = searches_more b bs (searches bs)
 
 -- a search from the start of bytes, of which those in `held` came before
-pub searched : (done : List (List ℕ)) (held bs : List ℕ) (body : ℕ) (place : Place) → (is_inside place ≡ true) ⊎ (bs ≡ []) → body ≤ length held →
+pub searched : (done : List (List ℕ)) (held bs : List ℕ) (body : ℕ) (place : DropState) → (is_inside place ≡ true) ⊎ (bs ≡ []) → body ≤ length held →
     Searched done held [] bs body place (found (length held) (End place body) 0 bs)
 searched done held bs body place (inl u) h = (searches bs).go done held [] body place u (omega (arith, h, length-append held []))
 searched done held bs body place (inr e) h =
@@ -192,7 +192,7 @@ abbrev pub IsParted : List ℕ → List ℕ → Found → Type 0
 IsParted bytes text (Cut body next) = IsWhole bytes (take body text) (drop next text)
 IsParted bytes text (End place body) = IsOpen bytes text place body
 
-parted_by : (bytes text : List ℕ) (done : List (List ℕ)) (place : Place) (f : Found) → length text ≤ length bytes →
+parted_by : (bytes text : List ℕ) (done : List (List ℕ)) (place : DropState) (f : Found) → length text ≤ length bytes →
     read opened_reading bytes ≡ read (at [] [] [] place) text → Searched [] [] [] text 0 place f → IsParted bytes text f
 parted_by bytes text done place (Cut body next) short e w = record {
   reads = e ∙ w.reads;
@@ -214,7 +214,7 @@ parted bytes text start f es et ef =
     parted_by bytes text [] start.place f short (w.reads ∙ ap (λ x. read (at [] [] [] start.place) x) (sym et))
     (subst (λ x. Searched [] [] [] text 0 start.place x) (sym ef) (searched [] [] text 0 start.place ready (omega arith)))
 
-pub sought : (done : List (List ℕ)) (held bs : List ℕ) (body : ℕ) (place : Place) → (is_inside place ≡ true) ⊎ (bs ≡ []) → body ≤ length held →
+pub sought : (done : List (List ℕ)) (held bs : List ℕ) (body : ℕ) (place : DropState) → (is_inside place ≡ true) ⊎ (bs ≡ []) → body ≤ length held →
     read (at done held (take body held) place) bs ≡ after_found done (held ++ bs) bs (found (length held) (End place body) 0 bs)
 sought done held bs body place u h =
     ap (λ x. read (at done x (take body x) place) bs) (sym (append-nil held)) ∙ (searched done held bs body place u h).reads

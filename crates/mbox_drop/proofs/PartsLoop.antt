@@ -7,7 +7,7 @@ use Rattle.mbox_drop.specs.Readings.{at, read}
 use Rattle.mbox_drop.specs.Parting.{opened_reading, IsWhole, IsOpen, AreParts}
 use Rattle.mbox_drop.proofs.Counts.{first_long-push, option_or-option_or}
 use Rattle.mbox_drop.proofs.Slicing.{after, read-after}
-use Rattle.mbox_drop.specs.declared.place.Place.TheVariants.{Separator}
+use Rattle.mbox_drop.specs.declared.place.DropState.TheVariants.{Separator}
 use Rattle.mbox_drop.specs.declared.parts.Parts.{Parts}
 
 -- the parts so far, and the bytes that are left

@@ -8,8 +8,8 @@ use Rattle.mbox_drop.specs.Readings.{Reading, at, took, read, reading, all_of}
 use Rattle.mbox_drop.proofs.Sectioning.{split, text_of, more, whole, broken, grows, from_shows}
 use Rattle.mbox_drop.specs.declared.place.Match.{Match}
 use Rattle.mbox_drop.specs.declared.place.Match.TheVariants.{Nothing, F, Fr, Fro, From}
-use Rattle.mbox_drop.specs.declared.place.Place.{Place}
-use Rattle.mbox_drop.specs.declared.place.Place.TheVariants.{First, Lost, Separator, Start, Return, Middle, Blank}
+use Rattle.mbox_drop.specs.declared.place.DropState.{DropState}
+use Rattle.mbox_drop.specs.declared.place.DropState.TheVariants.{First, Lost, Separator, Start, Return, Middle, Blank}
 use Rattle.mbox_drop.specs.declared.place.Stage.{Stage}
 use Rattle.mbox_drop.specs.declared.place.Stage.TheVariants.{Unread, NoDrop, Begun}
 use Rattle.mbox_drop.specs.declared.place.Turn.{Turn}
@@ -25,7 +25,7 @@ unfolding read
 read-push s xs b = read-append s xs (b ∷ [])
 
 -- in a message or in a separator line
-abbrev pub is_begun : Place → Bool
+abbrev pub is_begun : DropState → Bool
 is_begun (First m) = false
 is_begun Lost = false
 is_begun Separator = true
@@ -47,7 +47,7 @@ blank_begun Fr s b = elim (grows Fr b) [ more n g x ↦ rw g refl | whole g x �
 blank_begun Fro s b = elim (grows Fro b) [ more n g x ↦ rw g refl | whole g x ↦ rw g refl | broken g k ↦ rw g (middle_begun s b) ]
 blank_begun From s b = elim (grows From b) [ more n g x ↦ rw g refl | whole g x ↦ rw g refl | broken g k ↦ rw g (middle_begun s b) ]
 
-took_begun : (place : Place) (s : Reading) (b : ℕ) → is_begun place ≡ true → is_begun (took s b (turn place b)).place ≡ true
+took_begun : (place : DropState) (s : Reading) (b : ℕ) → is_begun place ≡ true → is_begun (took s b (turn place b)).place ≡ true
 took_begun (First m) s b h = cc
 took_begun Lost s b h = cc
 took_begun Separator s b h = elim (split (b == 10)) [ inl e ↦ rw e refl | inr e ↦ rw e refl ]
@@ -82,7 +82,7 @@ pub record IsLost (d : List ℕ) (s : Reading) : Type 0 where
   pub no_drop : (rest : List ℕ) → is_drop (d ++ rest) ≡ false
   pub reading_is : s ≡ at [] [] [] Lost
 
-abbrev pub Knows : Place → List ℕ → Reading → Type 0
+abbrev pub Knows : DropState → List ℕ → Reading → Type 0
 Knows (First m) d s = IsStart m d s
 Knows Lost d s = IsLost d s
 Knows Separator d s = IsBegun d s
@@ -91,7 +91,7 @@ Knows Return d s = IsBegun d s
 Knows Middle d s = IsBegun d s
 Knows (Blank m) d s = IsBegun d s
 
-knows_begun : (place : Place) (d : List ℕ) (s : Reading) → is_begun place ≡ true → IsBegun d s → Knows place d s
+knows_begun : (place : DropState) (d : List ℕ) (s : Reading) → is_begun place ≡ true → IsBegun d s → Knows place d s
 knows_begun (First m) d s h k = cc
 knows_begun Lost d s h k = cc
 knows_begun Separator d s h k = k
@@ -174,7 +174,7 @@ no_drop From = refl
 staged_first : (m : Match) (d : List ℕ) (s : Reading) → IsStart m d s → Staged (first_stage m) d s
 staged_first m d s k = subst (λ x. Staged (first_stage m) x s) (sym k.text_is) (subst (λ y. Staged (first_stage m) (text_of m) y) (sym k.reading_is) (no_drop m))
 
-staged_at : (place : Place) (d : List ℕ) (s : Reading) → Knows place d s → Staged (stage_of place) d s
+staged_at : (place : DropState) (d : List ℕ) (s : Reading) → Knows place d s → Staged (stage_of place) d s
 staged_at (First m) d s k = staged_first m d s k
 staged_at Lost d s k = ap (λ x. is_drop x) (sym (append-nil d)) ∙ k.no_drop []
 staged_at Separator d s k = k
@@ -183,10 +183,10 @@ staged_at Return d s k = k
 staged_at Middle d s k = k
 staged_at (Blank m) d s k = k
 
-pub staged : (stage : Stage) (d : List ℕ) (place : Place) → place ≡ (reading d).place → stage ≡ stage_of place → Staged stage d (reading d)
+pub staged : (stage : Stage) (d : List ℕ) (place : DropState) → place ≡ (reading d).place → stage ≡ stage_of place → Staged stage d (reading d)
 staged stage d place e f = subst (λ x. Staged x d (reading d)) (sym (f ∙ ap (λ p. stage_of p) e)) (staged_at (reading d).place d (reading d) (knows d))
 
-pub is_begun_at : (d : List ℕ) (place : Place) → place ≡ (reading d).place → Begun ≡ stage_of place → IsBegun d (reading d)
+pub is_begun_at : (d : List ℕ) (place : DropState) → place ≡ (reading d).place → Begun ≡ stage_of place → IsBegun d (reading d)
 is_begun_at d place e f = staged Begun d place e f
 
 pub messages-none : messages [] ≡ []

@@ -11,8 +11,8 @@ use Rattle.mbox_drop.specs.Readings.{Reading, at, took, read, all_of}
 use Rattle.mbox_drop.specs.declared.place.Match.{Match}
 use Rattle.mbox_drop.specs.declared.place.Match.TheVariants.{Nothing, F, Fr, Fro, From}
 use Rattle.mbox_drop.specs.declared.place.Growth.TheVariants.{More, Whole, Broken}
-use Rattle.mbox_drop.specs.declared.place.Place.{Place}
-use Rattle.mbox_drop.specs.declared.place.Place.TheVariants.{Separator, Start, Return, Middle, Blank}
+use Rattle.mbox_drop.specs.declared.place.DropState.{DropState}
+use Rattle.mbox_drop.specs.declared.place.DropState.TheVariants.{Separator, Start, Return, Middle, Blank}
 use Rattle.mbox_drop.specs.declared.place.Turn.{Turn}
 use Rattle.mbox_drop.specs.declared.place.Turn.TheVariants.{Joins, Empties, Begins}
 
@@ -225,7 +225,7 @@ blank_lf bs done h short t =
     (t.blank Nothing done (h ++ 10 ∷ []) h (h ++ 10 ∷ []) (sym (append-nil (h ++ 10 ∷ []))))
 
 -- a byte that makes the line ordinary
-to_middle : (a : Bool) (b : ℕ) (bs p : List ℕ) (done : List (List ℕ)) (h short hand body : List ℕ) (place : Place) → Tail bs →
+to_middle : (a : Bool) (b : ℕ) (bs p : List ℕ) (done : List (List ℕ)) (h short hand body : List ℕ) (place : DropState) → Tail bs →
     turn place b ≡ Joins Middle → IsOrdinary a (p ++ b ∷ []) → hand ≡ h ++ p →
     Shows done h short (read (at done hand body place) (b ∷ bs)) (sections a (lines (p ++ b ∷ bs)))
 to_middle a b bs [] done h short hand body place t et o e =
@@ -246,7 +246,7 @@ plain_line : (a : Bool) (p : List ℕ) → IsOrdinary a p → IsPlainLine a p
 plain_line a p o = record { no_end = o.no_end; filled = o.filled (10 ∷ []); plain = o.plain (10 ∷ []) }
 
 -- a line end after other bytes
-to_start : (a : Bool) (bs : List ℕ) (p : List ℕ) (done : List (List ℕ)) (h short hand body : List ℕ) (place : Place) → Tail bs →
+to_start : (a : Bool) (bs : List ℕ) (p : List ℕ) (done : List (List ℕ)) (h short hand body : List ℕ) (place : DropState) → Tail bs →
     turn place 10 ≡ Joins Start → IsPlainLine a p → hand ≡ h ++ p →
     Shows done h short (read (at done hand body place) (10 ∷ bs)) (sections a (lines (p ++ 10 ∷ bs)))
 to_start a bs p done h short hand body place t et o e =

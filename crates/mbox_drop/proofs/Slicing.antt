@@ -12,8 +12,8 @@ use Rattle.mbox_drop.specs.Text.{text_with}
 use Rattle.mbox_drop.proofs.Counts.{read_sized}
 use Rattle.mbox_drop.proofs.ReadingLemmas.{begun, messages-none}
 use Rattle.mbox_drop.specs.declared.place.Match.TheVariants.{Nothing, F, Fr, Fro, From}
-use Rattle.mbox_drop.specs.declared.place.Place.{Place}
-use Rattle.mbox_drop.specs.declared.place.Place.TheVariants.{First, Lost, Separator, Start, Return, Middle, Blank}
+use Rattle.mbox_drop.specs.declared.place.DropState.{DropState}
+use Rattle.mbox_drop.specs.declared.place.DropState.TheVariants.{First, Lost, Separator, Start, Return, Middle, Blank}
 use Rattle.mbox_drop.specs.declared.place.Turn.{Turn}
 use Rattle.mbox_drop.specs.declared.place.Turn.TheVariants.{Joins, Empties, Begins, Passes}
 
@@ -40,7 +40,7 @@ pub messages-whole : (bytes message rest : List ℕ) → IsWhole bytes message r
 messages-whole bytes message rest w =
     messages-from bytes ∙ ap all_of (w.reads ∙ read-after rest (message ∷ []) opened_reading) ∙ ap (λ x. message ∷ x) (sym (messages-from rest))
 
-pub ended-take : (place : Place) (body : ℕ) (text : List ℕ) → ended place (take body text) text ≡ take (ended place body (length text)) text
+pub ended-take : (place : DropState) (body : ℕ) (text : List ℕ) → ended place (take body text) text ≡ take (ended place body (length text)) text
 ended-take (First m) body text = sym (take_all (length text) text (omega arith))
 ended-take Lost body text = sym (take_all (length text) text (omega arith))
 ended-take Separator body text = sym (take_all (length text) text (omega arith))
@@ -53,7 +53,7 @@ ended-take (Blank Fr) body text = sym (take_all (length text) text (omega arith)
 ended-take (Blank Fro) body text = sym (take_all (length text) text (omega arith))
 ended-take (Blank From) body text = sym (take_all (length text) text (omega arith))
 
-pub messages-open : (bytes text : List ℕ) (place : Place) (body : ℕ) → IsOpen bytes text place body →
+pub messages-open : (bytes text : List ℕ) (place : DropState) (body : ℕ) → IsOpen bytes text place body →
     messages (codes "From " ++ bytes) ≡ take (ended place body (length text)) text ∷ []
 messages-open bytes text place body w = messages-from bytes ∙ ap all_of w.reads ∙ ap (λ x. x ∷ []) (ended-take place body text)
 

@@ -4,7 +4,7 @@ use Rattle.std.specs.Option.{option_or}
 use Rattle.mbox_drop.specs.Long.{first_long, long_of}
 use Rattle.mbox_drop.specs.Readings.{Reading, reading}
 use Rattle.mbox_drop.specs.declared.counter.DropCounter.{DropCounter}
-use Rattle.mbox_drop.specs.declared.place.Place.TheVariants.{Separator}
+use Rattle.mbox_drop.specs.declared.place.DropState.TheVariants.{Separator}
 use Rattle.mbox_drop.specs.declared.place.Turn.{Turn}
 use Rattle.mbox_drop.specs.declared.place.Turn.TheVariants.{Joins, Empties, Begins, Passes}
 

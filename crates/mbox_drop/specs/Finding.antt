@@ -1,7 +1,7 @@
 -- How far a message goes, by places.
 use Rattle.std.specs.Prelude.{ℕ, ◌+◌, ◌≤◌, List, [], ◌∷◌, if◌then◌else◌}
 use Rattle.mbox_drop.specs.Places.{turn, is_inside, place_after}
-use Rattle.mbox_drop.specs.declared.place.Place.{Place}
+use Rattle.mbox_drop.specs.declared.place.DropState.{DropState}
 use Rattle.mbox_drop.specs.declared.place.Turn.{Turn}
 use Rattle.mbox_drop.specs.declared.place.Turn.TheVariants.{Joins, Empties, Begins, Passes}
 use Rattle.mbox_drop.specs.declared.find.Found.{Found}
@@ -29,7 +29,7 @@ IsWithin base count (Cut body next) = (body ≤ base + count) × (next ≤ count
 IsWithin base count (End place body) = body ≤ base + count
 
 -- the same before a message
-unfoldable pub skipped : Place → ℕ → List ℕ → Skipped
+unfoldable pub skipped : DropState → ℕ → List ℕ → Skipped
 skipped place i [] = record { place = place; next = i }
 skipped place i (b ∷ rest) =
     if is_inside place then record { place = place; next = i } else skipped (place_after (turn place b)) (i + 1) rest

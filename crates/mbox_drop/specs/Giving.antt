@@ -9,7 +9,7 @@ use Rattle.mbox_drop.specs.Cutting.{IsStopped}
 use Rattle.mbox_drop.specs.declared.cutter.DropCutter.{DropCutter}
 use Rattle.mbox_drop.specs.declared.fault.CutFault.{CutFault}
 use Rattle.mbox_drop.specs.declared.fault.CutFault.TheVariants.{NotADrop, TooLong, Memory}
-use Rattle.mbox_drop.specs.declared.place.Place.{Place}
+use Rattle.mbox_drop.specs.declared.place.DropState.{DropState}
 use Rattle.mbox_drop.specs.declared.parts.Parts.{Parts}
 
 -- the cutter keeps what it kept
@@ -20,17 +20,18 @@ pub record IsKept (old new : DropCutter) : Type 0 where
   pub hand : new.hand.items ≡ old.hand.items
 
 -- the cutter keeps these bytes, which end at this place
-pub record Keeps (old : DropCutter) (hand : List ℕ) (place : Place) (body : ℕ) (new : DropCutter) : Type 0 where
+pub record Keeps (old : DropCutter) (hand : List ℕ) (place : DropState) (body : ℕ) (new : DropCutter) : Type 0 where
   pub stop : new.stop ≡ old.stop
   pub place_is : new.place ≡ place
   pub body_is : new.body ≡ body
   pub hand_is : new.hand.items ≡ hand
 
-abbrev pub Holds : DropCutter → Place → ℕ → List ℕ → DropCutter → Result (List (List ℕ)) CutFault → Type 0
+abbrev pub Holds : DropCutter → DropState → ℕ → List ℕ → DropCutter → Result (List (List ℕ)) CutFault → Type 0
 Holds old place body rest new (Ok given) =
     (given ≡ []) × (is_lost place ≡ false) × (overlong_of (length (old.hand.items ++ rest)) ≡ None) × Keeps old (old.hand.items ++ rest) place body new
 Holds old place body rest new (Err NotADrop) = (is_lost place ≡ true) × IsStopped new NotADrop
-Holds old place body rest new (Err (TooLong n)) = (is_lost place ≡ false) × (overlong_of (length (old.hand.items ++ rest)) ≡ Some n) × IsStopped new (TooLong n)
+Holds old place body rest new (Err (TooLong n)) =
+    (is_lost place ≡ false) × (overlong_of (length (old.hand.items ++ rest)) ≡ Some n) × IsStopped new (TooLong n)
 Holds old place body rest new (Err Memory) = IsKept old new
 
 abbrev pub Passes : DropCutter → ℕ → List ℕ → Parts → DropCutter → Result (List (List ℕ)) CutFault → Type 0
@@ -41,7 +42,7 @@ Passes old body rest p new (Err (TooLong n)) = ⊥
 Passes old body rest p new (Err Memory) = IsKept old new
 
 -- what is read after the first separator of the piece, and how much of it is too long
-pub record ReadsParts (body : ℕ) (bytes : List ℕ) (given : List (List ℕ)) (text : List ℕ) (place : Place) (last : ℕ) (long : Option ℕ) : Type 0 where
+pub record ReadsParts (body : ℕ) (bytes : List ℕ) (given : List (List ℕ)) (text : List ℕ) (place : DropState) (last : ℕ) (long : Option ℕ) : Type 0 where
   pub reads : read opened_reading bytes ≡ at given text (take last text) place
   pub long_is : option_or (option_or (long_of body) (first_long given)) (overlong_of (length text)) ≡ long
 
@@ -54,7 +55,7 @@ pub record GivesAll (old : DropCutter) (body : ℕ) (rest : List ℕ) (next : �
 pub record GivesLong (body : ℕ) (rest : List ℕ) (next : ℕ) (new : DropCutter) (n : ℕ) : Type 0 where
   pub later : List (List ℕ)
   pub text : List ℕ
-  pub place : Place
+  pub place : DropState
   pub last : ℕ
   pub reads : ReadsParts body (drop next rest) later text place last (Some n)
   pub stopped : IsStopped new (TooLong n)

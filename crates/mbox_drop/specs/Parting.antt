@@ -3,8 +3,8 @@ use Rattle.std.specs.Prelude.{◌≡◌, ℕ, ◌<◌, ◌≤◌, List, [], ◌�
 use Rattle.std.specs.Option.{option_or}
 use Rattle.mbox_drop.specs.Long.{first_long, long_of}
 use Rattle.mbox_drop.specs.Readings.{Reading, at, read}
-use Rattle.mbox_drop.specs.declared.place.Place.{Place}
-use Rattle.mbox_drop.specs.declared.place.Place.TheVariants.{Separator}
+use Rattle.mbox_drop.specs.declared.place.DropState.{DropState}
+use Rattle.mbox_drop.specs.declared.place.DropState.TheVariants.{Separator}
 use Rattle.mbox_drop.specs.declared.parts.Parts.{Parts}
 use Rattle.mbox_drop.specs.declared.part.Part.{Part}
 use Rattle.mbox_drop.specs.declared.part.Part.TheVariants.{Whole, Open}
@@ -19,7 +19,7 @@ pub record IsWhole (bytes message rest : List ℕ) : Type 0 where
   pub shorter : length rest < length bytes
 
 -- the text is the message in hand
-pub record IsOpen (bytes text : List ℕ) (place : Place) (body : ℕ) : Type 0 where
+pub record IsOpen (bytes text : List ℕ) (place : DropState) (body : ℕ) : Type 0 where
   pub reads : read opened_reading bytes ≡ at [] text (take body text) place
   pub inside : body ≤ length text
 

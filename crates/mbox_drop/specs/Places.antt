@@ -4,8 +4,8 @@ use Rattle.mbox_drop.specs.declared.place.Match.{Match}
 use Rattle.mbox_drop.specs.declared.place.Match.TheVariants.{Nothing, F, Fr, Fro, From}
 use Rattle.mbox_drop.specs.declared.place.Growth.{Growth}
 use Rattle.mbox_drop.specs.declared.place.Growth.TheVariants.{More, Whole, Broken}
-use Rattle.mbox_drop.specs.declared.place.Place.{Place}
-use Rattle.mbox_drop.specs.declared.place.Place.TheVariants.{First, Lost, Separator, Start, Return, Middle, Blank}
+use Rattle.mbox_drop.specs.declared.place.DropState.{DropState}
+use Rattle.mbox_drop.specs.declared.place.DropState.TheVariants.{First, Lost, Separator, Start, Return, Middle, Blank}
 use Rattle.mbox_drop.specs.declared.place.Stage.{Stage}
 use Rattle.mbox_drop.specs.declared.place.Stage.TheVariants.{Unread, NoDrop, Begun}
 use Rattle.mbox_drop.specs.declared.place.Turn.{Turn}
@@ -46,7 +46,7 @@ blank_turn m b (More n) = Joins (Blank n)
 blank_turn m b Whole = Begins
 blank_turn m b Broken = broken_turn m b
 
-abbrev pub turn : Place → ℕ → Turn
+abbrev pub turn : DropState → ℕ → Turn
 turn (First m) b = first_turn (grown m b)
 turn Lost b = Passes Lost
 turn Separator b = if b == 10 then Passes Start else Passes Separator
@@ -56,7 +56,7 @@ turn Middle b = middle_turn b
 turn (Blank m) b = blank_turn m b (grown m b)
 
 -- in a message
-abbrev pub is_inside : Place → Bool
+abbrev pub is_inside : DropState → Bool
 is_inside (First m) = false
 is_inside Lost = false
 is_inside Separator = false
@@ -73,7 +73,7 @@ first_stage Fro = NoDrop
 first_stage From = NoDrop
 
 -- what the bytes so far are
-abbrev pub stage_of : Place → Stage
+abbrev pub stage_of : DropState → Stage
 stage_of (First m) = first_stage m
 stage_of Lost = NoDrop
 stage_of Separator = Begun
@@ -82,7 +82,7 @@ stage_of Return = Begun
 stage_of Middle = Begun
 stage_of (Blank m) = Begun
 
-abbrev pub is_middle : Place → Bool
+abbrev pub is_middle : DropState → Bool
 is_middle (First m) = false
 is_middle Lost = false
 is_middle Separator = false
@@ -91,7 +91,7 @@ is_middle Return = false
 is_middle Middle = true
 is_middle (Blank m) = false
 
-abbrev pub is_lost : Place → Bool
+abbrev pub is_lost : DropState → Bool
 is_lost (First m) = false
 is_lost Lost = true
 is_lost Separator = false
@@ -100,14 +100,14 @@ is_lost Return = false
 is_lost Middle = false
 is_lost (Blank m) = false
 
-abbrev pub place_after : Turn → Place
+abbrev pub place_after : Turn → DropState
 place_after (Joins place) = place
 place_after (Empties place) = place
 place_after Begins = Separator
 place_after (Passes place) = place
 
 -- of what stands before the last empty line and the whole, that which is the message if the bytes end here
-abbrev pub ended : {A : Type 0} → Place → A → A → A
+abbrev pub ended : {A : Type 0} → DropState → A → A → A
 ended (First m) body whole = whole
 ended Lost body whole = whole
 ended Separator body whole = whole

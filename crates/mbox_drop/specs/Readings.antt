@@ -2,8 +2,8 @@
 use Rattle.std.specs.Prelude.{ℕ, List, [], ◌∷◌, ◌++◌}
 use Rattle.mbox_drop.specs.Places.{turn, ended}
 use Rattle.mbox_drop.specs.declared.place.Match.TheVariants.{Nothing}
-use Rattle.mbox_drop.specs.declared.place.Place.{Place}
-use Rattle.mbox_drop.specs.declared.place.Place.TheVariants.{First, Separator}
+use Rattle.mbox_drop.specs.declared.place.DropState.{DropState}
+use Rattle.mbox_drop.specs.declared.place.DropState.TheVariants.{First, Separator}
 use Rattle.mbox_drop.specs.declared.place.Turn.{Turn}
 use Rattle.mbox_drop.specs.declared.place.Turn.TheVariants.{Joins, Empties, Begins, Passes}
 
@@ -12,9 +12,9 @@ pub record Reading : Type 0 where
   pub done : List (List ℕ)
   pub hand : List ℕ
   pub body : List ℕ
-  pub place : Place
+  pub place : DropState
 
-abbrev pub at : List (List ℕ) → List ℕ → List ℕ → Place → Reading
+abbrev pub at : List (List ℕ) → List ℕ → List ℕ → DropState → Reading
 at done hand body place = record { done = done; hand = hand; body = body; place = place }
 
 abbrev pub took : Reading → ℕ → Turn → Reading

@@ -6,12 +6,12 @@ ghost use Rattle.mbox_drop.specs.Long.{first_long};
 use crate::fault::NotADrop;
 use crate::leap::leap;
 use crate::long::too_long;
-use crate::place::{Match, Place, Stage, Turn};
+use crate::place::{DropState, Match, Stage, Turn};
 
 /// Counts the messages of a drop that comes in pieces, and takes no memory.
 #[derive(Clone, Copy)]
 pub struct DropCounter {
-    place: Place,
+    place: DropState,
     size: usize,
     body: usize,
     count: u64,
@@ -25,7 +25,7 @@ impl DropCounter {
         ensures { HasCounted result [] }
     {
         DropCounter {
-            place: Place::First(Match::Nothing),
+            place: DropState::First(Match::Nothing),
             size: 0,
             body: 0,
             count: 0,
@@ -51,7 +51,7 @@ impl DropCounter {
                 ..self
             },
             Turn::Begins => DropCounter {
-                place: Place::Separator,
+                place: DropState::Separator,
                 size: 0,
                 body: 0,
                 count: self.count.saturating_add(1),

@@ -7,7 +7,7 @@ use crate::find::{Found, find, skip};
 use crate::hand::{complete, last_message};
 use crate::long::overlong;
 use crate::parts::{Parts, cut_parts};
-use crate::place::{Match, Place, Stage};
+use crate::place::{DropState, Match, Stage};
 use mh_base::{Bytes, BytesList};
 use std::alloc::Global;
 use std::mem;
@@ -15,7 +15,7 @@ use std::mem;
 /// Gives the messages of a drop that comes in pieces, each as soon as its end is known.
 #[derive(Drop)]
 pub struct DropCutter {
-    place: Place,
+    place: DropState,
     /// The bytes after the last separator line.
     hand: Vec<u8>,
     body: usize,
@@ -32,7 +32,7 @@ impl DropCutter {
         ensures { HasTaken result [] }
     {
         DropCutter {
-            place: Place::First(Match::Nothing),
+            place: DropState::First(Match::Nothing),
             hand: Vec::new(alloc),
             body: 0,
             stop: None,
@@ -59,7 +59,7 @@ impl DropCutter {
     }
 
     /// Keeps a piece that finishes no message.
-    fn hold(&mut self, place: Place, body: usize, rest: &[u8]) -> Result<BytesList, CutFault>
+    fn hold(&mut self, place: DropState, body: usize, rest: &[u8]) -> Result<BytesList, CutFault>
         requires { body ≤ vec_len self.old.hand + length rest.now }
         ensures { Holds self.old place body rest.now self.new result }
     {

@@ -3,7 +3,7 @@ ghost use Rattle.std.specs.Prelude.{◌≡◌, ◌+◌, ◌<◌, ◌≤◌, ◌^
 ghost use Rattle.mbox_drop.specs.Finding.{found, skipped, IsWithin};
 
 use crate::leap::leap;
-use crate::place::{Place, Turn};
+use crate::place::{DropState, Turn};
 
 /// Where a message ends.
 #[derive(Clone, Copy)]
@@ -11,18 +11,18 @@ pub enum Found {
     /// The message has this many bytes. The bytes after the `From ` of the next separator begin here.
     Cut { body: usize, next: usize },
     /// No separator has begun by the end of the bytes.
-    End { place: Place, body: usize },
+    End { place: DropState, body: usize },
 }
 
 /// Where the bytes of a message begin, with the place there.
 #[derive(Clone, Copy)]
 pub struct Skipped {
-    pub place: Place,
+    pub place: DropState,
     pub next: usize,
 }
 
 /// Looks for the next separator of a message of which `base` bytes were read before.
-pub fn find(from: Place, base: usize, body: usize, bytes: &[u8]) -> Found
+pub fn find(from: DropState, base: usize, body: usize, bytes: &[u8]) -> Found
     requires fits { base + length bytes.now < 2 ^ 64 }
     requires before { body ≤ base }
     ensures value { result ≡ found base (Found.End from body) 0 bytes.now }
@@ -54,7 +54,7 @@ pub fn find(from: Place, base: usize, body: usize, bytes: &[u8]) -> Found
 }
 
 /// Passes the bytes before a message.
-pub fn skip(from: Place, bytes: &[u8]) -> Skipped
+pub fn skip(from: DropState, bytes: &[u8]) -> Skipped
     ensures value { result ≡ skipped from 0 bytes.now }
     ensures within { result.next ≤ length bytes.now }
 {

@@ -3,12 +3,12 @@ ghost use Rattle.std.specs.Prelude.{◌≡◌, ◌≤◌, ◌⊎◌, IsTrue, len
 ghost use Rattle.mbox_drop.specs.Places.{is_middle};
 ghost use Rattle.mbox_drop.specs.Leaping.{IsLeap};
 
-use crate::place::Place;
+use crate::place::DropState;
 use memchr::memchr;
 
 /// The next byte that changes the place: in the middle of a line its LF, if there is one.
 #[inline(always)]
-pub fn leap(place: Place, bytes: &[u8], from: usize) -> usize
+pub fn leap(place: DropState, bytes: &[u8], from: usize) -> usize
     requires { from ≤ length bytes.now }
     ensures plain { IsLeap place bytes.now from result }
     ensures far { IsTrue (is_middle place) → (result ≡ length bytes.now) ⊎ (slice_index bytes.now result ≡ 10) }

@@ -2,7 +2,7 @@
 ghost use Rattle.std.specs.Prelude.{◌<◌, ◌≤◌, length};
 
 use crate::find::{Found, find, skip};
-use crate::place::Place;
+use crate::place::DropState;
 
 /// What follows the `From ` of a separator.
 #[derive(Clone, Copy)]
@@ -15,7 +15,7 @@ pub enum Part<'a> {
     /// The bytes of a message with no separator after it, and where they end.
     Open {
         text: &'a [u8],
-        place: Place,
+        place: DropState,
         body: usize,
     },
 }
@@ -26,7 +26,7 @@ ghost use Rattle.mbox_drop.specs.Parting.{IsPart};
 pub fn first_part<'a>(bytes: &'a [u8]) -> Part<'a>
     ensures { IsPart bytes.now result }
 {
-    let start = skip(Place::Separator, bytes);
+    let start = skip(DropState::Separator, bytes);
     let text = &bytes[start.next..];
     match find(start.place, 0, 0, text) {
         Found::Cut { body, next } => Part::Whole {

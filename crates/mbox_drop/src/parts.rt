@@ -4,7 +4,7 @@ ghost use Rattle.mbox_drop.specs.Parting.{AreParts};
 
 use crate::long::too_long;
 use crate::part::{Part, first_part};
-use crate::place::Place;
+use crate::place::DropState;
 use mh_base::Bytes;
 use std::alloc::{AllocError, Global};
 
@@ -14,7 +14,7 @@ pub struct Parts<'a> {
     pub messages: Vec<Bytes>,
     pub long: Option<u64>,
     pub text: &'a [u8],
-    pub place: Place,
+    pub place: DropState,
     pub body: usize,
 }
 

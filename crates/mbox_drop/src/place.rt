@@ -22,7 +22,7 @@ pub enum Growth {
 
 /// Where a reader of a drop stands.
 #[derive(Clone, Copy)]
-pub enum Place {
+pub enum DropState {
     /// In the first line, which is to begin a separator.
     First(Match),
     /// The bytes begin with no separator.
@@ -54,13 +54,13 @@ pub enum Stage {
 #[derive(Clone, Copy)]
 pub enum Turn {
     /// A byte of the message.
-    Joins(Place),
+    Joins(DropState),
     /// A byte of the message, which may begin an empty line.
-    Empties(Place),
+    Empties(DropState),
     /// The last byte of the `From ` of a later separator.
     Begins,
     /// A byte before the message.
-    Passes(Place),
+    Passes(DropState),
 }
 
 impl Match {
@@ -84,9 +84,9 @@ fn first_turn(growth: Growth) -> Turn
     ensures { result ≡ first_turn growth }
 {
     match growth {
-        Growth::More(start) => Turn::Passes(Place::First(start)),
-        Growth::Whole => Turn::Passes(Place::Separator),
-        Growth::Broken => Turn::Passes(Place::Lost),
+        Growth::More(start) => Turn::Passes(DropState::First(start)),
+        Growth::Whole => Turn::Passes(DropState::Separator),
+        Growth::Broken => Turn::Passes(DropState::Lost),
     }
 }
 
@@ -95,9 +95,9 @@ fn start_turn(byte: u8) -> Turn
     ensures { result ≡ start_turn byte }
 {
     match byte {
-        b'\n' => Turn::Empties(Place::Blank(Match::Nothing)),
-        b'\r' => Turn::Empties(Place::Return),
-        _ => Turn::Joins(Place::Middle),
+        b'\n' => Turn::Empties(DropState::Blank(Match::Nothing)),
+        b'\r' => Turn::Empties(DropState::Return),
+        _ => Turn::Joins(DropState::Middle),
     }
 }
 
@@ -106,9 +106,9 @@ fn middle_turn(byte: u8) -> Turn
     ensures { result ≡ middle_turn byte }
 {
     if byte == b'\n' {
-        Turn::Joins(Place::Start)
+        Turn::Joins(DropState::Start)
     } else {
-        Turn::Joins(Place::Middle)
+        Turn::Joins(DropState::Middle)
     }
 }
 
@@ -127,27 +127,27 @@ fn blank_turn(start: Match, byte: u8) -> Turn
     ensures { result ≡ blank_turn start byte (grown start byte) }
 {
     match start.grown(byte) {
-        Growth::More(more) => Turn::Joins(Place::Blank(more)),
+        Growth::More(more) => Turn::Joins(DropState::Blank(more)),
         Growth::Whole => Turn::Begins,
         Growth::Broken => broken_turn(start, byte),
     }
 }
 
-impl Place {
+impl DropState {
     #[inline(always)]
     pub fn turn(self, byte: u8) -> Turn
         ensures { result ≡ turn self byte }
     {
         match self {
-            Place::First(start) => first_turn(start.grown(byte)),
-            Place::Lost => Turn::Passes(Place::Lost),
-            Place::Separator if byte == b'\n' => Turn::Passes(Place::Start),
-            Place::Separator => Turn::Passes(Place::Separator),
-            Place::Start => start_turn(byte),
-            Place::Return if byte == b'\n' => Turn::Joins(Place::Blank(Match::Nothing)),
-            Place::Return => Turn::Joins(Place::Middle),
-            Place::Middle => middle_turn(byte),
-            Place::Blank(start) => blank_turn(start, byte),
+            DropState::First(start) => first_turn(start.grown(byte)),
+            DropState::Lost => Turn::Passes(DropState::Lost),
+            DropState::Separator if byte == b'\n' => Turn::Passes(DropState::Start),
+            DropState::Separator => Turn::Passes(DropState::Separator),
+            DropState::Start => start_turn(byte),
+            DropState::Return if byte == b'\n' => Turn::Joins(DropState::Blank(Match::Nothing)),
+            DropState::Return => Turn::Joins(DropState::Middle),
+            DropState::Middle => middle_turn(byte),
+            DropState::Blank(start) => blank_turn(start, byte),
         }
     }
 
@@ -155,13 +155,15 @@ impl Place {
         ensures { result ≡ stage_of self }
     {
         match self {
-            Place::First(Match::Nothing) => Stage::Unread,
-            Place::First(Match::F | Match::Fr | Match::Fro | Match::From) | Place::Lost => {
+            DropState::First(Match::Nothing) => Stage::Unread,
+            DropState::First(Match::F | Match::Fr | Match::Fro | Match::From) | DropState::Lost => {
                 Stage::NoDrop
             }
-            Place::Separator | Place::Start | Place::Return | Place::Middle | Place::Blank(_) => {
-                Stage::Begun
-            }
+            DropState::Separator
+            | DropState::Start
+            | DropState::Return
+            | DropState::Middle
+            | DropState::Blank(_) => { Stage::Begun }
         }
     }
 
@@ -169,21 +171,21 @@ impl Place {
     pub fn is_middle(self) -> bool
         ensures { result ≡ is_middle self }
     {
-        matches!(self, Place::Middle)
+        matches!(self, DropState::Middle)
     }
 
     pub fn is_lost(self) -> bool
         ensures { result ≡ is_lost self }
     {
-        matches!(self, Place::Lost)
+        matches!(self, DropState::Lost)
     }
 
     pub fn is_inside(self) -> bool
         ensures { result ≡ is_inside self }
     {
         match self {
-            Place::First(_) | Place::Lost | Place::Separator => false,
-            Place::Start | Place::Return | Place::Middle | Place::Blank(_) => true,
+            DropState::First(_) | DropState::Lost | DropState::Separator => false,
+            DropState::Start | DropState::Return | DropState::Middle | DropState::Blank(_) => true,
         }
     }
 
@@ -192,19 +194,19 @@ impl Place {
         ensures { result ≡ ended self body whole }
     {
         match self {
-            Place::Blank(Match::Nothing) => body,
+            DropState::Blank(Match::Nothing) => body,
             _ => whole,
         }
     }
 }
 
 impl Turn {
-    pub fn place(self) -> Place
+    pub fn place(self) -> DropState
         ensures { result ≡ place_after self }
     {
         match self {
             Turn::Joins(place) | Turn::Empties(place) | Turn::Passes(place) => place,
-            Turn::Begins => Place::Separator,
+            Turn::Begins => DropState::Separator,
         }
     }
 }

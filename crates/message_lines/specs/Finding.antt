@@ -1,5 +1,5 @@
 -- The plan by which the format is found that words name.
-use Rattle.std.specs.Prelude.{◌≡◌, ℕ, Bool, true, false, List, codes, nat_lt, length, Option, None, Some, Result, Ok, Err, if◌then◌else◌}
+use Rattle.std.specs.Prelude.{◌≡◌, ℕ, List, codes, nat_lt, length, Option, None, Some, Result, Ok, Err, if◌then◌else◌}
 use Rattle.std.specs.Str.{encode_utf8_all}
 use Rattle.format_compiler.specs.declared.instruction.Instruction.{Instruction}
 use Rattle.format_compiler.specs.Code.{IsCodeOf}
@@ -20,8 +20,9 @@ use Rattle.command_stages.specs.Values.{IsErrorOf}
 use Rattle.message_lines.specs.declared.format.LineFormat.{LineFormat}
 use Rattle.message_lines.specs.declared.format.LineFormat.TheVariants.{Default, File, Word}
 
--- the format of a line without words that name one: the number, `+` at the current message, `-` where the message was answered or else `E`
--- where it is enciphered, the month and the day, `*` where there is no date, who sent it, the subject, and the body's begin
+-- the format of a line without words that name one: the number, `+` at the current message, `-` where the message was
+-- answered or else `E` where it is enciphered, the month and the day, `*` where there is no date, who sent it, the
+-- subject, and the body's begin
 abbrev pub default_text : List ℕ
 default_text = codes "%4(msg)%<(cur)+%| %>%<{replied}-%?{encrypted}E%| %>%02(mon{date})/%02(mday{date})%<{date} %|*%>%17(decode(friendly{from}))  %(decode{subject})%<{body}<<%{body}%>"
 

@@ -18,9 +18,10 @@ use Rattle.step_plans.proofs.Lasting.{KeptBy, goes_lasting}
 use Rattle.step_plans.proofs.Stepping.{goes_return}
 use Rattle.message_puts.specs.Putting.{message_stored}
 use Rattle.message_puts.specs.Stored.{HasStoredAt}
-use Rattle.message_puts.proofs.PutPledged.{AsksPut, IsEnd, PutsMessages}
+use Rattle.message_puts.proofs.PutPledged.{AsksPut, PutsMessages}
 use Rattle.message_puts.proofs.StoredPledged.{HasStored, IsStoredBy, stored_goes, stored_keeps}
 use Rattle.command_stages.specs.Endings.{of_plan}
+use Rattle.held_messages.proofs.Linking.{IsEnd}
 use Rattle.message_moves.specs.Copying.{copied_to, copied_to_all, highest_of}
 use Rattle.message_moves.specs.declared.destination.Destination.{Destination}
 

@@ -127,7 +127,7 @@ long_reads bytes l e = go (nat_lt LIMIT_BYTES (length bytes)) e
     go true e = let same : l ≡ length bytes = cc in ap (λ z. Err (fault.TooLarge z)) same
     go false e = cc
 
-not_gone_read : (bytes : List ℕ) → answer.Gone ≡ read_file_answer LIMIT_BYTES (Some bytes) → ⊥
+pub not_gone_read : (bytes : List ℕ) → answer.Gone ≡ read_file_answer LIMIT_BYTES (Some bytes) → ⊥
 not_gone_read bytes e = go (nat_lt LIMIT_BYTES (length bytes)) e
   where
     go : (v : Bool) → answer.Gone ≡ (if v then answer.Long (length bytes) else answer.Content bytes) → ⊥

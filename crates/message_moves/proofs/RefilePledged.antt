@@ -93,7 +93,7 @@ abbrev pub AreMessages : List ℕ → Type 0
 AreMessages [] = Unit {0}
 AreMessages (n ∷ ns) = IsMsgNum n × IsNone n ns × AreMessages ns
 
-held_apart : (run : ℕ) → run < 2 ^ 128 → (n m : ℕ) → IsMsgNum n → IsMsgNum m → (n ≡ m → ⊥) → entry_text (Held run n) ≡ entry_text (Held run m) → ⊥
+pub held_apart : (run : ℕ) → run < 2 ^ 128 → (n m : ℕ) → IsMsgNum n → IsMsgNum m → (n ≡ m → ⊥) → entry_text (Held run n) ≡ entry_text (Held run m) → ⊥
 held_apart run few n m ok other apart e = apart (let same : Held run n ≡ Held run m = sym (kind_of-entry_text (Held run n) (few, ok)) ∙ (ap kind_of e ∙ kind_of-entry_text (Held run m) (few, other)) in cc (same))
 
 -- a step that names the held name of this message names that of none of these

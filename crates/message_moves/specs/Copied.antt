@@ -9,8 +9,8 @@ use Rattle.folder_files.specs.declared.step.Answer.TheVariants.{Done}
 use Rattle.folder_files.specs.declared.step.Step.TheVariants.{SyncFolder, Unlink}
 use Rattle.message_puts.specs.Stored.{HasStoredAt}
 
--- it read what stands under this name, and since then it stored a message with just these bytes in each of these folders: it put a new
--- file at a number there, and made the folder safe
+-- it read what stands under this name, and since then it stored a message with just these bytes in each of these
+-- folders: it put a new file at a number there, and made the folder safe
 pub record HasCopied (run : ℕ) (p : Place) (name : List ℕ) (folders : List Place) (own : List Deed) : Type 0 where
   pub bytes : List ℕ
   pub since : List Deed
@@ -28,4 +28,5 @@ pub record IsLetGo (run : ℕ) (p : Place) (n : ℕ) (folders : List Place) (d :
 
 -- it refiled the message of this number to these folders, and made its own folder safe after that
 abbrev pub HasRefiled : ℕ → Place → ℕ → List Place → List Deed → Type 0
-HasRefiled run p n folders own = Once (λ d older. (d ≡ did (SyncFolder p) Done) × Once (IsLetGo run p n folders) older) own
+HasRefiled run p n folders own =
+    Once (λ d older. (d ≡ did (SyncFolder p) Done) × Once (IsLetGo run p n folders) older) own

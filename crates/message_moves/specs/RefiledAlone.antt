@@ -22,4 +22,5 @@ copied_in c bytes (to ∷ others) = copied_in (with_text c to.place (decimal (ne
 
 -- and nothing at its number, nor under the run's held name of it
 abbrev pub refiled_in : Contents → Place → ℕ → ℕ → List ℕ → List Destination → Contents
-refiled_in c p run n bytes to = with_text (with_text (copied_in c bytes to) p (entry_text (Number n)) None) p (entry_text (Held run n)) None
+refiled_in c p run n bytes to =
+    with_text (with_text (copied_in c bytes to) p (entry_text (Number n)) None) p (entry_text (Held run n)) None

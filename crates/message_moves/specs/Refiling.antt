@@ -8,8 +8,8 @@ use Rattle.message_moves.specs.Copying.{copied_to_all}
 use Rattle.message_moves.specs.Moving.{content_read, held_discarded, number_taken}
 use Rattle.message_moves.specs.declared.destination.Destination.{Destination}
 
--- The message of this number in this folder is held aside, read, and copied to each destination; once all copies are safe it is let go. Where there is no
--- destination it stays.
+-- The message of this number in this folder is held aside, read, and copied to each destination; once all copies are
+-- safe it is let go. Where there is no destination it stays.
 unfoldable pub message_refiled : ℕ → List ℕ → Place → ℕ → List Destination → Commanded (List Destination)
 message_refiled run folder p n [] = Return (Ok [])
 message_refiled run folder p n (to ∷ others) = do

@@ -25,20 +25,12 @@ use Rattle.step_plans.proofs.Named.{temp_is}
 use Rattle.step_plans.proofs.Replaced.{Fails, Leaves, gives_next, synced_gives}
 use Rattle.message_puts.proofs.PutGiven.{Puts}
 use Rattle.message_puts.specs.Putting.{message_put}
+use Rattle.message_puts.proofs.StoredGiven.{memory_only}
 use Rattle.message_moves.specs.Moving.{content_read, held_discarded, number_taken, readable}
 use Rattle.message_moves.proofs.MoveGiven.{Never, Reads, Takes, aside, aside_stands, content_gives, discard_gives, take_gives}
 use Rattle.message_notes.specs.NotedAlone.{noted_in}
 use Rattle.message_notes.specs.Noting.{message_noted, stored_at}
 use Rattle.message_notes.proofs.PutAtGiven.{put_at_gives}
-
-memory_only : (h : Hand) (e : PlanFault) → Fails true h e → e ≡ fault.Memory
-memory_only h fault.Faulted f = absurd f
-memory_only h (fault.Locked q) f = absurd (f refl)
-memory_only h (fault.Meddled q x) f = absurd (f refl)
-memory_only h fault.Full f = absurd f
-memory_only h (fault.Absent q) f = absurd f
-memory_only h (fault.TooLarge l) f = absurd f
-memory_only h fault.Memory f = refl
 
 -- it has this number, and these contents are there; or the run has no more names
 abbrev Stores : List ℕ → Contents → Place → ℕ → List ℕ → Hand → View → Hand → List ℕ → Result ℕ PlanFault → Type 0

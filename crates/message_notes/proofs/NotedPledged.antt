@@ -1,11 +1,10 @@
 -- Messages get lines in front as their command pledges: each is let go only once it is safe at a number with the lines.
-use Rattle.std.proofs.Common.{◌≡◌, ◌<◌, ◌≤◌, ◌^◌, ◌++◌, ◌∷◌, [], ℕ, Bool, true, false, List, Some, Ok, Err, max, nat_le, length, nat_lt, refl, sym, ◌∙◌, ap, subst, arith}
+use Rattle.std.proofs.Common.{◌≡◌, ◌<◌, ◌≤◌, ◌^◌, ◌++◌, ◌∷◌, [], ℕ, Bool, true, false, List, Some, Ok, Err, max, nat_le, length, nat_lt, refl, sym, ◌∙◌, subst, arith}
 use Rattle.std.specs.Prelude.{decimal, if◌then◌else◌}
 use Rattle.std.proofs.lemmas.Bool.Decides.{nat_tests}
 use Rattle.mh_base.specs.Entries.{entry_text, kind_of}
 use Rattle.mh_base.specs.Numbers.{IsMsgNum}
 use Rattle.mh_base.specs.declared.entry.Entry.TheVariants.{Held}
-use Rattle.mh_base.proofs.EntryKinds.{kind_of-entry_text}
 use Rattle.folder_files.specs.Annotations.{Annotates, are_annotations}
 use Rattle.folder_files.specs.Careful.{HasLock, WasTaken}
 use Rattle.folder_files.specs.Deeds.{Deed, did, now, on, still}
@@ -34,7 +33,7 @@ use Rattle.message_puts.proofs.PutPledged.{HasPut, IsPutBy, PutsMessages, Tries,
 use Rattle.message_moves.specs.Moving.{content_read, held_discarded, number_taken, readable}
 use Rattle.message_moves.proofs.MoveCopied.{Anything, AreSpared, HasCopy, IsOpen, SparesHeld, may_discard, never_taken, open_less, opened, put_opens}
 use Rattle.message_moves.proofs.MovePledged.{HasContent, HasDiscarded, HasTaken, LetsDiscard, LetsTake, after_content, after_discard, after_take, content_goes, discard_goes, is_held_so, take_goes, taking}
-use Rattle.message_moves.proofs.RefilePledged.{AllSpared, AreMessages, IsNone, SparesAll}
+use Rattle.message_moves.proofs.RefilePledged.{AllSpared, AreMessages, IsNone, SparesAll, held_apart}
 use Rattle.message_notes.specs.Noted.{HasNoted, HasPutAnew}
 use Rattle.message_notes.specs.Noting.{message_noted, messages_noted, stored_at}
 
@@ -57,9 +56,6 @@ module _ (P : Step → Type 0) (F : List Deed → Type 0) (keeps : KeptBy P F) (
       (subst F (sym b.link.deeds) (keeps b.link.older (step.Link p b.temp (decimal m)) answer.Done (asks.link b.temp (decimal m) b.is_own)
       (tries_kept b.temp b.is_own (made_ready p b.temp bytes own) b.link.older b.link.tries
       (keeps (did (step.Create p b.temp bytes) answer.Done ∷ own) (step.SyncFile p b.temp) answer.Done (asks.sync b.temp) (keeps own (step.Create p b.temp bytes) answer.Done (asks.create b.temp bytes) f))))))
-
-held_apart : (run : ℕ) → run < 2 ^ 128 → (n m : ℕ) → IsMsgNum n → IsMsgNum m → (n ≡ m → ⊥) → entry_text (Held run n) ≡ entry_text (Held run m) → ⊥
-held_apart run few n m ok other apart e = apart (let same : Held run n ≡ Held run m = sym (kind_of-entry_text (Held run n) (few, ok)) ∙ (ap kind_of e ∙ kind_of-entry_text (Held run m) (few, other)) in cc (same))
 
 -- a step that names the held name of this message names that of none of these
 names_none : (run : ℕ) → run < 2 ^ 128 → (p : Place) (n : ℕ) → IsMsgNum n → (ns : List ℕ) → AreMessages ns → IsNone n ns → (s : Step) → ((held : List ℕ) → (entry_text (Held run n) ≡ held → ⊥) → SparesHeld p held s) → SparesAll run p ns s

@@ -9,8 +9,8 @@ use Rattle.folder_files.specs.declared.step.Answer.TheVariants.{Done}
 use Rattle.folder_files.specs.declared.step.Step.TheVariants.{SyncFolder, Unlink}
 use Rattle.message_puts.specs.Stored.{HasStoredAt}
 
--- it read what stands under this name, and since then it stored these lines, and behind them just what it had read, at this number of the same
--- folder: it put a new file there, and made the folder safe
+-- it read what stands under this name, and since then it stored these lines, and behind them just what it had read, at
+-- this number of the same folder: it put a new file there, and made the folder safe
 pub record HasPutAnew (run : ℕ) (p : Place) (name lines : List ℕ) (own : List Deed) : Type 0 where
   pub bytes : List ℕ
   pub number : ℕ

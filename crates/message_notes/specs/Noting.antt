@@ -14,8 +14,9 @@ stored_at run p n bytes top = do
   safe ← synced p (decimal number)
   Return (Ok number)
 
--- The message of this number is held aside and read, and what was read is put anew at its number with these lines in front, unless that is too
--- long; once it is safe there, the message that is held aside is let go. This is where it stands then.
+-- The message of this number is held aside and read, and what was read is put anew at its number with these lines in
+-- front, unless that is too long; once it is safe there, the message that is held aside is let go. This is where it
+-- stands then.
 unfoldable pub message_noted : ℕ → Place → List ℕ → ℕ → ℕ → Planned ℕ
 message_noted run p lines n top = do
   held ← number_taken run p n

@@ -206,7 +206,7 @@ module _ (path name : List ℕ) (run : ℕ) (few : run < 2 ^ 128) (takes : List 
       (dropped_outside p run few hs ends c2 ∙ (linked_outside p run few hs ends c1 ∙ aside_outside p run few takes ok c))
 
 -- where the slots are old numbers or free ones, all are free once the messages are held aside
-slots_free : (p : Place) (run : ℕ) → run < 2 ^ 128 → (takes : List ℕ) → AreMsgNums takes → (c : Contents) (ss : List ℕ) → AreMsgNums ss → ((k : ℕ) → is_in k ss ≡ true → is_in k takes ≡ false → c.texts p (decimal k) ≡ None) → AllFree (aside_in c p run takes) p ss
+pub slots_free : (p : Place) (run : ℕ) → run < 2 ^ 128 → (takes : List ℕ) → AreMsgNums takes → (c : Contents) (ss : List ℕ) → AreMsgNums ss → ((k : ℕ) → is_in k ss ≡ true → is_in k takes ≡ false → c.texts p (decimal k) ≡ None) → AllFree (aside_in c p run takes) p ss
 slots_free p run few takes ok c [] good free = tt
 slots_free p run few takes ok c (s ∷ ss) good free = (aside_number p run few takes ok c s good.0 ∙ go (is_in s takes) refl, slots_free p run few takes ok c ss good.1 (λ k e. free k (in_tail s k ss e)))
   where

@@ -16,7 +16,7 @@ fixed (n ∷ ns) [] = []
 fixed (n ∷ ns) (s ∷ ss) = if n == s then n ∷ fixed ns ss else fixed ns ss
 
 -- the moves with one number and one slot more
-abbrev with_pair : Bool → ℕ → ℕ → List Move → List Move
+abbrev pub with_pair : Bool → ℕ → ℕ → List Move → List Move
 with_pair b n s ms = if b then ms else record { from = n; slot = s } ∷ ms
 
 in_more : (x k : ℕ) (xs ys : List ℕ) → (is_in k xs ≡ true → is_in k ys ≡ true) → is_in k (x ∷ xs) ≡ true → is_in k (x ∷ ys) ≡ true
@@ -77,7 +77,7 @@ slots_good (n ∷ ns) (s ∷ ss) ok = go (n == s) (slots_good ns ss ok.1)
     go true more = more
     go false more = (ok.0, more)
 
-suc_same : (a b : ℕ) → suc a ≡ suc b → a ≡ b
+pub suc_same : (a b : ℕ) → suc a ≡ suc b → a ≡ b
 suc_same a b e = cc
 
 -- a number of the list moves, or keeps its place; and so the slots

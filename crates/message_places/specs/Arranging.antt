@@ -23,8 +23,8 @@ all_taken run p (n ∷ ns) = do
   held ← number_taken run p n
   all_taken run p ns
 
--- A message that the run holds aside gets its slot, or where that is taken the first free number above it and the highest. Where none is free
--- the plan ends.
+-- A message that the run holds aside gets its slot, or where that is taken the first free number above it and the
+-- highest. Where none is free the plan ends.
 unfoldable pub given : ℕ → Place → Move → ℕ → Planned ℕ
 given run p m top = do
   end ← homed_name p (aside_name run m.from) m.slot top
@@ -44,7 +44,8 @@ all_dropped run p (m ∷ ms) = do
   gone ← removed p (aside_name run m.from)
   all_dropped run p ms
 
--- that they are gone is made safe too, so that no crash brings one back; this number is the last name that the call made there
+-- that they are gone is made safe too, so that no crash brings one back; this number is the last name that the call
+-- made there
 unfoldable pub dropped_for_good : ℕ → Place → List Move → ℕ → Planned Unit
 dropped_for_good run p ms n = do
   gone ← all_dropped run p ms
@@ -65,8 +66,8 @@ let_go_by run p ms (Some n) = dropped_safely run p ms n
 abbrev pub let_go_after : ℕ → Place → List Move → List ℕ → Planned Unit
 let_go_after run p ms ends = let_go_by run p ms (last_or None ends)
 
--- All of these are held aside; each move's message is given its slot, in the order of the moves, or else a number above the highest; and once
--- all are safe there they are held no longer. It tells where each ended, one number a move.
+-- All of these are held aside; each move's message is given its slot, in the order of the moves, or else a number above
+-- the highest; and once all are safe there they are held no longer. It tells where each ended, one number a move.
 unfoldable pub arranged : ℕ → Place → List ℕ → List Move → ℕ → Planned (List ℕ)
 arranged run p takes ms top = do
   aside ← all_taken run p takes

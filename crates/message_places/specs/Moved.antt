@@ -15,7 +15,8 @@ pub record IsGivenTo (run : ℕ) (p : Place) (from end : ℕ) (d : Deed) (older 
 
 -- the run held the message of this number aside, then gave it that one, and then made the folder safe
 abbrev pub HasMoved : ℕ → Place → ℕ → ℕ → List Deed → Type 0
-HasMoved run p from end own = Once (λ d older. (d ≡ did (SyncFolder p) Done) × Once (IsGivenTo run p from end) older) own
+HasMoved run p from end own =
+    Once (λ d older. (d ≡ did (SyncFolder p) Done) × Once (IsGivenTo run p from end) older) own
 
 -- each of these messages went to the number beside it
 abbrev pub AllMoved : ℕ → Place → List Move → List ℕ → List Deed → Type 0

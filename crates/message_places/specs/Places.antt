@@ -28,7 +28,8 @@ abbrev pub AreDistinct : List ℕ → Type 0
 AreDistinct [] = Unit {0}
 AreDistinct (n ∷ ns) = (is_in n ns ≡ false) × AreDistinct ns
 
--- the old number of the message that came to this one, where each move ended at the number beside it; of those that ended here, the last
+-- the old number of the message that came to this one, where each move ended at the number beside it; of those that
+-- ended here, the last
 abbrev pub source_of : List Move → List ℕ → ℕ → Option ℕ
 source_of [] ends k = None
 source_of (m ∷ ms) [] k = None
@@ -39,8 +40,8 @@ abbrev pub stood_at : {A : Type 0} → (ℕ → A) → Option ℕ → A → A
 stood_at f None otherwise = otherwise
 stood_at f (Some n) otherwise = f n
 
--- The folder once each move ended at the number beside it: there stands the message of its old number; the other old numbers are free; all else is
--- as before.
+-- The folder once each move ended at the number beside it: there stands the message of its old number; the other old
+-- numbers are free; all else is as before.
 abbrev pub rearranged : List Move → List ℕ → Folder → Folder
 rearranged ms ends f = record {
   messages = λ k. stood_at f.messages (source_of ms ends k) (if is_in k (froms ms) then None else f.messages k);

@@ -20,6 +20,7 @@ use Rattle.file_plans.specs.StaysCareful.{careful}
 use Rattle.file_plans.proofs.Showing.{number_kind}
 use Rattle.file_plans.proofs.Framing.{AnyStep}
 use Rattle.held_messages.specs.Settle.{given_at, given_from, given_up}
+use Rattle.held_messages.proofs.Linking.{IsEnd}
 use Rattle.step_plans.specs.Locking.{removed}
 use Rattle.step_plans.specs.Pledges.{MayAsk, Pledge}
 use Rattle.step_plans.specs.PlanFaults.{of_stop}
@@ -62,7 +63,7 @@ pub record PutsMessages (w : Pledge) (p : Place) (bytes : List ℕ) (Known : ℕ
 was_synced : (p : Place) (temp bytes : List ℕ) (own : List Deed) → WasReady p temp bytes own → WasSynced p temp own
 was_synced p temp bytes own w = once_map (λ d older f. (f.0, once_map (λ x old e. (bytes, e)) f.1)) w
 
-is_temp_any : (run : ℕ) (k : Entry) → is_temp_of run k ≡ true → is_temp k ≡ true
+pub is_temp_any : (run : ℕ) (k : Entry) → is_temp_of run k ≡ true → is_temp k ≡ true
 is_temp_any run (entry.Temp r n) e = refl
 is_temp_any run (entry.Number n) e = cc (e)
 is_temp_any run (entry.Backup n) e = cc (e)
@@ -70,11 +71,6 @@ is_temp_any run (entry.Held r n) e = cc (e)
 is_temp_any run entry.Sequences e = cc (e)
 is_temp_any run entry.LockFile e = cc (e)
 is_temp_any run entry.Other e = cc (e)
-
--- a number is one of messages
-abbrev pub IsEnd : Option ℕ → Type 0
-IsEnd None = Unit {0}
-IsEnd (Some m) = IsMsgNum m
 
 le_or : (a b : ℕ) → (nat_le a b ≡ true → a ≤ b) × (nat_le a b ≡ false → b ≤ a)
 le_or a b = ((λ e. grind (arith, nat_tests, e)), (λ e. grind (arith, nat_tests, e)))

@@ -16,7 +16,7 @@ use Rattle.step_plans.proofs.Replaced.{Fails, gives_next, synced_gives}
 use Rattle.message_puts.specs.Putting.{message_put, message_stored}
 use Rattle.message_puts.proofs.PutGiven.{Puts, put_gives}
 
-memory_only : (h : Hand) (e : PlanFault) → Fails true h e → e ≡ fault.Memory
+pub memory_only : (h : Hand) (e : PlanFault) → Fails true h e → e ≡ fault.Memory
 memory_only h fault.Faulted f = absurd f
 memory_only h (fault.Locked q) f = absurd (f refl)
 memory_only h (fault.Meddled q x) f = absurd (f refl)

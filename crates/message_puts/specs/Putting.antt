@@ -8,8 +8,8 @@ use Rattle.step_plans.specs.Replacing.{synced, written}
 use Rattle.step_plans.specs.declared.fault.PlanFault.TheVariants as fault
 use Rattle.held_messages.specs.Settle.{given_from, homed_name}
 
--- the file of this name is linked to the number that is wished for; where that is taken, or none is wished for, above the
--- highest
+-- the file of this name is linked to the number that is wished for; where that is taken, or none is wished for, above
+-- the highest
 unfoldable pub linked_first : Place → List ℕ → Option ℕ → ℕ → Planned (Option ℕ)
 linked_first p name None top = given_from p name (top + 1)
 linked_first p name (Some n) top = homed_name p name n top
@@ -24,8 +24,8 @@ numbered p name wish top = do
   end ← linked_first p name wish top
   number_got end
 
--- a new message: a file with these bytes is made under the run's next temporary name and made safe, gets a number, and loses
--- its temporary name
+-- a new message: a file with these bytes is made under the run's next temporary name and made safe, gets a number, and
+-- loses its temporary name
 unfoldable pub message_put : ℕ → Place → List ℕ → Option ℕ → ℕ → Planned ℕ
 message_put run p bytes wish top = do
   temp ← written run p bytes

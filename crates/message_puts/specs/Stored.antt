@@ -22,7 +22,8 @@ HasPutAt run p number bytes own = Once (IsPutAt run p number bytes) own
 
 -- and then made the directory safe
 abbrev pub HasStoredAt : ℕ → Place → ℕ → List ℕ → List Deed → Type 0
-HasStoredAt run p number bytes own = Once (λ d older. (d ≡ did (SyncFolder p) Done) × HasPutAt run p number bytes older) own
+HasStoredAt run p number bytes own =
+    Once (λ d older. (d ≡ did (SyncFolder p) Done) × HasPutAt run p number bytes older) own
 
 -- the run linked a file to this number, or met one there
 abbrev pub HasMetAt : Place → ℕ → List Deed → Type 0

@@ -13,7 +13,7 @@ use Rattle.mh_base.specs.declared.entry.Entry.{Entry}
 use Rattle.mh_base.specs.declared.entry.Entry.TheVariants.{Number, Backup, Held, Temp, Sequences, LockFile, Other}
 use Rattle.mh_base.proofs.RunDigits.{hex_digits, length-hex}
 
-differs : (b : Bool) (c d : ℕ) → (b ≡ true → c ≡ d) → (c ≡ d → ⊥) → not b ≡ true
+pub differs : (b : Bool) (c d : ℕ) → (b ≡ true → c ≡ d) → (c ≡ d → ⊥) → not b ≡ true
 differs true c d p q = absurd (q (p refl))
 differs false c d p q = refl
 

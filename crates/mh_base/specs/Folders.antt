@@ -14,7 +14,8 @@ is_folder_kind _ = false
 
 -- one name of the path: not empty, not `.` or `..`, and no name that this program gives a meaning
 abbrev pub is_segment : List ℕ → Bool
-is_segment s = not (bytes_eq s []) && not (bytes_eq s (codes ".")) && not (bytes_eq s (codes "..")) && is_folder_kind (kind_of s)
+is_segment s =
+    not (bytes_eq s []) && not (bytes_eq s (codes ".")) && not (bytes_eq s (codes "..")) && is_folder_kind (kind_of s)
 
 abbrev pub segments : List ℕ → List (List ℕ)
 segments bytes = slice_split (λ b. b == 47) bytes

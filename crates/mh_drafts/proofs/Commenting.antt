@@ -2,7 +2,7 @@
 use Rattle.std.proofs.Common.{◌≡◌, ℕ, ◌+◌, ◌<◌, ◌≤◌, Bool, true, false, Option, Some, None, List, ◌∷◌, length, get_or, drop, refl, sym, ◌∙◌, ap, arith}
 use Rattle.std.specs.Prelude.{option_map}
 use Rattle.std.proofs.lemmas.List.{drop_all}
-use Rattle.mime_tree.proofs.Cutting.{cut_at}
+use Rattle.mail_headers.proofs.Folding.{cut_at}
 use Rattle.mh_drafts.specs.Comments.{closes, comment_end, depth_behind, protects}
 
 ends_here : (depth : ℕ) (protected : Bool) (c : ℕ) (rest : List ℕ) → closes depth protected c ≡ true → comment_end depth protected (c ∷ rest) ≡ Some 0

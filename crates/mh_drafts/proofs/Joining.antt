@@ -48,7 +48,7 @@ order_wants : (d : Directive) (marks : List Mark) → wants_of (order d ∷ mark
 unfolding wants_of
 order_wants d marks = refl
 
-or_assoc : (a b c : Bool) → (a || b) || c ≡ a || (b || c)
+pub or_assoc : (a b c : Bool) → (a || b) || c ≡ a || (b || c)
 or_assoc true b c = refl
 or_assoc false b c = refl
 

@@ -4,7 +4,7 @@ mod Commenting
 mod Drafting
 mod Filing
 mod Heading
-mod Joining
+pub mod Joining
 mod Reading
 mod Signing
 mod Wording

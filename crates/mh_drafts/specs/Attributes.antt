@@ -27,7 +27,8 @@ named_in name = option_and_then (valued_in name) (option_and_then worth_in (behi
 
 -- the attribute at the front, with the semicolon before it
 abbrev pub attribute_in : List ℕ → Option TakenAttribute
-attribute_in text = option_and_then named_in (option_and_then (λ rest. token_in (behind_blanks rest)) (behind_byte 59 text))
+attribute_in text =
+    option_and_then named_in (option_and_then (λ rest. token_in (behind_blanks rest)) (behind_byte 59 text))
 
 abbrev pub led : TakenAttribute → TakenAttributes → TakenAttributes
 led a more = record { attributes = a.attribute ∷ more.attributes; rest = more.rest }

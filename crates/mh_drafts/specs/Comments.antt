@@ -14,8 +14,8 @@ abbrev pub depth_behind : ℕ → Bool → ℕ → ℕ
 depth_behind depth protected c =
     if not protected && c == 40 then depth + 1 else (if not protected && c == 41 then depth - 1 else depth)
 
--- the place of the parenthesis that closes a comment in which so many others are open; comments may stand in one another, and a
--- backslash protects the byte behind it
+-- the place of the parenthesis that closes a comment in which so many others are open; comments may stand in one
+-- another, and a backslash protects the byte behind it
 unfoldable pub comment_end : ℕ → Bool → List ℕ → Option ℕ
 comment_end depth protected [] = None
 comment_end depth protected (c ∷ rest) =

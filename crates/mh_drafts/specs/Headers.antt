@@ -16,7 +16,8 @@ reserved_with (Some field) bytes more = if is_reserved field.name then Some byte
 -- the bytes from the first reserved field on, among at most so many fields
 abbrev pub reserved_up_to : ℕ → List ℕ → Option (List ℕ)
 reserved_up_to zero bytes = None
-reserved_up_to (suc n) bytes = reserved_with (first_field bytes) bytes (reserved_up_to n (drop (folded_len bytes) bytes))
+reserved_up_to (suc n) bytes =
+    reserved_with (first_field bytes) bytes (reserved_up_to n (drop (folded_len bytes) bytes))
 
 -- the bytes from the first reserved field on
 unfoldable pub reserved_in : List ℕ → Option (List ℕ)

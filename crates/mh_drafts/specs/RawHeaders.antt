@@ -8,4 +8,5 @@ use Rattle.mh_drafts.specs.Headers.{reserved_in}
 -- the bytes from the first reserved field on; or there is none, and this stands behind the fields
 abbrev pub IsHeaderOf : List ℕ → Header → Type 0
 IsHeaderOf bytes (Reserved rest) = (reserved_in bytes ≡ Some rest.now) × (length rest.now ≤ length bytes)
-IsHeaderOf bytes (Behind rest) = (reserved_in bytes ≡ None) × (rest.now ≡ rest_of bytes) × (length rest.now ≤ length bytes)
+IsHeaderOf bytes (Behind rest) =
+    (reserved_in bytes ≡ None) × (rest.now ≡ rest_of bytes) × (length rest.now ≤ length bytes)

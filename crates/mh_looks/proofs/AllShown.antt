@@ -41,7 +41,7 @@ abbrev pub AreMessages : Bool → Contents → View → Place → List ℕ → T
 AreMessages alone c v p [] = Unit {0}
 AreMessages alone c v p (n ∷ ns) = IsMessage alone c v p n × AreMessages alone c v p ns
 
-line_some : (line : List ℕ) → line ++ 10 ∷ [] ≡ [] → ⊥
+pub line_some : (line : List ℕ) → line ++ 10 ∷ [] ≡ [] → ⊥
 line_some [] e = cc
 line_some (x ∷ line) e = cc
 

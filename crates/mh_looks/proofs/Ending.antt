@@ -107,7 +107,7 @@ chosen_listed names neg marks specs numbers is n e =
     both (lists (all_numbers every_number) n) (has_number n names)
     (sym (lists_filter (λ m. has_number m names) (all_numbers every_number) n) ∙ selected_within (folder_with neg (numbers_listed names) marks) (map encode_utf8_all specs) numbers (selects (folder_with neg (numbers_listed names) marks) specs numbers is) n e)
 
-abbrev name_of : ℕ → List ℕ
+abbrev pub name_of : ℕ → List ℕ
 name_of n = entry_text (Number n)
 
 listed_text : (n : ℕ) (names : List (List ℕ)) → has_number n names ≡ true → has_text (name_of n) names ≡ true

@@ -11,7 +11,7 @@ use Rattle.step_plans.specs.declared.command_fault.CommandFault.{CommandFault}
 use Rattle.message_lines.specs.MessageText.{Writing}
 use Rattle.mh_looks.specs.Scan.{one_shown, all_shown}
 
-next : (l : List ℕ) (i : ℕ) (x : ℕ) → i < length l → x ≡ get_or l i x → drop i l ≡ x ∷ drop (i + 1) l
+pub next : (l : List ℕ) (i : ℕ) (x : ℕ) → i < length l → x ≡ get_or l i x → drop i l ≡ x ∷ drop (i + 1) l
 next l i x h is = rw (add-one, drop-cons l i x) (ap (λ y. y ∷ drop (suc i) l) (sym is))
 
 pub turn : (run : ℕ) (lined : Writing) (place : Place) (l : List ℕ) (i n : ℕ) (x y : State) (r : Result Unit CommandFault) → i < length l → n ≡ get_or l i n →

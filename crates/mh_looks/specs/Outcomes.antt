@@ -50,14 +50,19 @@ abbrev pub lines_written : Mailbox → List ℕ → List NamedValue → List ℕ
 lines_written m path entries folder lines (Some l) = record { text = lines; end = Err (too_large l); mailbox = m }
 lines_written m path entries folder lines None = made_current m path entries folder lines
 
-abbrev pub numbers_shown : Writing → Mailbox → List ℕ → List NamedValue → List ℕ → (ℕ → Option (List ℕ)) → List ℕ → Work CommandFault
-numbers_shown lined m path entries folder messages numbers = lines_written m path entries folder (lines_of lined messages numbers) (too_long_of messages numbers)
+abbrev pub numbers_shown : Writing → Mailbox → List ℕ → List NamedValue → List ℕ → (ℕ → Option (List ℕ)) → List ℕ
+    → Work CommandFault
+numbers_shown lined m path entries folder messages numbers =
+    lines_written m path entries folder (lines_of lined messages numbers) (too_long_of messages numbers)
 
-abbrev pub chosen_shown : Writing → Mailbox → List ℕ → List NamedValue → ScanJob → FolderValue → Result (List ℕ) CommandFault → Work CommandFault
-chosen_shown lined m path entries job f (Ok numbers) = numbers_shown lined m path entries job.folder f.messages (ordered job.reverse numbers)
+abbrev pub chosen_shown : Writing → Mailbox → List ℕ → List NamedValue → ScanJob → FolderValue
+    → Result (List ℕ) CommandFault → Work CommandFault
+chosen_shown lined m path entries job f (Ok numbers) =
+    numbers_shown lined m path entries job.folder f.messages (ordered job.reverse numbers)
 chosen_shown lined m path entries job f (Err e) = refused_at m e
 
-abbrev pub sequences_read : Mailbox → List ℕ → List NamedValue → ScanJob → FolderValue → Result (List ℕ) CommandFault → Work CommandFault
+abbrev pub sequences_read : Mailbox → List ℕ → List NamedValue → ScanJob → FolderValue → Result (List ℕ) CommandFault
+    → Work CommandFault
 sequences_read m path entries job f (Ok text) =
     chosen_shown (lined_by job text entries) m path entries job f (chosen_in (folder_with job.negation (numbers_of f) (marks_in text entries job.folder)) job.specs)
 sequences_read m path entries job f (Err e) = refused_at m e

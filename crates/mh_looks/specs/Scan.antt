@@ -74,7 +74,8 @@ chosen_by job names text entries = chosen_with job names (marks_in text entries 
 abbrev pub lined_by : ScanJob → List ℕ → List NamedValue → Writing
 lined_by job text entries = written_by job.spoken (marks_in text entries job.folder) job.unseen
 
--- `scan`: the folder is listed and its sequences are read; the chosen messages are shown; and the folder becomes the current one
+-- `scan`: the folder is listed and its sequences are read; the chosen messages are shown; and the folder becomes the
+-- current one
 unfoldable pub scan : ℕ → List ℕ → ScanJob → Commanded Unit
 scan run mail job = do
   names ← folder_listed (Folder mail job.folder) job.folder

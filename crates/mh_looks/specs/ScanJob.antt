@@ -3,8 +3,8 @@ use Rattle.std.specs.Prelude.{ℕ, Bool, List}
 use Rattle.message_lines.specs.MessageText.{Writing}
 use Rattle.message_lines.specs.declared.standing.Standing.{Standing}
 
--- the folder, the words that choose messages, whether the last comes first, the sequences whose messages are unseen, the prefix of
--- negation, and what is written of a message that stands so
+-- the folder, the words that choose messages, whether the last comes first, the sequences whose messages are unseen,
+-- the prefix of negation, and what is written of a message that stands so
 pub record ScanJob : Type 0 where
   pub folder : List ℕ
   pub specs : List (List ℕ)

@@ -12,7 +12,8 @@ value_of name (e ∷ es) = if same_entry name e.name then Some e.value else valu
 -- the entry of this name has the value, in its place and its spelling; where there was none, it stands last
 abbrev pub with_entry : List ℕ → List ℕ → List NamedValue → List NamedValue
 with_entry name value [] = record { name = name; value = value } ∷ []
-with_entry name value (e ∷ es) = if same_entry name e.name then record { name = e.name; value = value } ∷ es else e ∷ with_entry name value es
+with_entry name value (e ∷ es) =
+    if same_entry name e.name then record { name = e.name; value = value } ∷ es else e ∷ with_entry name value es
 
 -- the entries of other names
 abbrev pub without : List ℕ → List NamedValue → List NamedValue

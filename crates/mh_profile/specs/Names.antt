@@ -14,7 +14,8 @@ pub record IsFieldName (name : List ℕ) : Type 0 where
 abbrev pub is_attribute : List ℕ → Bool
 is_attribute name = starts_with nat_eq name (97 ∷ 116 ∷ 114 ∷ 45 ∷ [])
 
--- two names are the same where they are equal byte for byte, or where neither is an attribute's and they are equal without ASCII case
+-- two names are the same where they are equal byte for byte, or where neither is an attribute's and they are equal
+-- without ASCII case
 unfoldable pub same_entry : List ℕ → List ℕ → Bool
 same_entry a b = bytes_eq a b || (not (is_attribute a) && not (is_attribute b) && same_name a b)
 

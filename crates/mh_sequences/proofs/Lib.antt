@@ -1,10 +1,10 @@
+mod Ends
 pub mod Adding
 pub mod Bools
 pub mod Changing
 pub mod ContextLemmas
 pub mod Counting
 pub mod EntryLemmas
-mod Ends
 pub mod FieldNaming
 pub mod FieldsBack
 pub mod GatherLemmas
@@ -13,8 +13,9 @@ pub mod Joining
 pub mod ListText
 pub mod Mentioning
 pub mod NameLemmas
-pub mod PlaceLemmas
+pub mod OneRun
 pub mod Piling
+pub mod PlaceLemmas
 pub mod Placing
 pub mod PrintingLemmas
 pub mod ReadBack

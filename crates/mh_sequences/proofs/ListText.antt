@@ -17,6 +17,7 @@ use Rattle.mh_base.specs.Numbers.{IsMsgNum, number_of, in_range}
 use Rattle.mh_base.proofs.Decimals.{decimal_of_some, decimal_of_none}
 use Rattle.mh_profile.specs.Values.{IsUnfolded, is_no_feed}
 use Rattle.mh_profile.proofs.UnfoldingLemmas.{bare_value}
+use Rattle.mh_profile.proofs.PrintLemmas.{all_append}
 use Rattle.mh_sequences.specs.declared.run.Run.{Run}
 use Rattle.mh_sequences.specs.Runs.{AreRuns, AreRunsFrom, has}
 use Rattle.mh_sequences.specs.Lists.{items, between, up_to, alone_or, is_no_dash, run_in, run_has, lists}
@@ -51,10 +52,6 @@ weaker : (p q : ℕ → Bool) → ((b : ℕ) → p b ≡ true → q b ≡ true) 
 weaker p q on [] h = refl
 weaker p q on (x ∷ xs) h = let parts = and_parts (p x) (list_all p xs) h in and_from (q x) (list_all q xs) (on x parts.0) (weaker p q on xs parts.1)
 
-all_append : (p : ℕ → Bool) (xs ys : List ℕ) → list_all p xs ≡ true → list_all p ys ≡ true → list_all p (xs ++ ys) ≡ true
-all_append p [] ys h k = k
-all_append p (x ∷ xs) ys h k = let parts = and_parts (p x) (list_all p xs) h in and_from (p x) (list_all p (xs ++ ys)) parts.0 (all_append p xs ys parts.1 k)
-
 digit_range : (b : ℕ) → is_digit b ≡ true → (48 ≤ b) × (b ≤ 57)
 digit_range b h = let parts = and_parts (nat_le 48 b) (nat_le b 57) h in (leb-true 48 b parts.0, leb-true b 57 parts.1)
 
@@ -69,7 +66,7 @@ dash_inside (x ∷ xs) ys h = dash_inside xs ys (and_parts (is_digit x) (list_al
 no_number : (xs ys : List ℕ) → number_of (xs ++ (45 ∷ ys)) ≡ None
 no_number xs ys = ap in_range (decimal_of_none (xs ++ (45 ∷ ys)) (λ v lt e. dash_inside xs ys (subst (λ z. list_all is_digit z ≡ true) (sym e) (digits_all (decimal v) (decimal_is_IsNumeral v lt).0.1))))
 
-to_dash : (xs ys : List ℕ) → list_all is_no_dash xs ≡ true → prefix_len is_no_dash (xs ++ (45 ∷ ys)) ≡ length xs
+pub to_dash : (xs ys : List ℕ) → list_all is_no_dash xs ≡ true → prefix_len is_no_dash (xs ++ (45 ∷ ys)) ≡ length xs
 to_dash [] ys h = refl
 to_dash (x ∷ xs) ys h =
     let parts = and_parts (is_no_dash x) (list_all is_no_dash xs) h in

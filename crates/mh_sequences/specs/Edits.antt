@@ -26,4 +26,5 @@ back r n = if nat_lt n r.to then record { from = n + 1; to = r.to } ∷ [] else 
 -- the runs without the number
 abbrev pub removed : ℕ → List Run → List Run
 removed n [] = []
-removed n (r ∷ rs) = if nat_lt r.to n then r ∷ removed n rs else (if nat_lt n r.from then r ∷ rs else front r n ++ (back r n ++ rs))
+removed n (r ∷ rs) =
+    if nat_lt r.to n then r ∷ removed n rs else (if nat_lt n r.from then r ∷ rs else front r n ++ (back r n ++ rs))

@@ -15,7 +15,8 @@ is_reserved name =
 
 -- a letter and then letters and digits, ASCII, at most 64 bytes, and not reserved
 unfoldable pub is_seq_name : List ℕ → Bool
-is_seq_name name = begins_with_letter name && list_all is_ascii_alphanumeric name && nat_le (length name) 64 && not (is_reserved name)
+is_seq_name name =
+    begins_with_letter name && list_all is_ascii_alphanumeric name && nat_le (length name) 64 && not (is_reserved name)
 
 -- what was read from bytes: the name that they are, or nothing where they are none
 abbrev pub IsNameIn : List ℕ → Option (List ℕ) → Type 0

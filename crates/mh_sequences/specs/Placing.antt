@@ -4,8 +4,8 @@ use Rattle.std.specs.Ordering.{is_lt}
 use Rattle.std.specs.declared.cmp.Ordering.{Ordering}
 use Rattle.std.specs.declared.cmp.Ordering.TheVariants.{Less, Equal, Greater}
 use Rattle.mh_sequences.specs.declared.run.Run.{Run}
-use Rattle.mh_sequences.specs.declared.place.Place.{Place}
-use Rattle.mh_sequences.specs.declared.place.Place.TheVariants.{At, Before}
+use Rattle.mh_sequences.specs.declared.place.Position.{Position}
+use Rattle.mh_sequences.specs.declared.place.Position.TheVariants.{At, Before}
 use Rattle.mh_sequences.specs.Sequences.{Sequence, runs_of, public_of, order}
 
 -- the sequence alone; nothing where it is empty
@@ -42,6 +42,6 @@ pub record IsBefore (name : List ℕ) (ss : List Sequence) (i : ℕ) : Type 0 wh
   pub runs : runs_of ss name ≡ []
   pub public : public_of ss name ≡ true
 
-abbrev pub IsPlace : List ℕ → List Sequence → Place → Type 0
+abbrev pub IsPlace : List ℕ → List Sequence → Position → Type 0
 IsPlace name ss (At i) = IsAt name ss i
 IsPlace name ss (Before i) = IsBefore name ss i

@@ -42,7 +42,8 @@ cur_entry (Some n) = record { name = codes "cur"; value = decimal n } ∷ []
 
 -- the public sequences and the current message in byte order of the names
 abbrev pub public_entries : Marked → List NamedValue
-public_entries m = map entry_of (filter (is_shown true) m.users) ++ (cur_entry m.cur ++ map entry_of (filter (is_shown false) m.users))
+public_entries m =
+    map entry_of (filter (is_shown true) m.users) ++ (cur_entry m.cur ++ map entry_of (filter (is_shown false) m.users))
 
 -- a line for each
 abbrev pub text_of : Marked → List ℕ

@@ -52,7 +52,8 @@ abbrev pub cur_in : List FieldText → Option ℕ
 cur_in [] = None
 cur_in (f ∷ fs) = if bytes_eq f.name (codes "cur") then first_or (find is_listed (items (unfolded f.value))) (cur_in fs) else cur_in fs
 
--- what a text and a context's entries say of the sequences of a folder: the numbers of both, and public are those that the text has
+-- what a text and a context's entries say of the sequences of a folder: the numbers of both, and public are those that
+-- the text has
 pub record IsReading (text : List ℕ) (context : List NamedValue) (folder : List ℕ) (read : Marked) : Type 0 where
   pub numbers : (name : List ℕ) (n : ℕ) → member read.users name n ≡ (is_seq_name name && (lists_public (fields_of text) name n || lists_private context (suffix folder) name n))
   pub public : (name : List ℕ) (n : ℕ) → IsTrue (member read.users name n) → public_of read.users name ≡ has_field (fields_of text) name
@@ -86,7 +87,8 @@ IsEntryNoted name list ending old new =
     ⊎ (((s : List ℕ) → bytes_eq name (attribute ending s) ≡ false) × (new ≡ old))
 
 abbrev pub IsPlaceNoted : List NamedValue → ℕ → List ℕ → List Mention → List Mention → Type 0
-IsPlaceNoted entries i ending old new = (e : NamedValue) × (slice_get entries i ≡ Some e) × IsEntryNoted e.name e.value ending old new
+IsPlaceNoted entries i ending old new =
+    (e : NamedValue) × (slice_get entries i ≡ Some e) × IsEntryNoted e.name e.value ending old new
 
 -- what the entries give private sequences was noted besides
 pub record IsContextNoted (entries : List NamedValue) (ending : List ℕ) (old new : List Mention) : Type 0 where

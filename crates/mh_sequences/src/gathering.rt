@@ -10,7 +10,7 @@ ghost use Rattle.mh_sequences.specs.Sequences.{AreSequences, told};
 
 use crate::field_names::FieldNames;
 use crate::mention::Mention;
-use crate::place::{Place, place_of};
+use crate::place::{Position, place_of};
 use crate::user::User;
 use crate::{NumSet, Run, SeqName};
 use mh_base::List;
@@ -51,12 +51,12 @@ fn add_run(
     ensures added { OnOk result (IsRunAdded name.now run public (map told users.old.items) (map told users.new.items)) }
 {
     match place_of(users, name) {
-        Place::At(at) => {
+        Position::At(at) => {
             let user = &mut users[at];
             user.numbers.insert_run(run)?;
             user.public = public;
         }
-        Place::Before(at) => {
+        Position::Before(at) => {
             let user = new_user(alloc, name, run, public)?;
             users.insert(at, user)?;
         }

@@ -9,7 +9,7 @@ use std::cmp::Ordering;
 
 /// Where the sequence of a name stands, or before which it is to stand.
 #[derive(Clone, Copy)]
-pub(crate) enum Place {
+pub(crate) enum Position {
     At(usize),
     Before(usize),
 }
@@ -24,15 +24,15 @@ fn passed(users: &[User], name: &[u8]) -> usize
 }
 
 /// The place of a name among sequences in byte order of their names.
-pub(crate) fn place_of(users: &[User], name: &[u8]) -> Place
+pub(crate) fn place_of(users: &[User], name: &[u8]) -> Position
     requires { AreSequences (map told users.now) }
     ensures { IsPlace name.now (map told users.now) result }
 {
     let at = passed(users, name);
     if let Some(user) = users.get(at) {
         if user.name.bytes() == name {
-            return Place::At(at);
+            return Position::At(at);
         }
     }
-    Place::Before(at)
+    Position::Before(at)
 }

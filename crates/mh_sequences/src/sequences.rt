@@ -16,7 +16,7 @@ ghost use Rattle.mh_sequences.specs.Sequences.{AreSequences, Marked, member, run
 use crate::change::{Change, change_all, new_number, sources};
 use crate::escape::suffix_of;
 use crate::join::Join;
-use crate::place::{Place, place_of};
+use crate::place::{Position, place_of};
 use crate::printing::{private_list, put_cur, put_lines};
 use crate::reading::{read_cur, read_users};
 use crate::user::User;
@@ -60,16 +60,16 @@ fn put(
     ensures err { OnErr result (map told users.new.items ≡ map told users.old.items) }
 {
     match place_of(users, name.bytes()) {
-        Place::At(at) if numbers.is_empty() => {
+        Position::At(at) if numbers.is_empty() => {
             let _ = users.remove(at);
         }
-        Place::At(at) => {
+        Position::At(at) => {
             let user = &mut users[at];
             user.numbers = numbers;
             user.public = public;
         }
-        Place::Before(_) if numbers.is_empty() => {}
-        Place::Before(at) => {
+        Position::Before(_) if numbers.is_empty() => {}
+        Position::Before(at) => {
             let name = name.copy(alloc)?;
             users.insert(
                 at,
@@ -144,8 +144,8 @@ impl Sequences {
         ensures { MatchOption result (runs_of self.now.users name.now ≡ []) (λ s. s.now.runs ≡ runs_of self.now.users name.now) }
     {
         match place_of(&self.users, name.bytes()) {
-            Place::At(at) => Some(&self.users[at].numbers),
-            Place::Before(_) => None,
+            Position::At(at) => Some(&self.users[at].numbers),
+            Position::Before(_) => None,
         }
     }
 
@@ -154,8 +154,8 @@ impl Sequences {
         ensures { result ≡ public_of self.now.users name.now }
     {
         match place_of(&self.users, name.bytes()) {
-            Place::At(at) => self.users[at].public,
-            Place::Before(_) => true,
+            Position::At(at) => self.users[at].public,
+            Position::Before(_) => true,
         }
     }
 

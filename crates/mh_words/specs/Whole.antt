@@ -20,7 +20,8 @@ pub record Wrong : Type 0 where
   pub place : ℕ
   pub why : WordWhy
 
--- the switch of this full name among those from this index on, or else what was found before and those whose names begin with the text
+-- the switch of this full name among those from this index on, or else what was found before and those whose names
+-- begin with the text
 unfoldable pub found_from : List SwitchType → List ℕ → ℕ → Found → Found
 found_from [] text i found = found
 found_from (s ∷ ss) text i found =
@@ -60,7 +61,8 @@ last_read (Valued item) place = Err (record { place = place; why = NoValue })
 last_read (IsBad why) place = Err (record { place = place; why = why })
 
 -- a word before another, with what is read behind the one and behind both
-abbrev pub next_read : FirstWord → ℕ → List ℕ → Result (List Item) Wrong → Result (List Item) Wrong → Result (List Item) Wrong
+abbrev pub next_read : FirstWord → ℕ → List ℕ → Result (List Item) Wrong → Result (List Item) Wrong
+    → Result (List Item) Wrong
 next_read (Alone item) place value behind_one behind_both = before item behind_one
 next_read (Valued item) place value behind_one behind_both = before (item value) behind_both
 next_read (IsBad why) place value behind_one behind_both = Err (record { place = place; why = why })

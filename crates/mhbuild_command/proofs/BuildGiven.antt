@@ -19,6 +19,7 @@ use Rattle.step_plans.specs.declared.fault.PlanFault.{PlanFault}
 use Rattle.step_plans.specs.declared.fault.PlanFault.TheVariants as plan
 use Rattle.step_plans.proofs.Replaced.{Fails, Leaves}
 use Rattle.step_plans.specs.ContextCommit.{LIMIT_BYTES}
+use Rattle.step_plans.proofs.Refusals.{IsRefusal}
 use Rattle.command_stages.specs.Texts.{too_large}
 use Rattle.command_stages.specs.Works.{Work as WorkValue, refused_at}
 use Rattle.opened_folders.proofs.WorkGiven.{WorkEnds}
@@ -28,7 +29,7 @@ use Rattle.mhbuild_compose.specs.declared.given.Given.{Given}
 use Rattle.mhbuild_compose.specs.Messages.{ended}
 use Rattle.draft_contents.specs.Found.{all_found, and_then}
 use Rattle.draft_contents.specs.Wants.{all_given}
-use Rattle.draft_contents.proofs.Finding.{Finds, IsRefusal, IsRefusing, finds_then, finds_value, limit_refuses}
+use Rattle.draft_contents.proofs.Finding.{Finds, IsRefusing, finds_then, finds_value, limit_refuses}
 use Rattle.draft_contents.proofs.WantsFound.{all_find}
 use Rattle.draft_files.specs.DraftNames.{is_draft_name}
 use Rattle.draft_files.specs.Limits.{within_limit}

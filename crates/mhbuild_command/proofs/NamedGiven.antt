@@ -19,11 +19,12 @@ use Rattle.step_plans.specs.CommandFaults.{of_stop}
 use Rattle.step_plans.specs.ContextCommit.{LIMIT_BYTES}
 use Rattle.step_plans.specs.Hands.{temp_name}
 use Rattle.step_plans.specs.declared.command_fault.CommandFault.{CommandFault}
+use Rattle.step_plans.proofs.Refusals.{IsRefusal}
 use Rattle.command_stages.specs.Texts.{too_large}
 use Rattle.command_stages.specs.Works.{Work as WorkValue, refused_at}
 use Rattle.opened_folders.proofs.WorkGiven.{WorkEnds}
 use Rattle.draft_contents.specs.Found.{present}
-use Rattle.draft_contents.proofs.Finding.{Finds, IsRefusal, content_found, found_so, gone_found, long_found}
+use Rattle.draft_contents.proofs.Finding.{Finds, content_found, found_so, gone_found, long_found}
 use Rattle.draft_files.specs.DraftNames.{is_draft_name}
 use Rattle.draft_files.specs.Drafts.{draft_by, draft_read, draft_text, in_work, no_file}
 use Rattle.mhbuild_command.specs.Building.{message_done, mhbuild, text_built}

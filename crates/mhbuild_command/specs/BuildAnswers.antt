@@ -23,8 +23,8 @@ use Rattle.mhbuild_command.specs.BuildPledge.{HasText, IsBuilt}
 use Rattle.mhbuild_command.specs.Parsed.{parsed}
 use Rattle.mhbuild_command.specs.declared.job.BuildJob.{BuildJob}
 
--- the newest step shows that others made the run's next name in the current directory, or that they took away the draft of this name, which the run had read, or a
--- name that it had made there, or the directory
+-- the newest step shows that others made the run's next name in the current directory, or that they took away the draft
+-- of this name, which the run had read, or a name that it had made there, or the directory
 pub data IsMeddledHere (run : ℕ) (name : List ℕ) : List ℕ → List Deed → Type 0 where
   -- its fresh name is taken, or the directory is gone
   fresh_taken : {x bytes : List ℕ} {a : Answer} {older : List Deed} → (k : ℕ) → x ≡ temp_name run k → (WasMade Work x older → ⊥) → (a ≡ Exists) ⊎ (a ≡ Gone)

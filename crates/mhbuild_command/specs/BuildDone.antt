@@ -9,7 +9,8 @@ use Rattle.step_plans.specs.Settled.{AreSettled}
 use Rattle.mhbuild_command.specs.BuildPledge.{IsBuilt}
 use Rattle.mhbuild_command.specs.declared.job.BuildJob.{BuildJob}
 
--- its newest steps, each done: the draft's message was made and made safe, the draft was set aside, the message got its name, and the current directory was made safe
+-- its newest steps, each done: the draft's message was made and made safe, the draft was set aside, the message got its
+-- name, and the current directory was made safe
 pub record HasPlaced (run : ℕ) (path : List ℕ) (job : BuildJob) (name : List ℕ) (own : List Deed) : Type 0 where
   pub temp : List ℕ
   pub message : List ℕ

@@ -35,7 +35,8 @@ ended_work m (Some name) text (Ok message) = record { text = []; end = Ok tt; ma
 ended_work m draft text (Err e) = refused_at m e
 
 -- `mhbuild`, where the context has these entries and the draft this text, or is refused
-unfoldable pub build_work : ℕ → List ℕ → List NamedValue → BuildJob → Result (List ℕ) CommandFault → Mailbox → Work CommandFault
+unfoldable pub build_work : ℕ → List ℕ → List NamedValue → BuildJob → Result (List ℕ) CommandFault → Mailbox
+    → Work CommandFault
 build_work run path entries job (Ok text) m = ended_work m job.draft text (built run path entries job m text)
 build_work run path entries job (Err e) m = refused_at m e
 

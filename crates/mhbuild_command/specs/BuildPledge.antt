@@ -56,22 +56,13 @@ pub record TakesName (run : ℕ) (path : List ℕ) (job : BuildJob) (from to : L
 
 -- the steps that change something are these, in the current directory
 abbrev pub MayBuild : ℕ → List ℕ → BuildJob → List Deed → Step → Type 0
-MayBuild run path job own (step.List p) = ⊥
-MayBuild run path job own (step.Read p n limit) = ⊥
-MayBuild run path job own (step.MakeFolder p) = ⊥
 MayBuild run path job own (step.Create p n b) = (p ≡ Work) × IsBuilt run path job b own
-MayBuild run path job own (step.SyncFile p n) = ⊥
-MayBuild run path job own (step.SyncFolder p) = ⊥
-MayBuild run path job own (step.Link p a b) = ⊥
-MayBuild run path job own (step.Rename p a b) = (p ≡ Work) × (SetsAside run path job a b own ⊎ TakesName run path job a b own)
-MayBuild run path job own (step.Unlink p a) = ⊥
-MayBuild run path job own (step.Lock p) = ⊥
-MayBuild run path job own (step.Unlock p) = ⊥
-MayBuild run path job own (step.ReadFile f limit) = ⊥
-MayBuild run path job own (step.ReadDrop f from most) = ⊥
-MayBuild run path job own (step.CutDrop f n) = ⊥
+MayBuild run path job own (step.Rename p a b) =
+    (p ≡ Work) × (SetsAside run path job a b own ⊎ TakesName run path job a b own)
+MayBuild run path job own s = ⊥
 
--- it commits nothing; it says a message only of a draft that was the input; and of the current directory it changes the names that its draft and its message have
+-- it commits nothing; it says a message only of a draft that was the input; and of the current directory it changes the
+-- names that its draft and its message have
 abbrev pub build_pledge : ℕ → List ℕ → BuildJob → Pledge
 build_pledge run path job = record {
   run = run;

@@ -23,7 +23,8 @@ text_built run mail job text = do
   givens ← all_given mail job.forwarding [] draft.wants
   Return (within_limit (composed run draft givens))
 
--- `mhbuild`: the draft is read; what it wants is read, in its order; and the message is said, or takes the draft's place
+-- `mhbuild`: the draft is read; what it wants is read, in its order; and the message is said, or takes the draft's
+-- place
 unfoldable pub mhbuild : ℕ → List ℕ → BuildJob → Commanded Unit
 mhbuild run mail job = do
   text ← draft_text job.draft

@@ -1,10 +1,7 @@
 -- Lines, one behind the other.
-use Rattle.std.proofs.Common.{◌≡◌, ℕ, ◌<◌, List, [], ◌∷◌, length, take, drop, sym, ◌∙◌, ap, arith, length-drop}
+use Rattle.std.proofs.Common.{◌≡◌, ℕ, ◌<◌, List, [], ◌∷◌, length, take, drop, sym, ◌∙◌, ap}
 use Rattle.mime_tree.specs.BoundaryLines.{lines, line_len}
-use Rattle.mime_tree.proofs.Lining.{line_some, lines_step, no_lines}
-
-pub behind_less : (rest behind : List ℕ) (len : ℕ) → 0 < length rest → len ≡ line_len rest → behind ≡ drop len rest → length behind < length rest
-behind_less rest behind len some is back = let le = line_some rest some in rw back (omega (arith, length-drop len rest))
+use Rattle.mime_tree.proofs.Lining.{lines_step, no_lines}
 
 pub lines_are : (rest line behind : List ℕ) (len : ℕ) → 0 < length rest → len ≡ line_len rest → line ≡ take len rest → behind ≡ drop len rest → lines rest ≡ line ∷ lines behind
 lines_are rest line behind len some is front back =

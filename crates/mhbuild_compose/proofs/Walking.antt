@@ -6,6 +6,7 @@ use Rattle.std.proofs.Math.Seq.{drop-cons}
 use Rattle.std.proofs.lemmas.List.{drop_all}
 use Rattle.mh_drafts.specs.declared.item.Item.{Item}
 use Rattle.mh_drafts.specs.declared.label.Attribute.{Attribute}
+use Rattle.mh_drafts.proofs.Joining.{or_assoc}
 use Rattle.mhbuild_compose.specs.declared.node.Node.{Node}
 use Rattle.mhbuild_compose.specs.Encodings.{column_behind, fits_line, fits_with}
 use Rattle.mhbuild_compose.specs.Heads.{attribute_text, attributes_text, protected_byte, protected_text}
@@ -95,10 +96,6 @@ tops_more ns count depth i one next n d lt is o x e =
 
 pub tops_end : (ns : List Item) (count depth i : ℕ) → length ns ≤ i → count + tops depth (drop i ns) ≡ tops 0 ns → count ≡ tops 0 ns
 tops_end ns count depth i le e = let none : tops depth (drop i ns) ≡ 0 = ap (tops depth) (drop_all i ns le) ∙ none_top depth in omega arith
-
-or_assoc : (a b c : Bool) → (a || b) || c ≡ a || (b || c)
-or_assoc true b c = refl
-or_assoc false b c = refl
 
 pub any_more : {A : Type 0} (p : A → Bool) (xs : List A) (i : ℕ) (x d : A) (old new all : Bool) → i < length xs → x ≡ get_or xs i d → new ≡ old || p x → old || list_any p (drop i xs) ≡ all → new || list_any p (drop (i + 1) xs) ≡ all
 any_more p xs i x d old new all lt is put e =

@@ -18,8 +18,8 @@ eights_with (Leaf piece) behind = (piece.eight || top behind) ∷ below behind
 eights_with (Begin kind) behind = (top behind || top (below behind)) ∷ below (below behind)
 eights_with End behind = false ∷ behind
 
--- of each multipart that is open before these nodes, the innermost first, whether a part that is left of it has bytes above
--- 127 as they are
+-- of each multipart that is open before these nodes, the innermost first, whether a part that is left of it has bytes
+-- above 127 as they are
 unfoldable pub eights_of : List Node → List Bool
 eights_of [] = []
 eights_of (node ∷ nodes) = eights_with node (eights_of nodes)

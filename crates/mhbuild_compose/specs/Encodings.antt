@@ -14,7 +14,8 @@ is_high b = nat_le 128 b
 
 -- how many bytes stand on the line behind a byte: a plain one, and not the 999th
 abbrev pub column_behind : ℕ → ℕ → Option ℕ
-column_behind column b = if b == 10 then Some 0 else (if is_plain b && nat_lt column 998 then Some (column + 1) else None)
+column_behind column b =
+    if b == 10 then Some 0 else (if is_plain b && nat_lt column 998 then Some (column + 1) else None)
 
 abbrev pub fits_with : Option ℕ → (ℕ → Bool) → Bool
 fits_with None more = false

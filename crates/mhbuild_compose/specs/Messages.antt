@@ -17,8 +17,9 @@ ended fields = if length fields == 0 || slice_index fields (length fields - 1) =
 abbrev pub opened : List ℕ → List ℕ
 opened fields = ended fields ++ codes "MIME-Version: 1.0\n"
 
--- the message of these fields and items with what is given: the fields and the root, whose multiparts have the least keys, in their
--- order, that no line of a part takes. Where the items write parts, the root is their tree, and its text that of a tree
+-- the message of these fields and items with what is given: the fields and the root, whose multiparts have the least
+-- keys, in their order, that no line of a part takes. Where the items write parts, the root is their tree, and its text
+-- that of a tree
 pub record IsComposed (fields : List ℕ) (items : List Item) (givens : List Given) (run : ℕ) (message : List ℕ) : Type 0 where
   pub keys : List ℕ
   pub are_keys : AreKeys (takes_any run (all_nodes items givens)) 0 keys

@@ -33,7 +33,8 @@ message_leaf message = leaf_node (piece_of message_label message)
 abbrev pub message_nodes : List (List ℕ) → List Node
 message_nodes [] = begin_node Digest ∷ end_node ∷ []
 message_nodes (message ∷ []) = message_leaf message ∷ []
-message_nodes (message ∷ other ∷ more) = begin_node Digest ∷ (map message_leaf (message ∷ other ∷ more) ++ end_node ∷ [])
+message_nodes (message ∷ other ∷ more) =
+    begin_node Digest ∷ (map message_leaf (message ∷ other ∷ more) ++ end_node ∷ [])
 
 -- the nodes of these items: files and messages take what is given, in order
 unfoldable pub nodes_of : List Item → List Given → List Node
@@ -41,5 +42,7 @@ nodes_of [] givens = []
 nodes_of (begin_item kind ∷ items) givens = begin_node kind ∷ nodes_of items givens
 nodes_of (end_item ∷ items) givens = end_node ∷ nodes_of items givens
 nodes_of (leaf_item (text_leaf text) ∷ items) givens = leaf_node (piece_of text_label text) ∷ nodes_of items givens
-nodes_of (leaf_item (file_leaf label) ∷ items) givens = leaf_node (piece_of label (file_in givens)) ∷ nodes_of items (behind_given givens)
-nodes_of (leaf_item messages_leaf ∷ items) givens = message_nodes (messages_in givens) ++ nodes_of items (behind_given givens)
+nodes_of (leaf_item (file_leaf label) ∷ items) givens =
+    leaf_node (piece_of label (file_in givens)) ∷ nodes_of items (behind_given givens)
+nodes_of (leaf_item messages_leaf ∷ items) givens =
+    message_nodes (messages_in givens) ++ nodes_of items (behind_given givens)

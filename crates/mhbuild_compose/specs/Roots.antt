@@ -26,8 +26,8 @@ unfoldable pub tops : ℕ → List Item → ℕ
 tops depth [] = 0
 tops depth (item ∷ items) = is_top depth item + tops (depth_behind depth item) items
 
--- what stands before the nodes of so many parts: an empty text where there is none, and the begin of a multipart where there are
--- several
+-- what stands before the nodes of so many parts: an empty text where there is none, and the begin of a multipart where
+-- there are several
 abbrev pub root_front : ℕ → List Node
 root_front count =
     if count == 0 then leaf_node (piece_of text_label []) ∷ [] else (if count == 1 then [] else begin_node Mixed ∷ [])

@@ -50,7 +50,8 @@ with_leaf messages_leaf givens more = forwarded (messages_in givens) more
 unfoldable pub tree_of : Parts → List Given → Tree
 tree_of none givens = nothing
 tree_of (leaf l more) givens = with_leaf l givens (tree_of more (behind_leaf l givens))
-tree_of (multipart kind parts more) givens = several kind (tree_of parts givens) (tree_of more (left_behind parts givens))
+tree_of (multipart kind parts more) givens =
+    several kind (tree_of parts givens) (tree_of more (left_behind parts givens))
 
 -- one part is the root itself, several are the parts of a multipart, and where there is none an empty text is the root
 unfoldable pub root : Tree → Tree
@@ -60,7 +61,8 @@ root (piece p (piece q more)) = several Mixed (piece p (piece q more)) nothing
 root (piece p (several kind parts more)) = several Mixed (piece p (several kind parts more)) nothing
 root (several kind parts nothing) = several kind parts nothing
 root (several kind parts (piece q more)) = several Mixed (several kind parts (piece q more)) nothing
-root (several kind parts (several other within more)) = several Mixed (several kind parts (several other within more)) nothing
+root (several kind parts (several other within more)) =
+    several Mixed (several kind parts (several other within more)) nothing
 
 -- a part has bytes above 127 as they are
 unfoldable pub has_eight : Tree → Bool
@@ -74,11 +76,12 @@ keys_after nothing keys = keys
 keys_after (piece p more) keys = keys_after more keys
 keys_after (several kind parts more) keys = keys_after more (keys_after parts (keys_left keys))
 
--- the text of parts in the multipart with this key, or in none, with these keys for the multiparts among them: for each part its
--- boundary line, the part and a line end, and behind the parts of a multipart its closing line
+-- the text of parts in the multipart with this key, or in none, with these keys for the multiparts among them: for each
+-- part its boundary line, the part and a line end, and behind the parts of a multipart its closing line
 unfoldable pub tree_text : ℕ → Option ℕ → Tree → List ℕ → List ℕ
 tree_text run within nothing keys = []
-tree_text run within (piece p more) keys = lead_by run within ++ (leaf_text p ++ (trail_by within ++ tree_text run within more keys))
+tree_text run within (piece p more) keys =
+    lead_by run within ++ (leaf_text p ++ (trail_by within ++ tree_text run within more keys))
 tree_text run within (several kind parts more) keys =
     lead_by run within
     ++ (multipart_head run kind (has_eight parts) (first_key keys)

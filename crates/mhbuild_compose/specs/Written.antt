@@ -81,11 +81,13 @@ abbrev pub end_text : ℕ → List ℕ → List ℕ
 end_text run [] = []
 end_text run (key ∷ levels) = closing_of run key ++ trail_by (inner levels)
 
--- what a node writes, where multiparts with these keys are open, the innermost first, and these flags and keys are those of the
--- multiparts that are to begin
+-- what a node writes, where multiparts with these keys are open, the innermost first, and these flags and keys are
+-- those of the multiparts that are to begin
 abbrev pub node_text : ℕ → List ℕ → List Bool → List ℕ → Node → List ℕ
-node_text run levels flags keys (Leaf piece) = lead_by run (inner levels) ++ (leaf_text piece ++ trail_by (inner levels))
-node_text run levels flags keys (Begin kind) = lead_by run (inner levels) ++ multipart_head run kind (first_flag flags) (first_key keys)
+node_text run levels flags keys (Leaf piece) =
+    lead_by run (inner levels) ++ (leaf_text piece ++ trail_by (inner levels))
+node_text run levels flags keys (Begin kind) =
+    lead_by run (inner levels) ++ multipart_head run kind (first_flag flags) (first_key keys)
 node_text run levels flags keys End = end_text run levels
 
 abbrev pub levels_behind : List ℕ → List ℕ → Node → List ℕ

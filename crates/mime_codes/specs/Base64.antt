@@ -36,8 +36,8 @@ sextet c =
 abbrev pub sextets : List ℕ → List ℕ
 sextets text = map sextet (filter is_symbol (take_while (λ c. not (c == 61)) text))
 
--- the bytes of these numbers: four are three bytes; of the last, three are two and two are one, with no regard to the bits
--- that are left over
+-- the bytes of these numbers: four are three bytes; of the last, three are two and two are one, with no regard to the
+-- bits that are left over
 unfoldable pub octets : List ℕ → List ℕ
 octets [] = []
 octets (a ∷ []) = []

@@ -64,7 +64,8 @@ item b rest = if is_plain b rest then b ∷ [] else escape b
 abbrev pub has_room : ℕ → ℕ → List ℕ → Bool
 has_room column len rest = nat_le (column + len) 75 || (nat_le (column + len) 76 && is_line_over rest)
 
--- an item behind so many characters of a line, or behind a soft line break, and then more from the column that it ends at
+-- an item behind so many characters of a line, or behind a soft line break, and then more from the column that it ends
+-- at
 abbrev pub placed : ℕ → List ℕ → List ℕ → (ℕ → List ℕ) → List ℕ
 placed column item rest more =
     if has_room column (length item) rest then item ++ more (column + length item)

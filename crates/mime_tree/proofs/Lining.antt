@@ -3,8 +3,8 @@ use Rattle.std.proofs.Common.{◌≡◌, ℕ, suc, ◌+◌, ◌<◌, ◌≤◌, 
 use Rattle.std.specs.Prelude.{◌==◌, if◌then◌else◌}
 use Rattle.std.proofs.lemmas.List.{drop_all}
 use Rattle.std.proofs.lemmas.Bool.Decides.{Decides-eqb, nat_tests}
+use Rattle.mail_headers.proofs.Folding.{cut_at}
 use Rattle.mime_tree.specs.BoundaryLines.{line_len, lines, led_by}
-use Rattle.mime_tree.proofs.Cutting.{cut_at}
 
 pub at_feed : (b : ℕ) (bs : List ℕ) → b == 10 ≡ true → line_len (b ∷ bs) ≡ 1
 unfolding line_len

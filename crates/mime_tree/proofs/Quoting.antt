@@ -2,8 +2,8 @@
 use Rattle.std.proofs.Common.{◌≡◌, ℕ, ◌+◌, ◌<◌, ◌≤◌, Bool, true, false, Option, Some, None, List, ◌∷◌, ◌++◌, length, get_or, drop, refl, sym, ◌∙◌, ap, arith, append-nil}
 use Rattle.std.specs.Prelude.{◌==◌, ◌&&◌, not, option_map}
 use Rattle.std.proofs.lemmas.List.{drop_all}
+use Rattle.mail_headers.proofs.Folding.{cut_at}
 use Rattle.mime_tree.specs.Tokens.{closing, unprotected_at}
-use Rattle.mime_tree.proofs.Cutting.{cut_at}
 
 pub closes : (protected : Bool) (c : ℕ) (rest : List ℕ) → (not protected && c == 34) ≡ true → closing protected (c ∷ rest) ≡ Some 0
 unfolding closing
@@ -13,7 +13,7 @@ pub stays_open : (protected : Bool) (c : ℕ) (rest : List ℕ) → (not protect
 unfolding closing
 stays_open protected c rest e = rw e refl
 
-moved : (i : ℕ) (o : Option ℕ) → option_map (λ n. n + i) (option_map (λ n. n + 1) o) ≡ option_map (λ n. n + (i + 1)) o
+pub moved : (i : ℕ) (o : Option ℕ) → option_map (λ n. n + i) (option_map (λ n. n + 1) o) ≡ option_map (λ n. n + (i + 1)) o
 moved i None = refl
 moved i (Some n) = let e : n + 1 + i ≡ n + (i + 1) = omega arith in ap Some e
 

@@ -6,6 +6,7 @@ use Rattle.std.specs.List.{concat}
 use Rattle.std.proofs.lemmas.List.{map-append, length-take, length-take-le, drop_all, take_all, drop-drop, drop_at, take-take}
 use Rattle.std.proofs.lemmas.Bool.{leb-true, leb-false}
 use Rattle.mail_headers.specs.Lines.{without_end}
+use Rattle.mail_headers.proofs.Folding.{cut_at}
 use Rattle.mime_tree.specs.declared.mark.Mark.{Mark}
 use Rattle.mime_tree.specs.declared.mark.Mark.TheVariants.{Boundary, Closing, Other}
 use Rattle.mime_tree.specs.declared.odd.Odd.{Odd}
@@ -18,7 +19,6 @@ use Rattle.mime_tree.specs.DashLines.{IsPlain, IsOther, Marks}
 use Rattle.mime_tree.specs.FoundPieces.{found, IsInside, IsReady, AreReady}
 use Rattle.mime_tree.specs.Pieces.{Section, Found, pieces_at, section_with, section, section_pieces}
 use Rattle.mime_tree.specs.Spans.{text_at}
-use Rattle.mime_tree.proofs.Cutting.{cut_at}
 use Rattle.mime_tree.proofs.Lining.{lines_step, line_le}
 use Rattle.mime_tree.proofs.Marking.{Frees, Beyond, marks_above, marks_at, unmark, all_free, lines_behind, concat_lines, marks_front, plain_front}
 

@@ -2,8 +2,8 @@
 use Rattle.std.proofs.Common.{◌≡◌, ℕ, zero, suc, ◌+◌, ◌<◌, ◌≤◌, Bool, true, false, Option, Some, None, List, [], ◌∷◌, ◌++◌, length, drop, refl, sym, ◌∙◌, ap, arith, length-drop, append_assoc, append-nil}
 use Rattle.std.specs.Prelude.{◌==◌, option_map, option_and_then, slice_index, if◌then◌else◌}
 use Rattle.std.specs.List.{prefix_len}
-use Rattle.mime_tree.specs.declared.gap.Place.{Place}
-use Rattle.mime_tree.specs.declared.gap.Place.TheVariants.{Between, Inside, Protected}
+use Rattle.mime_tree.specs.declared.gap.Nesting.{Nesting}
+use Rattle.mime_tree.specs.declared.gap.Nesting.TheVariants.{Between, Inside, Protected}
 use Rattle.mime_tree.specs.declared.param.Param.{Param}
 use Rattle.mime_tree.specs.Gaps.{place_behind, at_end, begun, behind_gap_at, behind_gap}
 use Rattle.mime_tree.specs.Tokens.{Taken, is_token, taken_at, token_in, closing, quoted_in, worth_in, with_gap, behind_sign, word_in}
@@ -17,17 +17,17 @@ pub map_is : {A B : Type 0} (f : A → B) (o : Option A) (y : B) → option_map 
 map_is f None y e = cc
 map_is f (Some x) y e = (x, refl, cc)
 
-end_le : (place : Place) (r : List ℕ) → at_end place ≡ Some r → length r ≤ 0
+end_le : (place : Nesting) (r : List ℕ) → at_end place ≡ Some r → length r ≤ 0
 end_le Between r e = let none : [] ≡ r = cc in rw (← none) (omega arith)
 end_le (Inside depth) r e = cc
 end_le (Protected depth) r e = cc
 
-gap_at_le : (text : List ℕ) (place : Place) (r : List ℕ) → behind_gap_at place text ≡ Some r → length r ≤ length text
+gap_at_le : (text : List ℕ) (place : Nesting) (r : List ℕ) → behind_gap_at place text ≡ Some r → length r ≤ length text
 unfolding behind_gap_at
 gap_at_le [] place r e = end_le place r e
 gap_at_le (c ∷ rest) place r e = choose (place_behind place c) (λ next. gap_at_le rest next r) e
   where
-    choose : (o : Option Place) → ((next : Place) → behind_gap_at next rest ≡ Some r → length r ≤ length rest) → begun (c ∷ rest) o (λ next. behind_gap_at next rest) ≡ Some r → length r ≤ length (c ∷ rest)
+    choose : (o : Option Nesting) → ((next : Nesting) → behind_gap_at next rest ≡ Some r → length r ≤ length rest) → begun (c ∷ rest) o (λ next. behind_gap_at next rest) ≡ Some r → length r ≤ length (c ∷ rest)
     choose None more e = let same : c ∷ rest ≡ r = cc in rw (← same) (omega arith)
     choose (Some next) more e = let h = more next e in omega arith
 

@@ -27,8 +27,8 @@ abbrev pub is_over : Option (List ℕ) → Bool
 is_over None = false
 is_over (Some text) = list_all is_blank text
 
--- what a line is by what follows two hyphens and the boundary: a boundary line has only blanks there, the closing line two more
--- hyphens before them
+-- what a line is by what follows two hyphens and the boundary: a boundary line has only blanks there, the closing line
+-- two more hyphens before them
 abbrev pub mark_behind : Option (List ℕ) → Mark
 mark_behind None = Other
 mark_behind (Some text) =

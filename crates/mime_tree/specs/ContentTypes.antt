@@ -40,7 +40,8 @@ fallback_type WholeMessage = record { kind = chars (codes "message"); subtype = 
 
 -- the type that the message's first Content-Type field names
 abbrev pub named_type : List ℕ → Option ContentType
-named_type message = option_and_then (λ value. type_in (unfolded value)) (first_value (codes "Content-Type") (fields_of message))
+named_type message =
+    option_and_then (λ value. type_in (unfolded value)) (first_value (codes "Content-Type") (fields_of message))
 
 -- a message's type
 unfoldable pub type_of_message : Fallback → List ℕ → ContentType

@@ -21,8 +21,8 @@ abbrev pub AllFrom : ℕ → List ℕ → Type 0
 AllFrom place [] = Unit {0}
 AllFrom place (m ∷ ms) = (place ≤ m) × AllFrom place ms
 
--- of these lines, of which the first begins at this place, each is free or its place is the next of the marks; behind the
--- lines there may be more marks
+-- of these lines, of which the first begins at this place, each is free or its place is the next of the marks; behind
+-- the lines there may be more marks
 abbrev pub Marks : (List ℕ → Type 0) → ℕ → List (List ℕ) → List ℕ → Type 0
 Marks IsFree place [] marks = AllFrom place marks
 Marks IsFree place (line ∷ lines) marks =

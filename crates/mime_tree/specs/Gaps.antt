@@ -1,16 +1,16 @@
 -- Blanks and comments between the words of a field (RFC 5322, section 3.2.2), which stand for nothing.
 use Rattle.std.specs.Prelude.{ℕ, ◌+◌, ◌-◌, ◌==◌, List, [], ◌∷◌, Option, Some, None, if◌then◌else◌}
 use Rattle.mail_headers.specs.Lines.{is_blank}
-use Rattle.mime_tree.specs.declared.gap.Place.{Place}
-use Rattle.mime_tree.specs.declared.gap.Place.TheVariants.{Between, Inside, Protected}
+use Rattle.mime_tree.specs.declared.gap.Nesting.{Nesting}
+use Rattle.mime_tree.specs.declared.gap.Nesting.TheVariants.{Between, Inside, Protected}
 
 -- behind a parenthesis that closes one of so many comments
-abbrev pub closed_of : ℕ → Place
+abbrev pub closed_of : ℕ → Nesting
 closed_of depth = if depth == 1 then Between else Inside (depth - 1)
 
 -- the place behind this byte: between words or in so many comments, one in the other, where a backslash protects the
 -- next byte; none where a word begins
-abbrev pub place_behind : Place → ℕ → Option Place
+abbrev pub place_behind : Nesting → ℕ → Option Nesting
 place_behind Between c = if c == 40 then Some (Inside 1) else (if is_blank c then Some Between else None)
 place_behind (Inside depth) c =
     if c == 92 then Some (Protected depth)
@@ -18,16 +18,16 @@ place_behind (Inside depth) c =
 place_behind (Protected depth) c = Some (Inside depth)
 
 -- the text ends here
-abbrev pub at_end : Place → Option (List ℕ)
+abbrev pub at_end : Nesting → Option (List ℕ)
 at_end Between = Some []
 at_end other = None
 
-abbrev pub begun : List ℕ → Option Place → (Place → Option (List ℕ)) → Option (List ℕ)
+abbrev pub begun : List ℕ → Option Nesting → (Nesting → Option (List ℕ)) → Option (List ℕ)
 begun text None more = Some text
 begun text (Some place) more = more place
 
 -- what follows blanks and comments from this place on; nothing does where a comment isn't closed
-unfoldable pub behind_gap_at : Place → List ℕ → Option (List ℕ)
+unfoldable pub behind_gap_at : Nesting → List ℕ → Option (List ℕ)
 behind_gap_at place [] = at_end place
 behind_gap_at place (c ∷ rest) = begun (c ∷ rest) (place_behind place c) (λ next. behind_gap_at next rest)
 

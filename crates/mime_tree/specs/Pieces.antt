@@ -48,6 +48,7 @@ pub record Found : Type 0 where
 abbrev pub section_pieces : ℕ → Section → Found
 section_pieces place s = record { spans = pieces_at place s; odd = s.odd }
 
--- the pieces that these lines hold: what stands before the first boundary line is a section too, whose own text is no piece
+-- the pieces that these lines hold: what stands before the first boundary line is a section too, whose own text is no
+-- piece
 abbrev pub pieces : List ℕ → ℕ → List (List ℕ) → Found
 pieces boundary place lines = let s = section boundary place lines in record { spans = s.more; odd = s.odd }

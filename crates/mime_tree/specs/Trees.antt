@@ -29,7 +29,8 @@ type_at bytes fallback span = type_of_message fallback (text_at bytes span)
 
 -- where its kids are
 abbrev pub kids_at : List ℕ → Fallback → Span → Found
-kids_at bytes fallback span = kids_of (type_at bytes fallback span) (encoding_of (text_at bytes span)) bytes (body_at bytes span)
+kids_at bytes fallback span =
+    kids_of (type_at bytes fallback span) (encoding_of (text_at bytes span)) bytes (body_at bytes span)
 
 -- the part is the message at this span, whatever its kids are
 pub record IsMessagePart (bytes : List ℕ) (fallback : Fallback) (path : List ℕ) (span : Span) (part : Part) : Type 0 where

@@ -5,41 +5,41 @@ ghost use Rattle.mime_tree.specs.Depths.{depth_of, is_between};
 
 /// A place between words: outside comments, in so many of them, or behind a backslash there.
 #[derive(Clone, Copy, Debug)]
-pub(crate) enum Place {
+pub(crate) enum Nesting {
     Between,
     Inside(usize),
     Protected(usize),
 }
 
-fn closed(depth: usize) -> Place
+fn closed(depth: usize) -> Nesting
     ensures { result ≡ closed_of depth }
 {
     if depth == 1 {
-        Place::Between
+        Nesting::Between
     } else {
-        Place::Inside(depth.saturating_sub(1))
+        Nesting::Inside(depth.saturating_sub(1))
     }
 }
 
-impl Place {
+impl Nesting {
     /// The place behind a byte; none where a word begins with it.
-    fn behind(self, byte: u8) -> Option<Place>
+    fn behind(self, byte: u8) -> Option<Nesting>
         requires { depth_of self + 1 < 2 ^ 64 }
         ensures { result ≡ place_behind self byte }
     {
         match self {
-            Place::Between => match byte {
-                b'(' => Some(Place::Inside(1)),
-                b' ' | b'\t' => Some(Place::Between),
+            Nesting::Between => match byte {
+                b'(' => Some(Nesting::Inside(1)),
+                b' ' | b'\t' => Some(Nesting::Between),
                 _ => None,
             },
-            Place::Inside(depth) => Some(match byte {
-                b'\\' => Place::Protected(depth),
-                b'(' => Place::Inside(depth + 1),
+            Nesting::Inside(depth) => Some(match byte {
+                b'\\' => Nesting::Protected(depth),
+                b'(' => Nesting::Inside(depth + 1),
                 b')' => closed(depth),
-                _ => Place::Inside(depth),
+                _ => Nesting::Inside(depth),
             }),
-            Place::Protected(depth) => Some(Place::Inside(depth)),
+            Nesting::Protected(depth) => Some(Nesting::Inside(depth)),
         }
     }
 
@@ -47,7 +47,7 @@ impl Place {
         ensures { result ≡ is_between self }
     {
         match self {
-            Place::Between => true,
+            Nesting::Between => true,
             _ => false,
         }
     }
@@ -58,7 +58,7 @@ pub(crate) fn behind_gap(text: &[u8]) -> Option<&[u8]>
     ensures value { MatchOption result (gap_rest text.now ≡ None) (λ rest. gap_rest text.now ≡ Some rest.now) }
     ensures inside { MatchOption result ⊤ (λ rest. length rest.now ≤ length text.now) }
 {
-    let mut place = Place::Between;
+    let mut place = Nesting::Between;
     for (i, byte) in text.iter().enumerate() {
         match place.behind(*byte) {
             Some(next) => place = next,

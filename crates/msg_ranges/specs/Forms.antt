@@ -93,7 +93,8 @@ part_form s None None = None
 
 abbrev pub cut_sequence_form : List ℕ → Option Halves → Option Spec
 cut_sequence_form word None = if is_seq_name word then Some (Sequence word) else None
-cut_sequence_form word (Some h) = if is_seq_name h.front then part_form h.front (spot_in h.back) (count_in h.back) else None
+cut_sequence_form word (Some h) =
+    if is_seq_name h.front then part_form h.front (spot_in h.back) (count_in h.back) else None
 
 -- the form with a sequence that it has
 abbrev pub sequence_form : List ℕ → Option Spec
@@ -104,7 +105,8 @@ abbrev pub negated_form : List ℕ → Option Spec
 negated_form s = if is_seq_name s then Some (Negated s) else None
 
 abbrev pub form_with_sequence : List ℕ → List ℕ → Option Spec
-form_with_sequence prefix word = if negates prefix word then negated_form (drop (length prefix) word) else sequence_form word
+form_with_sequence prefix word =
+    if negates prefix word then negated_form (drop (length prefix) word) else sequence_form word
 
 abbrev pub first_of : Option Spec → Option Spec → Option Spec
 first_of None other = other

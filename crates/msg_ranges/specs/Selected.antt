@@ -18,7 +18,8 @@ formed f k (Some spec) = chosen k f.numbers f.marks spec
 abbrev pub coming : Folder → ℕ → List ℕ → Result (List ℕ) SelectFault
 coming f k word = formed f k (form_of f.prefix word)
 
-abbrev pub with_first : Result (List ℕ) SelectFault → Result (List (List ℕ)) SelectFault → Result (List (List ℕ)) SelectFault
+abbrev pub with_first : Result (List ℕ) SelectFault → Result (List (List ℕ)) SelectFault
+    → Result (List (List ℕ)) SelectFault
 with_first (Err e) rest = Err e
 with_first (Ok xs) (Err e) = Err e
 with_first (Ok xs) (Ok sets) = Ok (xs ∷ sets)

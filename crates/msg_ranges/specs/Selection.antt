@@ -49,7 +49,8 @@ abbrev pub existing : List ℕ → Option ℕ → Option ℕ
 existing xs None = None
 existing xs (Some cur) = find (λ x. x == cur) xs
 
--- the number that a name stands for: a number for itself, whether it exists or not, and any other name for an existing one
+-- the number that a name stands for: a number for itself, whether it exists or not, and any other name for an existing
+-- one
 abbrev pub named : List ℕ → Option ℕ → Base → Option ℕ
 named xs cur (Number n) = Some n
 named xs cur First = least xs
@@ -129,10 +130,12 @@ spotted cur PrevSpot xs = take_last 1 (up_to (cur - 1) xs)
 -- the numbers that a form designates, or why it is refused
 abbrev pub chosen : ℕ → List ℕ → Marks → Spec → Result (List ℕ) SelectFault
 chosen k xs marks (One a) = unless_void k (is_end a) xs (one k xs (named xs marks.cur a))
-chosen k xs marks (Range a b) = unless_void k (is_end a || is_end b) xs (between k xs (named xs marks.cur a) (named xs marks.cur b))
+chosen k xs marks (Range a b) =
+    unless_void k (is_end a || is_end b) xs (between k xs (named xs marks.cur a) (named xs marks.cur b))
 chosen k xs marks (Count a way n) = unless_void k (is_end a) xs (counted k xs (named xs marks.cur a) (goes_up a way) n)
 chosen k xs marks All = some_or (EmptyRange k) xs
 chosen k xs marks (Sequence s) = some_or (EmptySequence k) (members xs marks s)
 chosen k xs marks (SequenceCount s way n) = some_or (EmptySequence k) (counted_members way n (members xs marks s))
-chosen k xs marks (SequenceSpot s spot) = some_or (EmptySequence k) (spotted (current marks.cur) spot (members xs marks s))
+chosen k xs marks (SequenceSpot s spot) =
+    some_or (EmptySequence k) (spotted (current marks.cur) spot (members xs marks s))
 chosen k xs marks (Negated s) = some_or (EmptySequence k) (others xs marks s)

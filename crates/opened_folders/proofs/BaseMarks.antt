@@ -19,7 +19,7 @@ use Rattle.opened_folders.proofs.ToldMarks.{read_cur, told_cur, told_listed, tol
 use Rattle.opened_folders.proofs.MarksWritten.{and_both, text_marks}
 
 -- what a text marks is a member of what it tells
-read_marks : (text context folder sequence : List ℕ) (n : ℕ) → says_public sequence text n ≡ true → member (sequences_in text (entries_in context) folder).users sequence n ≡ true
+pub read_marks : (text context folder sequence : List ℕ) (n : ℕ) → says_public sequence text n ≡ true → member (sequences_in text (entries_in context) folder).users sequence n ≡ true
 read_marks text context folder sequence n e =
     let parts = both (is_seq_name sequence) (lists_public (fields_of text) sequence n) e in
     (read_is text (entries_in context) folder).numbers sequence n

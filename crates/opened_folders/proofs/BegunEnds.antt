@@ -1,5 +1,5 @@
 -- How the plan ends by which a folder is begun, and what shows it.
-use Rattle.std.proofs.Common.{◌≡◌, ◌≢◌, ◌||◌, ◌<◌, ◌^◌, ◌∷◌, [], ℕ, Bool, true, false, List, Result, Ok, Err, inl, inr, refl, sym, ◌∙◌, ap, subst, bytes_eq}
+use Rattle.std.proofs.Common.{◌≡◌, ◌≢◌, ◌<◌, ◌^◌, ◌∷◌, [], ℕ, Bool, true, false, List, Result, Ok, Err, inl, inr, refl, sym, ◌∙◌, ap, subst, bytes_eq}
 use Rattle.std.specs.Prelude.{decimal, if◌then◌else◌}
 use Rattle.mh_base.specs.Entries.{entry_text, kind_of}
 use Rattle.mh_base.specs.declared.entry.Entry.TheVariants.{Sequences}
@@ -16,7 +16,6 @@ use Rattle.folder_files.specs.declared.place.Place.TheVariants.{Folder, Mail}
 use Rattle.folder_files.specs.declared.step.Answer.{Answer}
 use Rattle.folder_files.specs.declared.step.Answer.TheVariants as answer
 use Rattle.folder_files.specs.declared.step.Step.TheVariants as step
-use Rattle.folder_files.proofs.Names.{bytes_self}
 use Rattle.file_plans.specs.Plan.{Hand, Return, ◌>>=◌}
 use Rattle.file_plans.proofs.Clearing.{listed_once, rest_ascending}
 use Rattle.file_plans.proofs.Framing.{AnyStep, asks_any}
@@ -31,6 +30,7 @@ use Rattle.step_plans.specs.declared.fault.PlanFault.TheVariants as fault
 use Rattle.step_plans.proofs.Coming.{Comes, comes_framed, comes_lock, comes_make, comes_more, comes_on, comes_read, comes_sync_folder, comes_then, comes_to, comes_unlink}
 use Rattle.step_plans.proofs.Committed.{no_entries}
 use Rattle.step_plans.proofs.Going.{Outcome}
+use Rattle.step_plans.proofs.Ending.{has_first, has_later, true_false}
 use Rattle.held_messages.specs.Settle.{Settled, put_back}
 use Rattle.sequence_commits.specs.Committing.{cut_committed}
 use Rattle.sequence_commits.specs.Cutting.{cut_to}
@@ -46,17 +46,6 @@ use Rattle.opened_folders.proofs.ExistingNumbers.{in_range_or}
 use Rattle.opened_folders.proofs.NamesKept.{backups_kept, other_unlinked, putting}
 use Rattle.opened_folders.proofs.SequencesEnd.{Left, changed_comes}
 use Rattle.opened_folders.proofs.SettledEnds.{HasMetAll, IsSettled, PutsBack, Shown, put_back_comes}
-
-has_later : (a b : Bool) → b ≡ true → a || b ≡ true
-has_later true b e = refl
-has_later false b e = e
-
-has_first : (n : List ℕ) (b : Bool) → bytes_eq n n || b ≡ true
-has_first n b = rw (bytes_self n) refl
-
-true_false : {X : Type 0} (b : Bool) → b ≡ true → b ≡ false → X
-true_false true t f = cc
-true_false false t f = cc
 
 module _ (run : ℕ) (few : run < 2 ^ 128) (path folder : List ℕ) (Answers : Answering) where
   abbrev p : Place

@@ -47,12 +47,13 @@ use Rattle.sequence_marks.specs.SequenceMarks.{private_marks}
 use Rattle.sequence_commits.specs.Committing.{cut_committed}
 use Rattle.sequence_commits.specs.Reading.{sequences_in}
 use Rattle.sequence_commits.proofs.RunTests.{all_has, all_runs}
+use Rattle.sequence_commits.proofs.SequencesPledged.{sequences_name}
 use Rattle.opened_folders.specs.Existing.{are_tried, exists_in, numbers_settled}
 use Rattle.opened_folders.specs.FolderPledge.{told_within}
 use Rattle.opened_folders.specs.Opening.{Opened, begun, folder_locked, locked_begun, locked_by, mail_made, marks_cut, marks_read, opened_of, sequences_read, settled_read, text_by}
 use Rattle.opened_folders.proofs.AllMarks.{MindsAll, clear_minds, look_minds, make_minds}
 use Rattle.opened_folders.proofs.CommitFrees.{frees_meet, same_private}
-use Rattle.opened_folders.proofs.CommitMinds.{Facts, IsTold, sequences_name}
+use Rattle.opened_folders.proofs.CommitMinds.{Facts, IsTold}
 use Rattle.opened_folders.proofs.CommitSeen.{Synced, synced_kept}
 use Rattle.opened_folders.proofs.FolderSeen.{LetGo, Quiet, Seen, quiet_seen}
 use Rattle.opened_folders.proofs.FreeMarks.{FreesOthers, FreesRead}

@@ -21,7 +21,7 @@ use Rattle.sequence_commits.proofs.RunTests.{all_has, all_runs, none_outside}
 use Rattle.command_stages.specs.Chosen.{chosen_in, folder_with, refused_by}
 use Rattle.opened_folders.proofs.ExistingNumbers.{in_range_or}
 
-as_selected : (words : List (List ℕ)) (r : Result (List ℕ) SelectFault) (numbers : List ℕ) → refused_by words r ≡ Ok numbers → r ≡ Ok numbers
+pub as_selected : (words : List (List ℕ)) (r : Result (List ℕ) SelectFault) (numbers : List ℕ) → refused_by words r ≡ Ok numbers → r ≡ Ok numbers
 as_selected words (Ok ns) numbers e = cc (e)
 as_selected words (Err fault) numbers e = cc (e)
 

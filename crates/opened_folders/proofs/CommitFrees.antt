@@ -29,20 +29,22 @@ use Rattle.step_plans.specs.declared.fault.PlanFault.TheVariants as fault
 use Rattle.step_plans.proofs.Asks.{asks_renamed, asks_synced, asks_written}
 use Rattle.step_plans.proofs.Going.{Outcome, okay}
 use Rattle.sequence_marks.specs.SequenceMarks.{says_private}
+use Rattle.sequence_marks.proofs.OtherEntries.{by_bool}
 use Rattle.sequence_commits.specs.Committing.{changed_sequences, committed_unless, entries_committed, sequences_replaced, told_committed}
 use Rattle.sequence_commits.specs.PrivateChanges.{changes_to, entries_seen}
 use Rattle.sequence_commits.specs.Reading.{sequences_in}
 use Rattle.sequence_commits.specs.Telling.{same_told}
 use Rattle.sequence_commits.proofs.ReadOnce.{read_is, read_valid}
 use Rattle.sequence_commits.proofs.ToldAlike.{told_same}
+use Rattle.sequence_commits.proofs.SequencesPledged.{sequences_name}
 use Rattle.opened_folders.specs.FolderPledge.{told_within}
 use Rattle.opened_folders.proofs.AllMarks.{MindsAll}
-use Rattle.opened_folders.proofs.CommitMinds.{Facts, Held, IsTold, Within, entries_minds, held_kept, sequences_name, text_meets, there}
+use Rattle.opened_folders.proofs.CommitMinds.{Facts, Held, IsTold, Within, entries_minds, held_kept, text_meets, there}
 use Rattle.opened_folders.proofs.CommitSeen.{NoCommit, Synced, commit_meets_so}
 use Rattle.opened_folders.proofs.FolderSeen.{Quiet}
 use Rattle.opened_folders.proofs.FreeMarks.{FreesOthers, FreesRead, commit_frees, free_kept, settled_frees}
 use Rattle.opened_folders.proofs.HandKept.{meets_hand, text_keeps}
-use Rattle.opened_folders.proofs.MarksWritten.{and_both, by_bool}
+use Rattle.opened_folders.proofs.MarksWritten.{and_both}
 use Rattle.opened_folders.proofs.Meeting.{Meets, meets_framed, meets_more, meets_okay, meets_return, meets_then}
 use Rattle.opened_folders.proofs.ToldMarks.{read_cur, told_cur, told_listed, told_valid}
 

@@ -32,7 +32,7 @@ use Rattle.step_plans.specs.declared.change.ChangeEntry.{ChangeEntry}
 use Rattle.step_plans.specs.declared.fault.PlanFault.{PlanFault}
 use Rattle.step_plans.specs.declared.fault.PlanFault.TheVariants as fault
 use Rattle.step_plans.proofs.Going.{Outcome, okay}
-use Rattle.marks_law.specs.Apart.{IsSteady, IsSynced, by_text}
+use Rattle.marks_law.specs.Apart.{IsSteady, by_text}
 use Rattle.marks_law.specs.Apart as apart
 use Rattle.marks_law.specs.Bearers.{Marking}
 use Rattle.marks_law.specs.Minding.{KeepsMarks, Knowing, Minds, Sees, by_base, commits, keeps, replaces}
@@ -41,6 +41,7 @@ use Rattle.sequence_commits.specs.Committing.{changed_sequences, committed_unles
 use Rattle.sequence_commits.specs.PrivateChanges.{changes_to, entries_seen}
 use Rattle.sequence_commits.specs.Telling.{same_told}
 use Rattle.sequence_commits.proofs.ChangesTo.{are_changes}
+use Rattle.sequence_commits.proofs.SequencesPledged.{sequences_name}
 use Rattle.opened_folders.proofs.AllMarks.{MindsAll}
 use Rattle.opened_folders.proofs.CommitSeen.{Context, Synced, commit_meets, replaced_meets, synced_kept}
 use Rattle.opened_folders.proofs.FolderEndings.{entries_of_folder, of_folder}
@@ -51,9 +52,6 @@ use Rattle.opened_folders.proofs.Meeting.{Meets, meets_end, meets_okay, meets_re
 -- a folder that is this one, or whose sequences have other entries
 abbrev pub IsTold : List ℕ → List ℕ → Type 0
 IsTold folder other = (other ≡ folder) ⊎ (bytes_eq (suffix other) (suffix folder) ≡ false)
-
-abbrev pub sequences_name : List ℕ
-sequences_name = entry_text Sequences
 
 pub text_name : sequences_name ≡ codes ".mh_sequences"
 unfolding entry_text

@@ -1,8 +1,8 @@
 -- Which folder's entry the entry of a private sequence is.
-use Rattle.std.proofs.Common.{◌≡◌, ℕ, suc, ◌+◌, Bool, true, false, List, [], ◌∷◌, ◌++◌, drop, length, refl, ◌∙◌, ap, arith, bytes_eq, ne_eqb}
+use Rattle.std.proofs.Common.{◌≡◌, ℕ, Bool, true, false, List, [], ◌∷◌, ◌++◌, drop, refl, ◌∙◌, ap, arith, bytes_eq, ne_eqb}
 use Rattle.std.specs.Prelude.{flat_map, not}
 use Rattle.std.specs.Char.{is_ascii_alphanumeric}
-use Rattle.std.specs.List.{list_all, prefix_len}
+use Rattle.std.specs.List.{list_all}
 use Rattle.std.specs.Str.{encode_utf8_all}
 use Rattle.std.proofs.Math.Seq.{drop-append_seam}
 use Rattle.std.proofs.lemmas.Bool.{and_from, and_parts}
@@ -12,6 +12,7 @@ use Rattle.mh_sequences.specs.Printing.{is_private, private_entries, private_ent
 use Rattle.mh_sequences.specs.Reading.{attribute, escape, suffix}
 use Rattle.mh_sequences.specs.Sequences.{AreSequences, Sequence}
 use Rattle.mh_sequences.proofs.NameLemmas.{low, name_bytes}
+use Rattle.mh_sequences.proofs.ListText.{to_dash}
 use Rattle.folder_files.proofs.Names.{bytes_self}
 use Rattle.sequence_commits.specs.FolderEntries.{from_dash, is_of_folder}
 use Rattle.opened_folders.proofs.MarksWritten.{AreOfFolder}
@@ -23,13 +24,6 @@ not_dash b h = let r = low b h in ap not (ne_eqb b 45 (λ e. omega (arith, r.0, 
 none_dash : (xs : List ℕ) → list_all is_ascii_alphanumeric xs ≡ true → list_all is_no_dash xs ≡ true
 none_dash [] h = refl
 none_dash (x ∷ xs) h = let parts = and_parts (is_ascii_alphanumeric x) (list_all is_ascii_alphanumeric xs) h in and_from (is_no_dash x) (list_all is_no_dash xs) (not_dash x parts.0) (none_dash xs parts.1)
-
-to_dash : (xs ys : List ℕ) → list_all is_no_dash xs ≡ true → prefix_len is_no_dash (xs ++ (45 ∷ ys)) ≡ length xs
-to_dash [] ys h = refl
-to_dash (x ∷ xs) ys h =
-    let parts = and_parts (is_no_dash x) (list_all is_no_dash xs) h in
-    let rest : 1 + prefix_len is_no_dash (xs ++ (45 ∷ ys)) ≡ suc (length xs) = omega (arith, to_dash xs ys parts.1) in
-    rw parts.0 rest
 
 behind_dash : (sequence ys : List ℕ) → is_seq_name sequence ≡ true → from_dash (sequence ++ (45 ∷ ys)) ≡ 45 ∷ ys
 behind_dash sequence ys named =

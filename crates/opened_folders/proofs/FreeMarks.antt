@@ -30,11 +30,12 @@ use Rattle.step_plans.specs.declared.change.ChangeEntry.{ChangeEntry}
 use Rattle.marks_law.specs.Apart.{IsFree}
 use Rattle.marks_law.specs.Apart as apart
 use Rattle.sequence_marks.specs.SequenceMarks.{private_marks, says_private}
+use Rattle.sequence_marks.proofs.OtherEntries.{by_bool}
 use Rattle.sequence_commits.specs.PrivateChanges.{changes_to}
 use Rattle.sequence_commits.proofs.ChangesTo.{are_changes}
 use Rattle.opened_folders.proofs.CommitSeen.{NoCommit}
 use Rattle.opened_folders.proofs.FolderSeen.{renamed_own}
-use Rattle.opened_folders.proofs.MarksWritten.{Gives, by_bool, changes_give, entries_mark, marks_given}
+use Rattle.opened_folders.proofs.MarksWritten.{Gives, changes_give, entries_mark, marks_given}
 use Rattle.opened_folders.proofs.SpokenEntries.{listed_spoken, settled_gives, text_spoken}
 
 -- the run knows of each private sequence of the folder that the context does not mark what this text does not

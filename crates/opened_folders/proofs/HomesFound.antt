@@ -10,6 +10,7 @@ use Rattle.file_plans.specs.Contents.{Contents, folder_at, mailbox_in}
 use Rattle.file_plans.specs.Mailboxes.{Folder as FolderValue, is_message_number, numbered}
 use Rattle.held_messages.specs.HeldPairs.{AreInOrder, has_pair, is_before, is_pair}
 use Rattle.held_messages.specs.declared.held.HeldPair.{HeldPair}
+use Rattle.mh_base.proofs.NumberTests.{or_right}
 use Rattle.opened_folders.specs.BegunWork.{AreHomes, AreHomesAt}
 use Rattle.opened_folders.specs.HomesOf.{homes_at, homes_of, pairs_at, pairs_from, top_from}
 
@@ -45,10 +46,6 @@ from_order : (own : ℕ) (f : FolderValue) (n k : ℕ) → FromOn n 0 (pairs_fro
 unfolding pairs_from
 from_order own f n zero = tt
 from_order own f n (suc k) = at_order own f n 0 (2 ^ 128) (pairs_from own f (n + 1) k) (from_order own f (n + 1) k)
-
-or_right : (a b : Bool) → b ≡ true → a || b ≡ true
-or_right true b e = refl
-or_right false b e = e
 
 is_next : (h k : HeldPair) → AtOrBehind h.number (h.run + 1) k → is_before h k ≡ true
 is_next h k (inl l) = rw (lt-ltb h.number k.number l) refl

@@ -25,6 +25,7 @@ pub mod HandKept
 pub mod HomesFound
 pub mod KeptGiven
 pub mod KeptMessages
+pub mod Listed
 pub mod MadeEnds
 pub mod MadeGiven
 pub mod MadeMinds

@@ -22,12 +22,9 @@ use Rattle.folder_files.proofs.Names.{both, bytes_true, bytes_false, not_both, o
 use Rattle.step_plans.specs.ContextCommit.{AreChanges, IsChangeBy, changed, changed_by}
 use Rattle.step_plans.specs.declared.change.ChangeEntry.{ChangeEntry}
 use Rattle.sequence_marks.specs.SequenceMarks.{says_private, says_public}
+use Rattle.sequence_marks.proofs.OtherEntries.{by_bool}
 use Rattle.sequence_commits.specs.FolderEntries.{is_of_folder}
 use Rattle.sequence_commits.specs.PrivateChanges.{changes_to, entry_names, given, gone, is_left_over}
-
-pub by_bool : {X : Type 0} (b : Bool) → (b ≡ true → X) → (b ≡ false → X) → X
-by_bool true f g = f refl
-by_bool false f g = g refl
 
 pub and_both : (a b : Bool) → a ≡ true → b ≡ true → (a && b) ≡ true
 and_both a b e f = rw (e, f) refl

@@ -1,7 +1,6 @@
 -- What a command says: nothing, or the front of a text that its own deeds tell.
 use Rattle.std.proofs.Common.{◌≡◌, ◌≢◌, inl, inr, ◌++◌, ◌∷◌, [], ℕ, List, refl, sym, ◌∙◌, ap, subst, append_assoc, append-nil}
 use Rattle.folder_files.specs.Deeds as deeds
-use Rattle.folder_files.specs.Deeds.{did}
 use Rattle.folder_files.specs.declared.step.Answer.{Answer}
 use Rattle.folder_files.specs.declared.step.Answer.TheVariants.{Failed}
 use Rattle.folder_files.specs.declared.place.Place.{Place}
@@ -30,7 +29,7 @@ said_did (Did t b ∷ past) s a = said_did past s a
 said_did (Said q ∷ past) s a = ap (λ t. q ++ t) (said_did past s a)
 said_did (Heard q ∷ past) s a = said_did past s a
 
-said_heard : (past : List Deed) (piece : List ℕ) → said_of (past ++ Heard piece ∷ []) ≡ said_of past
+pub said_heard : (past : List Deed) (piece : List ℕ) → said_of (past ++ Heard piece ∷ []) ≡ said_of past
 said_heard [] piece = refl
 said_heard (Did t b ∷ past) piece = said_heard past piece
 said_heard (Said q ∷ past) piece = ap (λ t. q ++ t) (said_heard past piece)

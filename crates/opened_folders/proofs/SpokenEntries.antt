@@ -16,10 +16,11 @@ use Rattle.folder_files.proofs.Names.{both, bytes_self, bytes_true, not_both, or
 use Rattle.step_plans.specs.ContextCommit.{AreChanges, changed, changed_by, same_value, says}
 use Rattle.step_plans.specs.declared.change.ChangeEntry.{ChangeEntry}
 use Rattle.sequence_marks.specs.SequenceMarks.{says_private}
+use Rattle.sequence_marks.proofs.OtherEntries.{by_bool}
 use Rattle.sequence_commits.specs.FolderEntries.{is_of_folder}
 use Rattle.sequence_commits.specs.PrivateChanges.{changes_to, entry_names, given, gone, is_left_over}
 use Rattle.opened_folders.proofs.FolderEndings.{of_folder}
-use Rattle.opened_folders.proofs.MarksWritten.{Gives, GivesOne, Silent, and_both, by_bool, changed_same, changed_valid, text_back}
+use Rattle.opened_folders.proofs.MarksWritten.{Gives, GivesOne, Silent, and_both, changed_same, changed_valid, text_back}
 
 -- some change speaks of this name
 abbrev pub Speaks : List ChangeEntry → List ℕ → Type 0

@@ -183,7 +183,7 @@ module _ (run : ℕ) (few : run < 2 ^ 128) (path folder : List ℕ) where
           (λ y i left e g. bad y i left e g.1.0 g.0 g.1.1 g.1.2)
 
 -- two highest numbers of one folder are the same
-one_top : (f : FolderValue) (s t : ℕ) → IsTop f s → IsTop f t → s ≡ t
+pub one_top : (f : FolderValue) (s t : ℕ) → IsTop f s → IsTop f t → s ≡ t
 one_top f s t a b = same s t (below s t a.attained b.above) (below t s b.attained a.above)
   where
     below : (s t : ℕ) → (s ≡ 0) ⊎ (is_some (f.messages s) ≡ true) → ((k : ℕ) → is_some (f.messages k) ≡ true → k ≤ t) → s ≤ t
@@ -200,7 +200,7 @@ one_home run f h g a b =
     let ends : h.ends ≡ g.ends = a.ends ∙ ((λ i. homes (λ k. is_some (f.messages k)) (one_top f a.highest b.highest a.top b.top i) (pairs i)) ∙ sym b.ends) in
     λ i. record { pairs = pairs i; ends = ends i }
 
-homes_there : (run : ℕ) (f : FolderValue) (o : Option FolderValue) (h : Homes) → o ≡ Some f → AreHomesAt run o h → AreHomes run f h
+pub homes_there : (run : ℕ) (f : FolderValue) (o : Option FolderValue) (h : Homes) → o ≡ Some f → AreHomesAt run o h → AreHomes run f h
 homes_there run f None h e a = cc (e)
 homes_there run f (Some g) h e a = let same : g ≡ f = cc in subst (λ x. AreHomes run x h) same a
 

@@ -20,9 +20,9 @@ use Rattle.sequence_commits.specs.Cutting.{cut_to}
 use Rattle.sequence_commits.specs.Reading.{sequences_in}
 use Rattle.opened_folders.specs.Opening.{Opened}
 
--- The folder was there. Each message that another run held aside there goes where it goes alone, and the listing has just the numbers that
--- have a message then. The sequences are those of the folder's text and of the context, without absent numbers; where that leaves out a
--- number they are committed. Nothing else of the mailbox changes.
+-- The folder was there. Each message that another run held aside there goes where it goes alone, and the listing has
+-- just the numbers that have a message then. The sequences are those of the folder's text and of the context, without
+-- absent numbers; where that leaves out a number they are committed. Nothing else of the mailbox changes.
 pub record IsBegun (run : ℕ) (path folder : List ℕ) (before after : Mailbox) (o : Opened) : Type 0 where
   pub place : o.place ≡ Folder path folder
   pub name : o.folder ≡ folder

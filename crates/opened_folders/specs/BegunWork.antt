@@ -51,22 +51,29 @@ unless_long (Some l) k next = refused_at k.mailbox (too_large l)
 abbrev pub after_commits : Commits → (Kept → Work CommandFault) → Work CommandFault
 after_commits c next = unless_long c.long c.kept next
 
--- the numbers that are absent leave the sequences, and the command goes on with the folder's numbers and what is left of its sequences
-abbrev pub cut_work : List ℕ → List ℕ → List Run → Marked → Kept → (List Run → Marked → Kept → Work CommandFault) → Work CommandFault
-cut_work path folder listing read k next = after_commits (sequences_kept path folder read (cut_to listing read) k) (next listing (cut_to listing read))
+-- the numbers that are absent leave the sequences, and the command goes on with the folder's numbers and what is left
+-- of its sequences
+abbrev pub cut_work : List ℕ → List ℕ → List Run → Marked → Kept → (List Run → Marked → Kept → Work CommandFault)
+    → Work CommandFault
+cut_work path folder listing read k next =
+    after_commits (sequences_kept path folder read (cut_to listing read) k) (next listing (cut_to listing read))
 
-abbrev pub text_work : List ℕ → List ℕ → List NamedValue → List Run → Mailbox → Result (List ℕ) CommandFault → (List Run → Marked → Kept → Work CommandFault) → Work CommandFault
-text_work path folder entries listing m (Ok text) next = cut_work path folder listing (sequences_in text entries folder) (kept_of m entries) next
+abbrev pub text_work : List ℕ → List ℕ → List NamedValue → List Run → Mailbox → Result (List ℕ) CommandFault
+    → (List Run → Marked → Kept → Work CommandFault) → Work CommandFault
+text_work path folder entries listing m (Ok text) next =
+    cut_work path folder listing (sequences_in text entries folder) (kept_of m entries) next
 text_work path folder entries listing m (Err e) next = refused_at m e
 
 -- a folder that isn't there is refused; else each message that was held aside is where it goes
-abbrev pub folder_work : List ℕ → List ℕ → List NamedValue → Homes → Mailbox → Option FolderValue → (List Run → Marked → Kept → Work CommandFault) → Work CommandFault
+abbrev pub folder_work : List ℕ → List ℕ → List NamedValue → Homes → Mailbox → Option FolderValue
+    → (List Run → Marked → Kept → Work CommandFault) → Work CommandFault
 folder_work path folder entries h m None next = refused_at m (fault.Refused (refusal.NoFolder folder))
 folder_work path folder entries h m (Some f) next =
     text_work path folder entries (runs_in (settled_by h f)) (with_folder_changed m (Folder path folder) (settled_by h)) (readable f.sequences) next
 
 -- a folder is begun where the context has these entries, and the command goes on so
-unfoldable pub begun_work : List ℕ → List ℕ → List NamedValue → Homes → Mailbox → (List Run → Marked → Kept → Work CommandFault) → Work CommandFault
+unfoldable pub begun_work : List ℕ → List ℕ → List NamedValue → Homes → Mailbox
+    → (List Run → Marked → Kept → Work CommandFault) → Work CommandFault
 begun_work path folder entries h m next = folder_work path folder entries h m (m.folders (Folder path folder)) next
 
 -- the end of a command that wrote this text: Done, or a text was too long

@@ -21,7 +21,8 @@ given_up p e = do
   free ← lifted of_stop (attempt_unlock p)
   Return (Err e)
 
--- after its work: a refusal and another's lock stand whatever the unlock answers; a name that was changed meanwhile ends the command at once
+-- after its work: a refusal and another's lock stand whatever the unlock answers; a name that was changed meanwhile
+-- ends the command at once
 abbrev pub ended : Place → Result Unit CommandFault → Commanded Unit
 ended p (Ok u) = finished p
 ended p (Err (fault.Refused r)) = given_up p (fault.Refused r)

@@ -139,7 +139,8 @@ ShowsInFolder run path folder Answers fault.Faulted own = ⊥
 ShowsInFolder run path folder Answers (fault.Locked q) own = IsHeldIn path folder q own
 ShowsInFolder run path folder Answers (fault.Meddled q x) own = IsMeddledIn run q x own
 ShowsInFolder run path folder Answers fault.Full own = ⊥
-ShowsInFolder run path folder Answers (fault.Absent q) own = (q ≡ Folder path folder) × IsNotThere (Folder path folder) own
+ShowsInFolder run path folder Answers (fault.Absent q) own =
+    (q ≡ Folder path folder) × IsNotThere (Folder path folder) own
 ShowsInFolder run path folder Answers (fault.TooLarge l) own = IsTooLong run path folder Answers l own
 ShowsInFolder run path folder Answers fault.Memory own = Unit {0}
 

@@ -12,8 +12,8 @@ use Rattle.sequence_commits.specs.RunsOfAll.{runs_of_all}
 abbrev pub is_between : ℕ → ℕ → ℕ → Bool
 is_between first last n = nat_le first n && nat_le n last
 
--- a link of the held message to this number was tried: to its own, and, where that was taken, to those above the highest, up to where it
--- went; up to the last of all where it stays held
+-- a link of the held message to this number was tried: to its own, and, where that was taken, to those above the
+-- highest, up to where it went; up to the last of all where it stays held
 abbrev pub is_tried : HeldPair → ℕ → Option ℕ → ℕ → Bool
 is_tried h top end n = is_between (max h.number top + 1) (unwrap_or end 999999) n || is_between h.number h.number n
 

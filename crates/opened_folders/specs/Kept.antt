@@ -42,7 +42,8 @@ entries_written path entries k =
 unfoldable pub context_kept : List ℕ → List ChangeEntry → Kept → Commits
 context_kept path cs k = if says k.entries cs then all_made k else entries_written path (changed cs k.entries) k
 
--- the folder's sequences have a new text, unless it is too long, and then the context says of the private ones what it is to say
+-- the folder's sequences have a new text, unless it is too long, and then the context says of the private ones what it
+-- is to say
 abbrev pub sequences_written : List ℕ → List ℕ → Marked → Kept → Commits
 sequences_written path folder new k =
     if nat_lt LIMIT_BYTES (length (text_of new)) then too_long k (length (text_of new))
@@ -50,4 +51,5 @@ sequences_written path folder new k =
 
 -- new sequences of the folder in place of others, where they tell anything else
 unfoldable pub sequences_kept : List ℕ → List ℕ → Marked → Marked → Kept → Commits
-sequences_kept path folder old new k = if same_told folder old new then all_made k else sequences_written path folder new k
+sequences_kept path folder old new k =
+    if same_told folder old new then all_made k else sequences_written path folder new k

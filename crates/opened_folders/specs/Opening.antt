@@ -23,8 +23,8 @@ use Rattle.sequence_commits.specs.Cutting.{cut_to}
 use Rattle.sequence_commits.specs.Reading.{sequences_in}
 use Rattle.opened_folders.specs.Existing.{numbers_settled}
 
--- a folder that this run has begun: where it is, the numbers of its messages, its sequences without absent numbers, and where each message
--- stands that another run held aside there
+-- a folder that this run has begun: where it is, the numbers of its messages, its sequences without absent numbers, and
+-- where each message stands that another run held aside there
 pub record Opened : Type 0 where
   pub place : Place
   pub folder : List ℕ

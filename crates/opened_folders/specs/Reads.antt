@@ -22,7 +22,8 @@ HaveRead p mail text context own = Once (λ d older. TellsText mail context_name
 
 -- the run listed the folder; these are the numbers of its messages, with those of what it put back there
 abbrev pub HaveListed : ℕ → Place → List Run → List Deed → Type 0
-HaveListed run p listing own = (s : Settled) × (listing ≡ numbers_settled run s) × Once (λ d older. d ≡ did (Lists p) (Names s.names)) own
+HaveListed run p listing own =
+    (s : Settled) × (listing ≡ numbers_settled run s) × Once (λ d older. d ≡ did (Lists p) (Names s.names)) own
 
 -- it listed the folder so, and read these texts
 pub record HaveSeen (run : ℕ) (p mail : Place) (listing : List Run) (text context : List ℕ) (own : List Deed) : Type 0 where

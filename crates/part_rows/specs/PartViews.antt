@@ -17,7 +17,8 @@ use Rattle.mime_tree.specs.Trees.{body_at, content_of, kids_at, odd_at, type_at}
 abbrev pub given_by : {A B : Type 0} → (A → B) → Type 0
 given_by {A} {B} f = B
 
--- what a part is that names no type, as a part's type decides it for its kids; mime_tree keeps this type's name to itself
+-- what a part is that names no type, as a part's type decides it for its kids; mime_tree keeps this type's name to
+-- itself
 abbrev pub Fallback : Type 0
 Fallback = given_by fallback_in
 
@@ -77,14 +78,17 @@ view_at odd is_leaf bytes fallback path span = record {
   content = content_at is_leaf bytes span;
 }
 
--- what is told of the kids at these spans, the first of which has this number: of each before the next, with the parts below it
+-- what is told of the kids at these spans, the first of which has this number: of each before the next, with the parts
+-- below it
 abbrev pub within : (List ℕ → Span → List PartView) → List ℕ → ℕ → List Span → List PartView
 within parts path n [] = []
 within parts path n (span ∷ spans) = parts (path ++ n ∷ []) span ++ within parts path (n + 1) spans
 
--- what is told of the message at this span, and behind it what is told of its kids and the parts below them, down to so many levels
+-- what is told of the message at this span, and behind it what is told of its kids and the parts below them, down to so
+-- many levels
 unfoldable pub parts_at : ℕ → List ℕ → Fallback → List ℕ → Span → List PartView
-parts_at zero bytes fallback path span = view_at (odd_at zero (kids_at bytes fallback span)) true bytes fallback path span ∷ []
+parts_at zero bytes fallback path span =
+    view_at (odd_at zero (kids_at bytes fallback span)) true bytes fallback path span ∷ []
 parts_at (suc levels) bytes fallback path span =
     let kids = kids_at bytes fallback span in
     view_at (odd_at (suc levels) kids) (length kids.spans == 0) bytes fallback path span

@@ -17,10 +17,10 @@ use Rattle.step_plans.proofs.Going.{okay}
 use Rattle.message_moves.specs.Moving.{content_by, content_read}
 use Rattle.message_moves.specs.declared.destination.Destination.{Destination}
 use Rattle.opened_folders.proofs.AllMarks.{MindsAll, look_minds}
-use Rattle.opened_folders.proofs.CommitMinds.{sequences_name}
 use Rattle.opened_folders.proofs.CommitSeen.{NoCommit}
 use Rattle.opened_folders.proofs.FolderSeen.{Quiet}
 use Rattle.opened_folders.proofs.Meeting.{Meets, meets_end, meets_read, meets_return}
+use Rattle.sequence_commits.proofs.SequencesPledged.{sequences_name}
 use Rattle.refile_command.proofs.CopiesMind.{AllOpen, all_open_kept}
 
 module _ (Of : List ℕ → Type 0) (w : Pledge) (path source : List ℕ) (S : List Deed → Type 0)

@@ -17,10 +17,10 @@ use Rattle.message_moves.specs.Copying.{copied_to, copied_to_all, highest_of}
 use Rattle.message_moves.specs.declared.destination.Destination.{Destination}
 use Rattle.opened_folders.specs.Opening.{Opened}
 use Rattle.opened_folders.proofs.AllMarks.{MindsAll}
-use Rattle.opened_folders.proofs.CommitMinds.{sequences_name}
 use Rattle.opened_folders.proofs.CommitSeen.{NoCommit}
 use Rattle.opened_folders.proofs.FolderSeen.{Quiet}
 use Rattle.opened_folders.proofs.Meeting.{Meets, meets_lifted, meets_return, meets_then}
+use Rattle.sequence_commits.proofs.SequencesPledged.{sequences_name}
 use Rattle.refile_command.specs.Refile.{destination_of}
 use Rattle.refile_command.proofs.FolderNames.{first_there, later_there}
 use Rattle.refile_command.proofs.FoldersMinded.{AllMinded, HasMinded}

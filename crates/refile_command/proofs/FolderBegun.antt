@@ -1,5 +1,5 @@
 -- One folder is begun, alone: the work goes on with it, and other folders are left as they were.
-use Rattle.std.proofs.Common.{◌≡◌, ◌⊎◌, inl, inr, ◌<◌, ◌≤◌, ◌^◌, [], ℕ, true, false, List, Option, Some, None, Result, Ok, Err, refl, sym, ◌∙◌, ap, subst, arith}
+use Rattle.std.proofs.Common.{◌≡◌, ◌<◌, ◌^◌, [], ℕ, true, false, List, Result, Ok, Err, refl, sym, ◌∙◌, ap, subst}
 use Rattle.std.specs.Prelude.{is_some}
 use Rattle.mh_profile.specs.declared.named_value.NamedValue.{NamedValue}
 use Rattle.mh_sequences.specs.Sequences.{Marked}
@@ -29,7 +29,6 @@ use Rattle.step_plans.specs.declared.fault.PlanFault.{PlanFault}
 use Rattle.step_plans.specs.declared.fault.PlanFault.TheVariants as plan
 use Rattle.step_plans.proofs.Committed.{entries_at}
 use Rattle.held_messages.specs.HeldPairs.{homes}
-use Rattle.held_messages.specs.Highest.{IsTop}
 use Rattle.held_messages.proofs.Unique.{held_once}
 use Rattle.command_stages.specs.Endings.{of_plan}
 use Rattle.command_stages.specs.Works.{Work}
@@ -40,21 +39,10 @@ use Rattle.opened_folders.specs.Opening.{Opened, begun}
 use Rattle.opened_folders.proofs.BegunWorks.{begun_as, homes_in}
 use Rattle.opened_folders.proofs.FolderGiven.{BeginEnds, BeginErrs, IsBegunIn, IsUntouched, begun_gives}
 use Rattle.opened_folders.proofs.SettledShown.{there_shown}
-use Rattle.opened_folders.proofs.WorkGiven.{IsOpen, WorkEnds, lifted_gives, not_begun}
+use Rattle.opened_folders.proofs.WorkGiven.{IsOpen, WorkEnds, homes_there, lifted_gives, not_begun, one_top}
 use Rattle.refile_command.proofs.BegunAsks.{IsIn, OneOf, asks_begun}
 use Rattle.refile_command.proofs.BegunBeside.{IsBeside, beside_self, kept_beside}
 use Rattle.refile_command.proofs.ViewsAlike.{gives_alike}
-
--- two highest numbers of one folder are the same
-one_top : (f : FolderValue) (s t : ℕ) → IsTop f s → IsTop f t → s ≡ t
-one_top f s t a b = same s t (below s t a.attained b.above) (below t s b.attained a.above)
-  where
-    below : (s t : ℕ) → (s ≡ 0) ⊎ (is_some (f.messages s) ≡ true) → ((k : ℕ) → is_some (f.messages k) ≡ true → k ≤ t) → s ≤ t
-    below s t (inl e) above = rw e (omega arith)
-    below s t (inr e) above = above s e
-
-    same : (s t : ℕ) → s ≤ t → t ≤ s → s ≡ t
-    same s t f g = omega (arith, f, g)
 
 -- what a folder holds aside goes to one place each
 one_home : (run : ℕ) (f : FolderValue) (h g : Homes) → AreHomes run f h → AreHomes run f g → h ≡ g
@@ -62,11 +50,6 @@ one_home run f h g a b =
     let pairs : h.pairs ≡ g.pairs = held_once run f h.pairs g.pairs a.held b.held in
     let ends : h.ends ≡ g.ends = a.ends ∙ ((λ i. homes (λ k. is_some (f.messages k)) (one_top f a.highest b.highest a.top b.top i) (pairs i)) ∙ sym b.ends) in
     λ i. record { pairs = pairs i; ends = ends i }
-
--- in a folder that is there
-homes_there : (run : ℕ) (f : FolderValue) (o : Option FolderValue) (h : Homes) → o ≡ Some f → AreHomesAt run o h → AreHomes run f h
-homes_there run f None h e a = cc (e)
-homes_there run f (Some g) h e a = let same : g ≡ f = cc in subst (λ x. AreHomes run x h) same a
 
 -- how a command ended, by views in which the same stands
 pub ends_alike : (w : Work CommandFault) (z y : View) → z.contents ≡ y.contents → (j : Hand) (left : List ℕ) (r : Result Unit CommandFault) → WorkEnds w y j left r → WorkEnds w z j left r

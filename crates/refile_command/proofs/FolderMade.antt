@@ -7,21 +7,13 @@ use Rattle.folder_files.specs.Places.{is_folder, is_parent, same_place}
 use Rattle.folder_files.specs.declared.place.Place.{Place}
 use Rattle.folder_files.specs.declared.place.Place.TheVariants.{Folder, Home, Work as WorkPlace}
 use Rattle.file_plans.specs.Contents.{Contents, folder_at, mailbox_in, with_folder}
-use Rattle.file_plans.specs.Mailboxes.{is_message_number, numbered, where_mail}
+use Rattle.file_plans.specs.Mailboxes.{numbered, where_mail}
+use Rattle.file_plans.proofs.EmptyFolders.{numbered_none}
 use Rattle.refile_command.specs.MadeFolder.{empty_folder, or_empty, with_folder_made}
 
 -- no name of a folder that isn't there leads anywhere
 abbrev pub AreBare : Contents → Type 0
 AreBare c = (q : Place) → is_folder q ≡ true → c.there q ≡ false → (x : List ℕ) → c.texts q x ≡ None
-
--- no text shows as none
-numbered_none : (n : ℕ) (o : Option (List ℕ)) → o ≡ None → numbered n o ≡ None
-numbered_none n None e = go (is_message_number n)
-  where
-    go : (b : Bool) → ◌≡◌ {A = Option (List ℕ)} (if b then None else None) None
-    go true = refl
-    go false = refl
-numbered_none n (Some x) e = cc (e)
 
 held_none : (b : Bool) (n : ℕ) (o : Option (List ℕ)) → o ≡ None → (if b then numbered n o else None) ≡ None
 held_none true n o e = numbered_none n o e

@@ -5,14 +5,8 @@ use Rattle.std.proofs.lemmas.Bool.Decides.{nat_tests}
 use Rattle.mh_sequences.specs.Runs.{AreRunsFrom, has}
 use Rattle.mh_sequences.specs.declared.run.Run.{Run}
 use Rattle.message_moves.specs.Copying.{highest_of}
+use Rattle.mh_base.proofs.NumberTests.{over_max, under_max}
 use Rattle.refile_command.specs.Refile.{greatest_of}
-
--- no number of a listing is above its greatest
-under_max : (k a b : ℕ) → k ≤ a → k ≤ max a b
-under_max k a b le = omega (arith, le)
-
-over_max : (k a b : ℕ) → k ≤ b → k ≤ max a b
-over_max k a b le = omega (arith, le)
 
 -- of two small numbers the greater is small
 max_low : (a b n : ℕ) → a ≤ n → b ≤ n → max a b ≤ n

@@ -39,10 +39,11 @@ use Rattle.message_moves.specs.Refiling.{message_refiled, messages_refiled}
 use Rattle.message_moves.specs.declared.destination.Destination.{Destination}
 use Rattle.message_moves.proofs.MovePledged.{is_taken_so}
 use Rattle.opened_folders.proofs.AllMarks.{MindsAll, drop_minds, look_minds}
-use Rattle.opened_folders.proofs.CommitMinds.{Facts, sequences_name}
+use Rattle.opened_folders.proofs.CommitMinds.{Facts}
 use Rattle.opened_folders.proofs.CommitSeen.{NoCommit, Synced, synced_kept}
 use Rattle.opened_folders.proofs.FolderSeen.{Quiet, WasListed, quiet_lock, quiet_seen, quiet_sees, quiet_unlinked}
 use Rattle.opened_folders.proofs.Meeting.{Meets, meets_end, meets_lifted, meets_rename, meets_return, meets_sync_folder, meets_then, meets_unlink, meets_weaker}
+use Rattle.sequence_commits.proofs.SequencesPledged.{sequences_name}
 use Rattle.refile_command.specs.RefileHeld.{TakesUnheld}
 use Rattle.refile_command.proofs.ContentMinds.{content_meets}
 use Rattle.refile_command.proofs.CopiesMind.{AllOpen, all_open_kept, copies_meet}

@@ -1,6 +1,5 @@
 -- Messages leave, one after another; and the marks that withdraw them.
-use Rattle.std.proofs.Common.{◌≡◌, ◌∷◌, [], ℕ, suc, ◌+◌, ◌<◌, ◌≤◌, Bool, List, Result, Ok, sym, ap, drop, get_or, length, add-one}
-use Rattle.std.proofs.Math.Seq.{drop-cons}
+use Rattle.std.proofs.Common.{◌≡◌, ◌∷◌, [], ℕ, ◌+◌, ◌<◌, ◌≤◌, Bool, List, Result, Ok, ap, drop, get_or, length}
 use Rattle.std.proofs.lemmas.List.{drop_all}
 use Rattle.mh_sequences.specs.Runs.{AreRuns, Numbers, numbers_of}
 use Rattle.mh_sequences.specs.Sequences.{Marked}
@@ -14,10 +13,8 @@ use Rattle.step_plans.specs.Removing.{message_removed}
 use Rattle.step_plans.specs.declared.fault.PlanFault.{PlanFault}
 use Rattle.sequence_commits.specs.Marking.{marked_by, marked_by_all}
 use Rattle.opened_folders.proofs.Sets.{numbers_set}
+use Rattle.mh_looks.proofs.Showing.{next}
 use Rattle.refile_command.specs.Rmm.{all_removed, withdrawn}
-
-next : (l : List ℕ) (i : ℕ) (x : ℕ) → i < length l → x ≡ get_or l i x → drop i l ≡ x ∷ drop (i + 1) l
-next l i x h is = rw (add-one, drop-cons l i x) (ap (λ y. y ∷ drop (suc i) l) (sym is))
 
 pub turn : (run : ℕ) (p : Place) (b : Bool) (l : List ℕ) (i : ℕ) (n : ℕ) (x y : State) (r : Result Unit PlanFault) → i < length l → n ≡ get_or l i n
     → Follows run plan_cause (message_removed p n b >>= λ gone. all_removed p b (drop (i + 1) l)) x y r → Follows run plan_cause (all_removed p b (drop i l)) x y r

@@ -10,7 +10,7 @@ use Rattle.message_moves.specs.declared.destination.Destination.{Destination}
 use Rattle.refile_command.specs.MailMoved.{Moves, mail_moved, message_of, where_message}
 
 -- whether there is a message or none
-where_entries : (entries : List NamedValue) (o : Option (List ℕ)) (without : Commits) (next : List ℕ → Commits) → without.kept.entries ≡ entries → ((b : List ℕ) → (next b).kept.entries ≡ entries) → (where_message o without next).kept.entries ≡ entries
+pub where_entries : (entries : List NamedValue) (o : Option (List ℕ)) (without : Commits) (next : List ℕ → Commits) → without.kept.entries ≡ entries → ((b : List ℕ) → (next b).kept.entries ≡ entries) → (where_message o without next).kept.entries ≡ entries
 where_entries entries None without next f g = f
 where_entries entries (Some b) without next f g = g b
 

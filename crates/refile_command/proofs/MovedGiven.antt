@@ -62,7 +62,7 @@ number_among (n ∷ numbers) ok k e = go (n == k) refl (λ f. number_among numbe
     go false f more g = more g
 
 -- what is there is something
-some_of : (o : Option (List ℕ)) → is_some o ≡ true → (b : List ℕ) × (o ≡ Some b)
+pub some_of : (o : Option (List ℕ)) → is_some o ≡ true → (b : List ℕ) × (o ≡ Some b)
 some_of None e = cc (e)
 some_of (Some b) e = (b, refl)
 

@@ -16,12 +16,12 @@ use Rattle.step_plans.specs.declared.command_fault.CommandFault.{CommandFault}
 use Rattle.step_plans.proofs.Facts.{LeavesLock, lock_kept}
 use Rattle.step_plans.proofs.Going.{Goes, Outcome, goes_bind, goes_lifted, goes_more, okay}
 use Rattle.step_plans.proofs.Lasting.{KeptBy, keeping}
-use Rattle.message_puts.proofs.PutPledged.{IsEnd}
 use Rattle.command_stages.specs.Endings.{of_plan}
 use Rattle.message_moves.specs.Copying.{highest_of}
 use Rattle.opened_folders.specs.Making.{made_begun}
 use Rattle.opened_folders.specs.Opening.{Opened}
 use Rattle.opened_folders.proofs.FolderPledged.{HasBegun}
+use Rattle.held_messages.proofs.Linking.{IsEnd}
 use Rattle.refile_command.specs.Gathering.{Gathered, after_one, all_begun}
 use Rattle.refile_command.specs.Refile.{greatest_of}
 use Rattle.refile_command.proofs.BeginsAsks.{Begins, asks_made_begun}

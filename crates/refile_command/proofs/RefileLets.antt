@@ -43,10 +43,10 @@ use Rattle.refile_command.proofs.FolderNames.{destinations_other, folder_there}
 use Rattle.refile_command.proofs.RmmPledged.{in_up}
 
 -- a temporary name, and one that is committed, holds no message aside
-temp_unheld : (temp held : List ℕ) → is_temp (kind_of temp) ≡ true → temp ≡ held → is_held (kind_of held) ≡ true → ⊥
+pub temp_unheld : (temp held : List ℕ) → is_temp (kind_of temp) ≡ true → temp ≡ held → is_held (kind_of held) ≡ true → ⊥
 temp_unheld temp held is same other = not_both (is_held (kind_of held)) other (subst (λ z. is_held (kind_of z) ≡ false) same (is_temp_unheld temp is))
 
-committed_unheld : (q : Place) (name held : List ℕ) → is_committed q name ≡ true → name ≡ held → is_held (kind_of held) ≡ true → ⊥
+pub committed_unheld : (q : Place) (name held : List ℕ) → is_committed q name ≡ true → name ≡ held → is_held (kind_of held) ≡ true → ⊥
 committed_unheld q name held is same other = let e = is_committed_quiet q name is in let f = held_stands held other in absurd (let no : true ≡ false = sym f ∙ (ap (λ z. is_standing z) (sym same) ∙ e) in cc (no))
 
 module _ (run : ℕ) (few : run < 2 ^ 128) (path : List ℕ) (job : RefileJob) where

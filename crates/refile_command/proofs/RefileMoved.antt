@@ -56,7 +56,7 @@ use Rattle.refile_command.proofs.Selected.{chosen_rise, first_of, first_or, rest
 use Rattle.refile_command.proofs.Shown.{AreNumbers}
 
 -- ascending numbers of messages are each one once
-apart_from : (n : ℕ) (ns : List ℕ) → ((k : ℕ) → lists ns k ≡ true → n < k) → IsNone n ns
+pub apart_from : (n : ℕ) (ns : List ℕ) → ((k : ℕ) → lists ns k ≡ true → n < k) → IsNone n ns
 apart_from n [] f = tt
 apart_from n (m ∷ ms) f = ((λ e. absurd (let lt = first_of {F = λ k. n < k} m ms f in omega (arith, lt, e))), apart_from n ms (rest_of {F = λ k. n < k} m ms f))
 

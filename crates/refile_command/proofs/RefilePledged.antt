@@ -16,7 +16,7 @@ use Rattle.folder_files.specs.declared.step.Step.{Step}
 use Rattle.file_plans.specs.Follows.{Follows, State, deeds_in}
 use Rattle.file_plans.specs.Framing.{AsksOnly}
 use Rattle.file_plans.specs.Plan.{Hand, Return, after, bind, lifted, ◌>>=◌}
-use Rattle.file_plans.specs.Rules.{Gave, IfOkay, Keeps, Rules}
+use Rattle.file_plans.specs.Rules.{IsKeptExit, IfOkay, Keeps, Rules}
 use Rattle.file_plans.specs.Runs.{Deed as Done, exit_of}
 use Rattle.file_plans.proofs.Acting.{acts}
 use Rattle.file_plans.proofs.Keeping.{keeps_bind, run_keeps}
@@ -361,7 +361,7 @@ module _ (run : ℕ) (few : run < 2 ^ 128) (path : List ℕ) (job : RefileJob) w
   pub refile_done : (x y : State) (result : Result Unit CommandFault) (f : Follows run command_cause (refile run path job) x y result) → result ≡ Ok tt → HasRefiledChosen run path job (acts (deeds_in f.went.log)) × AreSettled (acts (deeds_in f.went.log))
   refile_done x y result f is =
       let kept = run_keeps (rules_of pledge) [] x.hand (refile run path job) (deeds_in f.went.log) y.hand (exit_of command_cause result) (IfOkay (EndsRefiled [])) (from_first x.hand) f.went.runs in
-      let ends : EndsRefiled [] (deeds_in f.went.log) y.hand tt = subst (λ r. Gave (rules_of pledge) (IfOkay (EndsRefiled [])) (deeds_in f.went.log) y.hand (exit_of command_cause r)) is kept.gave in
+      let ends : EndsRefiled [] (deeds_in f.went.log) y.hand tt = subst (λ r. IsKeptExit (rules_of pledge) (IfOkay (EndsRefiled [])) (deeds_in f.went.log) y.hand (exit_of command_cause r)) is kept.gave in
       (ends.1, ends.0.settled none_settled)
 
   -- so a run of it does what it promises

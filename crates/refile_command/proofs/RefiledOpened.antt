@@ -52,14 +52,14 @@ use Rattle.refile_command.proofs.Shown.{AreNumbers}
 use Rattle.refile_command.proofs.Distinct.{IsFilled}
 
 -- the context is no held message's name
-context_unheld : is_held (kind_of context_name) ≡ false
+pub context_unheld : is_held (kind_of context_name) ≡ false
 context_unheld = (or_false (is_number (kind_of context_name)) (is_held (kind_of context_name)) (is_committed_quiet (Mail []) context_name (bytes_self context_name))).1
 
 -- what the definitions come to
-after_all : (c : Commits) (next : Kept → Work CommandFault) → c.long ≡ None → after_commits c next ≡ next c.kept
+pub after_all : (c : Commits) (next : Kept → Work CommandFault) → c.long ≡ None → after_commits c next ≡ next c.kept
 after_all c next none = rw none refl
 
-after_long : (c : Commits) (next : Kept → Work CommandFault) (l : ℕ) → c.long ≡ Some l → after_commits c next ≡ refused_at c.kept.mailbox (too_large l)
+pub after_long : (c : Commits) (next : Kept → Work CommandFault) (l : ℕ) → c.long ≡ Some l → after_commits c next ≡ refused_at c.kept.mailbox (too_large l)
 after_long c next l some = rw some refl
 
 module _ (run : ℕ) (few : run < 2 ^ 128) (path source : List ℕ) where

@@ -47,18 +47,16 @@ use Rattle.step_plans.proofs.Stepping.{goes_end, goes_rename, goes_return, goes_
 use Rattle.step_plans.proofs.Written.{Adds, lock_held}
 use Rattle.step_plans.specs.Commits.{IsBase}
 use Rattle.sequence_commits.specs.Committing.{changed_sequences}
-use Rattle.held_messages.specs.Settle.{Settled}
-use Rattle.sequence_commits.proofs.RunTests.{all_runs}
 use Rattle.sequence_commits.proofs.SequencesPledged.{sequences_name}
 use Rattle.command_stages.specs.Current.{made_current}
 use Rattle.command_stages.specs.Endings.{of_plan}
-use Rattle.opened_folders.specs.Existing.{numbers_settled}
 use Rattle.opened_folders.specs.FolderPledge.{told_within}
 use Rattle.opened_folders.specs.Opening.{Opened}
 use Rattle.opened_folders.specs.Reads.{HaveSeen}
 use Rattle.opened_folders.proofs.EndedKept.{Still}
 use Rattle.opened_folders.proofs.FolderPledged.{HasBegun, seen_kept}
 use Rattle.opened_folders.proofs.WorkPledged.{LetsBegin, begun_keeps, current_goes, sequences_goes, whenever}
+use Rattle.opened_folders.proofs.Listed.{settled_runs}
 use Rattle.refile_command.specs.Rmm.{all_removed, chosen_from, opened_removed, removed_marked, removed_safely, rmm, said_removed, withdrawn}
 use Rattle.refile_command.specs.RmmPledge.{Removes, RemovesChosen, WasChosen, Withdraws, every_message, numbers_up, rmm_pledge}
 use Rattle.refile_command.specs.RmmOutcome.{is_among}
@@ -85,10 +83,6 @@ held_no_number e n is same = absurd (let no : is_held (Number n) ≡ true = subs
 
 committed_no_backup : (path folder name : List ℕ) (n : ℕ) → is_committed (Folder path folder) name ≡ true → kind_of name ≡ Backup n → ⊥
 committed_no_backup path folder name n is same = absurd (let no : is_sequences (Backup n) ≡ true = subst (λ z. is_sequences z ≡ true) same is in cc (no))
-
-settled_runs : (run : ℕ) (s : Settled) → AreRuns (numbers_settled run s)
-unfolding numbers_settled
-settled_runs run s = all_runs _
 
 -- what was listed are runs
 pub listed_runs : (run : ℕ) (p mail : Place) (listing : List Run) (text context : List ℕ) (own : List Deed) → HaveSeen run p mail listing text context own → AreRuns listing

@@ -1,9 +1,10 @@
 -- Whether each destination has room, and which number is the greatest of a folder; folders that were begun, as messages go to them.
-use Rattle.std.proofs.Common.{◌≡◌, ◌∷◌, ◌++◌, [], append_assoc, append-nil, ℕ, suc, ◌+◌, ◌-◌, ◌<◌, ◌≤◌, List, Option, Some, None, Result, Ok, refl, sym, ◌∙◌, ap, subst, arith, drop, get_or, slice_get, length, max}
+use Rattle.std.proofs.Common.{◌≡◌, ◌∷◌, ◌++◌, [], append_assoc, append-nil, ℕ, suc, ◌+◌, ◌-◌, ◌<◌, ◌≤◌, List, Some, None, Result, Ok, refl, sym, ◌∙◌, ap, subst, arith, drop, get_or, slice_get, length, max}
 use Rattle.std.specs.Prelude.{nat_le, map}
 use Rattle.std.proofs.lemmas.List.{drop_all}
 use Rattle.mh_sequences.specs.Runs.{AreRunsFrom}
 use Rattle.mh_sequences.specs.declared.run.Run.{Run}
+use Rattle.mh_sequences.proofs.OneRun.{last_there}
 use Rattle.file_plans.specs.Follows.{Follows, State}
 use Rattle.file_plans.specs.Plan.{◌>>=◌}
 use Rattle.file_plans.proofs.Following.{done, same_plan}
@@ -41,12 +42,6 @@ last_greatest low (s ∷ (t ∷ rs)) r f e =
     let most : t.to ≤ highest_of (greatest_of (t ∷ rs)) = above_first (s.to + 2) t rs f.3 in
     let whole : r.to ≡ max s.to (highest_of (greatest_of (t ∷ rs))) = omega (arith, rest_to, after, up, most) in
     ap Some whole
-
-last_there : (r : Run) (runs : List Run) → slice_get (r ∷ runs) (length (r ∷ runs) - 1) ≡ None → ⊥
-last_there r [] e = cc (e)
-last_there r (t ∷ runs) e =
-    let index : suc (suc (length runs)) - 1 ≡ suc (suc (length runs) - 1) = omega arith in
-    last_there t runs (subst (λ n. slice_get (r ∷ (t ∷ runs)) n ≡ None) index e)
 
 pub none_greatest : (runs : List Run) → slice_get runs (length runs - 1) ≡ None → None ≡ greatest_of runs
 none_greatest [] e = refl

@@ -17,8 +17,9 @@ use Rattle.msg_ranges.proofs.Rising.{Rise, lists, lists_numbers, rise_filter, ri
 use Rattle.msg_ranges.proofs.Selected.{every_runs}
 use Rattle.msg_ranges.proofs.Within.{selected_within}
 use Rattle.sequence_commits.proofs.RunTests.{none_outside}
-use Rattle.command_stages.specs.Chosen.{folder_with, refused_by}
+use Rattle.command_stages.specs.Chosen.{folder_with}
 use Rattle.opened_folders.proofs.ExistingNumbers.{in_range_or}
+use Rattle.opened_folders.proofs.ChosenListed.{as_selected}
 use Rattle.refile_command.specs.Rmm.{chosen_from}
 use Rattle.refile_command.specs.declared.job.RmmJob.{RmmJob}
 use Rattle.refile_command.proofs.Shown.{AreNumbers}
@@ -31,10 +32,6 @@ selected_rises f words numbers is = go (designated f 0 words) is
         let same : united sets ≡ numbers = cc (e) in
         subst (Rise 1) same (rise_filter (λ n. list_any (λ xs. list_any (λ x. x == n) xs) sets) 1 (numbers_of every_number) (rise_runs 1 every_number every_runs))
     go (Err fault) e = cc (e)
-
-as_selected : (words : List (List ℕ)) (r : Result (List ℕ) SelectFault) (numbers : List ℕ) → refused_by words r ≡ Ok numbers → r ≡ Ok numbers
-as_selected words (Ok ns) numbers e = cc (e)
-as_selected words (Err fault) numbers e = cc (e)
 
 module _ (job : RmmJob) (listing : List Run) (m : Marked) (numbers : List ℕ) (is : chosen_from job listing m ≡ Ok numbers) where
   abbrev f : Folder

@@ -19,10 +19,11 @@ use Rattle.message_moves.specs.Copying.{copied_to_all, message_copied, messages_
 use Rattle.message_moves.specs.Moving.{content_read}
 use Rattle.message_moves.specs.declared.destination.Destination.{Destination}
 use Rattle.opened_folders.proofs.AllMarks.{MindsAll}
-use Rattle.opened_folders.proofs.CommitMinds.{Facts, sequences_name}
+use Rattle.opened_folders.proofs.CommitMinds.{Facts}
 use Rattle.opened_folders.proofs.CommitSeen.{NoCommit, synced_kept}
 use Rattle.opened_folders.proofs.FolderSeen.{Quiet, quiet_seen}
 use Rattle.opened_folders.proofs.Meeting.{Meets, meets_lifted, meets_return, meets_then}
+use Rattle.sequence_commits.proofs.SequencesPledged.{sequences_name}
 use Rattle.refile_command.proofs.ContentMinds.{content_meets}
 use Rattle.refile_command.proofs.CopiesMind.{AllOpen, copies_meet}
 use Rattle.refile_command.proofs.Shown.{AreNumbers}

@@ -21,8 +21,9 @@ use Rattle.marks_law.specs.Minding.{IsUnmarked, Minds, Sees, SeesNoneHeld, by_ba
 use Rattle.sequence_marks.specs.SequenceMarks.{private_marks, public_marks, says_public}
 use Rattle.opened_folders.specs.Opening.{Opened}
 use Rattle.opened_folders.proofs.AllMarks.{MindsAll}
-use Rattle.opened_folders.proofs.CommitMinds.{one_folder, one_mail, sequences_name, text_name}
+use Rattle.opened_folders.proofs.CommitMinds.{one_folder, one_mail, text_name}
 use Rattle.opened_folders.proofs.CommitSeen.{NoCommit}
+use Rattle.sequence_commits.proofs.SequencesPledged.{sequences_name}
 use Rattle.refile_command.proofs.FoldersMinded.{HasMinded}
 
 -- the run knows of each sequence of the folder that it does not mark the number

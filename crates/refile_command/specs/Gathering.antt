@@ -45,8 +45,8 @@ all_given_up (p ∷ ps) e = do
   free ← lifted of_stop (attempt_unlock p)
   all_given_up ps e
 
--- after the work on these folders: a refusal and another's lock stand whatever the unlocks answer; a name that was changed meanwhile ends the
--- command at once
+-- after the work on these folders: a refusal and another's lock stand whatever the unlocks answer; a name that was
+-- changed meanwhile ends the command at once
 abbrev pub all_ended : List Place → Result Unit CommandFault → Commanded Unit
 all_ended ps (Ok u) = all_finished ps
 all_ended ps (Err (fault.Refused r)) = all_given_up ps (fault.Refused r)

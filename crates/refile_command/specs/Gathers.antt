@@ -11,12 +11,16 @@ use Rattle.opened_folders.specs.Opening.{Opened}
 use Rattle.refile_command.specs.Gathering.{Gathered, all_finished, all_given_up, gathered}
 
 -- what comes after these folders were begun, where it ended so: after a fault, and for want of memory, nothing
-abbrev pub GoesOn : ℕ → (Gathered → Commanded Unit) → List Opened → Result Unit CommandFault → State → State → Result Unit CommandFault → Type 0
+abbrev pub GoesOn : ℕ → (Gathered → Commanded Unit) → List Opened → Result Unit CommandFault → State → State
+    → Result Unit CommandFault → Type 0
 GoesOn run later opened (Ok u) y z s = Follows run command_cause (later (gathered opened (Ok u))) y z s
-GoesOn run later opened (Err (fault.Refused r)) y z s = Follows run command_cause (later (gathered opened (Err (fault.Refused r)))) y z s
+GoesOn run later opened (Err (fault.Refused r)) y z s =
+    Follows run command_cause (later (gathered opened (Err (fault.Refused r)))) y z s
 GoesOn run later opened (Err (fault.Faulted w)) y z s = (s ≡ Err (fault.Faulted w)) × (z ≡ y)
-GoesOn run later opened (Err (fault.Locked q)) y z s = Follows run command_cause (later (gathered opened (Err (fault.Locked q)))) y z s
-GoesOn run later opened (Err (fault.Meddled q n)) y z s = Follows run command_cause (later (gathered opened (Err (fault.Meddled q n)))) y z s
+GoesOn run later opened (Err (fault.Locked q)) y z s =
+    Follows run command_cause (later (gathered opened (Err (fault.Locked q)))) y z s
+GoesOn run later opened (Err (fault.Meddled q n)) y z s =
+    Follows run command_cause (later (gathered opened (Err (fault.Meddled q n)))) y z s
 GoesOn run later opened (Err fault.Memory) y z s = (s ≡ Err fault.Memory) × (z ≡ y)
 
 -- the code followed this plan, which begins folders: so it does together with whatever comes after
@@ -28,11 +32,14 @@ abbrev pub WorksIf : ℕ → Commanded Unit → Result Unit CommandFault → Sta
 WorksIf run p (Ok u) x y result = Follows run command_cause p x y result
 WorksIf run p (Err e) x y result = (result ≡ Err e) × (y ≡ x)
 
--- what the end of a command does after work that ended so: after a fault, a name that was changed meanwhile, and for want of memory nothing
+-- what the end of a command does after work that ended so: after a fault, a name that was changed meanwhile, and for
+-- want of memory nothing
 abbrev pub EndsAll : ℕ → List Place → Result Unit CommandFault → State → State → Result Unit CommandFault → Type 0
 EndsAll run ps (Ok u) x y result = Follows run command_cause (all_finished ps) x y result
-EndsAll run ps (Err (fault.Refused r)) x y result = Follows run command_cause (all_given_up ps (fault.Refused r)) x y result
+EndsAll run ps (Err (fault.Refused r)) x y result =
+    Follows run command_cause (all_given_up ps (fault.Refused r)) x y result
 EndsAll run ps (Err (fault.Faulted w)) x y result = (result ≡ Err (fault.Faulted w)) × (y ≡ x)
-EndsAll run ps (Err (fault.Locked q)) x y result = Follows run command_cause (all_given_up ps (fault.Locked q)) x y result
+EndsAll run ps (Err (fault.Locked q)) x y result =
+    Follows run command_cause (all_given_up ps (fault.Locked q)) x y result
 EndsAll run ps (Err (fault.Meddled q n)) x y result = (result ≡ Err (fault.Meddled q n)) × (y ≡ x)
 EndsAll run ps (Err fault.Memory) x y result = (result ≡ Err fault.Memory) × (y ≡ x)

@@ -49,8 +49,8 @@ abbrev pub where_message : Option (List ℕ) → Commits → (List ℕ → Commi
 where_message None without next = without
 where_message (Some bytes) without next = next bytes
 
--- The messages of these numbers of the folder, one after another. The one that is too long is the last. A number that has no message is
--- left out.
+-- The messages of these numbers of the folder, one after another. The one that is too long is the last. A number that
+-- has no message is left out.
 unfoldable pub mail_moved : Moves → Place → List ℕ → List Destination → Kept → Commits
 mail_moved moves p [] to k = all_made k
 mail_moved moves p (n ∷ ns) to k =

@@ -43,7 +43,8 @@ targets_of job = each_once (job.target ∷ job.others)
 abbrev pub names_source : RefileJob → Bool
 names_source job = list_any (λ name. bytes_eq name job.source) (targets_of job)
 
--- the messages that the job's words choose of the source with these numbers and sequences, or the refusal of the first word that is refused
+-- the messages that the job's words choose of the source with these numbers and sequences, or the refusal of the first
+-- word that is refused
 abbrev pub refile_chosen : RefileJob → List Run → Marked → Result (List ℕ) CommandFault
 refile_chosen job listing m = chosen_in (folder_with job.negation (numbers_of listing) (marks_of m)) job.specs
 
@@ -73,7 +74,8 @@ room_in (to ∷ others) count = do
   room ← if_room (nat_le (highest_of to.highest + count) 999999) to.folder
   room_in others count
 
--- the messages of these numbers go to the destinations; their folder is made safe, and then they leave its sequences, which are committed
+-- the messages of these numbers go to the destinations; their folder is made safe, and then they leave its sequences,
+-- which are committed
 unfoldable pub messages_left : ℕ → List ℕ → RefileJob → Opened → List Destination → List ℕ → Commanded Unit
 messages_left run path job o to numbers = do
   gone ← messages_refiled run job.source o.place numbers to
@@ -119,8 +121,8 @@ gathered_refiled run path job o g = do
 abbrev pub places_of : Opened → Gathered → List Place
 places_of o g = o.place ∷ map (λ to. to.place) g.opened
 
--- `refile`: the source is begun, and then each other folder that the words name, which is made where it is missing; the chosen messages go there; and
--- all locks fall in the order in which they were had
+-- `refile`: the source is begun, and then each other folder that the words name, which is made where it is missing; the
+-- chosen messages go there; and all locks fall in the order in which they were had
 unfoldable pub refile : ℕ → List ℕ → RefileJob → Commanded Unit
 refile run path job = do
   o ← lifted (of_plan job.source) (begun run (Folder path job.source) (Mail path) job.source)

@@ -1,4 +1,5 @@
--- What `refile` answers by what it read of its folders, and what shows how it ended: its run's own deeds in the call, the newest first.
+-- What `refile` answers by what it read of its folders, and what shows how it ended: its run's own deeds in the call,
+-- the newest first.
 use Rattle.std.specs.Prelude.{◌≡◌, ◌⊎◌, ◌<◌, ◌+◌, ◌∷◌, ℕ, true, false, length, List, Ok, Err, Contains}
 use Rattle.mh_sequences.specs.declared.run.Run.{Run}
 use Rattle.folder_files.specs.Deeds.{Deed, WasDone, did}
@@ -21,7 +22,8 @@ use Rattle.refile_command.specs.RefilePledge.{WasChosen, destinations_of, name_r
 use Rattle.refile_command.specs.Rmm.{withdrawn}
 use Rattle.refile_command.specs.declared.job.RefileJob.{RefileJob}
 
--- where messages leave, the sequences of the source are without those that the job's words choose; or the first word that chooses none refuses
+-- where messages leave, the sequences of the source are without those that the job's words choose; or the first word
+-- that chooses none refuses
 abbrev pub source_answers : RefileJob → Answering
 source_answers job = record {
   makes = λ listing m new. (job.link ≡ false) × (numbers : List ℕ) × (refile_chosen job listing m ≡ Ok numbers) × (new ≡ withdrawn numbers m);
@@ -32,7 +34,8 @@ source_answers job = record {
 abbrev pub target_answers : Answering
 target_answers = record { makes = λ listing m new. ⊥; refuses = λ listing m r. ⊥ }
 
--- what shows a fault of a destination: that of a folder that is begun, or it isn't there any more once the run had made it or found it made
+-- what shows a fault of a destination: that of a folder that is begun, or it isn't there any more once the run had made
+-- it or found it made
 pub record ShowsTarget (run : ℕ) (path : List ℕ) (job : RefileJob) (e : CommandFault) (own : List Deed) : Type 0 where
   pub target : List ℕ
   pub is_one : Contains (destinations_of job) target
@@ -63,13 +66,14 @@ pub data ShowsMoves (run : ℕ) (path : List ℕ) (job : RefileJob) : CommandFau
 abbrev pub ShowsRefile : ℕ → List ℕ → RefileJob → CommandFault → List Deed → Type 0
 ShowsRefile run path job e own = ShowsEnd run path job.source (source_answers job) e own ⊎ (ShowsTarget run path job e own ⊎ ShowsMoves run path job e own)
 
--- These deeds show it, and no step of them failed. Where the run then let folders go that it had locked, those were its last steps, whatever they
--- were answered.
+-- These deeds show it, and no step of them failed. Where the run then let folders go that it had locked, those were its
+-- last steps, whatever they were answered.
 pub data IsShownFirst (S : List Deed → Type 0) : List Deed → Type 0 where
   none_let_go : {own : List Deed} → S own → (Made IsFailed own → ⊥) → IsShownFirst S own
   one_let_go : {path folder : List ℕ} {a : Answer} {own : List Deed} → IsShownFirst S own → WasDone (Lock (Folder path folder)) own → IsShownFirst S (did (Unlock (Folder path folder)) a ∷ own)
 
--- how a command ends by a fault that is shown so: at a refusal, and where another run has a lock, it may let its folders go then
+-- how a command ends by a fault that is shown so: at a refusal, and where another run has a lock, it may let its
+-- folders go then
 abbrev pub IsEndedFirst : (CommandFault → List Deed → Type 0) → CommandFault → List Deed → Type 0
 IsEndedFirst S (fault.Refused r) own = IsShownFirst (S (fault.Refused r)) own
 IsEndedFirst S (fault.Faulted which) own = ⊥

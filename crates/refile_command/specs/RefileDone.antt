@@ -15,11 +15,12 @@ use Rattle.refile_command.specs.declared.job.RefileJob.{RefileJob}
 
 -- the message of this number was copied to all folders that the words name, and stays; or it was refiled there
 abbrev pub WentBy : Bool → ℕ → List ℕ → RefileJob → ℕ → List Deed → Type 0
-WentBy true run path job n own = HasCopied run (Folder path job.source) (entry_text (Number n)) (folders_of path (targets_of job)) own
+WentBy true run path job n own =
+    HasCopied run (Folder path job.source) (entry_text (Number n)) (folders_of path (targets_of job)) own
 WentBy false run path job n own = HasRefiled run (Folder path job.source) n (folders_of path (targets_of job)) own
 
--- the words choose these numbers, of the source as the run has listed and read it; none of the folders that they name is the source; and each of the
--- messages went there
+-- the words choose these numbers, of the source as the run has listed and read it; none of the folders that they name
+-- is the source; and each of the messages went there
 pub record HasRefiledChosen (run : ℕ) (path : List ℕ) (job : RefileJob) (own : List Deed) : Type 0 where
   pub listing : List Run
   pub text : List ℕ

@@ -11,20 +11,8 @@ use Rattle.refile_command.specs.HeldLeft.{HasLetGo}
 
 -- the step holds aside what stands at this number of the place
 abbrev pub TakesAt : Place → ℕ → Step → Type 0
-TakesAt p n (step.List q) = ⊥
-TakesAt p n (step.Read q a limit) = ⊥
-TakesAt p n (step.MakeFolder q) = ⊥
-TakesAt p n (step.Create q a b) = ⊥
-TakesAt p n (step.SyncFile q a) = ⊥
-TakesAt p n (step.SyncFolder q) = ⊥
-TakesAt p n (step.Link q a b) = ⊥
 TakesAt p n (step.Rename q a b) = (q ≡ p) × (kind_of a ≡ Number n) × (is_held (kind_of b) ≡ true)
-TakesAt p n (step.Unlink q a) = ⊥
-TakesAt p n (step.Lock q) = ⊥
-TakesAt p n (step.Unlock q) = ⊥
-TakesAt p n (step.ReadFile f limit) = ⊥
-TakesAt p n (step.ReadDrop f from most) = ⊥
-TakesAt p n (step.CutDrop f length_) = ⊥
+TakesAt p n s = ⊥
 
 -- where the step holds a message aside, the run has unlinked each held name that it listed in that folder
 abbrev pub TakesUnheld : List Deed → Step → Type 0

@@ -36,8 +36,10 @@ homes_of_all run path m name = homes_at run (or_empty (m.folders (Folder path na
 abbrev pub target_of : List ℕ → List ℕ → List Run → Destination
 target_of path name listing = record { folder = name; place = Folder path name; highest = greatest_of listing }
 
--- the folders of these names are made where they are missing, and begun, one after another; the command goes on with all of them, behind those before
-unfoldable pub targets_work : List ℕ → HomesOfAll → List (List ℕ) → List Destination → Kept → (List Destination → Kept → Work CommandFault) → Work CommandFault
+-- the folders of these names are made where they are missing, and begun, one after another; the command goes on with
+-- all of them, behind those before
+unfoldable pub targets_work : List ℕ → HomesOfAll → List (List ℕ) → List Destination → Kept
+    → (List Destination → Kept → Work CommandFault) → Work CommandFault
 targets_work path homes [] before k next = next before k
 targets_work path homes (name ∷ names) before k next =
     begun_work path name k.entries (homes name) (with_folder_made k.mailbox (Folder path name)) (λ listing m l. targets_work path homes names (before ++ target_of path name listing ∷ []) l next)
@@ -47,7 +49,8 @@ abbrev pub set_work : Bool → List ℕ → List ℕ → Kept → Work CommandFa
 set_work true path source k = current_work path source [] k
 set_work false path source k = ended_so [] (all_made k)
 
--- the messages are in the other folders too; or in these alone, and leave the sequences of the source, which are committed
+-- the messages are in the other folders too; or in these alone, and leave the sequences of the source, which are
+-- committed
 abbrev pub moved_work : Bool → ℕ → List ℕ → RefileJob → Marked → List ℕ → List Destination → Kept → Work CommandFault
 moved_work true run path job m numbers to k = after_commits (mail_moved copied_from (Folder path job.source) numbers to k) (set_work job.set_current path job.source)
 moved_work false run path job m numbers to k =
@@ -57,10 +60,12 @@ moved_work false run path job m numbers to k =
 -- the first of these folders that has no room for so many messages above its highest number
 unfoldable pub first_full : List Destination → ℕ → Option (List ℕ)
 first_full [] count = None
-first_full (to ∷ others) count = if nat_le (highest_of to.highest + count) 999999 then first_full others count else Some to.folder
+first_full (to ∷ others) count =
+    if nat_le (highest_of to.highest + count) 999999 then first_full others count else Some to.folder
 
 -- where none is full
-abbrev pub room_work : Option (List ℕ) → ℕ → List ℕ → RefileJob → Marked → List ℕ → List Destination → Kept → Work CommandFault
+abbrev pub room_work : Option (List ℕ) → ℕ → List ℕ → RefileJob → Marked → List ℕ → List Destination → Kept
+    → Work CommandFault
 room_work None run path job m numbers to k = moved_work job.link run path job m numbers to k
 room_work (Some folder) run path job m numbers to k = refused_at k.mailbox (fault.Refused (refusal.Full folder))
 
@@ -70,7 +75,8 @@ apart_work true run path job m numbers to k = refused_at k.mailbox (fault.Refuse
 apart_work false run path job m numbers to k = room_work (first_full to (length numbers)) run path job m numbers to k
 
 -- the messages that the words choose
-abbrev pub said_work : ℕ → List ℕ → RefileJob → Marked → List Destination → Kept → Result (List ℕ) CommandFault → Work CommandFault
+abbrev pub said_work : ℕ → List ℕ → RefileJob → Marked → List Destination → Kept → Result (List ℕ) CommandFault
+    → Work CommandFault
 said_work run path job m to k (Ok numbers) = apart_work (names_source job) run path job m numbers to k
 said_work run path job m to k (Err e) = refused_at k.mailbox e
 
@@ -80,4 +86,5 @@ source_work run path homes job listing m k = targets_work path homes (names_with
 
 -- `refile` of this run, where the context has these entries, and what was held aside in the folders goes so
 unfoldable pub refile_work : ℕ → List ℕ → List NamedValue → HomesOfAll → RefileJob → Mailbox → Work CommandFault
-refile_work run path entries homes job m = begun_work path job.source entries (homes job.source) m (source_work run path homes job)
+refile_work run path entries homes job m =
+    begun_work path job.source entries (homes job.source) m (source_work run path homes job)

@@ -34,9 +34,9 @@ folders_of path names = map (λ name. Folder path name) names
 abbrev pub destinations_of : RefileJob → List (List ℕ)
 destinations_of job = names_without job.source (targets_of job)
 
--- The run has listed the folder, and read its text and then the context. It writes the text of the sequences that these tell of, without numbers that
--- have no message, or of those that the command makes of them after its deeds; their entries in the context; or the folder as the current one, where
--- it is to become that.
+-- The run has listed the folder, and read its text and then the context. It writes the text of the sequences that these
+-- tell of, without numbers that have no message, or of those that the command makes of them after its deeds; their
+-- entries in the context; or the folder as the current one, where it is to become that.
 pub record WritesOf (run : ℕ) (path folder : List ℕ) (Makes : List Deed → List Run → Marked → Marked → Type 0) (Becomes : Type 0) (own : List Deed) (p : Place) (name old text : List ℕ) : Type 0 where
   pub listing : List Run
   pub read_text : List ℕ
@@ -46,7 +46,8 @@ pub record WritesOf (run : ℕ) (path folder : List ℕ) (Makes : List Deed → 
   pub made : (new ≡ told_within listing read_text context folder) ⊎ Makes own listing (told_within listing read_text context folder) new
   pub writes : WritesText path folder new p name text ⊎ (WritesEntries path folder new p name old text ⊎ (Becomes × MarksContext path (current_change folder) p name old text))
 
--- messages leave, and the sequences are without those that the job's words choose; each of these went to all folders that the words name
+-- messages leave, and the sequences are without those that the job's words choose; each of these went to all folders
+-- that the words name
 abbrev pub Withdraws : ℕ → List ℕ → RefileJob → List Deed → List Run → Marked → Marked → Type 0
 Withdraws run path job own listing m new =
     (job.link ≡ false) × (numbers : List ℕ) × (refile_chosen job listing m ≡ Ok numbers)
@@ -59,7 +60,8 @@ MakesNothing own listing m new = ⊥
 
 -- it marks so in the source, which becomes the current folder where it is to
 abbrev pub MarksSource : ℕ → List ℕ → RefileJob → List Deed → Place → List ℕ → List ℕ → List ℕ → Type 0
-MarksSource run path job own p name old text = WritesOf run path job.source (Withdraws run path job) (job.set_current ≡ true) own p name old text
+MarksSource run path job own p name old text =
+    WritesOf run path job.source (Withdraws run path job) (job.set_current ≡ true) own p name old text
 
 -- and in a destination, which never does
 abbrev pub MarksDestination : ℕ → List ℕ → RefileJob → List Deed → Place → List ℕ → List ℕ → List ℕ → Type 0
@@ -80,8 +82,9 @@ pub record WasTakenAndCopied (run : ℕ) (p : Place) (held : List ℕ) (folders 
   pub copied : HasCopied run p held folders own
   pub taken : WasTaken run p held copied.before
 
--- A held name of the source goes only once its message was given a number there, as one that another run left, and that was made safe; or where messages
--- leave, once the run has taken the message and stored it in all folders that the words name.
+-- A held name of the source goes only once its message was given a number there, as one that another run left, and that
+-- was made safe; or where messages leave, once the run has taken the message and stored it in all folders that the
+-- words name.
 abbrev pub LetsGoCopied : ℕ → List ℕ → RefileJob → List Deed → Step → Type 0
 LetsGoCopied run path job own s =
     (held : List ℕ) → s ≡ step.Unlink (Folder path job.source) held → is_held (kind_of held) ≡ true
@@ -92,14 +95,16 @@ abbrev pub TakesChosen : ℕ → List ℕ → RefileJob → List Deed → Step �
 TakesChosen run path job own s =
     (number held : List ℕ) (n : ℕ) → s ≡ step.Rename (Folder path job.source) number held → kind_of number ≡ Number n → is_held (kind_of held) ≡ true → (job.link ≡ false) × WasChosen run path job n own
 
--- the name under which the message of this number is read: its number where it is copied and stays, else the run's held name of it
+-- the name under which the message of this number is read: its number where it is copied and stays, else the run's held
+-- name of it
 abbrev pub name_read : Bool → ℕ → ℕ → List ℕ
 name_read true run n = entry_text (Number n)
 name_read false run n = entry_text (Held run n)
 
 -- the message of this number was read there, and had these bytes
 abbrev pub HasReadOf : ℕ → List ℕ → RefileJob → ℕ → List ℕ → List Deed → Type 0
-HasReadOf run path job n bytes own = Once (λ d older. IsRead (Folder path job.source) (name_read job.link run n) bytes d) own
+HasReadOf run path job n bytes own =
+    Once (λ d older. IsRead (Folder path job.source) (name_read job.link run n) bytes d) own
 
 -- the words choose a message, which was read, and the file of this name in this folder was made with its bytes
 pub record IsOfChosen (run : ℕ) (path : List ℕ) (job : RefileJob) (q : Place) (temp : List ℕ) (own : List Deed) : Type 0 where
@@ -116,15 +121,16 @@ PutsChosen run path job own s =
 
 -- all that is asked of its steps besides
 abbrev pub RefilesSo : ℕ → List ℕ → RefileJob → List Deed → Step → Type 0
-RefilesSo run path job own s = LetsGoCopied run path job own s × TakesChosen run path job own s × PutsChosen run path job own s
+RefilesSo run path job own s =
+    LetsGoCopied run path job own s × TakesChosen run path job own s × PutsChosen run path job own s
 
 -- messages leave, or are copied and stay
 abbrev pub manner_by : Bool → List ℕ → RefileJob → Manner
 manner_by true path job = Linking path job.source every_message (destinations_of job)
 manner_by false path job = Refiling path job.source every_message (destinations_of job)
 
--- `refile` begins the source and the destinations, cuts the sequences of all, and puts messages that its words choose into each destination; where
--- these leave the source they leave its sequences too. It says nothing.
+-- `refile` begins the source and the destinations, cuts the sequences of all, and puts messages that its words choose
+-- into each destination; where these leave the source they leave its sequences too. It says nothing.
 abbrev pub refile_pledge : ℕ → List ℕ → RefileJob → Pledge
 refile_pledge run path job = record {
   run = run;

@@ -24,7 +24,8 @@ use Rattle.opened_folders.specs.Ending.{ended}
 use Rattle.opened_folders.specs.Opening.{Opened, begun}
 use Rattle.refile_command.specs.declared.job.RmmJob.{RmmJob}
 
--- the messages that the job's words choose of a folder with these numbers and sequences, or the refusal of the first word that is refused
+-- the messages that the job's words choose of a folder with these numbers and sequences, or the refusal of the first
+-- word that is refused
 abbrev pub chosen_from : RmmJob → List Run → Marked → Result (List ℕ) CommandFault
 chosen_from job listing m = chosen_in (folder_with job.negation (numbers_of listing) (marks_of m)) job.specs
 

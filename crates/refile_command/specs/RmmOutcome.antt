@@ -27,7 +27,8 @@ without backup numbers f = record {
 }
 
 abbrev pub removed_from : List ℕ → RmmJob → List ℕ → Kept → Kept
-removed_from path job numbers k = kept_of (with_folder_changed k.mailbox (Folder path job.folder) (without (not job.unlink) numbers)) k.entries
+removed_from path job numbers k =
+    kept_of (with_folder_changed k.mailbox (Folder path job.folder) (without (not job.unlink) numbers)) k.entries
 
 -- the chosen messages leave the folder and its sequences, and it becomes the current one
 abbrev pub chosen_work : List ℕ → RmmJob → Marked → Kept → Result (List ℕ) CommandFault → Work CommandFault

@@ -21,7 +21,8 @@ use Rattle.refile_command.specs.declared.job.RmmJob.{RmmJob}
 
 -- the sequences are without the messages that the job's words choose
 abbrev pub Withdraws : RmmJob → List Run → Marked → Marked → Type 0
-Withdraws job listing m new = (numbers : List ℕ) × (chosen_from job listing m ≡ Ok numbers) × (new ≡ withdrawn numbers m)
+Withdraws job listing m new =
+    (numbers : List ℕ) × (chosen_from job listing m ≡ Ok numbers) × (new ≡ withdrawn numbers m)
 
 -- so many numbers from this one on
 unfoldable pub numbers_up : ℕ → ℕ → List ℕ
@@ -34,20 +35,9 @@ every_message = numbers_up 1 999999
 
 -- the step takes away what stands at this number of the place: by its backup's name, or by none
 abbrev pub Removes : Place → ℕ → Step → Type 0
-Removes p n (step.List q) = ⊥
-Removes p n (step.Read q a limit) = ⊥
-Removes p n (step.MakeFolder q) = ⊥
-Removes p n (step.Create q a b) = ⊥
-Removes p n (step.SyncFile q a) = ⊥
-Removes p n (step.SyncFolder q) = ⊥
-Removes p n (step.Link q a b) = ⊥
 Removes p n (step.Rename q a b) = (q ≡ p) × (kind_of a ≡ Number n) × (kind_of b ≡ Backup n)
 Removes p n (step.Unlink q a) = (q ≡ p) × (kind_of a ≡ Number n)
-Removes p n (step.Lock q) = ⊥
-Removes p n (step.Unlock q) = ⊥
-Removes p n (step.ReadFile f limit) = ⊥
-Removes p n (step.ReadDrop f from most) = ⊥
-Removes p n (step.CutDrop f length_) = ⊥
+Removes p n s = ⊥
 
 -- the job's words choose this number, of the folder as the run has listed and read it
 pub record WasChosen (run : ℕ) (path : List ℕ) (job : RmmJob) (n : ℕ) (own : List Deed) : Type 0 where

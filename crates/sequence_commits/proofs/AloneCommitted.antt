@@ -23,7 +23,7 @@ use Rattle.file_plans.proofs.Contents.{mailbox_is}
 use Rattle.file_plans.proofs.Existing.{puts_in}
 use Rattle.file_plans.proofs.Failing.{made_failed}
 use Rattle.step_plans.specs.ContextCommit.{context_name}
-use Rattle.step_plans.specs.ContextCommitted.{IsCommitted}
+use Rattle.step_plans.specs.ContextCommitted.{IsContextCommitted}
 use Rattle.step_plans.specs.ContextPledge.{text_by}
 use Rattle.step_plans.specs.Hands.{used}
 use Rattle.step_plans.specs.PlanFaults.{plan_cause}
@@ -42,7 +42,7 @@ use Rattle.sequence_commits.proofs.SequencesShown.{shows_sequences}
 -- what the contents at the end show, where the context's turn was taken
 pub shown : (c : Contents) (path at name text : List ℕ) (cs : List ChangeEntry) (ns : List ℕ) (h j : Hand) (z : View) (left : List ℕ) (after : Mailbox)
     → after ≡ mailbox_in z.contents → CommitEnds true ns (with_sequences c (Folder at name) text) (Mail path) cs (used h) z j left (Ok tt)
-    → IsCommitted (with_sequences_text (mailbox_in c) (Folder at name) text) after path cs h
+    → IsContextCommitted (with_sequences_text (mailbox_in c) (Folder at name) text) after path cs h
 unfolding mailbox_in
 shown c path at name text cs ns h j z left after is ends =
     elim ends [
@@ -67,7 +67,7 @@ commit_alone run path at name folder a b old new log h j ds g never own_is runs 
     (changed_gives true (puts_in ds) run few (Folder at name) (Mail path) folder a b (first_view c (puts_in ds) (λ p x. false)) c h [] ((λ e. refl), refl) (λ e es k. knows es k) (λ low e. (ready.there, ready.free low))) in
     elim (r.gave.returned (Ok tt) refl) [
       | inl s ↦ inl (s.0, mailbox_is last ∙ (ap mailbox_in (sym r.contents) ∙ (ap mailbox_in (s.1.left.is.0 refl) ∙ sym (mailbox_is first))))
-      | inr s ↦ inr (s.0, subst (λ m. IsCommitted (with_sequences_text m (Folder at name) (text_of b)) (mailbox_of last) path (private_changes folder b.users (entries_seen h.context)) h) (sym (mailbox_is first)) (shown c path at name (text_of b) (private_changes folder b.users (entries_seen h.context)) (puts_in ds) h j r.view r.gave.left (mailbox_of last) (mailbox_is last ∙ ap mailbox_in (sym r.contents)) s.1.1))
+      | inr s ↦ inr (s.0, subst (λ m. IsContextCommitted (with_sequences_text m (Folder at name) (text_of b)) (mailbox_of last) path (private_changes folder b.users (entries_seen h.context)) h) (sym (mailbox_is first)) (shown c path at name (text_of b) (private_changes folder b.users (entries_seen h.context)) (puts_in ds) h j r.view r.gave.left (mailbox_of last) (mailbox_is last ∙ ap mailbox_in (sym r.contents)) s.1.1))
     ]
 
 pub commits_alone : (run : ℕ) (path at name folder : List ℕ) (a b : Marked) (x y : State) (result : Result Unit PlanFault) → Follows run plan_cause (changed_sequences run (Folder at name) (Mail path) folder a b) x y result → result ≡ Ok tt

@@ -9,7 +9,7 @@ use Rattle.folder_files.specs.declared.place.Place.{Place}
 use Rattle.file_plans.specs.Alone.{first_of, mailbox_at, world_at}
 use Rattle.file_plans.specs.Mailboxes.{Mailbox, text_in}
 use Rattle.file_plans.specs.Plan.{Hand}
-use Rattle.step_plans.specs.ContextCommitted.{IsCommitted, KnowsContext}
+use Rattle.step_plans.specs.ContextCommitted.{IsContextCommitted, KnowsContext}
 use Rattle.step_plans.specs.Hands.{temp_name}
 use Rattle.sequence_commits.specs.PrivateChanges.{entries_seen, private_changes}
 use Rattle.sequence_commits.specs.SequencesChanged.{with_sequences_text}
@@ -20,12 +20,12 @@ pub record IsReady (w : WorldMap) (p : Place) (run next : ℕ) : Type 0 where
   pub there : (w.directories p).there ≡ true
   pub free : nat_lt next (2 ^ 64) ≡ true → text_in w (w.directories p) (temp_name run next) ≡ None
 
--- where the same is told nothing changed; else the folder has the new text, and then the context was committed, or it said so already; and
--- nothing else of the mailbox changed
+-- where the same is told nothing changed; else the folder has the new text, and then the context was committed, or it
+-- said so already; and nothing else of the mailbox changed
 abbrev pub AreCommitted : Mailbox → Mailbox → Place → List ℕ → List ℕ → Marked → Marked → Hand → Type 0
 AreCommitted before after p path folder old new h =
     ((same_told folder old new ≡ true) × (after ≡ before))
-    ⊎ ((same_told folder old new ≡ false) × IsCommitted (with_sequences_text before p (text_of new)) after path (private_changes folder new.users (entries_seen h.context)) h)
+    ⊎ ((same_told folder old new ≡ false) × IsContextCommitted (with_sequences_text before p (text_of new)) after path (private_changes folder new.users (entries_seen h.context)) h)
 
 -- so of a call beside which nothing happened, where its hand knew the context, if anything, and the folder was ready
 abbrev pub CommitsAlone : ℕ → Place → List ℕ → List ℕ → Marked → Marked → Hand → Story → Story → Type 0
@@ -36,8 +36,10 @@ CommitsAlone run p path folder old new h earlier later =
     AreCommitted (mailbox_at later first) (mailbox_at later (first + length added)) p path folder old new h
 
 -- where a story is told
-abbrev pub CommitsAloneIfTold : ℕ → Place → List ℕ → List ℕ → Marked → Marked → Hand → Option Story → Option Story → Type 0
+abbrev pub CommitsAloneIfTold : ℕ → Place → List ℕ → List ℕ → Marked → Marked → Hand → Option Story → Option Story
+    → Type 0
 CommitsAloneIfTold run p path folder old new h None None = Unit {0}
-CommitsAloneIfTold run p path folder old new h (Some earlier) (Some later) = CommitsAlone run p path folder old new h earlier later
+CommitsAloneIfTold run p path folder old new h (Some earlier) (Some later) =
+    CommitsAlone run p path folder old new h earlier later
 CommitsAloneIfTold run p path folder old new h None (Some later) = ⊥
 CommitsAloneIfTold run p path folder old new h (Some earlier) None = ⊥

@@ -27,7 +27,8 @@ sequences_replaced run p text =
 
 -- of the folder with this ending the context has just these entries
 unfoldable pub entries_committed : ℕ → Place → List ℕ → List NamedValue → Planned Unit
-entries_committed run mail ending kept = Recall (λ h. commit_context run mail (changes_to ending kept (entries_seen h.context)))
+entries_committed run mail ending kept =
+    Recall (λ h. commit_context run mail (changes_to ending kept (entries_seen h.context)))
 
 -- the folder's text, and then the context
 unfoldable pub told_committed : ℕ → Place → Place → List ℕ → List ℕ → List NamedValue → Planned Unit
@@ -37,7 +38,8 @@ told_committed run p mail ending text kept = do
 
 -- new sequences of the folder at this place: its text, and then what the context says of the private ones
 abbrev pub sequences_committed : ℕ → Place → Place → List ℕ → Marked → Planned Unit
-sequences_committed run p mail folder new = told_committed run p mail (suffix folder) (text_of new) (private_entries (suffix folder) new.users)
+sequences_committed run p mail folder new =
+    told_committed run p mail (suffix folder) (text_of new) (private_entries (suffix folder) new.users)
 
 abbrev pub committed_unless : Bool → ℕ → Place → Place → List ℕ → Marked → Planned Unit
 committed_unless true run p mail folder new = Return (Ok tt)

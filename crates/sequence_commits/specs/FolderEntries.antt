@@ -10,7 +10,8 @@ use Rattle.mh_sequences.specs.Lists.{is_no_dash}
 abbrev pub from_dash : List ℕ → List ℕ
 from_dash text = drop (prefix_len is_no_dash text) text
 
--- the name of an entry of the folder with this ending: `atr-`, then a part without a dash, whatever it is, and then the ending
+-- the name of an entry of the folder with this ending: `atr-`, then a part without a dash, whatever it is, and then the
+-- ending
 abbrev pub is_of_folder : List ℕ → List ℕ → Bool
 is_of_folder ending name = is_attribute name && bytes_eq (from_dash (drop 4 name)) ending
 

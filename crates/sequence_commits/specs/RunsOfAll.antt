@@ -15,7 +15,8 @@ put_first n (r ∷ rs) = if n + 1 == r.from then record { from = n; to = r.to } 
 -- those of so many numbers, from this one on, that the test takes
 unfoldable pub runs_among : (ℕ → Bool) → ℕ → ℕ → List Run
 runs_among test zero n = []
-runs_among test (suc count) n = if test n then put_first n (runs_among test count (n + 1)) else runs_among test count (n + 1)
+runs_among test (suc count) n =
+    if test n then put_first n (runs_among test count (n + 1)) else runs_among test count (n + 1)
 
 -- those of all message numbers
 unfoldable pub runs_of_all : (ℕ → Bool) → List Run

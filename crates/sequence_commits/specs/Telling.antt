@@ -14,7 +14,8 @@ same_entries (x ∷ xs) (y ∷ ys) = bytes_eq x.name y.name && bytes_eq x.value 
 
 -- this text and these entries are what is told of the sequences
 abbrev pub tells : List ℕ → List NamedValue → List ℕ → Marked → Bool
-tells text entries folder new = bytes_eq text (text_of new) && same_entries entries (private_entries (suffix folder) new.users)
+tells text entries folder new =
+    bytes_eq text (text_of new) && same_entries entries (private_entries (suffix folder) new.users)
 
 -- the folder's text and its private entries are alike
 abbrev pub same_told : List ℕ → Marked → Marked → Bool

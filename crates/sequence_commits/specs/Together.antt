@@ -5,8 +5,8 @@ use Rattle.mh_sequences.specs.Placing.{placed}
 use Rattle.mh_sequences.specs.Sequences.{Sequence}
 use Rattle.sequence_commits.specs.RunsOfAll.{runs_of_all}
 
--- the sequences of these names, in byte order: of each name the message numbers that it has, and whether it is public; there is none
--- where a name has no number, or is no sequence's
+-- the sequences of these names, in byte order: of each name the message numbers that it has, and whether it is public;
+-- there is none where a name has no number, or is no sequence's
 unfoldable pub sequences_of : List (List ℕ) → (List ℕ → ℕ → Bool) → (List ℕ → Bool) → List Sequence
 sequences_of [] numbers public = []
 sequences_of (name ∷ names) numbers public =

@@ -15,7 +15,7 @@ use Rattle.mh_sequences.specs.Reading.{attribute, lists_private, suffix}
 use Rattle.folder_files.proofs.Names.{bytes_true}
 use Rattle.sequence_marks.specs.SequenceMarks.{says_private}
 
-by_bool : {X : Type 0} (b : Bool) → (b ≡ true → X) → (b ≡ false → X) → X
+pub by_bool : {X : Type 0} (b : Bool) → (b ≡ true → X) → (b ≡ false → X) → X
 by_bool true f g = f refl
 by_bool false f g = g refl
 

@@ -27,14 +27,15 @@ folder_said words items (Ok word) = with_folder items (folder_named word)
 folder_said words items (Err wrong) = Err (wrong_at words wrong)
 
 abbrev pub items_said : List (List ℕ) → Result (List Item) Wrong → Result SortWords Ended
-items_said words (Ok items) = folder_said words items (unless_bad (first_of (wrong_names items)) (one_folder (folders items)))
+items_said words (Ok items) =
+    folder_said words items (unless_bad (first_of (wrong_names items)) (one_folder (folders items)))
 items_said words (Err wrong) = Err (wrong_at words wrong)
 
 -- the words of the profile's entry, and then the command's
 abbrev pub sort_line : List NamedValue → List (List ℕ) → List (List ℕ)
 sort_line profile words = profile_words (codes "sortm") profile ++ words
 
--- what the words of `sortm` say, those of the profile first, or the refusal: of a switch; then of a second folder or of a value that is no field's name,
--- the earlier first; and then of a folder's name
+-- what the words of `sortm` say, those of the profile first, or the refusal: of a switch; then of a second folder or of
+-- a value that is no field's name, the earlier first; and then of a folder's name
 abbrev pub sort_said : List NamedValue → List (List ℕ) → Result SortWords Ended
 sort_said profile words = items_said (sort_line profile words) (read_in sort_table 0 (sort_line profile words))

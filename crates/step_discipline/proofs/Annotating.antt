@@ -1,15 +1,9 @@
 -- Annotation lines by their last byte.
-use Rattle.std.proofs.Common.{◌≡◌, ◌++◌, ◌-◌, ◌==◌, ◌&&◌, ℕ, false, List, [], ◌∷◌, length, refl, sym, ◌∙◌, ap, arith, length-append, bytes_eq}
+use Rattle.std.proofs.Common.{◌≡◌, ◌++◌, ◌==◌, ◌&&◌, ℕ, List, [], ◌∷◌, refl, sym, ◌∙◌, ap}
 use Rattle.std.proofs.Math.Seq.{take-append_seam, get_or-append_seam}
 use Rattle.std.specs.List.{list_all, slice_split}
 use Rattle.folder_files.specs.Annotations.{is_annotation, are_annotations}
-
-last_place : (rest : List ℕ) (x : ℕ) → length (rest ++ x ∷ []) - 1 ≡ length rest
-last_place rest x = let n = length-append rest (x ∷ []) in omega (arith, n)
-
-some : (rest : List ℕ) (x : ℕ) → bytes_eq (rest ++ x ∷ []) [] ≡ false
-some [] x = refl
-some (y ∷ rest) x = refl
+use Rattle.folder_files.proofs.Noting.{last_place, some}
 
 -- a text with a last byte is annotation lines where that byte is LF and all lines before it are such
 pub last_line : (rest : List ℕ) (x : ℕ) → are_annotations (rest ++ x ∷ []) ≡ (x == 10 && list_all is_annotation (slice_split (λ b. b == 10) rest))

@@ -5,6 +5,7 @@ use Rattle.step_discipline.specs.Seen.{seen, seen_all}
 use Rattle.folder_files.specs.Histories.{own, deed_of}
 use Rattle.step_discipline.specs.declared.deed.DeedRef.{DeedRef}
 use Rattle.folder_files.specs.declared.event.Event.{Event}
+use Rattle.folder_files.proofs.OwnDeeds.{own_one}
 
 pub own_nil : (run : ℕ) → own run [] ≡ []
 unfolding own
@@ -14,10 +15,6 @@ pub own_append : (run : ℕ) (a b : List Event) → own run (a ++ b) ≡ own run
 unfolding own
 own_append run [] b = refl
 own_append run (e ∷ a) b = ap (λ ds. deed_of run e ++ ds) (own_append run a b) ∙ sym (append_assoc (deed_of run e) (own run a) (own run b))
-
-pub own_one : (run : ℕ) (e : Event) → own run (e ∷ []) ≡ deed_of run e
-unfolding own
-own_one run e = append-nil (deed_of run e)
 
 own_with : (run : ℕ) (es : List (Bor Event)) (e : Bor Event) → own run (map (λ x. x.now) (es ++ e ∷ [])) ≡ own run (map (λ x. x.now) es) ++ deed_of run e.now
 own_with run es e = ap (own run) (map-append (λ x. x.now) es (e ∷ [])) ∙ own_append run (map (λ x. x.now) es) (e.now ∷ []) ∙ ap (λ ds. own run (map (λ x. x.now) es) ++ ds) (own_one run e.now)

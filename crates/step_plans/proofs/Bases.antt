@@ -170,7 +170,7 @@ text_gone w p x limit fits = go (now_in (w.directories p) x) fits
     go None e = refl
     go (Some f) e = absurd (never (nat_lt limit (length (w.files f).bytes)) (length (w.files f).bytes) (w.files f).bytes e)
 
-lockable : (p : Place) (x : List ℕ) → is_committed p x ≡ true → IsLockable p
+pub lockable : (p : Place) (x : List ℕ) → is_committed p x ≡ true → IsLockable p
 lockable Home x c = absurd (cc (c))
 lockable Work x c = absurd (cc (c))
 lockable (Mail path) x c = tt
@@ -294,11 +294,11 @@ base_is start r p x st (stops o {past = past} l) careful none honest orderly c l
     go None k = k
     go (Some f) k = k
 
-honest_then : {start : World} {r : ℕ} {moment past : List Event} → IsTriedAt start r moment past → AreHonest start past → AreHonest start moment
+pub honest_then : {start : World} {r : ℕ} {moment past : List Event} → IsTriedAt start r moment past → AreHonest start past → AreHonest start moment
 honest_then (live lv) h = h
 honest_then (cut o lv) h = h
 
-orderly_then : {start : World} {r : ℕ} {moment past : List Event} → IsTriedAt start r moment past → AreOrderly past → AreOrderly moment
+pub orderly_then : {start : World} {r : ℕ} {moment past : List Event} → IsTriedAt start r moment past → AreOrderly past → AreOrderly moment
 orderly_then (live lv) h = h
 orderly_then (cut o lv) h = h
 

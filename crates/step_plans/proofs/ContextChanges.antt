@@ -28,10 +28,6 @@ without_last : (names : List (List ℕ)) (n : List ℕ) (es : List NamedValue) �
 without_last [] n es = refl
 without_last (m ∷ ms) n es = without_last ms n (without m es)
 
-none_there : {X : Type 0} (o : Option X) → is_some o ≡ false → o ≡ None
-none_there None e = refl
-none_there (Some x) e = cc
-
 gone_by : (value : Option (List ℕ)) (name : List ℕ) (es : List NamedValue) → is_some value ≡ false → changed_by name value es ≡ without name es
 gone_by None name es e = refl
 gone_by (Some v) name es e = cc

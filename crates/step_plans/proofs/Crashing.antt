@@ -65,7 +65,7 @@ text_image w v over None image z = refl
 text_image w v over (Some f) image z = image.kept_bytes f z.1
 
 -- whether the directory is synced by the step
-sync_case : (p : Place) (r : ℕ) (s : Step) (a : Answer) (m : After) → ((s ≡ step.SyncFolder p) × (m ≡ Made)) ⊎ IsNoSync p (Act r s a m)
+pub sync_case : (p : Place) (r : ℕ) (s : Step) (a : Answer) (m : After) → ((s ≡ step.SyncFolder p) × (m ≡ Made)) ⊎ IsNoSync p (Act r s a m)
 sync_case p r (step.SyncFolder q) a Made = go (same_place q p) refl
   where
     go : (v : Bool) → same_place q p ≡ v → ((step.SyncFolder q ≡ step.SyncFolder p) × (Made ≡ Made)) ⊎ (step.SyncFolder q ≡ step.SyncFolder p → Made ≡ Made → ⊥)

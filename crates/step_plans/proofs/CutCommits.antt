@@ -47,7 +47,7 @@ module _ (start : World) (past : List Event) (o : ℕ) (s : Step) (a : Answer) (
       here = let temp = its_temp t es in let z = commit_leads w p t x o temp c fits in
           ap (text_of (left w o (step.Rename p t x) a Made)) z.2 ∙ i.temps o p t z.0 text (committed_lock p x c) temp lv wrote z.1
 
-some_answer : (u : Option ℕ) (f : ℕ) → u ≡ Some f → Done ≡ name_answer u
+pub some_answer : (u : Option ℕ) (f : ℕ) → u ≡ Some f → Done ≡ name_answer u
 some_answer u f e = rw e refl
 
 never_failed : (u : Option ℕ) → Failed ≡ name_answer u → ⊥

@@ -47,14 +47,14 @@ one_more (suc n) d own = ap (λ t. d ∷ t) (one_more n d own)
 other_unlink : (p : Place) (n x : List ℕ) → did (step.Unlink p n) answer.Done ≡ did (step.Unlink p x) answer.Done → n ≡ x
 other_unlink p n x e = let same : step.Unlink p n ≡ step.Unlink p x = did_step e in cc
 
-has_later : (a b : Bool) → b ≡ true → a || b ≡ true
+pub has_later : (a b : Bool) → b ≡ true → a || b ≡ true
 has_later true b e = refl
 has_later false b e = e
 
-has_first : (n : List ℕ) (b : Bool) → bytes_eq n n || b ≡ true
+pub has_first : (n : List ℕ) (b : Bool) → bytes_eq n n || b ≡ true
 has_first n b = rw (bytes_self n) refl
 
-true_false : {X : Type 0} (b : Bool) → b ≡ true → b ≡ false → X
+pub true_false : {X : Type 0} (b : Bool) → b ≡ true → b ≡ false → X
 true_false true t f = cc
 true_false false t f = cc
 

@@ -7,7 +7,7 @@ use Rattle.folder_files.specs.declared.step.Answer.{Answer}
 use Rattle.folder_files.specs.declared.step.Answer.TheVariants.{Failed}
 use Rattle.file_plans.specs.Follows.{deeds_in, State, Follows}
 use Rattle.file_plans.specs.Plan.{Hand, Plan, Ask}
-use Rattle.file_plans.specs.Rules.{Gave}
+use Rattle.file_plans.specs.Rules.{IsKeptExit}
 use Rattle.file_plans.specs.Runs.{Cause, Exit, exit_of, Deed, Did, Said, Heard, Runs}
 use Rattle.file_plans.proofs.Acting.{acts, acts_over}
 use Rattle.file_plans.proofs.Keeping.{run_keeps}
@@ -62,7 +62,7 @@ follows_answered run cause s next x y result f =
       begins = at_.1;
     }
 
-over_these : (past : List deeds.Deed) (ds : List Deed) → acts_over past ds ≡ acts ds ++ past
+pub over_these : (past : List deeds.Deed) (ds : List Deed) → acts_over past ds ≡ acts ds ++ past
 over_these past [] = refl
 over_these past (Did s a ∷ ds) = over_these (did s a ∷ past) ds ∙ (sym (append_assoc (acts ds) (did s a ∷ []) past) ∙ ap (λ t. t ++ past) (sym (over_these (did s a ∷ []) ds)))
 over_these past (Said piece ∷ ds) = over_these past ds
@@ -78,4 +78,4 @@ pub goes_gave : {T E : Type 0} (w : Pledge) (cause : E → Cause) (plan : Plan (
     Q (acts (deeds_in f.went.log)) y.hand (Ok t)
 goes_gave w cause plan x y result Q g f t e =
     let kept = run_keeps (rules_of w) [] x.hand plan (deeds_in f.went.log) y.hand (exit_of cause result) (ByActs (Soundly w Q)) (goes_keeps w [] [] x.hand plan Q refl (record { numbered = tt; unfailed = λ z. elim z [ ] }) g) f.went.runs in
-    (subst (λ r. Gave (rules_of w) (ByActs (Soundly w Q)) (deeds_in f.went.log) y.hand (exit_of cause r)) e kept.gave).1
+    (subst (λ r. IsKeptExit (rules_of w) (ByActs (Soundly w Q)) (deeds_in f.went.log) y.hand (exit_of cause r)) e kept.gave).1

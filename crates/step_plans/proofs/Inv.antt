@@ -24,7 +24,7 @@ use Rattle.folder_files.proofs.Sameness.{place_same, place_is}
 use Rattle.step_plans.specs.Durable.{WasPut, HasBeenPut, IsDurable, now, on}
 use Rattle.step_plans.specs.Spending.{IsSpent, IsClear, now, on}
 use Rattle.step_plans.specs.Starts.{HasNoneOf}
-use Rattle.step_plans.specs.Successors.{HasRead, HasMadeSince, WasPutSince, now, on}
+use Rattle.step_plans.specs.Successors.{HasReadHeld, HasMadeSince, WasPutSince, now, on}
 use Rattle.folder_files.proofs.Names.{not_both, num_itself, is_temp_any, is_temp_quiet, is_temp_run, is_held_any, is_held_run, is_taking_held, taking_same, held_owned}
 use Rattle.folder_files.proofs.Changes.{IsTarget, IsUnseen, unseen_leads, Goes, arrives, unseen_stays, IsBelow, now_below, goes_below}
 use Rattle.folder_files.proofs.Effects.{IsNext, answered, failed, refused, left, left_directory, left_file, left_grows, left_keeps, link_done, ComesTo, next_goes, next_fits, fits_as, created_leads, created_bytes, world_next}
@@ -48,7 +48,7 @@ WasMakingFailed p x deeds = Once (λ d older. (bytes : List ℕ) × (d ≡ did (
 pub record IsFresh (start : World) (p : Place) (r : ℕ) (x : List ℕ) (past : List Event) (w : WorldMap) : Type 0 where
   pub unseen : IsUnseen (w.directories p) x
   pub unspent : IsSpent start p x past → ⊥
-  pub unread : (b : List ℕ) → HasRead p x b (own r past) → ⊥
+  pub unread : (b : List ℕ) → HasReadHeld p x b (own r past) → ⊥
 
 -- the file is safe, with these bytes
 pub record IsSafeAs (w : WorldMap) (f : ℕ) (b : List ℕ) : Type 0 where
@@ -68,7 +68,7 @@ pub record InvAt (start : World) (past : List Event) (w : WorldMap) : Type 0 whe
       → (WasMade p x (own r past) → ⊥) → (WasMakingFailed p x (own r past) → ⊥) → IsUnseen (w.directories p) x
   pub temps : (r : ℕ) (p : Place) (x : List ℕ) (f : ℕ) (c : List ℕ) → IsLockable p → is_temp_of r (kind_of x) ≡ true → IsLive r w → WasDone (step.Create p x c) (own r past) → In w p x f → (w.files f).bytes ≡ c
   pub ready : (r : ℕ) (p : Place) (x : List ℕ) (f : ℕ) → IsLockable p → is_temp_of r (kind_of x) ≡ true → IsLive r w → WasSynced p x (own r past) → In w p x f → (w.files f).safe ≡ true
-  pub read : (r : ℕ) (p : Place) (x : List ℕ) (f : ℕ) (b : List ℕ) → IsLockable p → is_held_of r (kind_of x) ≡ true → IsLive r w → HasNoneOf start r → HasRead p x b (own r past) → In w p x f → (w.files f).bytes ≡ b
+  pub read : (r : ℕ) (p : Place) (x : List ℕ) (f : ℕ) (b : List ℕ) → IsLockable p → is_held_of r (kind_of x) ≡ true → IsLive r w → HasNoneOf start r → HasReadHeld p x b (own r past) → In w p x f → (w.files f).bytes ≡ b
   pub gave : (r : ℕ) (p : Place) (h : List ℕ) → is_held (kind_of h) ≡ true → IsLive r w → WasGiven p h (own r past) → IsSpent start p h past
   pub cleared : (r : ℕ) (p : Place) (h : List ℕ) → is_held (kind_of h) ≡ true → IsLive r w → WasGivenAway p h (own r past) → IsClear start p h past
   pub put : (p : Place) (f : ℕ) (b : List ℕ) → WasPut start p f b past → IsSafeAs w f b
@@ -175,7 +175,7 @@ module _ (start : World) (past : List Event) (r : ℕ) (s : Step) (a : Answer) (
         | inr y ↦ fr.unspent y
       ]
 
-      unread : (b : List ℕ) → HasRead p x b (own o (Act r s a m ∷ past)) → ⊥
+      unread : (b : List ℕ) → HasReadHeld p x b (own o (Act r s a m ∷ past)) → ⊥
       unread b z = elim (once_case o r s a m past z) [
         | inl y ↦ (let es = did_step y.1.1 in let ea = did_answer y.1.1 in
             let f = next_fits w r s a m nx (λ e. cc (e, ea)) in
@@ -252,17 +252,17 @@ module _ (start : World) (past : List Event) (r : ℕ) (s : Step) (a : Answer) (
       synced es ea = let f3 = next_fits w r s a m nx (λ e. cc (e, ea)) in
           as_made (λ ds fs. now_in (ds p) x ≡ Some f → (fs f).safe ≡ true) es f3.2 at_once
 
-  old_held : (o : ℕ) (p : Place) (x : List ℕ) (f : ℕ) (b : List ℕ) → IsLockable p → is_held_of o (kind_of x) ≡ true → HasNoneOf start o → HasRead p x b (own o past) → In v p x f → In w p x f
+  old_held : (o : ℕ) (p : Place) (x : List ℕ) (f : ℕ) (b : List ℕ) → IsLockable p → is_held_of o (kind_of x) ≡ true → HasNoneOf start o → HasReadHeld p x b (own o past) → In v p x f → In w p x f
   old_held o p x f b lock held none z leads = elim (arrives w.next_file v.next_file (ComesTo s a p) (w.directories p) x f (goes p) leads) [
     | inl y ↦ y
     | inr y ↦ (let h = held_target r (own r past) s p x lock careful (is_held_any o x held) y.0 in
         let ro : r ≡ o = is_held_run r o x (is_taking_held r h.number x h.taking) held in
         let fr = i.fresh p r h.number x lock h.taking (subst (λ (k : ℕ). HasNoneOf start k) (sym ro) none p x (held_owned r x (is_taking_held r h.number x h.taking))) h.fresh
         (λ u. h.unfailed (once_map (λ d older e. ap (λ k. k.answer) e) u)) in
-        absurd (fr.unread b (subst (λ (k : ℕ). HasRead p x b (own k past)) (sym ro) z)))
+        absurd (fr.unread b (subst (λ (k : ℕ). HasReadHeld p x b (own k past)) (sym ro) z)))
   ]
 
-  act_read : (o : ℕ) (p : Place) (x : List ℕ) (f : ℕ) (b : List ℕ) → IsLockable p → is_held_of o (kind_of x) ≡ true → IsLive o w → HasNoneOf start o → HasRead p x b (own o (Act r s a m ∷ past)) → In v p x f → (v.files f).bytes ≡ b
+  act_read : (o : ℕ) (p : Place) (x : List ℕ) (f : ℕ) (b : List ℕ) → IsLockable p → is_held_of o (kind_of x) ≡ true → IsLive o w → HasNoneOf start o → HasReadHeld p x b (own o (Act r s a m ∷ past)) → In v p x f → (v.files f).bytes ≡ b
   act_read o p x f b lock held lv none z leads = elim (once_case o r s a m past z) [
     | inl y ↦ just y.1.0 (did_step y.1.1) (did_answer y.1.1) leads
     | inr y ↦ (let old = old_held o p x f b lock held none y leads in (keeps f (under p x f old)).0 ∙ i.read o p x f b lock held lv none y old)

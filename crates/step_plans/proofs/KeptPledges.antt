@@ -5,7 +5,7 @@ use Rattle.std.proofs.lemmas.List.{reverse-append}
 use Rattle.folder_files.specs.Careful.{IsCareful, IsLook, looks, changes}
 use Rattle.folder_files.specs.Commands.{Manner}
 use Rattle.folder_files.specs.Deeds.{Deed as Deed_, did}
-use Rattle.folder_files.specs.Histories.{own, deed_of, past_of, has_acted, IsLegal, begins, answers, fails, is_dead, delivers, crashes, crashes_within, stops, IsLockable, Changes, IsOnMail, IsOrderly, AreCareful, AreOrderly}
+use Rattle.folder_files.specs.Histories.{own, past_of, has_acted, IsLegal, begins, answers, fails, is_dead, delivers, crashes, crashes_within, stops, IsLockable, Changes, IsOnMail, IsOrderly, AreCareful, AreOrderly}
 use Rattle.folder_files.specs.Story.{Mine, Theirs, IsOther, AreOthers, event_of, places}
 use Rattle.folder_files.specs.declared.event.Event.{Event}
 use Rattle.folder_files.specs.declared.event.Event.TheVariants.{Act, Deliver, Crash, End}
@@ -19,8 +19,7 @@ use Rattle.file_plans.specs.Follows.{Turn, Filed, Spoke, Took, filed_in, deeds_i
 use Rattle.file_plans.specs.Rules.{AreKept}
 use Rattle.file_plans.specs.Runs.{Deed, Did, Said, Heard}
 use Rattle.file_plans.specs.StaysCareful.{IsOwnStep, only_looks, careful, HoldOwnSteps}
-use Rattle.file_plans.proofs.Acting.{acts, acts_append, own_mine}
-use Rattle.file_plans.proofs.Rising.{num_not}
+use Rattle.file_plans.proofs.Acting.{acts, acts_append, deed_other, own_mine}
 use Rattle.folder_files.proofs.Names.{num_same as num_is, num_apart, or_false}
 use Rattle.step_plans.proofs.Taken.{taken}
 use Rattle.step_plans.specs.Pledges.{Pledge, MayAsk}
@@ -30,12 +29,6 @@ use Rattle.step_plans.specs.Safety.{AtSteps, CommitsItsBases, OthersAreCareful, 
 -- one more event at the end
 past_more : (before : List Event) (e : Event) → past_of (before ++ e ∷ []) ≡ e ∷ past_of before
 past_more before e = reverse-append before (e ∷ [])
-
-deed_other : (run : ℕ) (e : Event) → IsOther run e → deed_of run e ≡ []
-deed_other run (Act r s a f) o = rw (num_not r run o) refl
-deed_other run (Deliver path piece) o = refl
-deed_other run (Crash v) o = refl
-deed_other run (End r) o = refl
 
 own_theirs : (run : ℕ) (e : Event) (past : List Event) → IsOther run e → own run (e ∷ past) ≡ own run past
 unfolding own

@@ -25,7 +25,7 @@ use Rattle.step_plans.specs.Leaving.{IsDiscarded, now, on}
 use Rattle.step_plans.specs.MailInvariant.{IsLetGo}
 use Rattle.step_plans.specs.Moments.{Leads, Tries}
 use Rattle.step_plans.specs.Spending.{IsSpent, IsClear, now, on}
-use Rattle.step_plans.specs.Successors.{HasRead, HasMadeSince, WasPutSince, IsSuccessor, now, on}
+use Rattle.step_plans.specs.Successors.{HasReadHeld, HasMadeSince, WasPutSince, IsSuccessor, now, on}
 use Rattle.folder_files.proofs.Names.{num_same, num_itself, or_left, or_last}
 
 -- one more event, and the run's own deeds
@@ -152,11 +152,11 @@ since_case (on w) = inr w
 pub made_created : {p : Place} {h b : List ℕ} {q : Place} {t c : List ℕ} {deeds : List Deed} → HasMadeSince p h b q t c deeds → WasDone (Create q t c) deeds
 made_created w = once_map (λ d older z. z.0) w
 
-pub made_read : {p : Place} {h b : List ℕ} {q : Place} {t c : List ℕ} {deeds : List Deed} → HasMadeSince p h b q t c deeds → HasRead p h b deeds
+pub made_read : {p : Place} {h b : List ℕ} {q : Place} {t c : List ℕ} {deeds : List Deed} → HasMadeSince p h b q t c deeds → HasReadHeld p h b deeds
 made_read (now z) = on z.1
 made_read (on w) = on (made_read w)
 
-pub since_read : {start : World} (r : ℕ) {p : Place} {h b : List ℕ} {q : Place} {g : ℕ} {c : List ℕ} (past : List Event) → WasPutSince start r p h b q g c past → HasRead p h b (own r past)
+pub since_read : {start : World} (r : ℕ) {p : Place} {h b : List ℕ} {q : Place} {g : ℕ} {c : List ℕ} (past : List Event) → WasPutSince start r p h b q g c past → HasReadHeld p h b (own r past)
 since_read r [] w = elim w [ ]
 since_read r (Act u s a m ∷ past) w = once_more r (Act u s a m) past (elim (since_case w) [ inl z ↦ made_read z.7 | inr z ↦ since_read r past z ])
 since_read r (Deliver path piece ∷ past) (on w) = once_more r (Deliver path piece) past (since_read r past w)

@@ -12,8 +12,9 @@ pub data IsMovedOn (x y : List ℕ) : List Change → Type 0 where
   here : {cs : List Change} → IsUntouched x cs → IsMovedOn x y (Moved x y ∷ cs)
   on : {c : Change} {cs : List Change} → touches c y ≡ false → IsMovedOn x y cs → IsMovedOn x y (c ∷ cs)
 
--- a standing name that leads to the file in the safe slots, and its end: the name itself, where no pending change touches it, or else
--- the held name to which the first change that touches it moves it, where no later change touches that
+-- a standing name that leads to the file in the safe slots, and its end: the name itself, where no pending change
+-- touches it, or else the held name to which the first change that touches it moves it, where no later change touches
+-- that
 pub record IsAnchor (s : Slots) (cs : List Change) (f : ℕ) (x end : List ℕ) : Type 0 where
   pub standing : is_standing x ≡ true
   pub safe : s x ≡ Some f

@@ -27,7 +27,8 @@ text_of w (Some f) = (w.files f).bytes
 abbrev pub text_at : WorldMap → Place → List ℕ → List ℕ
 text_at w p name = text_of w (now_in (w.directories p) name)
 
--- the base: what the run's last reading of the name, or its later commit of it, had under the present lock; a missing file has no bytes
+-- the base: what the run's last reading of the name, or its later commit of it, had under the present lock; a missing
+-- file has no bytes
 pub data IsBase (run : ℕ) (p : Place) (name : List ℕ) : List ℕ → List Deed → Type 0 where
   found : {d : Deed} {older : List Deed} {text : List ℕ} → IsRead p name text d → HasLock p older → IsBase run p name text (d ∷ older)
   missing : {d : Deed} {older : List Deed} {limit : ℕ} → d ≡ did (Read p name limit) Gone → HasLock p older → IsBase run p name [] (d ∷ older)
@@ -37,7 +38,8 @@ pub data IsBase (run : ℕ) (p : Place) (name : List ℕ) : List ℕ → List De
 
 -- the event is a commit of this name, tried by whatever run: a rename to it of a name that led to a file
 abbrev pub TriesCommit : World → Place → List ℕ → Event → List Event → Type 0
-TriesCommit start p name (Act r s a m) past = (temp : List ℕ) × (f : ℕ) × (s ≡ Rename p temp name) × Tries start r p temp f past
+TriesCommit start p name (Act r s a m) past =
+    (temp : List ℕ) × (f : ℕ) × (s ≡ Rename p temp name) × Tries start r p temp f past
 TriesCommit start p name (Deliver path piece) past = ⊥
 TriesCommit start p name (Crash v) past = ⊥
 TriesCommit start p name (End r) past = ⊥

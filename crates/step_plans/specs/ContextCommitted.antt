@@ -28,11 +28,14 @@ use Rattle.step_plans.specs.declared.fault.PlanFault.TheVariants as fault
 -- where no step failed and what shows it was answered
 abbrev pub ShowsEnd : ℕ → Place → List ChangeEntry → State → State → List Deed → PlanFault → Type 0
 ShowsEnd run p cs x y own fault.Faulted = Rose x.files.faults y.files.faults × Made IsFailed own
-ShowsEnd run p cs x y own (fault.Locked q) = ShowsPlanFault run p cs x.hand (fault.Locked q) own × (Made IsFailed own → ⊥)
-ShowsEnd run p cs x y own (fault.Meddled q n) = ShowsPlanFault run p cs x.hand (fault.Meddled q n) own × (Made IsFailed own → ⊥)
+ShowsEnd run p cs x y own (fault.Locked q) =
+    ShowsPlanFault run p cs x.hand (fault.Locked q) own × (Made IsFailed own → ⊥)
+ShowsEnd run p cs x y own (fault.Meddled q n) =
+    ShowsPlanFault run p cs x.hand (fault.Meddled q n) own × (Made IsFailed own → ⊥)
 ShowsEnd run p cs x y own fault.Full = ⊥
 ShowsEnd run p cs x y own (fault.Absent q) = ⊥
-ShowsEnd run p cs x y own (fault.TooLarge l) = ShowsPlanFault run p cs x.hand (fault.TooLarge l) own × (Made IsFailed own → ⊥)
+ShowsEnd run p cs x y own (fault.TooLarge l) =
+    ShowsPlanFault run p cs x.hand (fault.TooLarge l) own × (Made IsFailed own → ⊥)
 ShowsEnd run p cs x y own fault.Memory = Unit {0}
 
 -- each answer has its cause in the answers to the call's own steps
@@ -48,8 +51,8 @@ KnowsContext m path h = (es : List NamedValue) → h.context ≡ Some es → es 
 
 -- where they say what the changes would say nothing changed, and else the context has its new text, and nothing else of
 -- the mailbox changed
-abbrev pub IsCommitted : Mailbox → Mailbox → List ℕ → List ChangeEntry → Hand → Type 0
-IsCommitted before after path cs h =
+abbrev pub IsContextCommitted : Mailbox → Mailbox → List ℕ → List ChangeEntry → Hand → Type 0
+IsContextCommitted before after path cs h =
     ((settled cs h.context ≡ true) × (after ≡ before)) ⊎ ((settled cs h.context ≡ false) × (after ≡ with_context_text before (Mail path) (text_by cs (filled (before.context (Mail path))))))
 
 -- so of a commit beside which nothing happened
@@ -57,7 +60,7 @@ abbrev pub CommitsAlone : ℕ → List ℕ → List ChangeEntry → Hand → Sto
 CommitsAlone run path cs h old new =
     (added : List ℕ) → new.asked ≡ old.asked ++ added → IsStart new.start → IsPossible old → IsAlone run new.start new.history added →
     let first = first_of (length old.history) added in
-    KnowsContext (mailbox_at new first) path h → IsCommitted (mailbox_at new first) (mailbox_at new (first + length added)) path cs h
+    KnowsContext (mailbox_at new first) path h → IsContextCommitted (mailbox_at new first) (mailbox_at new (first + length added)) path cs h
 
 -- where a story is told
 abbrev pub CommitsAloneIfTold : ℕ → List ℕ → List ChangeEntry → Hand → Option Story → Option Story → Type 0

@@ -17,7 +17,8 @@ use Rattle.step_plans.specs.Durable.{IsDurable}
 
 -- the event cut this file: a cut at the length that the file had was made
 abbrev pub IsCut : World → FilePath → Event → List Event → Type 0
-IsCut start f (Act r s a m) past = (n : ℕ) × (s ≡ CutDrop f n) × (m ≡ Made) × (cut_answer n ((world_after start past).outside f) ≡ Done)
+IsCut start f (Act r s a m) past =
+    (n : ℕ) × (s ≡ CutDrop f n) × (m ≡ Made) × (cut_answer n ((world_after start past).outside f) ≡ Done)
 IsCut start f (Deliver path piece) past = ⊥
 IsCut start f (Crash v) past = ⊥
 IsCut start f (End r) past = ⊥

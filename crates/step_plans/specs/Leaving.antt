@@ -21,7 +21,8 @@ pub data IsRemoved (start : World) (p : Place) (f : ℕ) : List Event → Type 0
       → Tries start run p number f past → IsRemoved start p f (Act run (Unlink p number) a m ∷ past)
   on : {e : Event} {past : List Event} → IsRemoved start p f past → IsRemoved start p f (e ∷ past)
 
--- the file was discarded: a run tried to unlink its own held name that led to it, and had not given it a number and then synced the folder
+-- the file was discarded: a run tried to unlink its own held name that led to it, and had not given it a number and
+-- then synced the folder
 pub data IsDiscarded (start : World) (p : Place) (f : ℕ) : List Event → Type 0 where
   now : {run : ℕ} {held : List ℕ} {a : Answer} {m : After} {past : List Event} → is_held_of run (kind_of held) ≡ true → Tries start run p held f past
       → (WasGivenAway p held (own run past) → ⊥) → IsDiscarded start p f (Act run (Unlink p held) a m ∷ past)

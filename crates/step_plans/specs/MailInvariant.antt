@@ -40,10 +40,12 @@ pub record MailInvariant (start : World) (past : List Event) : Type 0 where
   -- a file that was put since the last crash, or is durable, is safe and has its bytes
   pub safe : (p : Place) (f : ℕ) (bytes : List ℕ) → WasPut start p f bytes past ⊎ IsDurable start p f bytes past
       → (((world_after start past).files f).safe ≡ true) × (((world_after start past).files f).bytes ≡ bytes)
-  -- a file that was ever put, also before a crash and whether or not its folder was synced, is safe with the bytes with which it was made
+  -- a file that was ever put, also before a crash and whether or not its folder was synced, is safe with the bytes with
+  -- which it was made
   pub safe_ever : (p : Place) (f : ℕ) (bytes : List ℕ) → HasBeenPut start p f bytes past
       → (((world_after start past).files f).safe ≡ true) × (((world_after start past).files f).bytes ≡ bytes)
-  -- a file that was put since the last crash, or is durable, was removed or discarded, or it has a solid name in its directory
+  -- a file that was put since the last crash, or is durable, was removed or discarded, or it has a solid name in its
+  -- directory
   pub solid : (p : Place) (f : ℕ) (bytes : List ℕ) → WasPut start p f bytes past ⊎ IsDurable start p f bytes past → HasSolidName start p f past ⊎ IsLetGo start p f past
   -- a durable file was removed or discarded, or it has an anchor whose end is a number or a held name that isn't clear
   pub anchored : (p : Place) (f : ℕ) (bytes : List ℕ) → IsDurable start p f bytes past → HasFirmAnchor start p f past ⊎ IsLetGo start p f past

@@ -19,8 +19,8 @@ pub data HasLed (start : World) (p : Place) (x : List ℕ) (f : ℕ) : List Even
   now : {past : List Event} → Leads start past p x f → HasLed start p x f past
   on : {e : Event} {past : List Event} → HasLed start p x f past → HasLed start p x f (e ∷ past)
 
--- the run tried its step at this moment: right before the step, where the run was live, or, where a crash right before the step ended the run,
--- right before that crash
+-- the run tried its step at this moment: right before the step, where the run was live, or, where a crash right before
+-- the step ended the run, right before that crash
 pub data IsTriedAt (start : World) (run : ℕ) : List Event → List Event → Type 0 where
   live : {past : List Event} → IsLive run (world_after start past) → IsTriedAt start run past past
   cut : {v : World} {past : List Event} → (shown v).ended run ≡ true → IsLive run (world_after start past) → IsTriedAt start run past (Crash v ∷ past)
@@ -31,7 +31,8 @@ Tries start run p x f past = (moment : List Event) × IsTriedAt start run moment
 
 -- the step would make the name, which leads to no file in this world, lead to one
 abbrev pub WouldMake : WorldMap → ℕ → Step → Place → List ℕ → Type 0
-WouldMake w run s p x = (now_in (w.directories p) x ≡ None) × ((f : ℕ) × (now_in ((made w run s).directories p) x ≡ Some f))
+WouldMake w run s p x =
+    (now_in (w.directories p) x ≡ None) × ((f : ℕ) × (now_in ((made w run s).directories p) x ≡ Some f))
 
 -- no step was tried that would make the name where it had led to a file before
 abbrev pub IsMadeOnce : World → Place → List ℕ → List Event → Type 0

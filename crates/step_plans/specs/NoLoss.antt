@@ -15,7 +15,8 @@ use Rattle.step_plans.specs.Successors.{IsSuccessor}
 
 -- in this world a number or a held name of the directory leads to the file, and the file has these bytes
 abbrev pub Stands : WorldMap → Place → ℕ → List ℕ → Type 0
-Stands w p f bytes = (x : List ℕ) × (is_standing x ≡ true) × (now_in (w.directories p) x ≡ Some f) × ((w.files f).bytes ≡ bytes)
+Stands w p f bytes =
+    (x : List ℕ) × (is_standing x ≡ true) × (now_in (w.directories p) x ≡ Some f) × ((w.files f).bytes ≡ bytes)
 
 -- the file stands in the world, and in each world that a crash may leave of it
 pub record StandsFirm (w : WorldMap) (p : Place) (f : ℕ) (bytes : List ℕ) : Type 0 where
@@ -30,8 +31,8 @@ HasSuccessor start past p f bytes = (q : Place) × (g : ℕ) × (copy : List ℕ
 abbrev pub IsTrueSuccessor : World → List Event → List ℕ → Place → ℕ → List ℕ → Type 0
 IsTrueSuccessor start past bytes q g copy = IsDurable start q g copy past × Annotates bytes copy
 
--- the file of these bytes was removed; or it stands firm; or it was discarded, has a successor, and each of its successors is a true one and meets this again.
--- By its making, the chain of successors ends
+-- the file of these bytes was removed; or it stands firm; or it was discarded, has a successor, and each of its
+-- successors is a true one and meets this again. By its making, the chain of successors ends
 pub data IsKept (start : World) (past : List Event) : Place → ℕ → List ℕ → Type 0 where
   removed : {p : Place} {f : ℕ} {bytes : List ℕ} → IsRemoved start p f past → IsKept start past p f bytes
   stands : {p : Place} {f : ℕ} {bytes : List ℕ} → StandsFirm (world_after start past) p f bytes → IsKept start past p f bytes
@@ -42,4 +43,5 @@ pub data IsKept (start : World) (past : List Event) : Place → ℕ → List ℕ
 
 -- each durable file is kept
 abbrev pub LosesNothing : World → List Event → Type 0
-LosesNothing start past = (p : Place) (f : ℕ) (bytes : List ℕ) → IsDurable start p f bytes past → IsKept start past p f bytes
+LosesNothing start past =
+    (p : Place) (f : ℕ) (bytes : List ℕ) → IsDurable start p f bytes past → IsKept start past p f bytes

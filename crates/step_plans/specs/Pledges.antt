@@ -30,20 +30,8 @@ pub record IsMarked (w : Pledge) (p : Place) (temp name : List ℕ) (own : List 
 
 -- a commit writes what the command makes of the base
 abbrev pub Marks : Pledge → List Deed → Step → Type 0
-Marks w own (step.List p) = Unit {0}
-Marks w own (step.Read p n limit) = Unit {0}
-Marks w own (step.MakeFolder p) = Unit {0}
-Marks w own (step.Create p n b) = Unit {0}
-Marks w own (step.SyncFile p n) = Unit {0}
-Marks w own (step.SyncFolder p) = Unit {0}
-Marks w own (step.Link p a b) = Unit {0}
 Marks w own (step.Rename p temp name) = is_committed p name ≡ true → IsMarked w p temp name own
-Marks w own (step.Unlink p a) = Unit {0}
-Marks w own (step.Lock p) = Unit {0}
-Marks w own (step.Unlock p) = Unit {0}
-Marks w own (step.ReadFile f limit) = Unit {0}
-Marks w own (step.ReadDrop f from most) = Unit {0}
-Marks w own (step.CutDrop f length_) = Unit {0}
+Marks w own s = Unit {0}
 
 -- the step may be asked for after these own deeds: it is careful and of the command's kinds, orderly, commits as
 -- pledged, and where it changes something it is one that the pledge lets be

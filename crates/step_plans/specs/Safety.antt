@@ -56,7 +56,8 @@ StepsAsPledged w past = AtSteps (λ r. r ≡ w.run) (λ r own s. (IsLook s → �
 -- so where the run had made no step before the call, and a story is told
 abbrev pub GoesAsPledged : Pledge → Option Story → Option Story → Type 0
 GoesAsPledged w None None = Unit {0}
-GoesAsPledged w (Some old) (Some new) = has_acted (past_of old.history) w.run ≡ false → StepsAsPledged w (past_of new.history)
+GoesAsPledged w (Some old) (Some new) =
+    has_acted (past_of old.history) w.run ≡ false → StepsAsPledged w (past_of new.history)
 GoesAsPledged w None (Some new) = ⊥
 GoesAsPledged w (Some old) None = ⊥
 
@@ -66,7 +67,8 @@ CommitsItsBases w past = AtSteps (λ r. r ≡ w.run) (λ r own s. Marks w own s)
 
 abbrev pub GoesByBases : Pledge → Option Story → Option Story → Type 0
 GoesByBases w None None = Unit {0}
-GoesByBases w (Some old) (Some new) = has_acted (past_of old.history) w.run ≡ false → CommitsItsBases w (past_of new.history)
+GoesByBases w (Some old) (Some new) =
+    has_acted (past_of old.history) w.run ≡ false → CommitsItsBases w (past_of new.history)
 GoesByBases w None (Some new) = ⊥
 GoesByBases w (Some old) None = ⊥
 

@@ -27,14 +27,15 @@ folder_said words items (Ok word) = with_folder items (folder_named word)
 folder_said words items (Err wrong) = Err (wrong_at words wrong)
 
 abbrev pub items_said : List (List ℕ) → Result (List Item) Wrong → Result StoreWords Ended
-items_said words (Ok items) = folder_said words items (unless_bad (first_of (wrong_values items)) (one_folder (folders items)))
+items_said words (Ok items) =
+    folder_said words items (unless_bad (first_of (wrong_values items)) (one_folder (folders items)))
 items_said words (Err wrong) = Err (wrong_at words wrong)
 
 -- the words of the profile's entry, and then the command's
 abbrev pub store_line : List NamedValue → List (List ℕ) → List (List ℕ)
 store_line profile words = profile_words (codes "mhstore") profile ++ words
 
--- what the words of `mhstore` say, those of the profile first, or the refusal: of a switch; then of a second folder or of a wrong value,
--- the earlier first; and then of a folder's name
+-- what the words of `mhstore` say, those of the profile first, or the refusal: of a switch; then of a second folder or
+-- of a wrong value, the earlier first; and then of a folder's name
 abbrev pub store_said : List NamedValue → List (List ℕ) → Result StoreWords Ended
 store_said profile words = items_said (store_line profile words) (read_in store_table 0 (store_line profile words))

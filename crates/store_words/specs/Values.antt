@@ -41,7 +41,8 @@ clobbers items = by_word (last_of (values CLOBBER items))
 
 -- a part is a path, and behind `-clobber` stands one of its words
 abbrev pub is_wrong : ℕ → List ℕ → Bool
-is_wrong index value = if index == PART then is_none (path_of value) else (if index == CLOBBER then not (is_choice value) else false)
+is_wrong index value =
+    if index == PART then is_none (path_of value) else (if index == CLOBBER then not (is_choice value) else false)
 
 -- the place of a wrong value
 abbrev pub wrong_in : Item → List ℕ

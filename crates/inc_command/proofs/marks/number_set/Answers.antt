@@ -1,5 +1,6 @@
 use Rattle.opened_folders.proofs.Sets.{made_from}
-use Rattle.inc_command.proofs.NewMarks.{all_added, is_one, one_added}
+use Rattle.mh_base.proofs.NumberTests.{is_one}
+use Rattle.inc_command.proofs.NewMarks.{all_added, one_added}
 use Rattle.inc_command.proofs.marks.number_set.Goals as goal
 
 pub loop-number-preserved : goal.loop-number-preserved

@@ -1,6 +1,6 @@
 use Rattle.std.proofs.Common.{◌≡◌, ◌||◌, ℕ, drop}
 use Rattle.mh_sequences.specs.Runs.{has}
-use Rattle.inc_command.proofs.NewMarks.{is_one}
+use Rattle.mh_base.proofs.NumberTests.{is_one}
 use Rattle.inc_command.proofs.marks.number_set.Given as goal
 
 abbrev pub invariant-loop-number : goal.invariant-loop-number

@@ -1,6 +1,6 @@
 use Rattle.std.proofs.Common.{◌+◌, arith, refl}
 use Rattle.file_plans.proofs.Following.{done, no_room, refuses}
-use Rattle.inc_command.proofs.Tests.{above, at_most}
+use Rattle.mh_base.proofs.NumberTests.{above, at_most}
 use Rattle.inc_command.proofs.room.ask_room.Goals as goal
 
 pub returns-in_err-duplicate : goal.returns-in_err-duplicate

@@ -1,6 +1,6 @@
 use Rattle.std.proofs.Common.{◌≡◌, ◌≤◌, ℕ, ◌+◌, ◌⊎◌, inl, inr, drop, sym, ap, ◌∙◌, arith}
 use Rattle.mbox_drop.specs.Finding.{found_by}
-use Rattle.mbox_drop.specs.declared.place.Place.{Place}
+use Rattle.mbox_drop.specs.declared.place.DropState.{DropState}
 use Rattle.mbox_drop.specs.declared.place.Turn.{Turn}
 use Rattle.mbox_drop.specs.declared.place.Turn.TheVariants.{Joins, Passes}
 use Rattle.mbox_drop.specs.declared.find.Found.TheVariants.{Cut, End}
@@ -22,7 +22,7 @@ returns-in-Begins-clause-value c =
     ∙ find_step c.args.base c.bytes.place c.bytes.before c.bytes.i c.args.bytes.now c.turn.result (Cut c.bytes.before (c.bytes.i + 1)) _ c.bytes-test.true c.turn.ensures
     (ap (λ t. found_by c.args.base c.bytes.before c.bytes.i t) c.in-Begins.is) c.bytes.invariant.search
 
-joins : (base before i : ℕ) (t : Turn) (p : Place) → (t ≡ Joins p) ⊎ (t ≡ Passes p) → found_by base before i t ≡ End p before
+joins : (base before i : ℕ) (t : Turn) (p : DropState) → (t ≡ Joins p) ⊎ (t ≡ Passes p) → found_by base before i t ≡ End p before
 joins base before i t p (inl e) = ap (λ x. found_by base before i x) e
 joins base before i t p (inr e) = ap (λ x. found_by base before i x) e
 

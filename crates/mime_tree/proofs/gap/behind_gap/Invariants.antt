@@ -1,5 +1,5 @@
 use Rattle.std.proofs.Common.{◌≡◌, ◌≤◌, drop}
-use Rattle.mime_tree.specs.declared.gap.Place.TheVariants.{Between}
+use Rattle.mime_tree.specs.declared.gap.Nesting.TheVariants.{Between}
 use Rattle.mime_tree.specs.Depths.{depth_of}
 use Rattle.mime_tree.specs.Gaps.{behind_gap_at}
 use Rattle.mime_tree.proofs.gap.behind_gap.Given as goal

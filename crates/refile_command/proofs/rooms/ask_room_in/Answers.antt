@@ -1,7 +1,7 @@
 use Rattle.std.proofs.Common.{◌+◌, arith, refl}
 use Rattle.file_plans.proofs.Following.{done, no_room, refuses}
 use Rattle.message_moves.specs.Copying.{highest_of}
-use Rattle.refile_command.proofs.NumberTests.{above, at_most}
+use Rattle.mh_base.proofs.NumberTests.{above, at_most}
 use Rattle.refile_command.proofs.rooms.ask_room_in.Goals as goal
 
 pub returns-in_err-duplicate : goal.returns-in_err-duplicate

@@ -1,7 +1,8 @@
 use Rattle.std.proofs.Common.{sym, ◌∙◌}
 use Rattle.mime_tree.proofs.Emptiness.{no_bytes, some_bytes}
 use Rattle.mhbuild_compose.specs.Keys.{takes}
-use Rattle.mhbuild_compose.proofs.Lining.{behind_less, lines_are, lines_none}
+use Rattle.mh_drafts.proofs.Joining.{behind_less}
+use Rattle.mhbuild_compose.proofs.Lining.{lines_are, lines_none}
 use Rattle.mhbuild_compose.proofs.Walking.{any_none, any_step}
 use Rattle.mhbuild_compose.proofs.keys.Keys.add_text.Goals as goal
 
