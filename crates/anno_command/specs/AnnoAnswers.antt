@@ -22,24 +22,32 @@ use Rattle.anno_command.specs.declared.job.AnnoJob.{AnnoJob}
 
 -- the sequences stay, but for what the reading cuts; or the first word that chooses none refuses
 abbrev pub anno_answers : AnnoJob → Answering
-anno_answers job = record { makes = λ listing m new. ⊥; refuses = λ listing m r. chosen_from job listing m ≡ Err (fault.Refused r) }
+anno_answers job =
+    record { makes = λ listing m new. ⊥; refuses = λ listing m r. chosen_from job listing m ≡ Err (fault.Refused r) }
 
 -- what shows that a chosen message can't get the lines
 pub data ShowsNotes (run : ℕ) (path : List ℕ) (job : AnnoJob) : CommandFault → List Deed → Type 0 where
   -- the run listed a message at the last number
-  none_left : {listing : List Run} {text context : List ℕ} {own : List Deed} → HaveSeen run (Folder path job.folder) (Mail path) listing text context own → has listing 999999 ≡ true
+  none_left : {listing : List Run} {text context : List ℕ} {own : List Deed}
+      → HaveSeen run (Folder path job.folder) (Mail path) listing text context own → has listing 999999 ≡ true
       → ShowsNotes run path job (fault.Refused (refusal.Full job.folder)) own
   -- it put one there, or met one
-  none_met : {own : List Deed} → HasMetAt (Folder path job.folder) 999999 own → ShowsNotes run path job (fault.Refused (refusal.Full job.folder)) own
+  none_met : {own : List Deed} → HasMetAt (Folder path job.folder) 999999 own
+      → ShowsNotes run path job (fault.Refused (refusal.Full job.folder)) own
   -- a message that the words choose was just read, and is too long, with this length
   long_message : {n l : ℕ} {older : List Deed} → WasChosen run path job n older
-      → ShowsNotes run path job (fault.Refused (refusal.TooLarge l LIMIT_BYTES)) (did (Read (Folder path job.folder) (entry_text (Held run n)) LIMIT_BYTES) (Long l) ∷ older)
+      → ShowsNotes run path job (fault.Refused (refusal.TooLarge l LIMIT_BYTES))
+      (did (Read (Folder path job.folder) (entry_text (Held run n)) LIMIT_BYTES) (Long l) ∷ older)
   -- one was just read, and is too long with the lines
-  long_lines : {n : ℕ} {bytes : List ℕ} {older : List Deed} → WasChosen run path job n older → nat_lt LIMIT_BYTES (length (job.lines ++ bytes)) ≡ true
-      → ShowsNotes run path job (fault.Refused (refusal.TooLarge (length (job.lines ++ bytes)) LIMIT_BYTES)) (did (Read (Folder path job.folder) (entry_text (Held run n)) LIMIT_BYTES) (Content bytes) ∷ older)
+  long_lines : {n : ℕ} {bytes : List ℕ} {older : List Deed} → WasChosen run path job n older
+      → nat_lt LIMIT_BYTES (length (job.lines ++ bytes)) ≡ true
+      → ShowsNotes run path job (fault.Refused (refusal.TooLarge (length (job.lines ++ bytes)) LIMIT_BYTES))
+      (did (Read (Folder path job.folder) (entry_text (Held run n)) LIMIT_BYTES) (Content bytes) ∷ older)
   -- one was just let go, and the folder is gone as the run makes that safe
   let_go_gone : (n : ℕ) {older : List Deed}
-      → ShowsNotes run path job (fault.Meddled (Folder path job.folder) (entry_text (Held run n))) (did (SyncFolder (Folder path job.folder)) Gone ∷ did (Unlink (Folder path job.folder) (entry_text (Held run n))) Done ∷ older)
+      → ShowsNotes run path job (fault.Meddled (Folder path job.folder) (entry_text (Held run n)))
+      (did (SyncFolder (Folder path job.folder)) Gone
+      ∷ did (Unlink (Folder path job.folder) (entry_text (Held run n))) Done ∷ older)
 
 -- what shows each fault of `anno`
 abbrev pub ShowsAnno : ℕ → List ℕ → AnnoJob → CommandFault → List Deed → Type 0

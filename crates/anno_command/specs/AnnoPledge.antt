@@ -37,7 +37,8 @@ pub record WasChosen (run : ℕ) (path : List ℕ) (job : AnnoJob) (n : ℕ) (ow
 -- a number is held aside only where the words choose it
 abbrev pub TakesChosen : ℕ → List ℕ → AnnoJob → List Deed → Step → Type 0
 TakesChosen run path job own s =
-    (number held : List ℕ) (n : ℕ) → s ≡ step.Rename (Folder path job.folder) number held → kind_of number ≡ Number n → is_held (kind_of held) ≡ true → WasChosen run path job n own
+    (number held : List ℕ) (n : ℕ) → s ≡ step.Rename (Folder path job.folder) number held → kind_of number ≡ Number n
+    → is_held (kind_of held) ≡ true → WasChosen run path job n own
 
 -- the run took the message of this held name, and then read it and put it anew with the lines in front, and made that
 -- safe
@@ -56,7 +57,8 @@ LetsGoNoted run path job own s =
 abbrev pub PutsNoted : ℕ → List ℕ → AnnoJob → List Deed → Step → Type 0
 PutsNoted run path job own s =
     (q : Place) (temp number : List ℕ) → s ≡ step.Link q temp number → is_temp (kind_of temp) ≡ true
-    → (q ≡ Folder path job.folder) × ((bytes : List ℕ) × HasReadHeld q bytes own × WasReady q temp (job.lines ++ bytes) own)
+    → (q ≡ Folder path job.folder)
+    × ((bytes : List ℕ) × HasReadHeld q bytes own × WasReady q temp (job.lines ++ bytes) own)
 
 -- all that is asked of its steps besides
 abbrev pub NotesSo : ℕ → List ℕ → AnnoJob → List Deed → Step → Type 0
@@ -66,7 +68,9 @@ NotesSo run path job own s =
 -- `anno` begins the folder and keeps its marks, and puts the lines in front of messages that its words choose; it says
 -- nothing
 abbrev pub anno_pledge : ℕ → List ℕ → AnnoJob → Pledge
-anno_pledge run path job = folder_pledge run path job.folder MakesNothing (Annotating path job.folder every_message job.lines) (λ own piece. ⊥) (NotesSo run path job)
+anno_pledge run path job =
+    folder_pledge run path job.folder MakesNothing (Annotating path job.folder every_message job.lines) (λ own piece. ⊥)
+    (NotesSo run path job)
 
 -- what a call promises of its steps, where its lines are such lines
 abbrev pub PromisesSteps : ℕ → List ℕ → AnnoJob → State → State → Type 0

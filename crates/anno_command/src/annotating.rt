@@ -49,7 +49,8 @@ fn note_chosen<F: Files>(
     job: &AnnoJob,
     opened: &Opened,
 ) -> Result<(), CommandFault>
-    ensures plan { Follows hand.old.run command_cause (said_noted hand.old.run job.now opened.now) (by_hand hand.old.kept (F.state files.old)) (by_hand hand.new.kept (F.state files.new)) result }
+    ensures plan { Follows hand.old.run command_cause (said_noted hand.old.run job.now opened.now)
+        (by_hand hand.old.kept (F.state files.old)) (by_hand hand.new.kept (F.state files.new)) result }
     ensures run { hand.new.run ≡ hand.old.run }
     ensures mail { hand.new.mail ≡ hand.old.mail }
 {
@@ -79,7 +80,8 @@ fn note_opened<F: Files>(
     job: &AnnoJob,
     opened: Opened,
 ) -> Result<(), CommandFault>
-    ensures plan { Follows hand.old.run command_cause (opened_noted hand.old.run hand.old.mail job.now opened) (by_hand hand.old.kept (F.state files.old)) (by_hand hand.new.kept (F.state files.new)) result }
+    ensures plan { Follows hand.old.run command_cause (opened_noted hand.old.run hand.old.mail job.now opened)
+        (by_hand hand.old.kept (F.state files.old)) (by_hand hand.new.kept (F.state files.new)) result }
     ensures run { hand.new.run ≡ hand.old.run }
     ensures mail { hand.new.mail ≡ hand.old.mail }
 {
@@ -87,17 +89,21 @@ fn note_opened<F: Files>(
     make_current(alloc, hand, files, &job.folder)
 }
 
-/// Puts the lines in front of the bytes of each message that the words choose, in a folder that is begun: each is held aside, put anew at its number, and let
-/// go once that is safe. Marks stay with their messages. Then the folder becomes the current one.
+/// Puts the lines in front of the bytes of each message that the words choose, in a folder that is begun: each is held
+/// aside, put anew at its number, and let go once that is safe. Marks stay with their messages. Then the folder becomes
+/// the current one.
 pub fn anno<F: Files>(
     alloc: Global,
     hand: &mut Hand,
     files: &mut F,
     job: &AnnoJob,
 ) -> Result<(), CommandFault>
-    ensures plan { Follows hand.old.run command_cause (anno_plan hand.old.run hand.old.mail job.now) (by_hand hand.old.kept (F.state files.old)) (by_hand hand.new.kept (F.state files.new)) result }
-    ensures alone { NotesIfUnfaulted hand.old.run hand.old.mail job.now hand.old.kept result (F.state files.old) (F.state files.new) }
-    ensures steps { PromisesSteps hand.old.run hand.old.mail job.now (by_hand hand.old.kept (F.state files.old)) (by_hand hand.new.kept (F.state files.new)) }
+    ensures plan { Follows hand.old.run command_cause (anno_plan hand.old.run hand.old.mail job.now)
+        (by_hand hand.old.kept (F.state files.old)) (by_hand hand.new.kept (F.state files.new)) result }
+    ensures alone { NotesIfUnfaulted hand.old.run hand.old.mail job.now hand.old.kept result (F.state files.old)
+        (F.state files.new) }
+    ensures steps { PromisesSteps hand.old.run hand.old.mail job.now (by_hand hand.old.kept (F.state files.old))
+        (by_hand hand.new.kept (F.state files.new)) }
     ensures run { hand.new.run ≡ hand.old.run }
     ensures mail { hand.new.mail ≡ hand.old.mail }
 {

@@ -64,7 +64,8 @@ module _ (moment offset : ℤ) where
   folder_said words items (Err wrong) = Err (wrong_at words wrong)
 
   abbrev pub items_said : List (List ℕ) → Result (List Item) Wrong → Result AnnoWords Ended
-  items_said words (Ok items) = folder_said words items (unless_bad (first_of (wrong_values items)) (one_folder (folders items)))
+  items_said words (Ok items) = folder_said words items
+      (unless_bad (first_of (wrong_values items)) (one_folder (folders items)))
   items_said words (Err wrong) = Err (wrong_at words wrong)
 
 -- the words of the profile's entry, and then the command's

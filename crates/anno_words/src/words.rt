@@ -30,7 +30,8 @@ use mh_profile::Entries;
 use mh_words::ItemList;
 use std::alloc::{AllocError, Global};
 
-/// The words of `anno`: the folder, where they name one; the messages' names; and the lines that the messages get in front of their bytes.
+/// The words of `anno`: the folder, where they name one; the messages' names; and the lines that the messages get in
+/// front of their bytes.
 #[derive(Drop)]
 pub struct AnnoWords {
     pub folder: Option<FolderName>,
@@ -131,7 +132,9 @@ fn word_said(
     offset_minutes: i32,
 ) -> Result<AnnoWords, Ended>
     requires { IsSetting moment offset_minutes }
-    ensures { IsSaid (word_said_of moment offset_minutes all.now items.now (option_map (λ w. w.now) word.entry) (component_of items.now)) result }
+    ensures { IsSaid
+        (word_said_of moment offset_minutes all.now items.now (option_map (λ w. w.now) word.entry)
+        (component_of items.now)) result }
 {
     match component(alloc, items)? {
         Some(name) => named(alloc, items, word, &name, moment, offset_minutes),
@@ -162,8 +165,8 @@ fn items_said(
     }
 }
 
-/// What the words of `anno` say, those of the profile first. Its date is that of this moment, in seconds from 1970-01-01 00:00:00 UTC, by a clock that is
-/// so many minutes ahead of UTC.
+/// What the words of `anno` say, those of the profile first. Its date is that of this moment, in seconds from
+/// 1970-01-01 00:00:00 UTC, by a clock that is so many minutes ahead of UTC.
 pub fn anno_words(
     alloc: Global,
     profile: &Entries,

@@ -43,8 +43,8 @@ fn push_text(lines: &mut Bytes, component: &[u8], text: Option<&[u8]>) -> Result
     }
 }
 
-/// The lines that annotate a message with a field of this name: one with the date, where there is one, as in `Tue, 02 Jun 2026 10:00:00 +0000`, and then
-/// one with the text, where there is one.
+/// The lines that annotate a message with a field of this name: one with the date, where there is one, as in
+/// `Tue, 02 Jun 2026 10:00:00 +0000`, and then one with the text, where there is one.
 pub fn annotation_lines(
     alloc: Global,
     component: &[u8],
@@ -52,7 +52,8 @@ pub fn annotation_lines(
     text: Option<&[u8]>,
 ) -> Result<Bytes, AllocError>
     requires { IfSome date IsMailDate }
-    ensures { IfOk result (λ lines. lines ≡ annotation_lines_of component.now date (option_map (λ t. t.now) text.entry)) }
+    ensures { IfOk result
+        (λ lines. lines ≡ annotation_lines_of component.now date (option_map (λ t. t.now) text.entry)) }
 {
     let mut lines = Bytes::new(alloc);
     push_date(alloc, &mut lines, component, date)?;

@@ -1,4 +1,5 @@
-// Twenty thousand messages, each on a line of the default format, beside reading them from files, and a plain read of their bytes.
+// Twenty thousand messages, each on a line of the default format, beside reading them from files, and a plain read of
+// their bytes.
 use crate::message_files::measure_files;
 use crate::rates::{micros_since, plain, tell_things};
 use format_compiler::{FormatFault, Program, compile};

@@ -1,5 +1,5 @@
-//! Prints how fast what its word names is done: `drops`, `codes`, `text`, `formats`, `ranges` or `room`. Without a word it does nothing,
-//! since times differ from run to run.
+//! Prints how fast what its word names is done: `drops`, `codes`, `text`, `formats`, `ranges` or `room`. Without a word
+//! it does nothing, since times differ from run to run.
 #![tactic(auto)]
 
 mod codes;

@@ -1,4 +1,5 @@
-// The messages of a measure as files, one each, which are read as a command reads them: opened by their whole paths and read to their ends.
+// The messages of a measure as files, one each, which are read as a command reads them: opened by their whole paths and
+// read to their ends.
 use crate::rates::{micros_since, tell_things};
 use std::alloc::Global;
 use std::path::PathBuf;

@@ -1,5 +1,5 @@
-// Words that select messages in a folder of 999,999 messages, and in one of every second number; then long texts and many
-// words.
+// Words that select messages in a folder of 999,999 messages, and in one of every second number; then long texts and
+// many words.
 use crate::long;
 use crate::rates::micros_since;
 use mh_base::{FolderName, MsgNum, Text, TextList};

@@ -1,5 +1,5 @@
-// What speeds are told in, and what they stand beside. Each measure takes its time by itself and tells it by a call of its
-// own: a function that does both several times over takes minutes to prove.
+// What speeds are told in, and what they stand beside. Each measure takes its time by itself and tells it by a call of
+// its own: a function that does both several times over takes minutes to prove.
 use std::rt::Clock;
 use std::test::Fail;
 use std::time::Instant;

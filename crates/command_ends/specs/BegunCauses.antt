@@ -84,7 +84,8 @@ pub data ShowsEarly : CommandFault → List Deed → Type 0 where
   -- the context is
   long_context : {l : ℕ} {a : Answer}
       → ShowsEarly (too_large l)
-      (did (Read (Mail (path_by a)) context_name LIMIT_BYTES) (Long l) ∷ (did (Read Home profile_name LIMIT_BYTES) a ∷ []))
+      (did (Read (Mail (path_by a)) context_name LIMIT_BYTES) (Long l)
+      ∷ (did (Read Home profile_name LIMIT_BYTES) a ∷ []))
 
 -- of a command that only looks at a folder: it tells of the sequences that it read, with these entries of the context; or it is refused as a
 -- command that looks, its words by what it read
@@ -261,7 +262,8 @@ abbrev pub ShowsIncJob : ℕ → List NamedValue → List ℕ → Result (List �
     → Type 0
 ShowsIncJob run profile folder r own (Ok asked) =
     (folder ≡ asked.folder)
-    × ((spoken : Standing → Writing) × WritesAs asked.telling spoken own × ShowsIncorporating run (path_of profile) (job_writing asked spoken) r own)
+    × ((spoken : Standing → Writing) × WritesAs asked.telling spoken own
+    × ShowsIncorporating run (path_of profile) (job_writing asked spoken) r own)
 ShowsIncJob run profile folder r own (Err x) = ⊥
 
 -- by the command's name
@@ -330,7 +332,8 @@ TakesInBy caller profile (word ∷ words) asked =
 
 -- `inc` tells while it goes on: the call read the profile and the context, and this is a text of the heading and of
 -- lines of messages that it has stored, as the words say or the file that they name
-pub record TellsNewMail (run : ℕ) (caller : Caller) (words : List (List ℕ)) (text : List ℕ) (own : List Deed) : Type 0 where
+pub record TellsNewMail (run : ℕ) (caller : Caller) (words : List (List ℕ)) (text : List ℕ)
+    (own : List Deed) : Type 0 where
   pub profile : Answer
   pub context : Answer
   pub newer : List Deed
@@ -364,7 +367,8 @@ PicksBy caller profile context (word ∷ words) job =
 
 -- `pick` says that no message matches before it is refused: the call read the profile and the context, and this text
 -- says so
-pub record TellsNoMatch (run : ℕ) (caller : Caller) (words : List (List ℕ)) (text : List ℕ) (own : List Deed) : Type 0 where
+pub record TellsNoMatch (run : ℕ) (caller : Caller) (words : List (List ℕ)) (text : List ℕ)
+    (own : List Deed) : Type 0 where
   pub profile : Answer
   pub context : Answer
   pub newer : List Deed
@@ -391,7 +395,8 @@ ListsBy profile context (word ∷ words) job =
 
 -- `mhlist` tells while it goes on: the call read the profile and the context, and this is the text of the header and of
 -- the rows of the first messages that its words choose, which it has read
-pub record TellsParts (run : ℕ) (caller : Caller) (words : List (List ℕ)) (text : List ℕ) (own : List Deed) : Type 0 where
+pub record TellsParts (run : ℕ) (caller : Caller) (words : List (List ℕ)) (text : List ℕ)
+    (own : List Deed) : Type 0 where
   pub profile : Answer
   pub context : Answer
   pub newer : List Deed
@@ -418,7 +423,8 @@ StoresBy profile context (word ∷ words) job =
 
 -- `mhstore` tells while it goes on: the call read the profile and the context, and this is the text of the lines of the
 -- first files that it is to store, which it has stored
-pub record TellsFilesStored (run : ℕ) (caller : Caller) (words : List (List ℕ)) (text : List ℕ) (own : List Deed) : Type 0 where
+pub record TellsFilesStored (run : ℕ) (caller : Caller) (words : List (List ℕ)) (text : List ℕ)
+    (own : List Deed) : Type 0 where
   pub profile : Answer
   pub context : Answer
   pub newer : List Deed

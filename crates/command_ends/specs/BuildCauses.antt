@@ -29,7 +29,8 @@ pub data ShowsLongEntries : CommandFault → List Deed → Type 0 where
   long_profile_read : {l : ℕ} → ShowsLongEntries (too_large l) (did (Read Home profile_name LIMIT_BYTES) (Long l) ∷ [])
   long_context_read : {l : ℕ} {a : Answer}
       → ShowsLongEntries (too_large l)
-      (did (Read (Mail (path_by a)) context_name LIMIT_BYTES) (Long l) ∷ (did (Read Home profile_name LIMIT_BYTES) a ∷ []))
+      (did (Read (Mail (path_by a)) context_name LIMIT_BYTES) (Long l)
+      ∷ (did (Read Home profile_name LIMIT_BYTES) a ∷ []))
 
 -- the words of `mhbuild`, with these entries of the profile and of the context, make this its job
 abbrev pub IsBuildJob : List NamedValue → List NamedValue → BuildJob → Result BuildWords Ended → Type 0
@@ -55,7 +56,8 @@ ShowsBuilding run path job context (Err e) own = NotBuilt run path job context 0
 
 -- the call read the profile and then the context of the mail directory that it names; by these and the words this was
 -- the job; and the later deeds show how it ended: done, with this output, or by this fault
-pub record ShowsBuilt (run : ℕ) (words : List (List ℕ)) (r : Result (List ℕ) CommandFault) (own : List Deed) : Type 0 where
+pub record ShowsBuilt (run : ℕ) (words : List (List ℕ)) (r : Result (List ℕ) CommandFault)
+    (own : List Deed) : Type 0 where
   pub profile : Answer
   pub context : Answer
   pub newer : List Deed

@@ -38,12 +38,15 @@ IsFolderGone name own =
 -- a folder was listed, which is there, and its sequences were read; these are the newest steps
 abbrev pub IsFolderRead : List Deed → Type 0
 IsFolderRead own = (mail : List ℕ) × (name : List ℕ) × (names : List (List ℕ)) × (a : Answer) × (older : List Deed)
-    × (own ≡ did (step.Read (Folder mail name) (entry_text Sequences) LIMIT_BYTES) a ∷ (did (step.List (Folder mail name)) (answer.Names names) ∷ older))
+    × (own ≡ did (step.Read (Folder mail name) (entry_text Sequences) LIMIT_BYTES) a
+    ∷ (did (step.List (Folder mail name)) (answer.Names names) ∷ older))
 
 -- the newest step read a file, and the answer was that it is too long, with this length; or that step read the context,
 -- and the text in which some folder is the current one has this length, which is above the limit
 abbrev pub IsAboveLimit : ℕ → List Deed → Type 0
-IsAboveLimit l own = ((place : Place) × (name : List ℕ) × IsLongRead place name l own) ⊎ ((mail : List ℕ) × (folder : List ℕ) × IsLongText (Mail mail) (current_change folder) l own)
+IsAboveLimit l own =
+    ((place : Place) × (name : List ℕ) × IsLongRead place name l own)
+    ⊎ ((mail : List ℕ) × (folder : List ℕ) × IsLongText (Mail mail) (current_change folder) l own)
 
 -- what shows each refusal once the words are read; the others never come
 abbrev pub ShowsRefusal : Refusal → List Deed → Type 0

@@ -96,6 +96,9 @@ words_file caller profile (word ∷ words) = named_file caller profile words (na
 pub data IsRefusedByWords (caller : Caller) (words : List (List ℕ)) : CommandFault → List Deed → Type 0 where
   by_words : {a : Answer} {e : CommandFault} → words_refusal caller (entries_by a) words ≡ Some e
       → IsRefusedByWords caller words e (did (Read Home profile_name LIMIT_BYTES) a ∷ [])
-  by_format : {a b c : Answer} {path : FilePath} {e : CommandFault} → words_file caller (entries_by a) words ≡ Some path → format_by path (reading_of c) ≡ Err e
+  by_format : {a b c : Answer} {path : FilePath} {e : CommandFault} → words_file caller (entries_by a) words ≡ Some path
+      → format_by path (reading_of c) ≡ Err e
       → IsRefusedByWords caller words e
-      (did (ReadFile path LIMIT_FORMAT) c ∷ (did (Read (Mail (path_by a)) context_name LIMIT_BYTES) b ∷ (did (Read Home profile_name LIMIT_BYTES) a ∷ [])))
+      (did (ReadFile path LIMIT_FORMAT) c
+      ∷ (did (Read (Mail (path_by a)) context_name LIMIT_BYTES) b
+      ∷ (did (Read Home profile_name LIMIT_BYTES) a ∷ [])))

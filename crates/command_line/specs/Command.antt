@@ -107,7 +107,15 @@ scan_by run profile (Err e) = Return (Err e)
 
 abbrev pub mark_job : List ℕ → MarkWords → List NamedValue → MarkJob
 mark_job folder words profile =
-    record { folder = folder; specs = words.specs; names = words.names; act = words.act; list = words.list; public = words.public; negation = negation_of profile }
+    record {
+      folder = folder;
+      specs = words.specs;
+      names = words.names;
+      act = words.act;
+      list = words.list;
+      public = words.public;
+      negation = negation_of profile;
+    }
 
 unfoldable pub mark_begun : ℕ → List NamedValue → MarkWords → Commanded Unit
 mark_begun run profile words = do
@@ -124,7 +132,14 @@ picked_by caller profile words = pick_said caller.clock.moment caller.clock.offs
 
 abbrev pub pick_job : List ℕ → PickWords → List NamedValue → PickJob
 pick_job folder words profile =
-    record { folder = folder; specs = words.specs; expr = words.expr; marks = words.marks; list = words.list; negation = negation_of profile }
+    record {
+      folder = folder;
+      specs = words.specs;
+      expr = words.expr;
+      marks = words.marks;
+      list = words.list;
+      negation = negation_of profile;
+    }
 
 unfoldable pub pick_begun : ℕ → List NamedValue → PickWords → Commanded Unit
 pick_begun run profile words = do
@@ -136,7 +151,8 @@ pick_by run profile (Ok words) = lifted plain (pick_begun run profile words)
 pick_by run profile (Err e) = Return (Err e)
 
 abbrev pub rmm_job : List ℕ → RmmWords → List NamedValue → RmmJob
-rmm_job folder words profile = record { folder = folder; specs = words.specs; unlink = words.unlink; negation = negation_of profile }
+rmm_job folder words profile =
+    record { folder = folder; specs = words.specs; unlink = words.unlink; negation = negation_of profile }
 
 unfoldable pub rmm_begun : ℕ → List NamedValue → RmmWords → Commanded Unit
 rmm_begun run profile words = do
@@ -178,7 +194,8 @@ abbrev pub annotated_by : Caller → List NamedValue → List (List ℕ) → Res
 annotated_by caller profile words = anno_said caller.clock.moment caller.clock.offset profile words
 
 abbrev pub anno_job : List ℕ → AnnoWords → List NamedValue → AnnoJob
-anno_job folder words profile = record { folder = folder; specs = words.specs; lines = words.lines; negation = negation_of profile }
+anno_job folder words profile =
+    record { folder = folder; specs = words.specs; lines = words.lines; negation = negation_of profile }
 
 unfoldable pub anno_begun : ℕ → List NamedValue → AnnoWords → Commanded Unit
 anno_begun run profile words = do
@@ -190,7 +207,8 @@ anno_by run profile (Ok words) = lifted plain (anno_begun run profile words)
 anno_by run profile (Err e) = Return (Err e)
 
 abbrev pub sort_job : List ℕ → SortWords → List NamedValue → SortJob
-sort_job folder words profile = record { folder = folder; specs = words.specs; key = words.key; negation = negation_of profile }
+sort_job folder words profile =
+    record { folder = folder; specs = words.specs; key = words.key; negation = negation_of profile }
 
 unfoldable pub sort_begun : ℕ → List NamedValue → SortWords → Commanded Unit
 sort_begun run profile words = do
@@ -202,7 +220,8 @@ sort_by run profile (Ok words) = lifted plain (sort_begun run profile words)
 sort_by run profile (Err e) = Return (Err e)
 
 abbrev pub list_job : List ℕ → ListWords → List NamedValue → ListJob
-list_job folder words profile = record { folder = folder; specs = words.specs; parts = words.parts; negation = negation_of profile }
+list_job folder words profile =
+    record { folder = folder; specs = words.specs; parts = words.parts; negation = negation_of profile }
 
 unfoldable pub list_begun : ℕ → List NamedValue → ListWords → Commanded Unit
 list_begun run profile words = do
@@ -214,7 +233,14 @@ list_by run profile (Ok words) = lifted plain (list_begun run profile words)
 list_by run profile (Err e) = Return (Err e)
 
 abbrev pub store_job : List ℕ → StoreWords → List NamedValue → StoreJob
-store_job folder words profile = record { folder = folder; specs = words.specs; parts = words.parts; clobber = words.clobber; negation = negation_of profile }
+store_job folder words profile =
+    record {
+      folder = folder;
+      specs = words.specs;
+      parts = words.parts;
+      clobber = words.clobber;
+      negation = negation_of profile;
+    }
 
 unfoldable pub store_begun : ℕ → List NamedValue → StoreWords → Commanded Unit
 store_begun run profile words = do
@@ -227,7 +253,11 @@ store_by run profile (Err e) = Return (Err e)
 
 -- the draft that the words name, and what forwards messages by the entries of the context and of the profile
 abbrev pub build_job : BuildWords → List NamedValue → List NamedValue → BuildJob
-build_job words context profile = record { draft = words.draft; forwarding = record { current = stored_of context profile; negation = negation_of profile } }
+build_job words context profile =
+    record {
+      draft = words.draft;
+      forwarding = record { current = stored_of context profile; negation = negation_of profile };
+    }
 
 -- the context is read, and the draft becomes a message
 unfoldable pub build_begun : ℕ → List NamedValue → BuildWords → Commanded Unit

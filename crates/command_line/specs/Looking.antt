@@ -84,7 +84,9 @@ written_by (InFile path sight) a = written_with sight (format_by path (reading_o
 -- the run has read the file of the format, where it is in one, and so this is written of messages
 abbrev pub WritesAs : Telling → (Standing → Writing) → List Deed → Type 0
 WritesAs (Known known) spoken own = spoken ≡ known
-WritesAs (InFile path sight) spoken own = (a : Answer) × Once (λ d older. d ≡ did (ReadFile path LIMIT_FORMAT) a) own × (written_with sight (format_by path (reading_of a)) ≡ Ok spoken)
+WritesAs (InFile path sight) spoken own =
+    (a : Answer) × Once (λ d older. d ≡ did (ReadFile path LIMIT_FORMAT) a) own
+    × (written_with sight (format_by path (reading_of a)) ≡ Ok spoken)
 
 -- what is written is found: it is known, or the file of the format is read
 unfoldable pub look_found : Telling → Commanded (Standing → Writing)

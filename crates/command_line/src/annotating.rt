@@ -43,7 +43,8 @@ fn begin_anno<F: Files>(
     words: AnnoWords,
 ) -> Result<(), CommandFault>
     requires { hand.old.mail ≡ path_of profile.now }
-    ensures { Follows hand.old.run command_cause (anno_begun hand.old.run profile.now words) (by_hand hand.old.kept (F.state files.old)) (by_hand hand.new.kept (F.state files.new)) result }
+    ensures { Follows hand.old.run command_cause (anno_begun hand.old.run profile.now words)
+        (by_hand hand.old.kept (F.state files.old)) (by_hand hand.new.kept (F.state files.new)) result }
 {
     let folder = enter_folder(alloc, hand, files, profile, words.folder)?;
     let job = AnnoJob {
@@ -64,7 +65,10 @@ pub(crate) fn run_anno<F: Files>(
     caller: &Caller,
     words: &[String],
 ) -> Result<(), Ended>
-    ensures { (left : Kept) × Follows run ended_cause (anno_by run profile.now (annotated_by caller.now profile.now (map chars (map string_bytes words.now)))) (by_hand fresh (F.state files.old)) (by_hand left (F.state files.new)) result }
+    ensures { (left : Kept)
+        × Follows run ended_cause
+        (anno_by run profile.now (annotated_by caller.now profile.now (map chars (map string_bytes words.now))))
+        (by_hand fresh (F.state files.old)) (by_hand left (F.state files.new)) result }
 {
     let words = words_of(alloc, profile, caller, words)?;
     let mut hand = Hand::new(run, path(alloc, profile)?);

@@ -53,7 +53,9 @@ fn begin_mhbuild<F: Files, I: Source, O: Sink>(
     words: BuildWords,
 ) -> Result<(), CommandFault>
     requires { hand.old.mail ≡ path_of profile.now }
-    ensures { Follows hand.old.run command_cause (build_begun hand.old.run profile.now words) (all hand.old.kept (F.state files.old) (I.state input.old) (O.state out.old)) (all hand.new.kept (F.state files.new) (I.state input.new) (O.state out.new)) result }
+    ensures { Follows hand.old.run command_cause (build_begun hand.old.run profile.now words)
+        (all hand.old.kept (F.state files.old) (I.state input.old) (O.state out.old))
+        (all hand.new.kept (F.state files.new) (I.state input.new) (O.state out.new)) result }
 {
     enter_context(alloc, hand, files)?;
     let job = build_job(alloc, hand, profile, words)?;
@@ -70,7 +72,11 @@ pub(crate) fn run_mhbuild<F: Files, I: Source, O: Sink>(
     profile: &Entries,
     words: &[String],
 ) -> Result<(), Ended>
-    ensures { (left : Kept) × Follows run ended_cause (build_by run profile.now (build_said profile.now (map chars (map string_bytes words.now)))) (all fresh (F.state files.old) (I.state input.old) (O.state out.old)) (all left (F.state files.new) (I.state input.new) (O.state out.new)) result }
+    ensures { (left : Kept)
+        × Follows run ended_cause
+        (build_by run profile.now (build_said profile.now (map chars (map string_bytes words.now))))
+        (all fresh (F.state files.old) (I.state input.old) (O.state out.old))
+        (all left (F.state files.new) (I.state input.new) (O.state out.new)) result }
 {
     let words = build_words(alloc, profile, words)?;
     let mut hand = Hand::new(run, path(alloc, profile)?);

@@ -26,7 +26,8 @@ impl Model for Clock {
 impl Clock {
     /// The moment runs from 0 to 253,402,000,000 and the offset from -1439 to 1439.
     pub fn new(moment: i64, offset_minutes: i32) -> Option<Clock>
-        ensures { MatchOption result (IsSetting moment offset_minutes → ⊥) (λ c. IsSetting moment offset_minutes × (c ≡ record { moment = moment; offset = offset_minutes })) }
+        ensures { MatchOption result (IsSetting moment offset_minutes → ⊥)
+            (λ c. IsSetting moment offset_minutes × (c ≡ record { moment = moment; offset = offset_minutes })) }
     {
         if 0 <= moment
             && moment <= 253_402_000_000

@@ -64,7 +64,11 @@ fn run_word<F: Files, I: Source, O: Sink>(
     word: &str,
     rest: &[String],
 ) -> Result<(), Ended>
-    ensures plan { (left : Kept) × Follows run ended_cause (word_by run caller.now profile.now word.now (map string_bytes rest.now) (named word.now)) (all fresh (F.state files.old) (I.state input.old) (O.state out.old)) (all left (F.state files.new) (I.state input.new) (O.state out.new)) result }
+    ensures plan { (left : Kept)
+        × Follows run ended_cause
+        (word_by run caller.now profile.now word.now (map string_bytes rest.now) (named word.now))
+        (all fresh (F.state files.old) (I.state input.old) (O.state out.old))
+        (all left (F.state files.new) (I.state input.new) (O.state out.new)) result }
     ensures input { LeavesInput (named word.now) (I.state input.old) (I.state input.new) result }
 {
     match CommandName::read(word) {
@@ -98,8 +102,12 @@ fn run_named<F: Files, I: Source, O: Sink>(
     caller: &Caller,
     words: &[String],
 ) -> Result<(), Ended>
-    ensures plan { (left : Kept) × Follows run ended_cause (command_by run caller.now profile.now (map string_bytes words.now)) (all fresh (F.state files.old) (I.state input.old) (O.state out.old)) (all left (F.state files.new) (I.state input.new) (O.state out.new)) result }
-    ensures input { LeavesInput (command_of (map string_bytes words.now)) (I.state input.old) (I.state input.new) result }
+    ensures plan { (left : Kept)
+        × Follows run ended_cause (command_by run caller.now profile.now (map string_bytes words.now))
+        (all fresh (F.state files.old) (I.state input.old) (O.state out.old))
+        (all left (F.state files.new) (I.state input.new) (O.state out.new)) result }
+    ensures input { LeavesInput (command_of (map string_bytes words.now)) (I.state input.old)
+        (I.state input.new) result }
 {
     match words.split_first() {
         None => Err(no_command(None)),
@@ -118,7 +126,9 @@ fn run_named<F: Files, I: Source, O: Sink>(
 }
 
 fn read_profile<F: Files>(alloc: Global, run: u128, files: &mut F) -> Result<Bytes, CommandFault>
-    ensures { (h : Kept) → Follows run command_cause (text_read Place.Home profile_name_of) (by_hand h (F.state files.old)) (by_hand h (F.state files.new)) result }
+    ensures { (h : Kept)
+        → Follows run command_cause (text_read Place.Home profile_name_of) (by_hand h (F.state files.old))
+        (by_hand h (F.state files.new)) result }
 {
     let name = profile_name(alloc)?;
     read_text(alloc, run, files, &Place::Home, &name)
@@ -134,8 +144,12 @@ pub fn run_command<F: Files, I: Source, O: Sink>(
     input: &mut I,
     out: &mut O,
 ) -> Result<(), Ended>
-    ensures plan { (left : Kept) × Follows run ended_cause (command_plan run caller.now (map string_bytes words.now)) (all fresh (F.state files.old) (I.state input.old) (O.state out.old)) (all left (F.state files.new) (I.state input.new) (O.state out.new)) result }
-    ensures input { LeavesInput (command_of (map string_bytes words.now)) (I.state input.old) (I.state input.new) result }
+    ensures plan { (left : Kept)
+        × Follows run ended_cause (command_plan run caller.now (map string_bytes words.now))
+        (all fresh (F.state files.old) (I.state input.old) (O.state out.old))
+        (all left (F.state files.new) (I.state input.new) (O.state out.new)) result }
+    ensures input { LeavesInput (command_of (map string_bytes words.now)) (I.state input.old)
+        (I.state input.new) result }
 {
     let text = read_profile(alloc, run, files)?;
     let profile = Entries::read(alloc, text.as_slice())?;

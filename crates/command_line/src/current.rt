@@ -42,7 +42,8 @@ pub(crate) fn stored_folder(
     context: Option<&Entries>,
     profile: &Entries,
 ) -> Result<Text, AllocError>
-    ensures { IfOk result (λ text. text ≡ stored_of (entries_seen (option_map (λ e. e.now) context.entry)) profile.now) }
+    ensures { IfOk result
+        (λ text. text ≡ stored_of (entries_seen (option_map (λ e. e.now) context.entry)) profile.now) }
 {
     match context {
         Some(context) => stored_in(alloc, context, profile),
@@ -71,7 +72,8 @@ pub(crate) fn enter_context<F: Files>(
     hand: &mut Hand,
     files: &mut F,
 ) -> Result<(), CommandFault>
-    ensures plan { Follows hand.old.run command_cause (context_entered (Place.Mail hand.old.mail)) (by_hand hand.old.kept (F.state files.old)) (by_hand hand.new.kept (F.state files.new)) result }
+    ensures plan { Follows hand.old.run command_cause (context_entered (Place.Mail hand.old.mail))
+        (by_hand hand.old.kept (F.state files.old)) (by_hand hand.new.kept (F.state files.new)) result }
     ensures run { hand.new.run ≡ hand.old.run }
     ensures mail { hand.new.mail ≡ hand.old.mail }
 {
@@ -91,7 +93,8 @@ pub(crate) fn enter_folder<F: Files>(
     said: Option<FolderName>,
 ) -> Result<FolderName, CommandFault>
     requires { hand.old.mail ≡ path_of profile.now }
-    ensures plan { Follows hand.old.run command_cause (folder_found profile.now said) (by_hand hand.old.kept (F.state files.old)) (by_hand hand.new.kept (F.state files.new)) result }
+    ensures plan { Follows hand.old.run command_cause (folder_found profile.now said)
+        (by_hand hand.old.kept (F.state files.old)) (by_hand hand.new.kept (F.state files.new)) result }
     ensures run { hand.new.run ≡ hand.old.run }
     ensures mail { hand.new.mail ≡ hand.old.mail }
 {

@@ -117,7 +117,8 @@ fn job_said(
     caller: &Caller,
     words: &[String],
 ) -> Result<IncLook, Ended>
-    ensures { IsSaidAs (inc_asked_of caller.now) (job_by caller.now profile.now (inc_said profile.now (map chars (map string_bytes words.now)))) result }
+    ensures { IsSaidAs (inc_asked_of caller.now)
+        (job_by caller.now profile.now (inc_said profile.now (map chars (map string_bytes words.now)))) result }
 {
     let words = inc_words(alloc, profile, words)?;
     Ok(inc_look(alloc, profile, caller, words)?)
@@ -132,7 +133,9 @@ fn begin_inc<F: Files, O: Sink>(
     caller: &Caller,
     asked: IncLook,
 ) -> Result<(), CommandFault>
-    ensures { Follows hand.old.run command_cause (inc_begun hand.old.run hand.old.mail (inc_asked_of caller.now asked)) (by_out hand.old.kept (F.state files.old) (O.state out.old)) (by_out hand.new.kept (F.state files.new) (O.state out.new)) result }
+    ensures { Follows hand.old.run command_cause (inc_begun hand.old.run hand.old.mail (inc_asked_of caller.now asked))
+        (by_out hand.old.kept (F.state files.old) (O.state out.old))
+        (by_out hand.new.kept (F.state files.new) (O.state out.new)) result }
 {
     enter_context(alloc, hand, files)?;
     let job = IncJob {
@@ -157,7 +160,12 @@ pub(crate) fn run_inc<F: Files, O: Sink>(
     caller: &Caller,
     words: &[String],
 ) -> Result<(), Ended>
-    ensures { (left : Kept) × Follows run ended_cause (inc_by run profile.now (job_by caller.now profile.now (inc_said profile.now (map chars (map string_bytes words.now))))) (by_out fresh (F.state files.old) (O.state out.old)) (by_out left (F.state files.new) (O.state out.new)) result }
+    ensures { (left : Kept)
+        × Follows run ended_cause
+        (inc_by run profile.now
+        (job_by caller.now profile.now (inc_said profile.now (map chars (map string_bytes words.now)))))
+        (by_out fresh (F.state files.old) (O.state out.old))
+        (by_out left (F.state files.new) (O.state out.new)) result }
 {
     let asked = job_said(alloc, profile, caller, words)?;
     let mut hand = Hand::new(run, path(alloc, profile)?);

@@ -31,7 +31,9 @@ fn begin_mhlist<F: Files, O: Sink>(
     words: ListWords,
 ) -> Result<(), CommandFault>
     requires { hand.old.mail ≡ path_of profile.now }
-    ensures { Follows hand.old.run command_cause (list_begun hand.old.run profile.now words) (by_out hand.old.kept (F.state files.old) (O.state out.old)) (by_out hand.new.kept (F.state files.new) (O.state out.new)) result }
+    ensures { Follows hand.old.run command_cause (list_begun hand.old.run profile.now words)
+        (by_out hand.old.kept (F.state files.old) (O.state out.old))
+        (by_out hand.new.kept (F.state files.new) (O.state out.new)) result }
 {
     let name = enter_folder(alloc, hand, files, profile, words.folder)?;
     let job = ListJob {
@@ -52,7 +54,11 @@ pub(crate) fn run_mhlist<F: Files, O: Sink>(
     profile: &Entries,
     words: &[String],
 ) -> Result<(), Ended>
-    ensures { (left : Kept) × Follows run ended_cause (list_by run profile.now (list_said profile.now (map chars (map string_bytes words.now)))) (by_out fresh (F.state files.old) (O.state out.old)) (by_out left (F.state files.new) (O.state out.new)) result }
+    ensures { (left : Kept)
+        × Follows run ended_cause
+        (list_by run profile.now (list_said profile.now (map chars (map string_bytes words.now))))
+        (by_out fresh (F.state files.old) (O.state out.old))
+        (by_out left (F.state files.new) (O.state out.new)) result }
 {
     let words = list_words(alloc, profile, words)?;
     let mut hand = Hand::new(run, path(alloc, profile)?);

@@ -70,7 +70,9 @@ fn find_program<F: Files>(
     files: &mut F,
     source: FormatSource,
 ) -> Result<Program, CommandFault>
-    ensures { (h : Kept) (sight : Sight) → FollowsAs (λ program. coded program sight) run command_cause (look_found (telling_in sight source)) (by_hand h (F.state files.old)) (by_hand h (F.state files.new)) result }
+    ensures { (h : Kept) (sight : Sight)
+        → FollowsAs (λ program. coded program sight) run command_cause (look_found (telling_in sight source))
+        (by_hand h (F.state files.old)) (by_hand h (F.state files.new)) result }
 {
     match source {
         FormatSource::Known(program) => Ok(program),
@@ -86,7 +88,10 @@ pub(crate) fn find_look<F: Files>(
     caller: &Caller,
     said: LookSaid,
 ) -> Result<Look, CommandFault>
-    ensures { (h : Kept) → FollowsAs (λ look. coded look.program (sight_of look)) run command_cause (look_found (telling_said caller.now said)) (by_hand h (F.state files.old)) (by_hand h (F.state files.new)) result }
+    ensures { (h : Kept)
+        → FollowsAs (λ look. coded look.program (sight_of look)) run command_cause
+        (look_found (telling_said caller.now said)) (by_hand h (F.state files.old))
+        (by_hand h (F.state files.new)) result }
 {
     let user = caller.user.duplicate(alloc)?;
     let program = find_program(alloc, run, files, said.source)?;

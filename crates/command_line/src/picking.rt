@@ -44,7 +44,9 @@ fn begin_pick<F: Files, O: Sink>(
     words: PickWords,
 ) -> Result<(), CommandFault>
     requires { hand.old.mail ≡ path_of profile.now }
-    ensures { Follows hand.old.run command_cause (pick_begun hand.old.run profile.now words) (by_out hand.old.kept (F.state files.old) (O.state out.old)) (by_out hand.new.kept (F.state files.new) (O.state out.new)) result }
+    ensures { Follows hand.old.run command_cause (pick_begun hand.old.run profile.now words)
+        (by_out hand.old.kept (F.state files.old) (O.state out.old))
+        (by_out hand.new.kept (F.state files.new) (O.state out.new)) result }
 {
     let folder = enter_folder(alloc, hand, files, profile, words.folder)?;
     let job = PickJob {
@@ -68,7 +70,11 @@ pub(crate) fn run_pick<F: Files, O: Sink>(
     caller: &Caller,
     words: &[String],
 ) -> Result<(), Ended>
-    ensures { (left : Kept) × Follows run ended_cause (pick_by run profile.now (picked_by caller.now profile.now (map chars (map string_bytes words.now)))) (by_out fresh (F.state files.old) (O.state out.old)) (by_out left (F.state files.new) (O.state out.new)) result }
+    ensures { (left : Kept)
+        × Follows run ended_cause
+        (pick_by run profile.now (picked_by caller.now profile.now (map chars (map string_bytes words.now))))
+        (by_out fresh (F.state files.old) (O.state out.old))
+        (by_out left (F.state files.new) (O.state out.new)) result }
 {
     let words = words_of(alloc, profile, caller, words)?;
     let mut hand = Hand::new(run, path(alloc, profile)?);

@@ -28,7 +28,8 @@ fn begin_refile<F: Files>(
     words: RefileWords,
 ) -> Result<(), CommandFault>
     requires { hand.old.mail ≡ path_of profile.now }
-    ensures { Follows hand.old.run command_cause (refile_begun hand.old.run profile.now words) (by_hand hand.old.kept (F.state files.old)) (by_hand hand.new.kept (F.state files.new)) result }
+    ensures { Follows hand.old.run command_cause (refile_begun hand.old.run profile.now words)
+        (by_hand hand.old.kept (F.state files.old)) (by_hand hand.new.kept (F.state files.new)) result }
 {
     let set_current = words.source.is_some();
     let source = enter_folder(alloc, hand, files, profile, words.source)?;
@@ -52,7 +53,10 @@ pub(crate) fn run_refile<F: Files>(
     profile: &Entries,
     words: &[String],
 ) -> Result<(), Ended>
-    ensures { (left : Kept) × Follows run ended_cause (refile_by run profile.now (refile_said profile.now (map chars (map string_bytes words.now)))) (by_hand fresh (F.state files.old)) (by_hand left (F.state files.new)) result }
+    ensures { (left : Kept)
+        × Follows run ended_cause
+        (refile_by run profile.now (refile_said profile.now (map chars (map string_bytes words.now))))
+        (by_hand fresh (F.state files.old)) (by_hand left (F.state files.new)) result }
 {
     let words = refile_words(alloc, profile, words)?;
     let mut hand = Hand::new(run, path(alloc, profile)?);

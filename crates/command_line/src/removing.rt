@@ -28,7 +28,8 @@ fn begin_rmm<F: Files>(
     words: RmmWords,
 ) -> Result<(), CommandFault>
     requires { hand.old.mail ≡ path_of profile.now }
-    ensures { Follows hand.old.run command_cause (rmm_begun hand.old.run profile.now words) (by_hand hand.old.kept (F.state files.old)) (by_hand hand.new.kept (F.state files.new)) result }
+    ensures { Follows hand.old.run command_cause (rmm_begun hand.old.run profile.now words)
+        (by_hand hand.old.kept (F.state files.old)) (by_hand hand.new.kept (F.state files.new)) result }
 {
     let folder = enter_folder(alloc, hand, files, profile, words.folder)?;
     let job = RmmJob {
@@ -48,7 +49,10 @@ pub(crate) fn run_rmm<F: Files>(
     profile: &Entries,
     words: &[String],
 ) -> Result<(), Ended>
-    ensures { (left : Kept) × Follows run ended_cause (rmm_by run profile.now (rmm_said profile.now (map chars (map string_bytes words.now)))) (by_hand fresh (F.state files.old)) (by_hand left (F.state files.new)) result }
+    ensures { (left : Kept)
+        × Follows run ended_cause
+        (rmm_by run profile.now (rmm_said profile.now (map chars (map string_bytes words.now))))
+        (by_hand fresh (F.state files.old)) (by_hand left (F.state files.new)) result }
 {
     let words = rmm_words(alloc, profile, words)?;
     let mut hand = Hand::new(run, path(alloc, profile)?);

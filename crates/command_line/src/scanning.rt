@@ -37,7 +37,8 @@ fn scan_look(
     caller: &Caller,
     words: &[String],
 ) -> Result<ScanLook, Ended>
-    ensures { IsSaidAs (asked_of caller.now) (scan_asked caller.now (scan_said profile.now (map chars (map string_bytes words.now)))) result }
+    ensures { IsSaidAs (asked_of caller.now)
+        (scan_asked caller.now (scan_said profile.now (map chars (map string_bytes words.now)))) result }
 {
     let words = scan_words(alloc, profile, words)?;
     let look = look(alloc, &words.look)?;
@@ -55,7 +56,9 @@ fn begin_scan<F: Files, O: Sink>(
     asked: ScanLook,
 ) -> Result<(), CommandFault>
     requires { hand.old.mail ≡ path_of profile.now }
-    ensures { Follows hand.old.run command_cause (scan_begun hand.old.run profile.now (asked_of caller.now asked)) (by_out hand.old.kept (F.state files.old) (O.state out.old)) (by_out hand.new.kept (F.state files.new) (O.state out.new)) result }
+    ensures { Follows hand.old.run command_cause (scan_begun hand.old.run profile.now (asked_of caller.now asked))
+        (by_out hand.old.kept (F.state files.old) (O.state out.old))
+        (by_out hand.new.kept (F.state files.new) (O.state out.new)) result }
 {
     let ScanLook { words, look } = asked;
     let folder = enter_folder(alloc, hand, files, profile, words.folder)?;
@@ -81,7 +84,12 @@ pub(crate) fn run_scan<F: Files, O: Sink>(
     caller: &Caller,
     words: &[String],
 ) -> Result<(), Ended>
-    ensures { (left : Kept) × Follows run ended_cause (scan_by run profile.now (scan_asked caller.now (scan_said profile.now (map chars (map string_bytes words.now))))) (by_out fresh (F.state files.old) (O.state out.old)) (by_out left (F.state files.new) (O.state out.new)) result }
+    ensures { (left : Kept)
+        × Follows run ended_cause
+        (scan_by run profile.now
+        (scan_asked caller.now (scan_said profile.now (map chars (map string_bytes words.now)))))
+        (by_out fresh (F.state files.old) (O.state out.old))
+        (by_out left (F.state files.new) (O.state out.new)) result }
 {
     let asked = scan_look(alloc, profile, caller, words)?;
     let mut hand = Hand::new(run, path(alloc, profile)?);

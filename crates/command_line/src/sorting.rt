@@ -29,7 +29,8 @@ fn begin_sortm<F: Files>(
     words: SortWords,
 ) -> Result<(), CommandFault>
     requires { hand.old.mail ≡ path_of profile.now }
-    ensures { Follows hand.old.run command_cause (sort_begun hand.old.run profile.now words) (by_hand hand.old.kept (F.state files.old)) (by_hand hand.new.kept (F.state files.new)) result }
+    ensures { Follows hand.old.run command_cause (sort_begun hand.old.run profile.now words)
+        (by_hand hand.old.kept (F.state files.old)) (by_hand hand.new.kept (F.state files.new)) result }
 {
     let folder = enter_folder(alloc, hand, files, profile, words.folder)?;
     let job = SortJob {
@@ -49,7 +50,10 @@ pub(crate) fn run_sortm<F: Files>(
     profile: &Entries,
     words: &[String],
 ) -> Result<(), Ended>
-    ensures { (left : Kept) × Follows run ended_cause (sort_by run profile.now (sort_said profile.now (map chars (map string_bytes words.now)))) (by_hand fresh (F.state files.old)) (by_hand left (F.state files.new)) result }
+    ensures { (left : Kept)
+        × Follows run ended_cause
+        (sort_by run profile.now (sort_said profile.now (map chars (map string_bytes words.now))))
+        (by_hand fresh (F.state files.old)) (by_hand left (F.state files.new)) result }
 {
     let words = sort_words(alloc, profile, words)?;
     let mut hand = Hand::new(run, path(alloc, profile)?);

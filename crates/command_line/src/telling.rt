@@ -31,7 +31,9 @@ fn begin_folder<F: Files, O: Sink>(
     words: FolderWords,
 ) -> Result<(), CommandFault>
     requires { hand.old.mail ≡ path_of profile.now }
-    ensures { Follows hand.old.run command_cause (tell_begun hand.old.run profile.now words) (by_out hand.old.kept (F.state files.old) (O.state out.old)) (by_out hand.new.kept (F.state files.new) (O.state out.new)) result }
+    ensures { Follows hand.old.run command_cause (tell_begun hand.old.run profile.now words)
+        (by_out hand.old.kept (F.state files.old) (O.state out.old))
+        (by_out hand.new.kept (F.state files.new) (O.state out.new)) result }
 {
     let name = enter_folder(alloc, hand, files, profile, words.folder)?;
     let job = FolderJob {
@@ -52,7 +54,9 @@ fn begin_pack<F: Files, O: Sink>(
     words: FolderWords,
 ) -> Result<(), CommandFault>
     requires { hand.old.mail ≡ path_of profile.now }
-    ensures { Follows hand.old.run command_cause (pack_begun hand.old.run profile.now words) (by_out hand.old.kept (F.state files.old) (O.state out.old)) (by_out hand.new.kept (F.state files.new) (O.state out.new)) result }
+    ensures { Follows hand.old.run command_cause (pack_begun hand.old.run profile.now words)
+        (by_out hand.old.kept (F.state files.old) (O.state out.old))
+        (by_out hand.new.kept (F.state files.new) (O.state out.new)) result }
 {
     let folder = enter_folder(alloc, hand, files, profile, words.folder)?;
     pack(alloc, hand, files, out, &PackJob { folder })
@@ -69,7 +73,9 @@ fn begin_task<F: Files, O: Sink>(
     words: FolderWords,
 ) -> Result<(), CommandFault>
     requires { hand.old.mail ≡ path_of profile.now }
-    ensures { Follows hand.old.run command_cause (task_begun hand.old.run profile.now words words.pack) (by_out hand.old.kept (F.state files.old) (O.state out.old)) (by_out hand.new.kept (F.state files.new) (O.state out.new)) result }
+    ensures { Follows hand.old.run command_cause (task_begun hand.old.run profile.now words words.pack)
+        (by_out hand.old.kept (F.state files.old) (O.state out.old))
+        (by_out hand.new.kept (F.state files.new) (O.state out.new)) result }
 {
     if words.pack {
         begin_pack(alloc, hand, files, out, profile, words)
@@ -87,7 +93,11 @@ pub(crate) fn run_folder<F: Files, O: Sink>(
     profile: &Entries,
     words: &[String],
 ) -> Result<(), Ended>
-    ensures { (left : Kept) × Follows run ended_cause (tell_by run profile.now (tell_said profile.now (map chars (map string_bytes words.now)))) (by_out fresh (F.state files.old) (O.state out.old)) (by_out left (F.state files.new) (O.state out.new)) result }
+    ensures { (left : Kept)
+        × Follows run ended_cause
+        (tell_by run profile.now (tell_said profile.now (map chars (map string_bytes words.now))))
+        (by_out fresh (F.state files.old) (O.state out.old))
+        (by_out left (F.state files.new) (O.state out.new)) result }
 {
     let words = folder_words(alloc, profile, words)?;
     let mut hand = Hand::new(run, path(alloc, profile)?);

@@ -109,7 +109,8 @@ writing m work (Err e) = refused_at m e
 -- `scan`
 abbrev pub scans : Mailbox → List NamedValue → ScanAsked → FolderWork
 scans m profile words context folder =
-    writing m (λ spoken. scan_work (path_of profile) context (job_of folder words profile spoken) m) (written_there m words.telling)
+    writing m (λ spoken. scan_work (path_of profile) context (job_of folder words profile spoken) m)
+    (written_there m words.telling)
 
 abbrev pub scan_words_work : Mailbox → List NamedValue → Result ScanAsked Ended → Work Ended
 scan_words_work m profile (Ok words) = of_stage (on_folder m profile words.folder (scans m profile words))
@@ -129,7 +130,8 @@ alone_meeting run = record { homes = homes_at run; entries = λ es. es; run = ru
 -- `mark`: what other runs hold aside in the folder goes first
 abbrev pub marks : Meeting → Mailbox → List NamedValue → MarkWords → FolderWork
 marks g m profile words context folder =
-    mark_work (path_of profile) (mark_job folder words profile) (g.entries context) (g.homes (m.folders (Folder (path_of profile) folder))) m
+    mark_work (path_of profile) (mark_job folder words profile) (g.entries context)
+    (g.homes (m.folders (Folder (path_of profile) folder))) m
 
 abbrev pub mark_words_work : Meeting → Mailbox → List NamedValue → Result MarkWords Ended → Work Ended
 mark_words_work g m profile (Ok words) = of_stage (on_folder m profile words.folder (marks g m profile words))
@@ -138,7 +140,8 @@ mark_words_work g m profile (Err e) = refused_at m e
 -- `pick`: so too where it marks
 abbrev pub picks : Meeting → Mailbox → List NamedValue → PickWords → FolderWork
 picks g m profile words context folder =
-    pick_work (path_of profile) (g.entries context) (g.homes (m.folders (Folder (path_of profile) folder))) (pick_job folder words profile) m
+    pick_work (path_of profile) (g.entries context) (g.homes (m.folders (Folder (path_of profile) folder)))
+    (pick_job folder words profile) m
 
 abbrev pub pick_words_work : Meeting → Mailbox → List NamedValue → Result PickWords Ended → Work Ended
 pick_words_work g m profile (Ok words) = of_stage (on_folder m profile words.folder (picks g m profile words))
@@ -147,12 +150,14 @@ pick_words_work g m profile (Err e) = refused_at m e
 -- `folder`: so too where words choose messages
 abbrev pub tells : Meeting → Mailbox → List NamedValue → FolderWords → FolderWork
 tells g m profile words context folder =
-    folder_work (path_of profile) (tell_job folder words profile) (g.entries context) (g.homes (m.folders (Folder (path_of profile) folder))) m
+    folder_work (path_of profile) (tell_job folder words profile) (g.entries context)
+    (g.homes (m.folders (Folder (path_of profile) folder))) m
 
 -- `folder -pack`: so too
 abbrev pub packs : Meeting → Mailbox → List NamedValue → FolderWork
 packs g m profile context folder =
-    pack_work g.run (path_of profile) (g.entries context) (g.homes (m.folders (Folder (path_of profile) folder))) (pack_job folder) m
+    pack_work g.run (path_of profile) (g.entries context) (g.homes (m.folders (Folder (path_of profile) folder)))
+    (pack_job folder) m
 
 -- the one or the other
 abbrev pub tasks : Meeting → Mailbox → List NamedValue → FolderWords → Bool → FolderWork
@@ -167,7 +172,8 @@ tell_words_work g m profile (Err e) = refused_at m e
 -- `rmm`: so too
 abbrev pub rmms : Meeting → Mailbox → List NamedValue → RmmWords → FolderWork
 rmms g m profile words context folder =
-    rmm_work (path_of profile) (g.entries context) (g.homes (m.folders (Folder (path_of profile) folder))) (rmm_job folder words profile) m
+    rmm_work (path_of profile) (g.entries context) (g.homes (m.folders (Folder (path_of profile) folder)))
+    (rmm_job folder words profile) m
 
 abbrev pub rmm_words_work : Meeting → Mailbox → List NamedValue → Result RmmWords Ended → Work Ended
 rmm_words_work g m profile (Ok words) = of_stage (on_folder m profile words.folder (rmms g m profile words))
@@ -176,7 +182,8 @@ rmm_words_work g m profile (Err e) = refused_at m e
 -- `anno`: so too
 abbrev pub annos : Meeting → Mailbox → List NamedValue → AnnoWords → FolderWork
 annos g m profile words context folder =
-    anno_work g.run (path_of profile) (g.entries context) (g.homes (m.folders (Folder (path_of profile) folder))) (anno_job folder words profile) m
+    anno_work g.run (path_of profile) (g.entries context) (g.homes (m.folders (Folder (path_of profile) folder)))
+    (anno_job folder words profile) m
 
 abbrev pub anno_words_work : Meeting → Mailbox → List NamedValue → Result AnnoWords Ended → Work Ended
 anno_words_work g m profile (Ok words) = of_stage (on_folder m profile words.folder (annos g m profile words))
@@ -185,7 +192,8 @@ anno_words_work g m profile (Err e) = refused_at m e
 -- `sortm`: so too
 abbrev pub sorts : Meeting → Mailbox → List NamedValue → SortWords → FolderWork
 sorts g m profile words context folder =
-    sort_work g.run (path_of profile) (g.entries context) (g.homes (m.folders (Folder (path_of profile) folder))) (sort_job folder words profile) m
+    sort_work g.run (path_of profile) (g.entries context) (g.homes (m.folders (Folder (path_of profile) folder)))
+    (sort_job folder words profile) m
 
 abbrev pub sort_words_work : Meeting → Mailbox → List NamedValue → Result SortWords Ended → Work Ended
 sort_words_work g m profile (Ok words) = of_stage (on_folder m profile words.folder (sorts g m profile words))
@@ -211,7 +219,8 @@ store_words_work m profile (Err e) = refused_at m e
 abbrev pub builds : ℕ → Heard → Mailbox → List NamedValue → BuildWords → Result (List ℕ) CommandFault
     → Work CommandFault
 builds run heard m profile words (Ok context) =
-    build_work run (path_of profile) (entries_in context) (build_job words (entries_in context) profile) (text_found heard m words.draft) m
+    build_work run (path_of profile) (entries_in context) (build_job words (entries_in context) profile)
+    (text_found heard m words.draft) m
 builds run heard m profile words (Err e) = refused_at m e
 
 abbrev pub build_words_work : ℕ → Heard → Mailbox → List NamedValue → Result BuildWords Ended → Work Ended
@@ -222,7 +231,8 @@ build_words_work run heard m profile (Err e) = refused_at m e
 -- `refile`: so too in each folder that it begins; one that is missing is empty
 abbrev pub refiles : Meeting → Mailbox → List NamedValue → RefileWords → FolderWork
 refiles g m profile words context folder =
-    refile_work g.run (path_of profile) (g.entries context) (λ name. g.homes (or_empty (m.folders (Folder (path_of profile) name)))) (refile_job folder words profile) m
+    refile_work g.run (path_of profile) (g.entries context)
+    (λ name. g.homes (or_empty (m.folders (Folder (path_of profile) name)))) (refile_job folder words profile) m
 
 abbrev pub refile_words_work : Meeting → Mailbox → List NamedValue → Result RefileWords Ended → Work Ended
 refile_words_work g m profile (Ok words) = of_stage (on_folder m profile words.source (refiles g m profile words))
@@ -232,7 +242,11 @@ refile_words_work g m profile (Err e) = refused_at m e
 abbrev pub incs : Meeting → Mailbox → List NamedValue → IncAsked → Result (List ℕ) CommandFault → Work CommandFault
 incs g m profile asked (Ok text) =
     writing m
-    (λ spoken. inc_work (path_of profile) (g.entries (entries_in text)) (g.homes ((with_folder_made m (Folder (path_of profile) asked.folder)).folders (Folder (path_of profile) asked.folder))) (job_writing asked spoken) m)
+    (λ spoken.
+    inc_work (path_of profile) (g.entries (entries_in text))
+    (g.homes
+    ((with_folder_made m (Folder (path_of profile) asked.folder)).folders
+    (Folder (path_of profile) asked.folder))) (job_writing asked spoken) m)
     (written_there m asked.telling)
 incs g m profile asked (Err e) = refused_at m e
 

@@ -64,7 +64,9 @@ abbrev pub HaveBegun : Answer → Answer → List Deed → Type 0
 HaveBegun a b own =
     (own ≡ [])
     ⊎ ((own ≡ did (Read Home profile_name LIMIT_BYTES) a ∷ [])
-    ⊎ ((newer : List Deed) × (own ≡ newer ++ did (Read (Mail (path_by a)) context_name LIMIT_BYTES) b ∷ did (Read Home profile_name LIMIT_BYTES) a ∷ [])))
+    ⊎ ((newer : List Deed)
+    × (own ≡ newer ++ did (Read (Mail (path_by a)) context_name LIMIT_BYTES) b
+    ∷ did (Read Home profile_name LIMIT_BYTES) a ∷ [])))
 
 -- what a `mark` on the folder that is acted on pledges; where none can be, what a command pledges that looks
 abbrev pub on_named : ℕ → List NamedValue → MarkWords → Result (List ℕ) CommandFault → Pledge
@@ -161,11 +163,14 @@ refiles_pledge run profile context (Err e) = scan_pledge run (path_of profile)
 
 -- the same pledge, but for what may be said
 abbrev pub telling : Pledge → (List Deed → List ℕ → Type 0) → Pledge
-telling w tells = record { run = w.run; manner = w.manner; may_mark = w.may_mark; may_tell = tells; may_step = w.may_step }
+telling w tells =
+    record { run = w.run; manner = w.manner; may_mark = w.may_mark; may_tell = tells; may_step = w.may_step }
 
 -- of new messages it tells what the words name, or what the format makes of them that the run has read from its file
 abbrev pub TellsAsked : ℕ → List ℕ → IncAsked → List Deed → List ℕ → Type 0
-TellsAsked run path asked own piece = (spoken : Standing → Writing) × WritesAs asked.telling spoken own × TellsNew run path (job_writing asked spoken) own piece
+TellsAsked run path asked own piece =
+    (spoken : Standing → Writing) × WritesAs asked.telling spoken own
+    × TellsNew run path (job_writing asked spoken) own piece
 
 -- nothing is written of a message
 abbrev pub unwritten : Standing → Writing
@@ -230,7 +235,8 @@ IsDone (Some Mhbuild) path own = AreSettled own
 
 -- the call began with the profile, which names the path of a mail directory, and with the context of that; it kept the
 -- pledge that these and its words make
-pub record KeepsPledge (run : ℕ) (caller : Caller) (words : List (List ℕ)) (x y : State) (result : Result Unit Ended) : Type 0 where
+pub record KeepsPledge (run : ℕ) (caller : Caller) (words : List (List ℕ)) (x y : State)
+    (result : Result Unit Ended) : Type 0 where
   pub profile : Answer
   pub context : Answer
   pub own : List Deed

@@ -18,7 +18,8 @@ use Rattle.step_plans.specs.declared.command_fault.CommandFault.TheVariants as f
 -- what a folder's text of sequences and the entries of the context mark
 abbrev pub marks_in : List ℕ → List NamedValue → List ℕ → Marks
 marks_in text entries folder = record {
-  has = λ name n. is_seq_name name && (lists_public (fields_of text) name n || lists_private entries (suffix folder) name n);
+  has = λ name n.
+      is_seq_name name && (lists_public (fields_of text) name n || lists_private entries (suffix folder) name n);
   cur = cur_in (fields_of text);
 }
 

@@ -47,7 +47,8 @@ pub fn choose(
     sequences: &Sequences,
     negation: &[u8],
 ) -> Result<NumSet, CommandFault>
-    ensures { IsValue (chosen_in (folder_with negation.now (numbers_of listing.now.runs) (marks_of sequences.now)) words.now) result }
+    ensures { IsValue
+        (chosen_in (folder_with negation.now (numbers_of listing.now.runs) (marks_of sequences.now)) words.now) result }
 {
     match select(alloc, words, listing, sequences, negation) {
         Ok(chosen) => Ok(chosen),

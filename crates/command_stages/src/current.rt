@@ -30,7 +30,8 @@ pub fn make_current<F: Files>(
     files: &mut F,
     folder: &FolderName,
 ) -> Result<(), CommandFault>
-    ensures plan { Follows hand.old.run command_cause (made_current hand.old.run hand.old.mail folder.now) (by_hand hand.old.kept (F.state files.old)) (by_hand hand.new.kept (F.state files.new)) result }
+    ensures plan { Follows hand.old.run command_cause (made_current hand.old.run hand.old.mail folder.now)
+        (by_hand hand.old.kept (F.state files.old)) (by_hand hand.new.kept (F.state files.new)) result }
     ensures run { hand.new.run ≡ hand.old.run }
     ensures mail { hand.new.mail ≡ hand.old.mail }
 {

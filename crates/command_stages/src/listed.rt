@@ -36,7 +36,9 @@ pub fn list_folder<F: Files>(
     place: &Place,
     folder: &FolderName,
 ) -> Result<NameList, CommandFault>
-    ensures { (h : Hand) → Follows run command_cause (folder_listed_plan place.now folder.now) (by_hand h (F.state files.old)) (by_hand h (F.state files.new)) result }
+    ensures { (h : Hand)
+        → Follows run command_cause (folder_listed_plan place.now folder.now) (by_hand h (F.state files.old))
+        (by_hand h (F.state files.new)) result }
 {
     let listing = ask_list(alloc, run, files, place)?;
     names_from(alloc, folder, listing)

@@ -37,7 +37,9 @@ pub fn read_text<F: Files>(
     place: &Place,
     name: &Name,
 ) -> Result<Bytes, CommandFault>
-    ensures { (h : Hand) → Follows run command_cause (text_read_plan place.now name.now) (by_hand h (F.state files.old)) (by_hand h (F.state files.new)) result }
+    ensures { (h : Hand)
+        → Follows run command_cause (text_read_plan place.now name.now) (by_hand h (F.state files.old))
+        (by_hand h (F.state files.new)) result }
 {
     let reading = ask_read(alloc, run, files, place, name, LIMIT)?;
     text_from(alloc, reading)
@@ -50,7 +52,9 @@ pub fn read_sequences_text<F: Files>(
     files: &mut F,
     place: &Place,
 ) -> Result<Bytes, CommandFault>
-    ensures { (h : Hand) → Follows run command_cause (text_read_plan place.now (entry_text Sequences)) (by_hand h (F.state files.old)) (by_hand h (F.state files.new)) result }
+    ensures { (h : Hand)
+        → Follows run command_cause (text_read_plan place.now (entry_text Sequences)) (by_hand h (F.state files.old))
+        (by_hand h (F.state files.new)) result }
 {
     let name = entry_name(alloc, &Entry::Sequences)?;
     read_text(alloc, run, files, place, &name)

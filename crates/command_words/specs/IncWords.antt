@@ -73,4 +73,6 @@ items_said words (Err wrong) = Err (wrong_at words wrong)
 -- what the words of `inc` say, those of the profile first, or the refusal: of a switch before that of a word that is
 -- too many or of a width that is none, the earlier first, and that before a wrong name
 abbrev pub inc_said : List NamedValue → List (List ℕ) → Result IncWords Ended
-inc_said profile words = items_said (profile_words (codes "inc") profile ++ words) (read_in inc_table 0 (profile_words (codes "inc") profile ++ words))
+inc_said profile words =
+    items_said (profile_words (codes "inc") profile ++ words)
+    (read_in inc_table 0 (profile_words (codes "inc") profile ++ words))

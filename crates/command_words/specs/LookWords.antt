@@ -38,7 +38,8 @@ format_in (Component name value place) = []
 
 -- of all formats, files of formats and widths that words name the last counts; 80 columns without one
 abbrev pub look_of : List Item → LookWords
-look_of items = record { format = last_behind Default (flat_map format_in items); width = last_behind 80 (flat_map width_in items) }
+look_of items =
+    record { format = last_behind Default (flat_map format_in items); width = last_behind 80 (flat_map width_in items) }
 
 abbrev pub if_none : ℕ → Option ℕ → List ℕ
 if_none place None = place ∷ []

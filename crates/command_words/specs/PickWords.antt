@@ -90,7 +90,8 @@ module _ (moment offset : ℤ) where
   folder_said words items (Err wrong) = Err (wrong_at words wrong)
 
   abbrev pub items_said : List (List ℕ) → Result (List Item) Wrong → Result PickWords Ended
-  items_said words (Ok items) = folder_said words items (unless_bad (first_of (bad_names items)) (one_folder (folders items)))
+  items_said words (Ok items) = folder_said words items
+      (unless_bad (first_of (bad_names items)) (one_folder (folders items)))
   items_said words (Err wrong) = Err (wrong_at words wrong)
 
 -- the words of the profile's entry, and then the command's

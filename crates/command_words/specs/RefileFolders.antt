@@ -30,7 +30,9 @@ IsTargetNoted old name new =
 
 -- the folder that messages leave was noted, or the word names none
 abbrev pub IsSourceNoted : FoldersNamed → List ℕ → FoldersNamed → Result Unit CommandFault → Type 0
-IsSourceNoted old word new (Ok u) = (new.source ≡ Some (without_plus word)) × (new.target ≡ old.target) × (new.others ≡ old.others) × (is_folder_name (without_plus word) ≡ true)
+IsSourceNoted old word new (Ok u) =
+    (new.source ≡ Some (without_plus word)) × (new.target ≡ old.target) × (new.others ≡ old.others)
+    × (is_folder_name (without_plus word) ≡ true)
 IsSourceNoted old word new (Err e) =
     ((is_folder_name (without_plus word) ≡ false) × (e ≡ fault.Refused (refusal.BadFolder word))) ⊎ (e ≡ fault.Memory)
 

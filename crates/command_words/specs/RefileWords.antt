@@ -81,4 +81,6 @@ items_said words (Err wrong) = Err (wrong_at words wrong)
 -- what the words of `refile` say, those of the profile first, or the refusal: of a switch, then for want of a folder,
 -- then of the first wrong name of one
 abbrev pub refile_said : List NamedValue → List (List ℕ) → Result RefileWords Ended
-refile_said profile words = items_said (profile_words (codes "refile") profile ++ words) (read_in refile_table 0 (profile_words (codes "refile") profile ++ words))
+refile_said profile words =
+    items_said (profile_words (codes "refile") profile ++ words)
+    (read_in refile_table 0 (profile_words (codes "refile") profile ++ words))

@@ -16,7 +16,12 @@ use Rattle.command_words.specs.declared.tables.TheConstants.{UNLINK, NOUNLINK}
 
 -- what the items say beside the folder; of the two switches the last counts
 abbrev pub words_of : Option (List ℕ) → List Item → RmmWords
-words_of folder items = record { folder = folder; specs = names_or (codes "cur") (messages items); unlink = unwrap_or (last_choice UNLINK NOUNLINK items) false }
+words_of folder items =
+    record {
+      folder = folder;
+      specs = names_or (codes "cur") (messages items);
+      unlink = unwrap_or (last_choice UNLINK NOUNLINK items) false;
+    }
 
 abbrev pub with_folder : List Item → Result (List ℕ) CommandFault → Result RmmWords Ended
 with_folder items (Ok name) = Ok (words_of (Some name) items)
@@ -37,4 +42,6 @@ items_said words (Err wrong) = Err (wrong_at words wrong)
 -- what the words of `rmm` say, those of the profile first, or the refusal: of a switch before that of a second folder,
 -- and that before a wrong name
 abbrev pub rmm_said : List NamedValue → List (List ℕ) → Result RmmWords Ended
-rmm_said profile words = items_said (profile_words (codes "rmm") profile ++ words) (read_in rmm_table 0 (profile_words (codes "rmm") profile ++ words))
+rmm_said profile words =
+    items_said (profile_words (codes "rmm") profile ++ words)
+    (read_in rmm_table 0 (profile_words (codes "rmm") profile ++ words))

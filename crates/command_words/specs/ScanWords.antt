@@ -18,7 +18,13 @@ use Rattle.command_words.specs.declared.tables.TheConstants.{REVERSE, NOREVERSE}
 
 -- what the items say beside the folder; of the two switches the last counts
 abbrev pub words_of : Option (List ℕ) → List Item → ScanWords
-words_of folder items = record { folder = folder; specs = names_or (codes "all") (messages items); reverse = unwrap_or (last_choice REVERSE NOREVERSE items) false; look = look_of items }
+words_of folder items =
+    record {
+      folder = folder;
+      specs = names_or (codes "all") (messages items);
+      reverse = unwrap_or (last_choice REVERSE NOREVERSE items) false;
+      look = look_of items;
+    }
 
 abbrev pub with_folder : List Item → Result (List ℕ) CommandFault → Result ScanWords Ended
 with_folder items (Ok name) = Ok (words_of (Some name) items)
@@ -40,4 +46,6 @@ items_said words (Err wrong) = Err (wrong_at words wrong)
 -- what the words of `scan` say, those of the profile first, or the refusal: of a switch before that of a second folder
 -- or of a width that is none, the earlier first, and that before a wrong name
 abbrev pub scan_said : List NamedValue → List (List ℕ) → Result ScanWords Ended
-scan_said profile words = items_said (profile_words (codes "scan") profile ++ words) (read_in scan_table 0 (profile_words (codes "scan") profile ++ words))
+scan_said profile words =
+    items_said (profile_words (codes "scan") profile ++ words)
+    (read_in scan_table 0 (profile_words (codes "scan") profile ++ words))

@@ -56,7 +56,10 @@ pick_table =
     table_with_components
     (switch (codes "and") Flag ∷ switch (codes "or") Flag ∷ switch (codes "not") Flag ∷ switch (codes "lbrace") Flag ∷
     switch (codes "rbrace") Flag ∷ switch (codes "from") Value ∷ switch (codes "to") Value ∷ switch (codes "cc") Value ∷
-    switch (codes "subject") Value ∷ switch (codes "date") Value ∷ switch (codes "search") Value ∷ switch (codes "before") Value ∷
-    switch (codes "after") Value ∷ switch (codes "datefield") Value ∷ switch (codes "sequence") Value ∷ switch (codes "public") Flag ∷
-    switch (codes "nopublic") Flag ∷ switch (codes "zero") Flag ∷ switch (codes "nozero") Flag ∷ switch (codes "list") Flag ∷
+    switch (codes "subject") Value ∷ switch (codes "date") Value ∷ switch (codes "search") Value
+    ∷ switch (codes "before") Value ∷
+    switch (codes "after") Value ∷ switch (codes "datefield") Value ∷ switch (codes "sequence") Value
+    ∷ switch (codes "public") Flag ∷
+    switch (codes "nopublic") Flag ∷ switch (codes "zero") Flag ∷ switch (codes "nozero") Flag
+    ∷ switch (codes "list") Flag ∷
     switch (codes "nolist") Flag ∷ [])

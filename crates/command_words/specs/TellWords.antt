@@ -64,4 +64,6 @@ items_said words (Err wrong) = Err (wrong_at words wrong)
 -- what the words of `folder` say, those of the profile first, or the refusal: of a switch before that of a word that is
 -- too many, and that before a wrong name
 abbrev pub tell_said : List NamedValue → List (List ℕ) → Result FolderWords Ended
-tell_said profile words = items_said (profile_words (codes "folder") profile ++ words) (read_in folder_table 0 (profile_words (codes "folder") profile ++ words))
+tell_said profile words =
+    items_said (profile_words (codes "folder") profile ++ words)
+    (read_in folder_table 0 (profile_words (codes "folder") profile ++ words))

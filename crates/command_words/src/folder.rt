@@ -29,7 +29,8 @@ use mh_profile::Entries;
 use mh_words::ItemList;
 use std::alloc::{AllocError, Global};
 
-/// The words of `folder`: the folder, where they name one; whether its messages are numbered anew; and the messages' name, where there is one.
+/// The words of `folder`: the folder, where they name one; whether its messages are numbered anew; and the messages'
+/// name, where there is one.
 #[derive(Drop)]
 pub struct FolderWords {
     pub folder: Option<FolderName>,

@@ -28,8 +28,8 @@ use mh_profile::Entries;
 use mh_words::{Item, ItemList};
 use std::alloc::{AllocError, Global};
 
-/// The words of `inc`: the folder and the drop, where they name them; whether the drop is cut, whether nothing is written, and whether the
-/// first new message becomes the current one; and what they say of lines.
+/// The words of `inc`: the folder and the drop, where they name them; whether the drop is cut, whether nothing is
+/// written, and whether the first new message becomes the current one; and what they say of lines.
 #[derive(Drop)]
 pub struct IncWords {
     pub folder: Option<FolderName>,

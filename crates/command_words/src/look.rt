@@ -14,7 +14,8 @@ use std::alloc::{AllocError, Global};
 /// The widest line, in columns.
 const WIDEST: u32 = 10_000;
 
-/// The format of lines, as words name it: the one that is there without words, the one of a word, or the one of the file of this path.
+/// The format of lines, as words name it: the one that is there without words, the one of a word, or the one of the
+/// file of this path.
 #[derive(Drop)]
 pub enum FormatWords {
     Default,

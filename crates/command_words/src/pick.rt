@@ -42,8 +42,8 @@ use pick_expr::{Expr, ExprFault, read_expr};
 use std::alloc::{AllocError, Global};
 use step_plans::CommandFault;
 
-/// The words of `pick`: the folder, where they name one; the messages' names; the expression; the sequences that those of its messages come into, or none
-/// where nothing is marked; and whether they are listed.
+/// The words of `pick`: the folder, where they name one; the messages' names; the expression; the sequences that those
+/// of its messages come into, or none where nothing is marked; and whether they are listed.
 #[derive(Drop)]
 pub struct PickWords {
     pub folder: Option<FolderName>,
@@ -167,7 +167,8 @@ fn word_said(
     offset_minutes: i32,
 ) -> Result<PickWords, Ended>
     requires { IsSetting moment offset_minutes }
-    ensures { IsSaid (with_folder moment offset_minutes words.now.items (folder_named (option_map (λ w. w.now) word.entry))) result }
+    ensures { IsSaid
+        (with_folder moment offset_minutes words.now.items (folder_named (option_map (λ w. w.now) word.entry))) result }
 {
     let folder = folder_said(alloc, word)?;
     let names = sequence_names(alloc, &values(alloc, PICK_SEQUENCE, &words.items)?)?;
@@ -198,8 +199,8 @@ fn items_said(
     }
 }
 
-/// What the words of `pick` say, those of the profile first. The dates of its expression are named at this moment, in seconds from 1970-01-01 00:00:00
-/// UTC, by a clock that is so many minutes ahead of UTC.
+/// What the words of `pick` say, those of the profile first. The dates of its expression are named at this moment, in
+/// seconds from 1970-01-01 00:00:00 UTC, by a clock that is so many minutes ahead of UTC.
 pub fn pick_words(
     alloc: Global,
     profile: &Entries,

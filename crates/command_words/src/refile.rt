@@ -20,8 +20,8 @@ use mh_words::{Item, ItemList};
 use std::alloc::{AllocError, Global};
 use step_plans::CommandFault;
 
-/// The words of `refile`: the folder that messages leave, where they name it; the messages' names; the folder to which messages go, and others;
-/// whether they are copied there and stay.
+/// The words of `refile`: the folder that messages leave, where they name it; the messages' names; the folder to which
+/// messages go, and others; whether they are copied there and stay.
 #[derive(Drop)]
 pub struct RefileWords {
     pub source: Option<FolderName>,

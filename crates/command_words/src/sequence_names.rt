@@ -37,7 +37,8 @@ pub(crate) fn sequence_names(alloc: Global, words: &TextList) -> Result<SeqNameL
     Ok(names)
 }
 
-/// The sequences that the profile's entry of this name gives, cut at spaces and tabs; none where there is no such entry.
+/// The sequences that the profile's entry of this name gives, cut at spaces and tabs; none where there is no such
+/// entry.
 pub fn profile_sequences(
     alloc: Global,
     profile: &Entries,

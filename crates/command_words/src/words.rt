@@ -60,7 +60,8 @@ pub fn all_words(
     name: &[u8],
     words: &[String],
 ) -> Result<TextList, AllocError>
-    ensures { IfOk result (λ all. all ≡ profile_words_of name.now profile.now ++ map chars (map string_bytes words.now)) }
+    ensures { IfOk result
+        (λ all. all ≡ profile_words_of name.now profile.now ++ map chars (map string_bytes words.now)) }
 {
     let mut all = profile_words(alloc, profile, name)?;
     for word in words {

@@ -18,7 +18,8 @@ use Rattle.commit_fold.specs.Counting.{Commit, Counts, AreSynced, done_in, turns
 abbrev pub Changes : (ℕ → ℕ → List ℕ → List ℕ → Type 0) → Place → List ℕ → ℕ → List Deed → Step → Type 0
 Changes may p name run own s =
     (temp : List ℕ) → s ≡ Rename p temp name
-    → (base : List ℕ) × (text : List ℕ) × IsBase run p name base own × WasDone (Create p temp text) own × may run (done_in p name own) base text
+    → (base : List ℕ) × (text : List ℕ) × IsBase run p name base own × WasDone (Create p temp text) own
+    × may run (done_in p name own) base text
 
 -- each commit of the name in these events does
 abbrev pub AreChanges : (ℕ → ℕ → List ℕ → List ℕ → Type 0) → Place → List ℕ → List Event → Type 0
@@ -33,7 +34,8 @@ AreChanges may p name (End r ∷ past) = AreChanges may p name past
 abbrev pub Replaces : (ℕ → ℕ → List ℕ → List ℕ → Type 0) → World → Place → List ℕ → ℕ → Step → List Event → Type 0
 Replaces may start p name run s past =
     (temp : List ℕ) → s ≡ Rename p temp name → (moment : List Event) → IsTriedAt start run moment past
-    → (text : List ℕ) × WasDone (Create p temp text) (own run past) × may run (done_in p name (own run past)) (text_at (world_after start moment) p name) text
+    → (text : List ℕ) × WasDone (Create p temp text) (own run past)
+    × may run (done_in p name (own run past)) (text_at (world_after start moment) p name) text
 
 -- each commit of the name in these events does
 abbrev pub AreReplacing : (ℕ → ℕ → List ℕ → List ℕ → Type 0) → World → Place → List ℕ → List Event → Type 0
@@ -61,7 +63,8 @@ fold change (c ∷ cs) text = change c.run c.turn (fold change cs text)
 -- the same where a change may have several outcomes
 pub data Makes (may : ℕ → ℕ → List ℕ → List ℕ → Type 0) (old : List ℕ) : List Commit → List ℕ → Type 0 where
   none : Makes may old [] old
-  more : {c : Commit} {cs : List Commit} {text new : List ℕ} → Makes may old cs text → may c.run c.turn text new → Makes may old (c ∷ cs) new
+  more : {c : Commit} {cs : List Commit} {text new : List ℕ} → Makes may old cs text → may c.run c.turn text new
+      → Makes may old (c ∷ cs) new
 
 -- a commit whose text says what its mark makes of what the old one says: of each sequence by its name, which numbers it
 -- has
@@ -76,27 +79,33 @@ by change run turn old new = new ≡ change run turn old
 -- the run's commits among these are its first ones: all those that were answered Done or fewer, or these and one more
 -- that was answered Failed
 abbrev pub HasFront : Place → List ℕ → List Deed → ℕ → List Commit → Type 0
-HasFront p name own run cs = (n : ℕ) × (turns_of run cs ≡ below n) × ((n ≤ done_in p name own) ⊎ ((n ≤ suc (done_in p name own)) × HasFailed own))
+HasFront p name own run cs =
+    (n : ℕ) × (turns_of run cs ≡ below n)
+    × ((n ≤ done_in p name own) ⊎ ((n ≤ suc (done_in p name own)) × HasFailed own))
 
 -- all the run's commits that were answered Done are among these, and no other
 abbrev pub HasWhole : Place → List ℕ → List Deed → ℕ → List Commit → Type 0
 HasWhole p name own run cs = turns_of run cs ≡ below (done_in p name own)
 
 -- what these commits tell of the name after these events: Made says which texts they make
-pub record Tells (start : World) (p : Place) (name : List ℕ) (Made : List Commit → List ℕ → Type 0) (loose firm : List Commit) (past : List Event) : Type 0 where
+pub record Tells (start : World) (p : Place) (name : List ℕ) (Made : List Commit → List ℕ → Type 0)
+    (loose firm : List Commit) (past : List Event) : Type 0 where
   -- in the world all count
   pub now : Made (loose ++ firm) (text_at (world_after start past) p name)
   -- in an image some of the newest loose ones do not
   pub later : (v : WorldMap) (acted : ℕ → Bool) → IsCrashImage (world_after start past) v acted
-      → (newer : List Commit) × (older : List Commit) × (loose ≡ newer ++ older) × Made (older ++ firm) (text_at v p name)
+      → (newer : List Commit) × (older : List Commit) × (loose ≡ newer ++ older)
+      × Made (older ++ firm) (text_at v p name)
   -- of each run a front part of its commits counts
   pub front : (run : ℕ) → HasFront p name (own run past) run (loose ++ firm)
   -- of a run none of whose steps failed, and that synced after its commits, all count and are firm
-  pub whole : (run : ℕ) → (HasFailed (own run past) → ⊥) → AreSynced p name (own run past) → HasWhole p name (own run past) run firm × (turns_of run loose ≡ [])
+  pub whole : (run : ℕ) → (HasFailed (own run past) → ⊥) → AreSynced p name (own run past)
+      → HasWhole p name (own run past) run firm × (turns_of run loose ≡ [])
 
 -- the text of the name after these events, and at each moment before, is what the commits make that count then, in
 -- their order
-pub record IsFold (start : World) (p : Place) (name : List ℕ) (Made : List Commit → List ℕ → Type 0) (past : List Event) : Type 0 where
+pub record IsFold (start : World) (p : Place) (name : List ℕ) (Made : List Commit → List ℕ → Type 0)
+    (past : List Event) : Type 0 where
   pub loose : List Commit
   pub firm : List Commit
   pub counts : Counts start p name (Tells start p name Made) loose firm past

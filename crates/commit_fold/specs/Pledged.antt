@@ -15,4 +15,5 @@ IsBack deeds all = (newer : List Deed) × (newer ++ deeds ≡ all)
 -- the run had when it had made so many
 abbrev pub as_pledged : (ℕ → Pledge) → Place → List ℕ → List Event → ℕ → ℕ → List ℕ → List ℕ → Type 0
 as_pledged pledges p name past run turn old new =
-    (deeds : List Deed) × IsBack deeds (own run past) × (done_in p name deeds ≡ turn) × (pledges run).may_mark deeds p name old new
+    (deeds : List Deed) × IsBack deeds (own run past) × (done_in p name deeds ≡ turn)
+    × (pledges run).may_mark deeds p name old new

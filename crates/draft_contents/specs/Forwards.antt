@@ -30,4 +30,7 @@ specs_or_current (spec ∷ specs) = spec ∷ specs
 -- and the context
 abbrev pub chosen_seen : List ℕ → List ℕ → List (List ℕ) → List (List ℕ) → List ℕ → List NamedValue
     → Result (List ℕ) CommandFault
-chosen_seen negation folder specs names text entries = chosen_in (folder_with negation (numbers_of (listed_runs names)) (marks_of (sequences_listed names text entries folder))) specs
+chosen_seen negation folder specs names text entries =
+    chosen_in
+    (folder_with negation (numbers_of (listed_runs names))
+    (marks_of (sequences_listed names text entries folder))) specs

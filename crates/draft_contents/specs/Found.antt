@@ -45,19 +45,27 @@ messages_found messages before (n ∷ ns) =
 -- the messages that these words choose of a folder whose sequences have this text
 abbrev pub chosen_of : List ℕ → List ℕ → List (List ℕ) → List NamedValue → FolderValue → List ℕ
     → Result (List ℕ) CommandFault
-chosen_of negation folder specs entries v text = chosen_in (folder_with negation (numbers_of (runs_in v)) (marks_of (cut_to (runs_in v) (sequences_in text entries folder)))) specs
+chosen_of negation folder specs entries v text =
+    chosen_in
+    (folder_with negation (numbers_of (runs_in v))
+    (marks_of (cut_to (runs_in v) (sequences_in text entries folder)))) specs
 
 abbrev pub folder_found : Forwarding → List ℕ → List (List ℕ) → List NamedValue → Option FolderValue
     → Result (List (List ℕ)) CommandFault
 folder_found f folder specs entries None = Err (fault.Refused (refusal.NoFolder folder))
-folder_found f folder specs entries (Some v) = and_then (readable v.sequences) (λ text. and_then (chosen_of f.negation folder specs entries v text) (λ numbers. messages_found v.messages [] numbers))
+folder_found f folder specs entries (Some v) =
+    and_then (readable v.sequences)
+    (λ text.
+    and_then (chosen_of f.negation folder specs entries v text)
+    (λ numbers. messages_found v.messages [] numbers))
 
 -- the messages that these words choose, of the folder that its word names, or else of the current one
 abbrev pub forward_found : List ℕ → Forwarding → List NamedValue → Mailbox → Option (List ℕ) → List (List ℕ)
     → Result Given CommandFault
 forward_found path f entries m word specs =
     and_then (folder_named (folder_word f word)) (λ folder.
-    and_then (folder_found f folder (specs_or_current specs) entries (m.folders (Folder path folder))) (λ messages. Ok (given.Messages messages)))
+    and_then (folder_found f folder (specs_or_current specs) entries (m.folders (Folder path folder)))
+    (λ messages. Ok (given.Messages messages)))
 
 abbrev pub want_found : List ℕ → Forwarding → List NamedValue → Mailbox → Want → Result Given CommandFault
 want_found path f entries m (want.File file) = and_then (file_found m file) (λ bytes. Ok (given.File bytes))

@@ -28,11 +28,13 @@ use Rattle.draft_contents.specs.declared.forwarding.Forwarding.{Forwarding}
 -- the newest step read the file: it isn't there, or it is too long
 pub data FileIsNotGiven (file : FilePath) : CommandFault → List Deed → Type 0 where
   not_there : {older : List Deed} → FileIsNotGiven file (no_file file) (did (ReadFile file LIMIT_BYTES) Gone ∷ older)
-  too_long : {l : ℕ} {older : List Deed} → FileIsNotGiven file (too_large l) (did (ReadFile file LIMIT_BYTES) (Long l) ∷ older)
+  too_long : {l : ℕ} {older : List Deed}
+      → FileIsNotGiven file (too_large l) (did (ReadFile file LIMIT_BYTES) (Long l) ∷ older)
 
 -- the newest two steps listed the folder and read its sequences; by these, and by the entries of the context that were
 -- read before, the words are refused so
-pub record IsRefusedByWords (negation folder : List ℕ) (specs : List (List ℕ)) (entries : List NamedValue) (place : Place) (r : Refusal) (own : List Deed)
+pub record IsRefusedByWords (negation folder : List ℕ) (specs : List (List ℕ)) (entries : List NamedValue)
+    (place : Place) (r : Refusal) (own : List Deed)
     : Type 0 where
   pub names : List (List ℕ)
   pub text : List ℕ
@@ -44,13 +46,17 @@ pub record IsRefusedByWords (negation folder : List ℕ) (specs : List (List ℕ
 
 -- The folder isn't there; or its words are refused by what it has; or the newest step read its sequences or a message
 -- of it, which is too long; or it read a message that it had listed, and others have taken it away.
-pub data MessagesAreNotGiven (negation folder : List ℕ) (specs : List (List ℕ)) (entries : List NamedValue) (place : Place)
+pub data MessagesAreNotGiven (negation folder : List ℕ) (specs : List (List ℕ)) (entries : List NamedValue)
+    (place : Place)
     : CommandFault → List Deed → Type 0 where
-  no_folder : {older : List Deed} → MessagesAreNotGiven negation folder specs entries place (fault.Refused (refusal.NoFolder folder)) (did (Lists place) Gone ∷ older)
+  no_folder : {older : List Deed}
+      → MessagesAreNotGiven negation folder specs entries place (fault.Refused (refusal.NoFolder folder))
+      (did (Lists place) Gone ∷ older)
   by_words : {r : Refusal} {own : List Deed} → IsRefusedByWords negation folder specs entries place r own
       → MessagesAreNotGiven negation folder specs entries place (fault.Refused r) own
   long_file : {name : List ℕ} {l : ℕ} {older : List Deed}
-      → MessagesAreNotGiven negation folder specs entries place (too_large l) (did (Read place name LIMIT_BYTES) (Long l) ∷ older)
+      → MessagesAreNotGiven negation folder specs entries place (too_large l)
+      (did (Read place name LIMIT_BYTES) (Long l) ∷ older)
   taken_away : {older : List Deed} → (n : ℕ) → HasMet place (entry_text (Number n)) older
       → MessagesAreNotGiven negation folder specs entries place (fault.Meddled place (entry_text (Number n)))
       (did (Read place (entry_text (Number n)) LIMIT_BYTES) Gone ∷ older)
@@ -64,7 +70,8 @@ WantIsNotGiven path f entries (want.Messages word specs) e own =
     × MessagesAreNotGiven f.negation folder (specs_or_current specs) entries (Folder path folder) e own)
 
 -- the first of these were given, and the next is not
-pub record IsNotGiven (path : List ℕ) (f : Forwarding) (entries : List NamedValue) (wants : List Want) (e : CommandFault) (own : List Deed) : Type 0 where
+pub record IsNotGiven (path : List ℕ) (f : Forwarding) (entries : List NamedValue) (wants : List Want)
+    (e : CommandFault) (own : List Deed) : Type 0 where
   pub front : List Want
   pub next : Want
   pub back : List Want

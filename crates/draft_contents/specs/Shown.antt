@@ -34,7 +34,9 @@ abbrev pub WasGiven : List ℕ → Forwarding → Want → Given → List Deed �
 WasGiven path f (want.File file) (given.File bytes) own = HasReadFile file bytes own
 WasGiven path f (want.File file) (given.Messages messages) own = ⊥
 WasGiven path f (want.Messages word specs) (given.File bytes) own = ⊥
-WasGiven path f (want.Messages word specs) (given.Messages messages) own = (folder : List ℕ) × (folder_named (folder_word f word) ≡ Ok folder) × HasReadMessages (Folder path folder) messages own
+WasGiven path f (want.Messages word specs) (given.Messages messages) own =
+    (folder : List ℕ) × (folder_named (folder_word f word) ≡ Ok folder)
+    × HasReadMessages (Folder path folder) messages own
 
 -- and for all that is wanted, each in its place
 abbrev pub AreGiven : List ℕ → Forwarding → List Want → List Given → List Deed → Type 0

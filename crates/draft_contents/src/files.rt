@@ -34,7 +34,9 @@ fn read_file<F: Files>(
     files: &mut F,
     path: &FilePath,
 ) -> Result<Bytes, CommandFault>
-    ensures { (h : Hand) → Follows run command_cause (file_read path.now) (by_hand h (F.state files.old)) (by_hand h (F.state files.new)) result }
+    ensures { (h : Hand)
+        → Follows run command_cause (file_read path.now) (by_hand h (F.state files.old))
+        (by_hand h (F.state files.new)) result }
 {
     let reading = ask_read_file(alloc, run, files, path, LIMIT)?;
     file_from(alloc, path, reading)
@@ -46,7 +48,9 @@ pub(crate) fn give_file<F: Files>(
     files: &mut F,
     path: &FilePath,
 ) -> Result<Given, CommandFault>
-    ensures { (h : Hand) → Follows run command_cause (file_given path.now) (by_hand h (F.state files.old)) (by_hand h (F.state files.new)) result }
+    ensures { (h : Hand)
+        → Follows run command_cause (file_given path.now) (by_hand h (F.state files.old))
+        (by_hand h (F.state files.new)) result }
 {
     let bytes = read_file(alloc, run, files, path)?;
     Ok(Given::File(bytes))

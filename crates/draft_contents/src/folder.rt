@@ -75,7 +75,8 @@ pub(crate) fn chosen(
     names: &NameList,
     text: &Bytes,
 ) -> Result<Vec<MsgNum>, CommandFault>
-    ensures { AreValue (chosen_seen negation.now folder.now specs.now names.now text.now (entries_seen hand.now.kept.context)) result }
+    ensures { AreValue
+        (chosen_seen negation.now folder.now specs.now names.now text.now (entries_seen hand.now.kept.context)) result }
 {
     let listing = listed(alloc, names)?;
     let sequences = sequences_listed(alloc, hand, folder, text.as_slice(), &listing)?;

@@ -48,7 +48,9 @@ fn read_message<F: Files>(
     place: &Place,
     number: MsgNum,
 ) -> Result<Bytes, CommandFault>
-    ensures { (h : Kept) → Follows run command_cause (message_read place.now number) (by_hand h (F.state files.old)) (by_hand h (F.state files.new)) result }
+    ensures { (h : Kept)
+        → Follows run command_cause (message_read place.now number) (by_hand h (F.state files.old))
+        (by_hand h (F.state files.new)) result }
 {
     let name = entry_name(alloc, &Entry::Number(number))?;
     let reading = ask_read(alloc, run, files, place, &name, LIMIT)?;
@@ -63,7 +65,9 @@ fn read_messages<F: Files>(
     place: &Place,
     numbers: &[MsgNum],
 ) -> Result<BytesList, CommandFault>
-    ensures { (h : Kept) → Follows run command_cause (messages_read place.now [] numbers.now) (by_hand h (F.state files.old)) (by_hand h (F.state files.new)) result }
+    ensures { (h : Kept)
+        → Follows run command_cause (messages_read place.now [] numbers.now) (by_hand h (F.state files.old))
+        (by_hand h (F.state files.new)) result }
 {
     let mut messages = List::new(alloc);
     for number in numbers {
@@ -82,7 +86,8 @@ pub(crate) fn give_messages<F: Files>(
     folder: &FolderName,
     specs: &TextList,
 ) -> Result<BytesList, CommandFault>
-    ensures { Follows hand.now.run command_cause (messages_given hand.now.mail forwarding.now folder.now specs.now) (by_hand hand.now.kept (F.state files.old)) (by_hand hand.now.kept (F.state files.new)) result }
+    ensures { Follows hand.now.run command_cause (messages_given hand.now.mail forwarding.now folder.now specs.now)
+        (by_hand hand.now.kept (F.state files.old)) (by_hand hand.now.kept (F.state files.new)) result }
 {
     let place = folder_place(alloc, hand, folder)?;
     let names = list_folder(alloc, hand.run(), files, &place, folder)?;

@@ -24,7 +24,8 @@ fn forward<F: Files>(
     word: &Option<Text>,
     specs: &TextList,
 ) -> Result<Given, CommandFault>
-    ensures { Follows hand.now.run command_cause (forward_given hand.now.mail forwarding.now word.now specs.now) (by_hand hand.now.kept (F.state files.old)) (by_hand hand.now.kept (F.state files.new)) result }
+    ensures { Follows hand.now.run command_cause (forward_given hand.now.mail forwarding.now word.now specs.now)
+        (by_hand hand.now.kept (F.state files.old)) (by_hand hand.now.kept (F.state files.new)) result }
 {
     let folder = forwarded_folder(alloc, forwarding, word)?;
     let specs = specs_or_current(alloc, specs)?;
@@ -39,7 +40,8 @@ fn give<F: Files>(
     forwarding: &Forwarding,
     want: &Want,
 ) -> Result<Given, CommandFault>
-    ensures { Follows hand.now.run command_cause (want_given hand.now.mail forwarding.now want.now) (by_hand hand.now.kept (F.state files.old)) (by_hand hand.now.kept (F.state files.new)) result }
+    ensures { Follows hand.now.run command_cause (want_given hand.now.mail forwarding.now want.now)
+        (by_hand hand.now.kept (F.state files.old)) (by_hand hand.now.kept (F.state files.new)) result }
 {
     match want {
         Want::File(path) => give_file(alloc, hand.run(), files, path),
@@ -49,8 +51,8 @@ fn give<F: Files>(
     }
 }
 
-/// All that is wanted, in its order: a file that isn't there, a word that is no folder's name, a folder that isn't there, words that choose no messages, or a text
-/// that is too long ends the call, the first of them.
+/// All that is wanted, in its order: a file that isn't there, a word that is no folder's name, a folder that isn't
+/// there, words that choose no messages, or a text that is too long ends the call, the first of them.
 pub fn give_all<F: Files>(
     alloc: Global,
     hand: &Hand,
@@ -58,7 +60,8 @@ pub fn give_all<F: Files>(
     forwarding: &Forwarding,
     wants: &[Want],
 ) -> Result<GivenList, CommandFault>
-    ensures { Follows hand.now.run command_cause (all_given hand.now.mail forwarding.now [] wants.now) (by_hand hand.now.kept (F.state files.old)) (by_hand hand.now.kept (F.state files.new)) result }
+    ensures { Follows hand.now.run command_cause (all_given hand.now.mail forwarding.now [] wants.now)
+        (by_hand hand.now.kept (F.state files.old)) (by_hand hand.now.kept (F.state files.new)) result }
 {
     let mut givens = List::new(alloc);
     for want in wants {

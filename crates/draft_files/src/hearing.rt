@@ -31,7 +31,8 @@ fn fault_from(fault: SourceFault) -> CommandFault
 
 /// One piece of the input; the empty one is its end.
 fn hear_piece<I: Source>(alloc: Global, input: &mut I) -> Result<Bytes, CommandFault>
-    ensures { (run : ℕ) (h : Hand) (f : FilesState) (o : SinkState) → Follows run command_cause piece_heard (all h f (I.state input.old) o) (all h f (I.state input.new) o) result }
+    ensures { (run : ℕ) (h : Hand) (f : FilesState) (o : SinkState)
+        → Follows run command_cause piece_heard (all h f (I.state input.old) o) (all h f (I.state input.new) o) result }
 {
     match hear(alloc, input, PIECE) {
         Ok(piece) => Ok(piece),
@@ -41,7 +42,8 @@ fn hear_piece<I: Source>(alloc: Global, input: &mut I) -> Result<Bytes, CommandF
 
 /// The input to its end. One that is longer than the limit is refused, with the length that was read of it.
 pub fn hear_all<I: Source>(alloc: Global, input: &mut I) -> Result<Bytes, CommandFault>
-    ensures { (run : ℕ) (h : Hand) (f : FilesState) (o : SinkState) → Follows run command_cause all_heard (all h f (I.state input.old) o) (all h f (I.state input.new) o) result }
+    ensures { (run : ℕ) (h : Hand) (f : FilesState) (o : SinkState)
+        → Follows run command_cause all_heard (all h f (I.state input.old) o) (all h f (I.state input.new) o) result }
 {
     let mut bytes = Bytes::new(alloc);
     for count in 0..PIECES {

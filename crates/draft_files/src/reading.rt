@@ -43,7 +43,9 @@ pub fn read_draft<F: Files>(
     files: &mut F,
     draft: &DraftName,
 ) -> Result<Bytes, CommandFault>
-    ensures { (h : Hand) → Follows run command_cause (draft_read draft.now) (by_hand h (F.state files.old)) (by_hand h (F.state files.new)) result }
+    ensures { (h : Hand)
+        → Follows run command_cause (draft_read draft.now) (by_hand h (F.state files.old))
+        (by_hand h (F.state files.new)) result }
 {
     let reading = ask_read(alloc, run, files, &Place::Work, draft.name(), LIMIT)?;
     draft_from(alloc, draft.name(), reading)

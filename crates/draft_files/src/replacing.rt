@@ -40,13 +40,16 @@ fn rename<F: Files>(
     from: &Name,
     to: &Name,
 ) -> Result<(), PlanFault>
-    ensures { (h : Kept) → Follows run plan_cause (renamed Place.Work from.now to.now) (by_hand h (F.state files.old)) (by_hand h (F.state files.new)) result }
+    ensures { (h : Kept)
+        → Follows run plan_cause (renamed Place.Work from.now to.now) (by_hand h (F.state files.old))
+        (by_hand h (F.state files.new)) result }
 {
     let touched = ask_rename(alloc, run, files, &Place::Work, from, to)?;
     hold_to(alloc, &Place::Work, from, touched)
 }
 
-/// The message takes the draft's name: first it is made under a temporary name and made safe, and then the draft is set aside.
+/// The message takes the draft's name: first it is made under a temporary name and made safe, and then the draft is set
+/// aside.
 fn set_in_place<F: Files>(
     alloc: Global,
     hand: &mut Hand,
@@ -54,7 +57,8 @@ fn set_in_place<F: Files>(
     draft: &DraftName,
     message: &mut Bytes,
 ) -> Result<(), PlanFault>
-    ensures plan { Follows hand.old.run plan_cause (set_in_place_plan hand.old.run draft.now message.old) (by_hand hand.old.kept (F.state files.old)) (by_hand hand.new.kept (F.state files.new)) result }
+    ensures plan { Follows hand.old.run plan_cause (set_in_place_plan hand.old.run draft.now message.old)
+        (by_hand hand.old.kept (F.state files.old)) (by_hand hand.new.kept (F.state files.new)) result }
     ensures run { hand.new.run ≡ hand.old.run }
     ensures mail { hand.new.mail ≡ hand.old.mail }
 {
@@ -73,7 +77,8 @@ pub fn replace_draft<F: Files>(
     draft: &DraftName,
     message: &mut Bytes,
 ) -> Result<(), CommandFault>
-    ensures plan { Follows hand.old.run command_cause (draft_replaced hand.old.run draft.now message.old) (by_hand hand.old.kept (F.state files.old)) (by_hand hand.new.kept (F.state files.new)) result }
+    ensures plan { Follows hand.old.run command_cause (draft_replaced hand.old.run draft.now message.old)
+        (by_hand hand.old.kept (F.state files.old)) (by_hand hand.new.kept (F.state files.new)) result }
     ensures run { hand.new.run ≡ hand.old.run }
     ensures mail { hand.new.mail ≡ hand.old.mail }
 {

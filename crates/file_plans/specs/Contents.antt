@@ -23,7 +23,8 @@ pub record Contents : Type 0 where
   pub outside : FilePath → Option (List ℕ)
 
 abbrev pub contents_of : WorldMap → Contents
-contents_of w = record { there = λ p. (w.directories p).there; texts = λ p x. text_in w (w.directories p) x; outside = w.outside }
+contents_of w =
+    record { there = λ p. (w.directories p).there; texts = λ p x. text_in w (w.directories p) x; outside = w.outside }
 
 abbrev pub folder_at : Contents → Place → Folder
 folder_at c p = record {
@@ -49,7 +50,8 @@ is_at q n p x = same_place q p && bytes_eq n x
 
 -- the name leads to this text, or to nothing
 abbrev pub with_text : Contents → Place → List ℕ → Option (List ℕ) → Contents
-with_text c q n text = record { there = c.there; texts = λ p x. if is_at q n p x then text else c.texts p x; outside = c.outside }
+with_text c q n text =
+    record { there = c.there; texts = λ p x. if is_at q n p x then text else c.texts p x; outside = c.outside }
 
 -- the first name leads to nothing, and the second to what the first led to
 abbrev pub with_moved : Contents → Place → List ℕ → List ℕ → Contents
@@ -57,10 +59,17 @@ with_moved c q a b = if bytes_eq a b then c else with_text (with_text c q a None
 
 -- the directory and its parents are there
 abbrev pub with_folder : Contents → Place → Contents
-with_folder c q = record { there = λ p. (same_place q p || is_parent p q) || c.there p; texts = c.texts; outside = c.outside }
+with_folder c q =
+    record { there = λ p. (same_place q p || is_parent p q) || c.there p; texts = c.texts; outside = c.outside }
 
 abbrev pub with_cut : Contents → FilePath → ℕ → Contents
-with_cut c path n = record { there = c.there; texts = c.texts; outside = λ f. if same_path path f then cut_at n (c.outside f) else c.outside f }
+with_cut c path n =
+    record {
+      there = c.there;
+      texts = c.texts;
+      outside = λ f. if same_path path f then cut_at n (c.outside f)
+          else c.outside f;
+    }
 
 abbrev pub where_done : {A : Type 0} → Answer → A → A → A
 where_done Done x y = x

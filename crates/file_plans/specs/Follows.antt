@@ -72,7 +72,8 @@ pub record Went {R : Type 0} (run : ℕ) (plan : Plan R) (x y : State) (exit : E
   pub out_later : x.out.faults ≤ y.out.faults
 
 -- the call followed its plan: its result is the plan's exit
-pub record Follows {T E : Type 0} (run : ℕ) (cause : E → Cause) (plan : Plan (Result T E)) (x y : State) (result : Result T E) : Type 0 where
+pub record Follows {T E : Type 0} (run : ℕ) (cause : E → Cause) (plan : Plan (Result T E)) (x y : State)
+    (result : Result T E) : Type 0 where
   pub went : Went run plan x y (exit_of cause result)
 
 -- an input and an output that nobody touches: a byte stays in the one, and none goes to the other

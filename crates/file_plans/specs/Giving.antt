@@ -36,7 +36,8 @@ FitAll t s (Heard piece ∷ ds) z = FitAll t s ds z
 
 -- a prefix of the text was said, and Q holds of what was returned and of what is left; the output fails only where
 -- there is a text
-pub record Gave {S R : Type 0} (z : S) (k : Hand) (text said : List ℕ) (exit : Exit R) (Q : S → Hand → List ℕ → R → Type 0) : Type 0 where
+pub record Gave {S R : Type 0} (z : S) (k : Hand) (text said : List ℕ) (exit : Exit R)
+    (Q : S → Hand → List ℕ → R → Type 0) : Type 0 where
   pub left : List ℕ
   pub prefix : said ++ left ≡ text
   pub returned : (r : R) → exit ≡ Returned r → Q z k left r

@@ -21,11 +21,16 @@ Keeps u past h (Return r) Q = u.holds past h × Q past h r
 Keeps u past h (Ask step next) Q =
     u.holds past h × u.may_ask past step × u.holds (past ++ Did step Failed ∷ []) h
     × ((a : Answer) → IsAnswerOf step a → a ≢ Failed → Keeps u (past ++ Did step a ∷ []) h (next a) Q)
-Keeps u past h (Try step next) Q = u.holds past h × u.may_ask past step × ((a : Answer) → IsAnswerOf step a → Keeps u (past ++ Did step a ∷ []) h (next a) Q)
+Keeps u past h (Try step next) Q =
+    u.holds past h × u.may_ask past step
+    × ((a : Answer) → IsAnswerOf step a → Keeps u (past ++ Did step a ∷ []) h (next a) Q)
 Keeps u past h (Say piece next) Q =
-    u.holds past h × u.may_say past piece × ((part rest : List ℕ) → part ++ rest ≡ piece → u.holds (past ++ Said part ∷ []) h)
+    u.holds past h × u.may_say past piece
+    × ((part rest : List ℕ) → part ++ rest ≡ piece → u.holds (past ++ Said part ∷ []) h)
     × Keeps u (past ++ Said piece ∷ []) h next Q
-Keeps u past h (Hear most next) Q = u.holds past h × u.may_hear past × ((piece : List ℕ) → length piece ≤ most → Keeps u (past ++ Heard piece ∷ []) h (next piece) Q)
+Keeps u past h (Hear most next) Q =
+    u.holds past h × u.may_hear past
+    × ((piece : List ℕ) → length piece ≤ most → Keeps u (past ++ Heard piece ∷ []) h (next piece) Q)
 Keeps u past h (Recall next) Q = Keeps u past h (next h) Q
 Keeps u past h (Note hand next) Q = u.holds past h × Keeps u past hand next Q
 
@@ -49,7 +54,8 @@ IsKeptExit u Q past h OutFailed = Unit {0}
 IsKeptExit u Q past h NoMemory = Unit {0}
 
 -- what a run of the plan keeps, at every exit
-pub record Kept {R : Type 0} (u : Rules) (past ds : List Deed) (h : Hand) (exit : Exit R) (Q : List Deed → Hand → R → Type 0) : Type 0 where
+pub record Kept {R : Type 0} (u : Rules) (past ds : List Deed) (h : Hand) (exit : Exit R)
+    (Q : List Deed → Hand → R → Type 0) : Type 0 where
   pub kept : AreKept u past ds
   pub holds : u.holds (past ++ ds) h
   pub gave : IsKeptExit u Q (past ++ ds) h exit

@@ -46,7 +46,9 @@ unfoldable pub Runs : {R : Type 0} → Plan R → Hand → List Deed → Hand �
 Runs (Return r) h [] k x = (k ≡ h) × ((x ≡ Returned r) ⊎ (x ≡ NoMemory))
 Runs (Return r) h (d ∷ ds) k x = ⊥
 Runs (Ask step next) h [] k x = (k ≡ h) × (x ≡ NoMemory)
-Runs (Ask step next) h (Did s a ∷ ds) k x = (s ≡ step) × IsAnswerOf s a × (((a ≡ Failed) × (ds ≡ []) × (k ≡ h) × (x ≡ FilesFailed)) ⊎ ((a ≢ Failed) × Runs (next a) h ds k x))
+Runs (Ask step next) h (Did s a ∷ ds) k x =
+    (s ≡ step) × IsAnswerOf s a
+    × (((a ≡ Failed) × (ds ≡ []) × (k ≡ h) × (x ≡ FilesFailed)) ⊎ ((a ≢ Failed) × Runs (next a) h ds k x))
 Runs (Ask step next) h (Said piece ∷ ds) k x = ⊥
 Runs (Ask step next) h (Heard piece ∷ ds) k x = ⊥
 Runs (Try step next) h [] k x = (k ≡ h) × (x ≡ NoMemory)
@@ -55,7 +57,9 @@ Runs (Try step next) h (Said piece ∷ ds) k x = ⊥
 Runs (Try step next) h (Heard piece ∷ ds) k x = ⊥
 Runs (Say piece next) h [] k x = (k ≡ h) × (x ≡ NoMemory)
 Runs (Say piece next) h (Did s a ∷ ds) k x = ⊥
-Runs (Say piece next) h (Said part ∷ ds) k x = (((rest : List ℕ) × (part ++ rest ≡ piece)) × (ds ≡ []) × (k ≡ h) × (x ≡ OutFailed)) ⊎ ((part ≡ piece) × Runs next h ds k x)
+Runs (Say piece next) h (Said part ∷ ds) k x =
+    (((rest : List ℕ) × (part ++ rest ≡ piece)) × (ds ≡ []) × (k ≡ h) × (x ≡ OutFailed))
+    ⊎ ((part ≡ piece) × Runs next h ds k x)
 Runs (Say piece next) h (Heard part ∷ ds) k x = ⊥
 Runs (Hear most next) h [] k x = (k ≡ h) × ((x ≡ InFailed) ⊎ (x ≡ NoMemory))
 Runs (Hear most next) h (Did s a ∷ ds) k x = ⊥

@@ -16,7 +16,8 @@ use Rattle.folder_files.specs.declared.step.Step.{Step}
 -- commands of this manner do, names of a folder or the mail directory only under its lock
 pub data IsOwnStep (run : ℕ) (manner : Manner) (own : List deeds.Deed) (s : Step) : Type 0 where
   only_looks : IsLook s → IsOwnStep run manner own s
-  careful : (deeds.HasFailed own → ⊥) → (kind : Kind) → Keeps run own kind s → MakesStep manner own kind s → IsOrderly own s → IsOwnStep run manner own s
+  careful : (deeds.HasFailed own → ⊥) → (kind : Kind) → Keeps run own kind s → MakesStep manner own kind s
+      → IsOrderly own s → IsOwnStep run manner own s
 
 -- at this place of a history, counted from 0, stands such a step of this run
 pub record HoldsOwnStep (run : ℕ) (manner : Manner) (history : List Event) (place : ℕ) : Type 0 where

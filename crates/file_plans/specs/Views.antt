@@ -58,7 +58,8 @@ sight_listed true b s = in_listing b s
 sight_listed false b s = s
 
 abbrev pub with_sight : Seen → Place → List ℕ → Sight → Seen
-with_sight k q n s = record { names = λ p x. if is_at q n p x then s else k.names p x; places = k.places; files = k.files }
+with_sight k q n s =
+    record { names = λ p x. if is_at q n p x then s else k.names p x; places = k.places; files = k.files }
 
 -- the second name leads to what the first led to, and what was not yet seen of it is now to be seen there
 abbrev pub sight_moved : Seen → Place → List ℕ → List ℕ → Seen
@@ -66,7 +67,13 @@ sight_moved k q a b = with_sight (with_sight k q b (k.names q a)) q a Known
 
 -- beside the names that are listed, those that an own Link meets later count as there
 abbrev pub with_listing : (Place → List ℕ → Bool) → Seen → Place → List (List ℕ) → Seen
-with_listing met k q names = record { names = λ p x. sight_listed (same_place q p && is_standing x) (has_text x names || met p x) (k.names p x); places = k.places; files = k.files }
+with_listing met k q names =
+    record {
+      names = λ p x.
+          sight_listed (same_place q p && is_standing x) (has_text x names || met p x) (k.names p x);
+      places = k.places;
+      files = k.files;
+    }
 
 abbrev pub with_place : Seen → Place → Seen
 with_place k q = record { names = k.names; places = λ p. same_place q p || k.places p; files = k.files }
@@ -89,14 +96,17 @@ by_piece other f g x = x
 -- the first piece tells the length, and each that begins where the one before it ended tells more of so many bytes
 abbrev pub spied_by : Spied → ℕ → Answer → Spied
 spied_by Hidden from a = by_piece a (λ b l. if from == 0 then Upto l (length b) else Hidden) Spent Hidden
-spied_by (Upto whole told) from a = by_piece a (λ b l. if from == told then Upto whole (told + length (take (whole - told) b)) else Upto whole told) (Upto whole told) (Upto whole told)
+spied_by (Upto whole told) from a =
+    by_piece a (λ b l. if from == told then Upto whole (told + length (take (whole - told) b)) else Upto whole told)
+    (Upto whole told) (Upto whole told)
 spied_by Spent from a = Spent
 
 -- what is seen by a step with its answer
 abbrev pub seen_by : (Place → List ℕ → Bool) → Seen → Step → Answer → Seen
 seen_by met k (step.List p) a = after_list met k p a
 seen_by met k (step.Read p n limit) a = with_sight k p n Known
-seen_by met k (step.MakeFolder p) a = record { names = k.names; places = λ q. (same_place p q || is_parent q p) || k.places q; files = k.files }
+seen_by met k (step.MakeFolder p) a =
+    record { names = k.names; places = λ q. (same_place p q || is_parent q p) || k.places q; files = k.files }
 seen_by met k (step.Create p n b) a = where_done a (with_sight k p n Known) k
 seen_by met k (step.SyncFile p n) a = k
 seen_by met k (step.SyncFolder p) a = k
@@ -105,9 +115,17 @@ seen_by met k (step.Rename p a b) answer = where_done answer (if bytes_eq a b th
 seen_by met k (step.Unlink p n) a = where_done a (with_sight k p n Known) k
 seen_by met k (step.Lock p) a = with_place k p
 seen_by met k (step.Unlock p) a = k
-seen_by met k (step.ReadFile path limit) a = record { names = k.names; places = k.places; files = λ f. if same_path path f then Spent else k.files f }
-seen_by met k (step.ReadDrop path from most) a = record { names = k.names; places = k.places; files = λ f. if same_path path f then spied_by (k.files f) from a else k.files f }
-seen_by met k (step.CutDrop path n) a = record { names = k.names; places = k.places; files = λ f. if same_path path f then Spent else k.files f }
+seen_by met k (step.ReadFile path limit) a =
+    record { names = k.names; places = k.places; files = λ f. if same_path path f then Spent else k.files f }
+seen_by met k (step.ReadDrop path from most) a =
+    record {
+      names = k.names;
+      places = k.places;
+      files = λ f. if same_path path f then spied_by (k.files f) from a
+          else k.files f;
+    }
+seen_by met k (step.CutDrop path n) a =
+    record { names = k.names; places = k.places; files = λ f. if same_path path f then Spent else k.files f }
 
 -- a Read of a name: of what was not yet seen it tells; but what was seen to be there may have been taken away meanwhile
 abbrev pub IsThere : Option (List ℕ) → ℕ → Answer → Type 0
@@ -138,7 +156,9 @@ PlaceTells true there b = Unit {0}
 PlaceTells false there b = there ≡ b
 
 abbrev pub ListTells : (Place → List ℕ → Bool) → Contents → Seen → Place → Answer → Type 0
-ListTells met c k p (Names names) = PlaceTells (k.places p) (c.there p) true × ((x : List ℕ) → is_standing x ≡ true → ListingTells (k.names p x) (c.texts p x) (has_text x names || met p x))
+ListTells met c k p (Names names) =
+    PlaceTells (k.places p) (c.there p) true
+    × ((x : List ℕ) → is_standing x ≡ true → ListingTells (k.names p x) (c.texts p x) (has_text x names || met p x))
 ListTells met c k p Gone = PlaceTells (k.places p) (c.there p) false
 ListTells met c k p other = Unit {0}
 
@@ -165,7 +185,9 @@ FileTells Spent o limit a = Unit {0}
 abbrev pub DropTells : Spied → Option (List ℕ) → ℕ → ℕ → Answer → Type 0
 DropTells Hidden o from most a =
     (((b : List ℕ) (l : ℕ) → a ≡ Piece b l → from ≡ 0 → a ≡ piece_answer from most o)) × (a ≡ Gone → o ≡ None)
-DropTells (Upto whole told) o from most a = (b : List ℕ) (l : ℕ) → a ≡ Piece b l → from ≡ told → take (length (take (whole - told) b)) (drop told (filled o)) ≡ take (whole - told) b
+DropTells (Upto whole told) o from most a =
+    (b : List ℕ) (l : ℕ) → a ≡ Piece b l → from ≡ told
+    → take (length (take (whole - told) b)) (drop told (filled o)) ≡ take (whole - told) b
 DropTells Spent o from most a = Unit {0}
 
 -- what an answer tells of the contents beside other runs
@@ -208,7 +230,13 @@ abbrev pub first_view : Contents → List ℕ → (Place → List ℕ → Bool) 
 first_view c ns met = record { contents = c; seen = nothing_seen; numbers = ns; met = met }
 
 abbrev pub view_after : View → Step → Answer → View
-view_after v s a = record { contents = changed_by v.contents s a; seen = seen_by v.met v.seen s a; numbers = left_of (number_put s a) v.numbers; met = v.met }
+view_after v s a =
+    record {
+      contents = changed_by v.contents s a;
+      seen = seen_by v.met v.seen s a;
+      numbers = left_of (number_put s a) v.numbers;
+      met = v.met;
+    }
 
 -- alone, or beside other runs
 abbrev pub fits_view : Bool → View → Step → Answer → Type 0

@@ -54,7 +54,9 @@ impl From<AllocError> for Stop {
 }
 
 fn ask_by<F: Files>(alloc: Global, run: u128, files: &mut F, step: &Step) -> Result<Answer, Stop>
-    ensures plan { (h : Hand) → Follows run stop_cause (ask_plan step.now) (by_hand h (F.state files.old)) (by_hand h (F.state files.new)) result }
+    ensures plan { (h : Hand)
+        → Follows run stop_cause (ask_plan step.now) (by_hand h (F.state files.old))
+        (by_hand h (F.state files.new)) result }
     ensures row { IfOk result (λ a. IsAnswerOf step.now a) }
     ensures live { IfOk result (λ a. a ≢ Answer.Failed) }
 {
@@ -66,7 +68,9 @@ fn ask_by<F: Files>(alloc: Global, run: u128, files: &mut F, step: &Step) -> Res
 
 /// Asks for a step.
 pub fn ask<F: Files>(alloc: Global, run: u128, files: &mut F, step: Step) -> Result<Answer, Stop>
-    ensures plan { (h : Hand) → Follows run stop_cause (ask_plan step) (by_hand h (F.state files.old)) (by_hand h (F.state files.new)) result }
+    ensures plan { (h : Hand)
+        → Follows run stop_cause (ask_plan step) (by_hand h (F.state files.old))
+        (by_hand h (F.state files.new)) result }
     ensures row { IfOk result (λ a. IsAnswerOf step a) }
     ensures live { IfOk result (λ a. a ≢ Answer.Failed) }
 {
@@ -79,7 +83,9 @@ fn attempt_by<F: Files>(
     files: &mut F,
     step: &Step,
 ) -> Result<Answer, Stop>
-    ensures { (h : Hand) → Follows run stop_cause (attempt_plan step.now) (by_hand h (F.state files.old)) (by_hand h (F.state files.new)) result }
+    ensures { (h : Hand)
+        → Follows run stop_cause (attempt_plan step.now) (by_hand h (F.state files.old))
+        (by_hand h (F.state files.new)) result }
 {
     Ok(files.act(alloc, run, step)?)
 }
@@ -91,7 +97,9 @@ pub fn attempt<F: Files>(
     files: &mut F,
     step: Step,
 ) -> Result<Answer, Stop>
-    ensures { (h : Hand) → Follows run stop_cause (attempt_plan step) (by_hand h (F.state files.old)) (by_hand h (F.state files.new)) result }
+    ensures { (h : Hand)
+        → Follows run stop_cause (attempt_plan step) (by_hand h (F.state files.old))
+        (by_hand h (F.state files.new)) result }
 {
     attempt_by(alloc, run, files, &step)
 }
@@ -212,7 +220,9 @@ pub fn ask_list<F: Files>(
     files: &mut F,
     place: &Place,
 ) -> Result<Listing, Stop>
-    ensures { (h : Hand) → Follows run stop_cause (list_plan place.now) (by_hand h (F.state files.old)) (by_hand h (F.state files.new)) result }
+    ensures { (h : Hand)
+        → Follows run stop_cause (list_plan place.now) (by_hand h (F.state files.old))
+        (by_hand h (F.state files.new)) result }
 {
     let step = list_step(alloc, place)?;
     let answer = ask(alloc, run, files, step)?;
@@ -228,7 +238,9 @@ pub fn ask_read<F: Files>(
     name: &Name,
     limit: u64,
 ) -> Result<Reading, Stop>
-    ensures { (h : Hand) → Follows run stop_cause (read_plan place.now name.now limit) (by_hand h (F.state files.old)) (by_hand h (F.state files.new)) result }
+    ensures { (h : Hand)
+        → Follows run stop_cause (read_plan place.now name.now limit) (by_hand h (F.state files.old))
+        (by_hand h (F.state files.new)) result }
 {
     let step = read_step(alloc, place, name, limit)?;
     let answer = ask(alloc, run, files, step)?;
@@ -242,7 +254,9 @@ pub fn ask_make_folder<F: Files>(
     files: &mut F,
     place: &Place,
 ) -> Result<FolderMade, Stop>
-    ensures { (h : Hand) → Follows run stop_cause (make_folder_plan place.now) (by_hand h (F.state files.old)) (by_hand h (F.state files.new)) result }
+    ensures { (h : Hand)
+        → Follows run stop_cause (make_folder_plan place.now) (by_hand h (F.state files.old))
+        (by_hand h (F.state files.new)) result }
 {
     let step = make_folder_step(alloc, place)?;
     let answer = ask(alloc, run, files, step)?;
@@ -258,7 +272,9 @@ pub fn ask_create<F: Files>(
     name: &Name,
     bytes: &mut Bytes,
 ) -> Result<Entered, Stop>
-    ensures plan { (h : Hand) → Follows run stop_cause (create_plan place.now name.now bytes.old) (by_hand h (F.state files.old)) (by_hand h (F.state files.new)) result }
+    ensures plan { (h : Hand)
+        → Follows run stop_cause (create_plan place.now name.now bytes.old) (by_hand h (F.state files.old))
+        (by_hand h (F.state files.new)) result }
     ensures kept { OnOk result (bytes.new ≡ bytes.old) }
 {
     let step = create_step(alloc, place, name, bytes)?;
@@ -275,7 +291,9 @@ pub fn ask_sync_file<F: Files>(
     place: &Place,
     name: &Name,
 ) -> Result<Touched, Stop>
-    ensures { (h : Hand) → Follows run stop_cause (sync_file_plan place.now name.now) (by_hand h (F.state files.old)) (by_hand h (F.state files.new)) result }
+    ensures { (h : Hand)
+        → Follows run stop_cause (sync_file_plan place.now name.now) (by_hand h (F.state files.old))
+        (by_hand h (F.state files.new)) result }
 {
     let step = sync_file_step(alloc, place, name)?;
     let answer = ask(alloc, run, files, step)?;
@@ -289,7 +307,9 @@ pub fn ask_sync_folder<F: Files>(
     files: &mut F,
     place: &Place,
 ) -> Result<Touched, Stop>
-    ensures { (h : Hand) → Follows run stop_cause (sync_folder_plan place.now) (by_hand h (F.state files.old)) (by_hand h (F.state files.new)) result }
+    ensures { (h : Hand)
+        → Follows run stop_cause (sync_folder_plan place.now) (by_hand h (F.state files.old))
+        (by_hand h (F.state files.new)) result }
 {
     let step = sync_folder_step(alloc, place)?;
     let answer = ask(alloc, run, files, step)?;
@@ -305,7 +325,9 @@ pub fn ask_link<F: Files>(
     from: &Name,
     to: &Name,
 ) -> Result<Entered, Stop>
-    ensures { (h : Hand) → Follows run stop_cause (link_plan place.now from.now to.now) (by_hand h (F.state files.old)) (by_hand h (F.state files.new)) result }
+    ensures { (h : Hand)
+        → Follows run stop_cause (link_plan place.now from.now to.now) (by_hand h (F.state files.old))
+        (by_hand h (F.state files.new)) result }
 {
     let step = link_step(alloc, place, from, to)?;
     let answer = ask(alloc, run, files, step)?;
@@ -321,7 +343,9 @@ pub fn ask_rename<F: Files>(
     from: &Name,
     to: &Name,
 ) -> Result<Touched, Stop>
-    ensures { (h : Hand) → Follows run stop_cause (rename_plan place.now from.now to.now) (by_hand h (F.state files.old)) (by_hand h (F.state files.new)) result }
+    ensures { (h : Hand)
+        → Follows run stop_cause (rename_plan place.now from.now to.now) (by_hand h (F.state files.old))
+        (by_hand h (F.state files.new)) result }
 {
     let step = rename_step(alloc, place, from, to)?;
     let answer = ask(alloc, run, files, step)?;
@@ -336,7 +360,9 @@ pub fn ask_unlink<F: Files>(
     place: &Place,
     name: &Name,
 ) -> Result<Touched, Stop>
-    ensures { (h : Hand) → Follows run stop_cause (unlink_plan place.now name.now) (by_hand h (F.state files.old)) (by_hand h (F.state files.new)) result }
+    ensures { (h : Hand)
+        → Follows run stop_cause (unlink_plan place.now name.now) (by_hand h (F.state files.old))
+        (by_hand h (F.state files.new)) result }
 {
     let step = unlink_step(alloc, place, name)?;
     let answer = ask(alloc, run, files, step)?;
@@ -350,7 +376,9 @@ pub fn ask_lock<F: Files>(
     files: &mut F,
     place: &Place,
 ) -> Result<Locking, Stop>
-    ensures { (h : Hand) → Follows run stop_cause (lock_plan place.now) (by_hand h (F.state files.old)) (by_hand h (F.state files.new)) result }
+    ensures { (h : Hand)
+        → Follows run stop_cause (lock_plan place.now) (by_hand h (F.state files.old))
+        (by_hand h (F.state files.new)) result }
 {
     let step = lock_step(alloc, place)?;
     let answer = ask(alloc, run, files, step)?;
@@ -365,7 +393,9 @@ pub fn ask_read_file<F: Files>(
     path: &FilePath,
     limit: u64,
 ) -> Result<Reading, Stop>
-    ensures { (h : Hand) → Follows run stop_cause (read_file_plan path.now limit) (by_hand h (F.state files.old)) (by_hand h (F.state files.new)) result }
+    ensures { (h : Hand)
+        → Follows run stop_cause (read_file_plan path.now limit) (by_hand h (F.state files.old))
+        (by_hand h (F.state files.new)) result }
 {
     let step = read_file_step(alloc, path, limit)?;
     let answer = ask(alloc, run, files, step)?;
@@ -381,7 +411,9 @@ pub fn ask_read_drop<F: Files>(
     from: u64,
     most: u64,
 ) -> Result<DropPiece, Stop>
-    ensures { (h : Hand) → Follows run stop_cause (read_drop_plan path.now from most) (by_hand h (F.state files.old)) (by_hand h (F.state files.new)) result }
+    ensures { (h : Hand)
+        → Follows run stop_cause (read_drop_plan path.now from most) (by_hand h (F.state files.old))
+        (by_hand h (F.state files.new)) result }
 {
     let step = read_drop_step(alloc, path, from, most)?;
     let answer = ask(alloc, run, files, step)?;
@@ -396,7 +428,9 @@ pub fn ask_cut_drop<F: Files>(
     path: &FilePath,
     length: u64,
 ) -> Result<DropCut, Stop>
-    ensures { (h : Hand) → Follows run stop_cause (cut_drop_plan path.now length) (by_hand h (F.state files.old)) (by_hand h (F.state files.new)) result }
+    ensures { (h : Hand)
+        → Follows run stop_cause (cut_drop_plan path.now length) (by_hand h (F.state files.old))
+        (by_hand h (F.state files.new)) result }
 {
     let step = cut_drop_step(alloc, path, length)?;
     let answer = ask(alloc, run, files, step)?;
@@ -410,7 +444,9 @@ pub fn ask_unlock<F: Files>(
     files: &mut F,
     place: &Place,
 ) -> Result<(), Stop>
-    ensures { (h : Hand) → Follows run stop_cause (unlock_plan place.now) (by_hand h (F.state files.old)) (by_hand h (F.state files.new)) result }
+    ensures { (h : Hand)
+        → Follows run stop_cause (unlock_plan place.now) (by_hand h (F.state files.old))
+        (by_hand h (F.state files.new)) result }
 {
     let place = place.duplicate(alloc)?;
     let answer = ask(alloc, run, files, Step::Unlock(place))?;
@@ -418,14 +454,17 @@ pub fn ask_unlock<F: Files>(
     Ok(())
 }
 
-/// The lock of a directory falls; the call goes on, also where that fails. For the end of a refusal, which stands in any case.
+/// The lock of a directory falls; the call goes on, also where that fails. For the end of a refusal, which stands in
+/// any case.
 pub fn attempt_unlock<F: Files>(
     alloc: Global,
     run: u128,
     files: &mut F,
     place: &Place,
 ) -> Result<(), Stop>
-    ensures { (h : Hand) → Follows run stop_cause (attempt_unlock_plan place.now) (by_hand h (F.state files.old)) (by_hand h (F.state files.new)) result }
+    ensures { (h : Hand)
+        → Follows run stop_cause (attempt_unlock_plan place.now) (by_hand h (F.state files.old))
+        (by_hand h (F.state files.new)) result }
 {
     let place = place.duplicate(alloc)?;
     let answer = attempt(alloc, run, files, Step::Unlock(place))?;

@@ -11,7 +11,9 @@ use std::alloc::Global;
 
 /// Puts a piece to the output.
 pub fn say<O: Sink>(out: &mut O, piece: &[u8]) -> Result<(), SinkFault>
-    ensures { (run : ℕ) (h : Hand) (f : FilesState) → Follows run sink_cause (say_plan piece.now) (by_out h f (O.state out.old)) (by_out h f (O.state out.new)) result }
+    ensures { (run : ℕ) (h : Hand) (f : FilesState)
+        → Follows run sink_cause (say_plan piece.now) (by_out h f (O.state out.old))
+        (by_out h f (O.state out.new)) result }
 {
     out.put(piece)
 }
@@ -19,7 +21,9 @@ pub fn say<O: Sink>(out: &mut O, piece: &[u8]) -> Result<(), SinkFault>
 /// Takes a piece of at most so many bytes from the input.
 pub fn hear<I: Source>(alloc: Global, input: &mut I, most: usize) -> Result<Bytes, SourceFault>
     requires { 1 ≤ most }
-    ensures { (run : ℕ) (h : Hand) (f : FilesState) (o : SinkState) → Follows run source_cause (hear_plan most) (all h f (I.state input.old) o) (all h f (I.state input.new) o) result }
+    ensures { (run : ℕ) (h : Hand) (f : FilesState) (o : SinkState)
+        → Follows run source_cause (hear_plan most) (all h f (I.state input.old) o)
+        (all h f (I.state input.new) o) result }
 {
     input.read(alloc, most)
 }

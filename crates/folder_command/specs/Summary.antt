@@ -13,7 +13,8 @@ current_part (Some n) = codes "; cur=" ++ decimal n
 -- by the first and the last of so many numbers
 abbrev pub summary_by : List ℕ → ℕ → Option ℕ → Option ℕ → Option ℕ → List ℕ
 summary_by name k (Some least) (Some greatest) cur =
-    name ++ codes "+ has " ++ counted k ++ codes " (" ++ decimal least ++ codes "-" ++ decimal greatest ++ codes ")" ++ current_part cur ++ codes ".\n"
+    name ++ codes "+ has " ++ counted k ++ codes " (" ++ decimal least ++ codes "-" ++ decimal greatest ++ codes ")"
+    ++ current_part cur ++ codes ".\n"
 summary_by name k (Some least) None cur = name ++ codes "+ has no messages.\n"
 summary_by name k None greatest cur = name ++ codes "+ has no messages.\n"
 

@@ -21,7 +21,8 @@ use step_plans::{CommandFault, Hand};
 
 /// The least message that the words choose becomes the current one.
 fn current_mark(alloc: Global, job: &FolderJob, opened: &Opened) -> Result<MarkList, CommandFault>
-    ensures { AreCurrent (chosen_from (task_with job.now.specs job.now) opened.now.listing opened.now.sequences) result }
+    ensures { AreCurrent
+        (chosen_from (task_with job.now.specs job.now) opened.now.listing opened.now.sequences) result }
 {
     let chosen = choose(
         alloc,
@@ -43,7 +44,9 @@ fn set_current<F: Files>(
     job: &FolderJob,
     mut opened: Opened,
 ) -> Result<Opened, CommandFault>
-    ensures plan { Follows hand.old.run command_cause (chosen_changed hand.old.run hand.old.mail (task_with job.now.specs job.now) opened) (by_hand hand.old.kept (F.state files.old)) (by_hand hand.new.kept (F.state files.new)) result }
+    ensures plan { Follows hand.old.run command_cause
+        (chosen_changed hand.old.run hand.old.mail (task_with job.now.specs job.now) opened)
+        (by_hand hand.old.kept (F.state files.old)) (by_hand hand.new.kept (F.state files.new)) result }
     ensures run { hand.new.run ≡ hand.old.run }
     ensures mail { hand.new.mail ≡ hand.old.mail }
 {
@@ -64,7 +67,10 @@ fn tell_opened<F: Files, O: Sink>(
     job: &FolderJob,
     opened: Opened,
 ) -> Result<(), CommandFault>
-    ensures plan { Follows hand.old.run command_cause (opened_told hand.old.run hand.old.mail (task_with job.now.specs job.now) opened) (by_out hand.old.kept (F.state files.old) (O.state out.old)) (by_out hand.new.kept (F.state files.new) (O.state out.new)) result }
+    ensures plan { Follows hand.old.run command_cause
+        (opened_told hand.old.run hand.old.mail (task_with job.now.specs job.now) opened)
+        (by_out hand.old.kept (F.state files.old) (O.state out.old))
+        (by_out hand.new.kept (F.state files.new) (O.state out.new)) result }
     ensures run { hand.new.run ≡ hand.old.run }
     ensures mail { hand.new.mail ≡ hand.old.mail }
 {
@@ -80,7 +86,10 @@ fn change<F: Files, O: Sink>(
     out: &mut O,
     job: &FolderJob,
 ) -> Result<(), CommandFault>
-    ensures plan { Follows hand.old.run command_cause (folder_changed hand.old.run hand.old.mail (task_with job.now.specs job.now)) (by_out hand.old.kept (F.state files.old) (O.state out.old)) (by_out hand.new.kept (F.state files.new) (O.state out.new)) result }
+    ensures plan { Follows hand.old.run command_cause
+        (folder_changed hand.old.run hand.old.mail (task_with job.now.specs job.now))
+        (by_out hand.old.kept (F.state files.old) (O.state out.old))
+        (by_out hand.new.kept (F.state files.new) (O.state out.new)) result }
     ensures run { hand.new.run ≡ hand.old.run }
     ensures mail { hand.new.mail ≡ hand.old.mail }
 {
@@ -90,8 +99,8 @@ fn change<F: Files, O: Sink>(
     end(alloc, hand.run(), files, &place, done)
 }
 
-/// Tells of the folder and makes it the current one. Where words choose messages, the least of these becomes the current message, on a folder that is
-/// begun; without words it takes no lock.
+/// Tells of the folder and makes it the current one. Where words choose messages, the least of these becomes the
+/// current message, on a folder that is begun; without words it takes no lock.
 pub fn folder<F: Files, O: Sink>(
     alloc: Global,
     hand: &mut Hand,
@@ -99,9 +108,15 @@ pub fn folder<F: Files, O: Sink>(
     out: &mut O,
     job: &FolderJob,
 ) -> Result<(), CommandFault>
-    ensures plan { Follows hand.old.run command_cause (folder_plan hand.old.run hand.old.mail job.now) (by_out hand.old.kept (F.state files.old) (O.state out.old)) (by_out hand.new.kept (F.state files.new) (O.state out.new)) result }
-    ensures alone { TellsIfUnfaulted hand.old.run hand.old.mail job.now.folder hand.old.kept (folder_work hand.old.mail job.now) result (F.state files.old) (F.state files.new) (O.state out.old) (O.state out.new) }
-    ensures steps { PromisesSteps hand.old.run hand.old.mail job.now (by_out hand.old.kept (F.state files.old) (O.state out.old)) (by_out hand.new.kept (F.state files.new) (O.state out.new)) }
+    ensures plan { Follows hand.old.run command_cause (folder_plan hand.old.run hand.old.mail job.now)
+        (by_out hand.old.kept (F.state files.old) (O.state out.old))
+        (by_out hand.new.kept (F.state files.new) (O.state out.new)) result }
+    ensures alone { TellsIfUnfaulted hand.old.run hand.old.mail job.now.folder hand.old.kept
+        (folder_work hand.old.mail job.now) result (F.state files.old) (F.state files.new) (O.state out.old)
+        (O.state out.new) }
+    ensures steps { PromisesSteps hand.old.run hand.old.mail job.now
+        (by_out hand.old.kept (F.state files.old) (O.state out.old))
+        (by_out hand.new.kept (F.state files.new) (O.state out.new)) }
     ensures run { hand.new.run ≡ hand.old.run }
     ensures mail { hand.new.mail ≡ hand.old.mail }
 {

@@ -25,7 +25,9 @@ pub fn say_summary<O: Sink>(
     listing: &NumSet,
     sequences: &Sequences,
 ) -> Result<(), CommandFault>
-    ensures { (run : ℕ) (h : HandState) (f : FilesState) → Follows run command_cause (lines_said ((task_with [] job.now).lines listing.now.runs sequences.now)) (by_out h f (O.state out.old)) (by_out h f (O.state out.new)) result }
+    ensures { (run : ℕ) (h : HandState) (f : FilesState)
+        → Follows run command_cause (lines_said ((task_with [] job.now).lines listing.now.runs sequences.now))
+        (by_out h f (O.state out.old)) (by_out h f (O.state out.new)) result }
 {
     let name = job.folder.text().as_str().as_bytes();
     let mut lines = List::new(alloc);
@@ -41,7 +43,9 @@ pub(crate) fn look<F: Files, O: Sink>(
     out: &mut O,
     job: &FolderJob,
 ) -> Result<(), CommandFault>
-    ensures plan { Follows hand.old.run command_cause (folder_looked hand.old.run hand.old.mail (task_with [] job.now)) (by_out hand.old.kept (F.state files.old) (O.state out.old)) (by_out hand.new.kept (F.state files.new) (O.state out.new)) result }
+    ensures plan { Follows hand.old.run command_cause (folder_looked hand.old.run hand.old.mail (task_with [] job.now))
+        (by_out hand.old.kept (F.state files.old) (O.state out.old))
+        (by_out hand.new.kept (F.state files.new) (O.state out.new)) result }
     ensures run { hand.new.run ≡ hand.old.run }
     ensures mail { hand.new.mail ≡ hand.old.mail }
 {

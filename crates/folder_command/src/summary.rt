@@ -41,7 +41,8 @@ fn put_current(line: &mut Bytes, cur: Option<MsgNum>) -> Result<(), AllocError>
 
 /// From the least number to the greatest.
 fn put_ends(line: &mut Bytes, least: MsgNum, greatest: MsgNum) -> Result<(), AllocError>
-    ensures { OnOk result (line.new ≡ line.old ++ codes " (" ++ decimal least ++ codes "-" ++ decimal greatest ++ codes ")") }
+    ensures { OnOk result
+        (line.new ≡ line.old ++ codes " (" ++ decimal least ++ codes "-" ++ decimal greatest ++ codes ")") }
 {
     line.extend(b" (")?;
     put_number(line, u64::from(least.get()))?;
@@ -66,7 +67,10 @@ fn full_line(
     greatest: MsgNum,
     cur: Option<MsgNum>,
 ) -> Result<Bytes, AllocError>
-    ensures { IfOk result (λ l. l ≡ name.now ++ codes "+ has " ++ counted count ++ codes " (" ++ decimal least ++ codes "-" ++ decimal greatest ++ codes ")" ++ current_part cur ++ codes ".\n") }
+    ensures { IfOk result
+        (λ l.
+        l ≡ name.now ++ codes "+ has " ++ counted count ++ codes " (" ++ decimal least ++ codes "-"
+        ++ decimal greatest ++ codes ")" ++ current_part cur ++ codes ".\n") }
 {
     let mut line = Bytes::from_slice(alloc, name)?;
     line.extend(b"+ has ")?;

@@ -11,7 +11,8 @@ is_annotation line = not (bytes_eq (name_in line) []) && bytes_eq (take 2 (after
 abbrev pub are_annotations : List ℕ → Bool
 are_annotations text =
     if bytes_eq text [] then true
-    else (slice_index text (length text - 1) == 10 && list_all is_annotation (slice_split (λ b. b == 10) (take (length text - 1) text)))
+    else (slice_index text (length text - 1) == 10
+    && list_all is_annotation (slice_split (λ b. b == 10) (take (length text - 1) text)))
 
 -- the copy is the bytes, or such lines and then the bytes
 abbrev pub Annotates : List ℕ → List ℕ → Type 0

@@ -32,7 +32,8 @@ IsReady run p temp own = (is_temp_of run (kind_of temp) ≡ true) × WasSynced p
 -- the run gave a number of a folder to a file that it was making
 abbrev pub IsPutLink : ℕ → Place → List ℕ → Deed → Type 0
 IsPutLink run q temp d =
-    (number : List ℕ) × (d ≡ did (step.Link q temp number) Done) × (is_temp_of run (kind_of temp) ≡ true) × (is_number (kind_of number) ≡ true)
+    (number : List ℕ) × (d ≡ did (step.Link q temp number) Done) × (is_temp_of run (kind_of temp) ≡ true)
+    × (is_number (kind_of number) ≡ true)
     × (is_folder q ≡ true)
 
 -- a message with these bytes was put into a folder
@@ -50,11 +51,17 @@ IsFirstPut run q bytes d older =
 
 -- the run renamed a number to its held name of that number
 abbrev pub WasTaken : ℕ → Place → List ℕ → List Deed → Type 0
-WasTaken run p held own = Once (λ d older. (number : List ℕ) × (d ≡ did (step.Rename p number held) Done) × (is_taking run (kind_of number) (kind_of held) ≡ true)) own
+WasTaken run p held own =
+    Once
+    (λ d older. (number : List ℕ) × (d ≡ did (step.Rename p number held) Done)
+    × (is_taking run (kind_of number) (kind_of held) ≡ true)) own
 
 -- the held file was given a number
 abbrev pub WasGiven : Place → List ℕ → List Deed → Type 0
-WasGiven p held own = Once (λ d older. (number : List ℕ) × (d ≡ did (step.Link p held number) Done) × (is_number (kind_of number) ≡ true)) own
+WasGiven p held own =
+    Once
+    (λ d older. (number : List ℕ) × (d ≡ did (step.Link p held number) Done)
+    × (is_number (kind_of number) ≡ true)) own
 
 -- and then the folder was synced
 abbrev pub WasGivenAway : Place → List ℕ → List Deed → Type 0
@@ -133,10 +140,13 @@ IsNoPiece f d = (from most : ℕ) → d.step ≢ step.ReadDrop f from most
 
 -- the bytes that the pieces give since the last from place 0, one after another without a gap
 pub data HasPieces (f : FilePath) : List ℕ → List Deed → Type 0 where
-  first : {d : Deed} {own : List Deed} {bytes : List ℕ} {length_ : ℕ} → IsPiece f 0 bytes length_ d → HasPieces f bytes (d ∷ own)
-  more : {d : Deed} {own : List Deed} {bytes piece : List ℕ} {length_ : ℕ} → length bytes ≢ 0 → IsPiece f (length bytes) piece length_ d → HasPieces f bytes own
+  first : {d : Deed} {own : List Deed} {bytes : List ℕ} {length_ : ℕ} → IsPiece f 0 bytes length_ d
+      → HasPieces f bytes (d ∷ own)
+  more : {d : Deed} {own : List Deed} {bytes piece : List ℕ} {length_ : ℕ} → length bytes ≢ 0
+      → IsPiece f (length bytes) piece length_ d → HasPieces f bytes own
       → HasPieces f (bytes ++ piece) (d ∷ own)
-  on : {d : Deed} {own : List Deed} {bytes : List ℕ} → IsNoPiece f d → HasPieces f bytes own → HasPieces f bytes (d ∷ own)
+  on : {d : Deed} {own : List Deed} {bytes : List ℕ} → IsNoPiece f d → HasPieces f bytes own
+      → HasPieces f bytes (d ∷ own)
 
 -- no piece from place 0 was asked for
 abbrev pub IsNoFirst : FilePath → Deed → Type 0
@@ -146,7 +156,8 @@ IsNoFirst f d = (most : ℕ) → d.step ≢ step.ReadDrop f 0 most
 -- own, and each one's folder was synced after it
 pub data HasStored (run : ℕ) (f : FilePath) : List Deed → List (List ℕ) → List Deed → Type 0 where
   all : {newer own : List Deed} → HasStored run f newer [] own
-  put : {newer own : List Deed} {d : Deed} (q : Place) {message : List ℕ} {messages : List (List ℕ)} → IsFirstPut run q message d own → WasDone (step.SyncFolder q) newer
+  put : {newer own : List Deed} {d : Deed} (q : Place) {message : List ℕ} {messages : List (List ℕ)}
+      → IsFirstPut run q message d own → WasDone (step.SyncFolder q) newer
       → HasStored run f (newer ++ d ∷ []) messages own → HasStored run f newer (message ∷ messages) (d ∷ own)
   on : {newer own : List Deed} {d : Deed} {messages : List (List ℕ)} → IsNoFirst f d
       → HasStored run f (newer ++ d ∷ []) messages own → HasStored run f newer messages (d ∷ own)
@@ -170,7 +181,9 @@ abbrev pub MayGive : Place → List ℕ → List ℕ → Type 0
 MayGive p held number = (is_folder p ≡ true) × (is_held (kind_of held) ≡ true) × (is_number (kind_of number) ≡ true)
 
 abbrev pub MayTake : ℕ → Place → List ℕ → List ℕ → List Deed → Type 0
-MayTake run p number held own = (is_folder p ≡ true) × (is_taking run (kind_of number) (kind_of held) ≡ true) × (WasDone (step.Rename p number held) own → ⊥)
+MayTake run p number held own =
+    (is_folder p ≡ true) × (is_taking run (kind_of number) (kind_of held) ≡ true)
+    × (WasDone (step.Rename p number held) own → ⊥)
 
 abbrev pub MayBackUp : Place → List ℕ → List ℕ → Type 0
 MayBackUp p number backup = (is_folder p ≡ true) × (is_backing_up (kind_of number) (kind_of backup) ≡ true)
@@ -211,19 +224,25 @@ pub data Kind : Type 0 where
 -- a step of this kind that keeps the discipline after this run's deeds
 pub data Keeps (run : ℕ) (own : List Deed) : Kind → Step → Type 0 where
   makes : (p : Place) → Keeps run own Makes (step.MakeFolder p)
-  creates : (p : Place) (temp bytes : List ℕ) → MayCreate run p temp own → Keeps run own Creates (step.Create p temp bytes)
-  puts : (p : Place) (temp number : List ℕ) → MayPut run p temp number own → Keeps run own Puts (step.Link p temp number)
+  creates : (p : Place) (temp bytes : List ℕ) → MayCreate run p temp own
+      → Keeps run own Creates (step.Create p temp bytes)
+  puts : (p : Place) (temp number : List ℕ) → MayPut run p temp number own
+      → Keeps run own Puts (step.Link p temp number)
   gives : (p : Place) (held number : List ℕ) → MayGive p held number → Keeps run own Gives (step.Link p held number)
-  takes : (p : Place) (number held : List ℕ) → MayTake run p number held own → Keeps run own Takes (step.Rename p number held)
-  backs_up : (p : Place) (number backup : List ℕ) → MayBackUp p number backup → Keeps run own Removes (step.Rename p number backup)
+  takes : (p : Place) (number held : List ℕ) → MayTake run p number held own
+      → Keeps run own Takes (step.Rename p number held)
+  backs_up : (p : Place) (number backup : List ℕ) → MayBackUp p number backup
+      → Keeps run own Removes (step.Rename p number backup)
   removes : (p : Place) (number : List ℕ) → MayRemove p number → Keeps run own Removes (step.Unlink p number)
   drops : (p : Place) (held : List ℕ) → MayDrop p held own → Keeps run own Drops (step.Unlink p held)
   discards : (p : Place) (held : List ℕ) → MayUnhold run p held own → Keeps run own Discards (step.Unlink p held)
-  commits : (p : Place) (temp name : List ℕ) → MayCommit run p temp name own → Keeps run own Commits (step.Rename p temp name)
+  commits : (p : Place) (temp name : List ℕ) → MayCommit run p temp name own
+      → Keeps run own Commits (step.Rename p temp name)
   clears : (p : Place) (temp : List ℕ) → is_temp (kind_of temp) ≡ true → Keeps run own Clears (step.Unlink p temp)
   cuts : (f : FilePath) (length_ : ℕ) → MayCut run f length_ own → Keeps run own Cuts (step.CutDrop f length_)
   links : (p : Place) (temp name : List ℕ) → MayStore run p temp name own → Keeps run own Stores (step.Link p temp name)
-  replaces : (p : Place) (temp name : List ℕ) → MayStore run p temp name own → Keeps run own Stores (step.Rename p temp name)
+  replaces : (p : Place) (temp name : List ℕ) → MayStore run p temp name own
+      → Keeps run own Stores (step.Rename p temp name)
   sets_aside : (p : Place) (name old : List ℕ) → MaySetAside p name old → Keeps run own Stores (step.Rename p name old)
 
 -- a step that looks, makes things safe, or has to do with a lock

@@ -92,7 +92,8 @@ TakesChosen p chosen kind s =
 
 abbrev pub RemovesChosen : Place → List ℕ → Kind → Step → Type 0
 RemovesChosen p chosen kind s =
-    (kind ≡ Removes) × (number : List ℕ) × IsChosen chosen number × (((backup : List ℕ) × (s ≡ step.Rename p number backup)) ⊎ (s ≡ step.Unlink p number))
+    (kind ≡ Removes) × (number : List ℕ) × IsChosen chosen number
+    × (((backup : List ℕ) × (s ≡ step.Rename p number backup)) ⊎ (s ≡ step.Unlink p number))
 
 -- a message that this run holds aside in this folder was read, or a chosen one that stands there, and had these bytes
 abbrev pub HasReadHeld : Place → List ℕ → List Deed → Type 0
@@ -111,7 +112,8 @@ PutsBytes p bytes own kind s =
 -- it puts into one of these folders what was read so
 abbrev pub PutsRead : List ℕ → List (List ℕ) → (List ℕ → Type 0) → List Deed → Kind → Step → Type 0
 PutsRead mail targets HasRead own kind s =
-    (target : List ℕ) × Contains targets target × (bytes : List ℕ) × HasRead bytes × PutsBytes (Folder mail target) bytes own kind s
+    (target : List ℕ) × Contains targets target × (bytes : List ℕ) × HasRead bytes
+    × PutsBytes (Folder mail target) bytes own kind s
 
 -- after these deeds of its run a command of this manner makes such a step in this kind
 abbrev pub MakesStep : Manner → List Deed → Kind → Step → Type 0
@@ -119,14 +121,18 @@ MakesStep Looking own kind s = ⊥
 MakesStep (Noting mail) own kind s = KeepsContext mail kind s
 MakesStep (Marking mail folder) own kind s = KeepsFolder mail folder kind s
 MakesStep (Incorporating mail folder drop) own kind s =
-    KeepsFolder mail folder kind s ⊎ (((kind ≡ Puts) × Changes (Folder mail folder) s) ⊎ ((length_ : ℕ) × (s ≡ step.CutDrop drop length_)))
+    KeepsFolder mail folder kind s
+    ⊎ (((kind ≡ Puts) × Changes (Folder mail folder) s) ⊎ ((length_ : ℕ) × (s ≡ step.CutDrop drop length_)))
 MakesStep (Refiling mail source chosen targets) own kind s =
     KeepsFolder mail source kind s
     ⊎ (KeepsOneOf mail targets kind s
     ⊎ (TakesChosen (Folder mail source) chosen kind s
-    ⊎ (PutsRead mail targets (λ bytes. HasReadHeld (Folder mail source) bytes own) own kind s ⊎ ((kind ≡ Discards) × Changes (Folder mail source) s))))
+    ⊎ (PutsRead mail targets (λ bytes. HasReadHeld (Folder mail source) bytes own) own kind s
+    ⊎ ((kind ≡ Discards) × Changes (Folder mail source) s))))
 MakesStep (Linking mail source chosen targets) own kind s =
-    KeepsFolder mail source kind s ⊎ (KeepsOneOf mail targets kind s ⊎ PutsRead mail targets (λ bytes. HasReadChosen (Folder mail source) chosen bytes own) own kind s)
+    KeepsFolder mail source kind s
+    ⊎ (KeepsOneOf mail targets kind s
+    ⊎ PutsRead mail targets (λ bytes. HasReadChosen (Folder mail source) chosen bytes own) own kind s)
 MakesStep (Removing mail folder chosen) own kind s =
     KeepsFolder mail folder kind s ⊎ RemovesChosen (Folder mail folder) chosen kind s
 MakesStep (Sorting mail folder chosen) own kind s =
@@ -134,7 +140,8 @@ MakesStep (Sorting mail folder chosen) own kind s =
 MakesStep (Annotating mail folder chosen lines) own kind s =
     KeepsFolder mail folder kind s
     ⊎ (TakesChosen (Folder mail folder) chosen kind s
-    ⊎ (((bytes : List ℕ) × HasReadHeld (Folder mail folder) bytes own × PutsBytes (Folder mail folder) (lines ++ bytes) own kind s)
+    ⊎ (((bytes : List ℕ) × HasReadHeld (Folder mail folder) bytes own
+    × PutsBytes (Folder mail folder) (lines ++ bytes) own kind s)
     ⊎ ((kind ≡ Discards) × Changes (Folder mail folder) s)))
 MakesStep (Storing mail) own kind s = KeepsContext mail kind s ⊎ StoresFile kind s
 MakesStep Composing own kind s = StoresFile kind s

@@ -35,7 +35,14 @@ GrowsBy-trans run None None (Some c) l m p q = absurd q
 GrowsBy-trans run (Some a) (Some b) None l m p q = absurd q
 
 Grows-none : (run : ℕ) (a : Story) → Grows run a a []
-Grows-none run a = record { start = refl; history = sym (append-nil a.history); asked = sym (append-nil a.asked); others = tt; possible = λ old. old }
+Grows-none run a =
+    record {
+      start = refl;
+      history = sym (append-nil a.history);
+      asked = sym (append-nil a.asked);
+      others = tt;
+      possible = λ old. old;
+    }
 
 pub GrowsBy-none : (run : ℕ) (a : Option Story) → GrowsBy run a a []
 GrowsBy-none run None = tt

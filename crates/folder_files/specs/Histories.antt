@@ -25,11 +25,13 @@ delivered None piece = Some piece
 delivered (Some bytes) piece = Some (bytes ++ piece)
 
 abbrev pub after_delivery : WorldMap → FilePath → List ℕ → WorldMap
-after_delivery w path piece = record w { outside = λ f. if same_path path f then delivered (w.outside f) piece else w.outside f }
+after_delivery w path piece =
+    record w { outside = λ f. if same_path path f then delivered (w.outside f) piece else w.outside f }
 
 -- the run's locks fall, and it has ended
 abbrev pub after_end : WorldMap → ℕ → WorldMap
-after_end w run = record w { holds = λ p r. if run == r then false else w.holds p r; ended = λ r. (run == r) || w.ended r }
+after_end w run =
+    record w { holds = λ p r. if run == r then false else w.holds p r; ended = λ r. (run == r) || w.ended r }
 
 abbrev pub after_event : WorldMap → Event → WorldMap
 after_event w (Act run s a m) = left_by w run s a m
@@ -69,16 +71,21 @@ IsLive run w = w.ended run ≡ false
 -- step leaves an image of the world with that step made, and the step stands after it as failed
 pub data IsLegal (start : World) : List Event → Type 0 where
   begins : IsLegal start []
-  answers : (run : ℕ) (s : Step) (a : Answer) {past : List Event} → IsLegal start past → IsLive run (world_after start past) → Fits (world_after start past) run s a
+  answers : (run : ℕ) (s : Step) (a : Answer) {past : List Event} → IsLegal start past
+      → IsLive run (world_after start past) → Fits (world_after start past) run s a
       → IsLegal start (Act run s a Made ∷ past)
-  fails : (run : ℕ) (s : Step) (m : After) {past : List Event} → IsLegal start past → IsLive run (world_after start past) → MayLeave s m
+  fails : (run : ℕ) (s : Step) (m : After) {past : List Event} → IsLegal start past
+      → IsLive run (world_after start past) → MayLeave s m
       → IsLegal start (Act run s Failed m ∷ past)
   is_dead : (run : ℕ) (s : Step) {past : List Event} → IsLegal start past → (world_after start past).ended run ≡ true
       → IsLegal start (Act run s Failed Before ∷ past)
-  delivers : (path : FilePath) (piece : List ℕ) {past : List Event} → IsLegal start past → IsLegal start (Deliver path piece ∷ past)
-  crashes : (v : World) {past : List Event} → IsLegal start past → IsCrashImage (world_after start past) (shown v) (has_acted past)
+  delivers : (path : FilePath) (piece : List ℕ) {past : List Event} → IsLegal start past
+      → IsLegal start (Deliver path piece ∷ past)
+  crashes : (v : World) {past : List Event} → IsLegal start past
+      → IsCrashImage (world_after start past) (shown v) (has_acted past)
       → IsLegal start (Crash v ∷ past)
-  crashes_within : (v : World) (run : ℕ) (s : Step) {past : List Event} → IsLegal start past → IsLive run (world_after start past)
+  crashes_within : (v : World) (run : ℕ) (s : Step) {past : List Event} → IsLegal start past
+      → IsLive run (world_after start past)
       → IsCrashImage (made (world_after start past) run s) (shown v) (λ r. (run == r) || has_acted past r)
       → IsLegal start (Act run s Failed Before ∷ (Crash v ∷ past))
   stops : (run : ℕ) {past : List Event} → IsLegal start past → IsLegal start (End run ∷ past)

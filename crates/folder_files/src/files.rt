@@ -14,7 +14,9 @@ pub trait Files {
     /// Makes one step for this run. Where files tell their story, it goes on by what others did and
     /// then by this step with its answer. After want of memory the step was not made.
     fn act(&mut self, alloc: Global, run: u128, step: &Step) -> Result<Answer, AllocError>
-        ensures step { MatchResult result (λ a. Asks run (state self.old).story (state self.new).story step.now a) (λ _. Waits run (state self.old).story (state self.new).story) }
+        ensures step { MatchResult result (λ a. Asks run (state self.old).story (state self.new).story step.now a)
+            (λ _. Waits run (state self.old).story (state self.new).story) }
         ensures row { IfOk result (λ a. IsAnswerOf step.now a) }
-        ensures cause { MatchResult result (λ a. Counts (state self.old).faults (state self.new).faults a) (λ _. (state self.old).faults ≤ (state self.new).faults) };
+        ensures cause { MatchResult result (λ a. Counts (state self.old).faults (state self.new).faults a)
+            (λ _. (state self.old).faults ≤ (state self.new).faults) };
 }

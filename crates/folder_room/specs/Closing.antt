@@ -31,7 +31,8 @@ touched_by kept c names = if kept then names ++ names_of c else names
 abbrev pub kept_set : List Change → (ℕ → Bool) → List (List ℕ) → ℕ → Bool
 kept_set [] asked names i = false
 kept_set (c ∷ older) asked names i =
-    if length older == i then is_kept c older asked names else kept_set older asked (touched_by (is_kept c older asked names) c names) i
+    if length older == i then is_kept c older asked names
+    else kept_set older asked (touched_by (is_kept c older asked names) c names) i
 
 -- the places that are asked for
 abbrev pub asked_of : Asked → ℕ → Bool

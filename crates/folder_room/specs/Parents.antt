@@ -13,7 +13,8 @@ is_among ps p = list_any (λ q. same_place q p) ps
 
 -- each of these directories is there
 abbrev pub with_all_made : WorldMap → List Place → WorldMap
-with_all_made w ps = record w { directories = λ p. if is_among ps p then with_made (w.directories p) else w.directories p }
+with_all_made w ps =
+    record w { directories = λ p. if is_among ps p then with_made (w.directories p) else w.directories p }
 
 -- the folder of this name, where a folder may be called so
 abbrev pub is_above : List ℕ → List ℕ → Place → Bool

@@ -40,7 +40,12 @@ with_sync w q = record w { directories = changed_at q synced_there w.directories
 
 -- a new file, which is not safe
 abbrev pub with_file : WorldMap → List ℕ → WorldMap
-with_file w b = record w { files = λ f. if w.next_file == f then record { bytes = b; safe = false } else w.files f; next_file = w.next_file + 1 }
+with_file w b =
+    record w {
+      files = λ f. if w.next_file == f then record { bytes = b; safe = false }
+          else w.files f;
+      next_file = w.next_file + 1;
+    }
 
 -- to which this name leads
 abbrev pub with_new : WorldMap → Place → List ℕ → List ℕ → WorldMap

@@ -42,7 +42,9 @@ pub fn read(
     name: &Name,
     limit: u64,
 ) -> Result<Answer, AllocError>
-    ensures { IfOk result (λ a. a ≡ steps.read_answer (shown world.now) limit (now_in ((shown world.now).directories place.now) name.now)) }
+    ensures { IfOk result
+        (λ a.
+        a ≡ steps.read_answer (shown world.now) limit (now_in ((shown world.now).directories place.now) name.now)) }
 {
     match leads(world, place, name) {
         Some(id) => file_reading(alloc, world, id, limit),
@@ -94,7 +96,9 @@ pub fn placed(world: &World, place: &Place) -> Answer
 }
 
 pub fn link(world: &World, place: &Place, from: &Name, to: &Name) -> Answer
-    ensures { result ≡ steps.link_answer (now_in ((shown world.now).directories place.now) from.now) (now_in ((shown world.now).directories place.now) to.now) }
+    ensures { result
+        ≡ steps.link_answer (now_in ((shown world.now).directories place.now) from.now)
+        (now_in ((shown world.now).directories place.now) to.now) }
 {
     let Some(_) = leads(world, place, from) else {
         return Answer::Gone;
@@ -107,7 +111,8 @@ pub fn link(world: &World, place: &Place, from: &Name, to: &Name) -> Answer
 
 /// The bytes of an outside file.
 fn outside<'a>(drops: &'a [Outside], path: &FilePath) -> Option<&'a Bytes>
-    ensures { MatchOption result (outside_of drops.now path.now ≡ None) (λ bytes. outside_of drops.now path.now ≡ Some bytes.now) }
+    ensures { MatchOption result (outside_of drops.now path.now ≡ None)
+        (λ bytes. outside_of drops.now path.now ≡ Some bytes.now) }
 {
     match outside_position(drops, path) {
         Some(index) => Some(&drops[index].bytes),
@@ -117,7 +122,8 @@ fn outside<'a>(drops: &'a [Outside], path: &FilePath) -> Option<&'a Bytes>
 
 #[tactic(auto, unfolding(folder_files::specs::Worlds::shown))]
 fn outside_in<'a>(world: &'a World, path: &FilePath) -> Option<&'a Bytes>
-    ensures { MatchOption result ((shown world.now).outside path.now ≡ None) (λ bytes. (shown world.now).outside path.now ≡ Some bytes.now) }
+    ensures { MatchOption result ((shown world.now).outside path.now ≡ None)
+        (λ bytes. (shown world.now).outside path.now ≡ Some bytes.now) }
 {
     outside(world.drops.as_slice(), path)
 }
@@ -188,7 +194,8 @@ fn is_theirs(held: &Held, run: u128, place: &Place) -> bool
 
 /// Whether another run has the lock.
 fn is_busy(locks: &[Held], run: u128, place: &Place) -> bool
-    ensures { MatchBool result ((other : ℕ) × (other ≢ run) × (holds_of locks.now place.now other ≡ true)) ((other : ℕ) → other ≢ run → holds_of locks.now place.now other ≡ false) }
+    ensures { MatchBool result ((other : ℕ) × (other ≢ run) × (holds_of locks.now place.now other ≡ true))
+        ((other : ℕ) → other ≢ run → holds_of locks.now place.now other ≡ false) }
 {
     match locks.split_first() {
         None => false,

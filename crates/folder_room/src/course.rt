@@ -98,7 +98,9 @@ impl Course {
         step: &Step,
         answer: &Answer,
     ) -> Result<(), AllocError>
-        ensures ok { OnOk result ((self.new.history ≡ self.old.history ++ Event.Act run step.now answer.now after.Made ∷ []) × (shown self.new.world ≡ made_by (shown self.old.world) run step.now answer.now)) }
+        ensures ok { OnOk result
+            ((self.new.history ≡ self.old.history ++ Event.Act run step.now answer.now after.Made ∷ [])
+            × (shown self.new.world ≡ made_by (shown self.old.world) run step.now answer.now)) }
         ensures err { OnErr result (self.new ≡ self.old) }
     {
         let event = act(alloc, run, step, answer, &After::Made)?;
@@ -116,7 +118,9 @@ impl Course {
     pub fn answer(&mut self, alloc: Global, run: u128, step: &Step) -> Result<Answer, AllocError>
         ensures fits { IfOk result (λ a. Fits (shown self.old.world) run step.now a) }
         ensures honest { IfOk result (λ a. IsHonest (shown self.old.world) run step.now a) }
-        ensures ok { IfOk result (λ a. (self.new.history ≡ self.old.history ++ Event.Act run step.now a after.Made ∷ []) × (shown self.new.world ≡ made_by (shown self.old.world) run step.now a)) }
+        ensures ok { IfOk result
+            (λ a. (self.new.history ≡ self.old.history ++ Event.Act run step.now a after.Made ∷ [])
+            × (shown self.new.world ≡ made_by (shown self.old.world) run step.now a)) }
         ensures err { OnErr result (self.new ≡ self.old) }
     {
         let answer = due(alloc, &self.world, run, step)?;
@@ -132,7 +136,9 @@ impl Course {
         step: &Step,
         after: &After,
     ) -> Result<(), AllocError>
-        ensures ok { OnOk result ((self.new.history ≡ self.old.history ++ Event.Act run step.now answer.Failed after.now ∷ []) × (shown self.new.world ≡ left_by (shown self.old.world) run step.now answer.Failed after.now)) }
+        ensures ok { OnOk result
+            ((self.new.history ≡ self.old.history ++ Event.Act run step.now answer.Failed after.now ∷ [])
+            × (shown self.new.world ≡ left_by (shown self.old.world) run step.now answer.Failed after.now)) }
         ensures err { OnErr result (self.new ≡ self.old) }
     {
         let event = act(alloc, run, step, &Answer::Failed, after)?;
@@ -152,7 +158,9 @@ impl Course {
         path: &FilePath,
         piece: &Bytes,
     ) -> Result<(), AllocError>
-        ensures ok { OnOk result ((self.new.history ≡ self.old.history ++ Event.Deliver path.now piece.now ∷ []) × (shown self.new.world ≡ after_delivery (shown self.old.world) path.now piece.now)) }
+        ensures ok { OnOk result
+            ((self.new.history ≡ self.old.history ++ Event.Deliver path.now piece.now ∷ [])
+            × (shown self.new.world ≡ after_delivery (shown self.old.world) path.now piece.now)) }
         ensures err { OnErr result (self.new ≡ self.old) }
     {
         let event = Event::Deliver {
@@ -170,7 +178,9 @@ impl Course {
     }
 
     pub fn end(&mut self, alloc: Global, run: u128) -> Result<(), AllocError>
-        ensures ok { OnOk result ((self.new.history ≡ self.old.history ++ Event.End run ∷ []) × (shown self.new.world ≡ after_end (shown self.old.world) run)) }
+        ensures ok { OnOk result
+            ((self.new.history ≡ self.old.history ++ Event.End run ∷ [])
+            × (shown self.new.world ≡ after_end (shown self.old.world) run)) }
         ensures err { OnErr result (self.new ≡ self.old) }
     {
         self.history.push(Event::End { run })?;
@@ -191,7 +201,11 @@ impl Course {
         keeps: &KeepList,
         fill: u8,
     ) -> Result<(), AllocError>
-        ensures ok { OnOk result ((v : World) × ((self.new.history ≡ self.old.history ++ Event.Crash v ∷ []) × (shown self.new.world ≡ shown v) × IsCrashBy keeps.now fill (has_acted_or_is run (past_of self.old.history)) (shown self.old.world) (shown v))) }
+        ensures ok { OnOk result
+            ((v : World)
+            × ((self.new.history ≡ self.old.history ++ Event.Crash v ∷ []) × (shown self.new.world ≡ shown v)
+            × IsCrashBy keeps.now fill (has_acted_or_is run (past_of self.old.history)) (shown self.old.world)
+            (shown v))) }
         ensures err { OnErr result (self.new ≡ self.old) }
     {
         let found = crashed(alloc, &self.world, &self.history, run, keeps, fill)?;
@@ -204,7 +218,8 @@ impl Course {
     /// A step that fails and leaves nothing, where the world stays.
     fn add_failed(&mut self, alloc: Global, run: u128, step: &Step) -> Result<(), AllocError>
         ensures world { self.new.world ≡ self.old.world }
-        ensures ok { OnOk result (self.new.history ≡ self.old.history ++ Event.Act run step.now answer.Failed after.Before ∷ []) }
+        ensures ok { OnOk result
+            (self.new.history ≡ self.old.history ++ Event.Act run step.now answer.Failed after.Before ∷ []) }
         ensures err { OnErr result (self.new ≡ self.old) }
     {
         let event = act(alloc, run, step, &Answer::Failed, &After::Before)?;
@@ -230,7 +245,10 @@ impl Course {
         keeps: &KeepList,
         fill: u8,
     ) -> Result<World, AllocError>
-        ensures { IfOk result (λ v. IsCrashBy keeps.now fill (has_acted_or_is run (past_of self.now.history)) (made (shown self.now.world) run step.now) (shown v)) }
+        ensures { IfOk result
+            (λ v.
+            IsCrashBy keeps.now fill (has_acted_or_is run (past_of self.now.history))
+            (made (shown self.now.world) run step.now) (shown v)) }
     {
         let world = self.made_in(alloc, run, step)?;
         crashed(alloc, &world, &self.history, run, keeps, fill)
@@ -245,7 +263,12 @@ impl Course {
         keeps: &KeepList,
         fill: u8,
     ) -> Result<(), AllocError>
-        ensures ok { OnOk result ((v : World) × ((self.new.history ≡ (self.old.history ++ Event.Crash v ∷ []) ++ Event.Act run step.now answer.Failed after.Before ∷ []) × (shown self.new.world ≡ shown v) × IsCrashBy keeps.now fill (has_acted_or_is run (past_of self.old.history)) (made (shown self.old.world) run step.now) (shown v))) }
+        ensures ok { OnOk result
+            ((v : World)
+            × ((self.new.history ≡ (self.old.history ++ Event.Crash v ∷ [])
+            ++ Event.Act run step.now answer.Failed after.Before ∷ []) × (shown self.new.world ≡ shown v)
+            × IsCrashBy keeps.now fill (has_acted_or_is run (past_of self.old.history))
+            (made (shown self.old.world) run step.now) (shown v))) }
         ensures err { OnErr result (self.new ≡ self.old) }
     {
         let found = self.crashed_within(alloc, run, step, keeps, fill)?;

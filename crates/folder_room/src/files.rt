@@ -60,7 +60,8 @@ pub fn create(
     name: &Name,
     bytes: &Bytes,
 ) -> Result<(), AllocError>
-    ensures ok { (run : ℕ) → OnOk result (shown world.new ≡ made (shown world.old) run (step.Create place.now name.now bytes.now)) }
+    ensures ok { (run : ℕ)
+        → OnOk result (shown world.new ≡ made (shown world.old) run (step.Create place.now name.now bytes.now)) }
     ensures err { OnErr result (world.new ≡ world.old) }
 {
     if !is_there(world, place) {
@@ -74,7 +75,8 @@ pub fn create(
 
 /// Where the file of this id stands.
 pub fn file_position(files: &[File], id: u64) -> Option<usize>
-    ensures found { IfSome result (λ i. (i < length files.now) × SkipsBy (λ x. x.id == id) files.now i × IsAtBy (λ x. x.id == id) files.now i) }
+    ensures found { IfSome result
+        (λ i. (i < length files.now) × SkipsBy (λ x. x.id == id) files.now i × IsAtBy (λ x. x.id == id) files.now i) }
     ensures none { IfNone result (SkipsBy (λ x. x.id == id) files.now (length files.now)) }
 {
     for index in 0..files.len() {

@@ -79,13 +79,15 @@ fn is_any_touched(change: &Change, names: &[&Name]) -> bool
 }
 
 fn is_kept(change: &Change, older: &[Change], asked: Asked, names: &[&Name]) -> bool
-    ensures { result ≡ closing.is_kept change.now (reverse older.now) (closing.asked_of asked.entry) (map (λ n. n.now) names.now) }
+    ensures { result
+        ≡ closing.is_kept change.now (reverse older.now) (closing.asked_of asked.entry) (map (λ n. n.now) names.now) }
 {
     asked.has(older.len() as u64) || is_any_touched(change, names)
 }
 
 fn push_touched<'a>(names: &mut Vec<&'a Name>, change: &'a Change) -> Result<(), AllocError>
-    ensures { OnOk result (map (λ n. n.now) names.new.items ≡ map (λ n. n.now) names.old.items ++ closing.names_of change.now) }
+    ensures { OnOk result
+        (map (λ n. n.now) names.new.items ≡ map (λ n. n.now) names.old.items ++ closing.names_of change.now) }
 {
     match change {
         Change::Set(to, _) => names.push(to)?,
@@ -107,7 +109,12 @@ fn kept<'a>(
     asked: Asked,
     names: Vec<&'a Name>,
 ) -> Result<Vec<Slot>, AllocError>
-    ensures { IfOk result (λ r. (x : List ℕ) → slot_of r.items x ≡ kept_lead (slot_of slots.items) (reverse pending.now) (closing.kept_set (reverse pending.now) (closing.asked_of asked.entry) (map (λ n. n.now) names.entry.items)) x) }
+    ensures { IfOk result
+        (λ r. (x : List ℕ)
+        → slot_of r.items x
+        ≡ kept_lead (slot_of slots.items) (reverse pending.now)
+        (closing.kept_set (reverse pending.now) (closing.asked_of asked.entry)
+        (map (λ n. n.now) names.entry.items)) x) }
 {
     match pending.split_last() {
         None => Ok(slots),
@@ -129,7 +136,8 @@ fn cut_directory(
     asked: Asked,
 ) -> Result<Directory, AllocError>
     ensures place { IfOk result (λ d. d.place ≡ directory.now.place) }
-    ensures image { IfOk result (λ d. IsCutDirectory (closing.asked_of asked.entry) (shown_directory directory.now) (shown_directory d)) }
+    ensures image { IfOk result
+        (λ d. IsCutDirectory (closing.asked_of asked.entry) (shown_directory directory.now) (shown_directory d)) }
 {
     let safe = directory.safe.duplicate(alloc)?;
     let slots = kept(
@@ -151,7 +159,9 @@ fn cut_directories(
     directories: &[Directory],
     keeps: &[Keep],
 ) -> Result<Vec<Directory>, AllocError>
-    ensures { IfOk result (λ v. (p : Place) → IsCutDirectory (asked_at keeps.now p) (directory_of directories.now p) (directory_of v.items p)) }
+    ensures { IfOk result
+        (λ v. (p : Place)
+        → IsCutDirectory (asked_at keeps.now p) (directory_of directories.now p) (directory_of v.items p)) }
 {
     match directories.split_first() {
         None => Ok(Vec::new(alloc)),
@@ -230,7 +240,8 @@ fn all_ended(
     history: &History,
     run: u128,
 ) -> Result<RunList, AllocError>
-    ensures { IfOk result (λ all. (r : ℕ) → has_run all r ≡ has_acted_or_is run (past_of history.now) r || has_run ended.now r) }
+    ensures { IfOk result
+        (λ all. (r : ℕ) → has_run all r ≡ has_acted_or_is run (past_of history.now) r || has_run ended.now r) }
 {
     let mut all = ended.duplicate(alloc)?;
     for event in history.as_slice() {
@@ -249,7 +260,8 @@ pub fn crashed(
     keeps: &KeepList,
     fill: u8,
 ) -> Result<World, AllocError>
-    ensures { IfOk result (λ v. IsCrashBy keeps.now fill (has_acted_or_is run (past_of history.now)) (shown world.now) (shown v)) }
+    ensures { IfOk result
+        (λ v. IsCrashBy keeps.now fill (has_acted_or_is run (past_of history.now)) (shown world.now) (shown v)) }
 {
     let directories = cut_directories(alloc, world.directories.as_slice(), keeps.as_slice())?;
     Ok(World {

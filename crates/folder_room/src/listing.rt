@@ -27,7 +27,8 @@ fn keys<'a>(alloc: Global, slots: &'a [Slot]) -> Result<Vec<&'a [u8]>, AllocErro
 /// The keys in byte order, each once.
 fn ordered<'a>(alloc: Global, slots: &'a [Slot]) -> Result<Vec<&'a [u8]>, AllocError>
     ensures ascending { IfOk result (λ v. IsAscending (map (λ k. k.now) v.items)) }
-    ensures same { IfOk result (λ v. (x : List ℕ) → has_text x (map (λ k. k.now) v.items) ≡ is_some (slot_of slots.now x)) }
+    ensures same { IfOk result
+        (λ v. (x : List ℕ) → has_text x (map (λ k. k.now) v.items) ≡ is_some (slot_of slots.now x)) }
     ensures valid { IfOk result (λ v. All (λ k. IsName k.now) v.items) }
 {
     let mut keys = keys(alloc, slots)?;

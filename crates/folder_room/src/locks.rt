@@ -37,7 +37,9 @@ fn without_lock(
     run: u128,
     place: &Place,
 ) -> Result<LockList, AllocError>
-    ensures { IfOk result (λ kept. (p : Place) (r : ℕ) → holds_of kept p r ≡ (not (same_place place.now p && run == r) && holds_of locks.now p r)) }
+    ensures { IfOk result
+        (λ kept. (p : Place) (r : ℕ)
+        → holds_of kept p r ≡ (not (same_place place.now p && run == r) && holds_of locks.now p r)) }
 {
     let mut kept = LockList::new(alloc);
     for held in locks {
@@ -61,7 +63,8 @@ pub fn unlock(alloc: Global, world: &mut World, run: u128, place: &Place) -> Res
 
 /// The locks but this run's.
 fn without_run(alloc: Global, locks: &[Held], run: u128) -> Result<LockList, AllocError>
-    ensures { IfOk result (λ kept. (p : Place) (r : ℕ) → holds_of kept p r ≡ (if run == r then false else holds_of locks.now p r)) }
+    ensures { IfOk result
+        (λ kept. (p : Place) (r : ℕ) → holds_of kept p r ≡ (if run == r then false else holds_of locks.now p r)) }
 {
     let mut kept = LockList::new(alloc);
     for held in locks {

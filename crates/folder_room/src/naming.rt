@@ -17,7 +17,8 @@ pub fn link(
     from: &Name,
     to: &Name,
 ) -> Result<(), AllocError>
-    ensures ok { (run : ℕ) → OnOk result (shown world.new ≡ made (shown world.old) run (step.Link place.now from.now to.now)) }
+    ensures ok { (run : ℕ)
+        → OnOk result (shown world.new ≡ made (shown world.old) run (step.Link place.now from.now to.now)) }
     ensures err { OnErr result (world.new ≡ world.old) }
 {
     let Some(file) = leads(world, place, from) else {
@@ -37,7 +38,8 @@ pub fn rename(
     from: &Name,
     to: &Name,
 ) -> Result<(), AllocError>
-    ensures ok { (run : ℕ) → OnOk result (shown world.new ≡ made (shown world.old) run (step.Rename place.now from.now to.now)) }
+    ensures ok { (run : ℕ)
+        → OnOk result (shown world.new ≡ made (shown world.old) run (step.Rename place.now from.now to.now)) }
     ensures err { OnErr result (world.new ≡ world.old) }
 {
     if from.same(to) {
@@ -59,7 +61,8 @@ pub fn unlink(
     place: &Place,
     name: &Name,
 ) -> Result<(), AllocError>
-    ensures ok { (run : ℕ) → OnOk result (shown world.new ≡ made (shown world.old) run (step.Unlink place.now name.now)) }
+    ensures ok { (run : ℕ)
+        → OnOk result (shown world.new ≡ made (shown world.old) run (step.Unlink place.now name.now)) }
     ensures err { OnErr result (world.new ≡ world.old) }
 {
     match leads(world, place, name) {

@@ -13,7 +13,9 @@ use std::alloc::{AllocError, Global};
 
 /// Where the file of this path stands.
 pub fn outside_position(drops: &[Outside], path: &FilePath) -> Option<usize>
-    ensures found { IfSome result (λ i. (i < length drops.now) × SkipsBy (λ o. same_path o.path path.now) drops.now i × IsAtBy (λ o. same_path o.path path.now) drops.now i) }
+    ensures found { IfSome result
+        (λ i. (i < length drops.now) × SkipsBy (λ o. same_path o.path path.now) drops.now i
+        × IsAtBy (λ o. same_path o.path path.now) drops.now i) }
     ensures none { IfNone result (SkipsBy (λ o. same_path o.path path.now) drops.now (length drops.now)) }
 {
     for index in 0..drops.len() {

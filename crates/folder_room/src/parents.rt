@@ -20,7 +20,9 @@ fn push_folder(
     path: &Bytes,
     word: &Text,
 ) -> Result<(), AllocError>
-    ensures { (name : List ℕ) → word.now ≡ 43 ∷ name → OnOk result ((p : Place) → is_among above.new.items p ≡ is_among above.old.items p || is_above path.now name p) }
+    ensures { (name : List ℕ) → word.now ≡ 43 ∷ name
+        → OnOk result
+        ((p : Place) → is_among above.new.items p ≡ is_among above.old.items p || is_above path.now name p) }
 {
     match FolderName::read(alloc, word) {
         Ok(name) => {
@@ -40,7 +42,11 @@ fn push_above(
     word: &Text,
     next: char,
 ) -> Result<(), AllocError>
-    ensures { (name : List ℕ) → word.now ≡ 43 ∷ name → OnOk result ((p : Place) → is_among above.new.items p ≡ is_among above.old.items p || ((next == 47) && is_above path.now name p)) }
+    ensures { (name : List ℕ) → word.now ≡ 43 ∷ name
+        → OnOk result
+        ((p : Place)
+        → is_among above.new.items p ≡ is_among above.old.items p
+        || ((next == 47) && is_above path.now name p)) }
 {
     if next == '/' {
         return push_folder(alloc, above, path, word);
@@ -50,7 +56,8 @@ fn push_above(
 
 /// The folders above, by the slashes of the name.
 fn folders_above(alloc: Global, path: &Bytes, name: &FolderName) -> Result<Vec<Place>, AllocError>
-    ensures { IfOk result (λ v. (p : Place) → is_among (place.Mail path.now ∷ v.items) p ≡ is_parent p (place.Folder path.now name.now)) }
+    ensures { IfOk result
+        (λ v. (p : Place) → is_among (place.Mail path.now ∷ v.items) p ≡ is_parent p (place.Folder path.now name.now)) }
 {
     let mut above = Vec::new(alloc);
     let mut word = Text::new(alloc);

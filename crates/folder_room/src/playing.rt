@@ -39,7 +39,8 @@ pub fn turn_at<'a>(
 }
 
 fn fail_in<'a>(what: &'a Happening) -> Option<&'a After>
-    ensures { MatchOption result (played.fail_of (what.now ∷ []) ≡ None) (λ m. played.fail_of (what.now ∷ []) ≡ Some m.now) }
+    ensures { MatchOption result (played.fail_of (what.now ∷ []) ≡ None)
+        (λ m. played.fail_of (what.now ∷ []) ≡ Some m.now) }
 {
     match what {
         Happening::Fail { after } => Some(after),
@@ -49,7 +50,8 @@ fn fail_in<'a>(what: &'a Happening) -> Option<&'a After>
 
 /// What the last Fail of a turn says.
 pub fn fail_of<'a>(turn: &[&'a Happening]) -> Option<&'a After>
-    ensures { MatchOption result (played.fail_of (map (λ h. h.now) turn.now) ≡ None) (λ m. played.fail_of (map (λ h. h.now) turn.now) ≡ Some m.now) }
+    ensures { MatchOption result (played.fail_of (map (λ h. h.now) turn.now) ≡ None)
+        (λ m. played.fail_of (map (λ h. h.now) turn.now) ≡ Some m.now) }
 {
     match turn.split_first() {
         None => None,
@@ -106,8 +108,10 @@ impl Course {
 
     /// A step of a run that the script has.
     fn act_other(&mut self, alloc: Global, other: u128, step: &Step) -> Result<(), AllocError>
-        ensures now { (start : World) → IsNow start self.old.world self.old.history → IsNow start self.new.world self.new.history }
-        ensures ok { (start : World) → IsNow start self.old.world self.old.history → OnOk result (played.IsActed start other step.now (past_of self.old.history) (past_of self.new.history)) }
+        ensures now { (start : World) → IsNow start self.old.world self.old.history
+            → IsNow start self.new.world self.new.history }
+        ensures ok { (start : World) → IsNow start self.old.world self.old.history
+            → OnOk result (played.IsActed start other step.now (past_of self.old.history) (past_of self.new.history)) }
         ensures err { OnErr result (self.new ≡ self.old) }
     {
         if self.is_dead(other) {
@@ -125,8 +129,12 @@ impl Course {
         other: u128,
         step: &Step,
     ) -> Result<(), AllocError>
-        ensures now { (start : World) → IsNow start self.old.world self.old.history → IsNow start self.new.world self.new.history }
-        ensures ok { (start : World) → IsNow start self.old.world self.old.history → OnOk result (played.PlaysOne start run (happening.Other other step.now) (past_of self.old.history) (past_of self.new.history)) }
+        ensures now { (start : World) → IsNow start self.old.world self.old.history
+            → IsNow start self.new.world self.new.history }
+        ensures ok { (start : World) → IsNow start self.old.world self.old.history
+            → OnOk result
+            (played.PlaysOne start run (happening.Other other step.now) (past_of self.old.history)
+            (past_of self.new.history)) }
         ensures err { OnErr result (self.new ≡ self.old) }
     {
         if other == run {
@@ -141,8 +149,10 @@ impl Course {
 
     /// One prompt acts.
     fn play_one(&mut self, alloc: Global, run: u128, what: &Happening) -> Result<(), AllocError>
-        ensures now { (start : World) → IsNow start self.old.world self.old.history → IsNow start self.new.world self.new.history }
-        ensures ok { (start : World) → IsNow start self.old.world self.old.history → OnOk result (played.PlaysOne start run what.now (past_of self.old.history) (past_of self.new.history)) }
+        ensures now { (start : World) → IsNow start self.old.world self.old.history
+            → IsNow start self.new.world self.new.history }
+        ensures ok { (start : World) → IsNow start self.old.world self.old.history
+            → OnOk result (played.PlaysOne start run what.now (past_of self.old.history) (past_of self.new.history)) }
         ensures err { OnErr result (self.new ≡ self.old) }
     {
         match what {
@@ -160,8 +170,11 @@ impl Course {
         what: &'a Happening,
         turn: &[&'a Happening],
     ) -> Option<Within<'a>>
-        ensures some { IfSome result (λ w. ((what.now ≡ happening.Crash w.keeps.now w.fill true) × (turn.now ≡ [])) × ((shown self.now.world).ended run ≡ false)) }
-        ensures none { IfNone result (played.is_within what.now (map (λ h. h.now) turn.now) ≡ true → (shown self.now.world).ended run ≡ true) }
+        ensures some { IfSome result
+            (λ w. ((what.now ≡ happening.Crash w.keeps.now w.fill true) × (turn.now ≡ []))
+            × ((shown self.now.world).ended run ≡ false)) }
+        ensures none { IfNone result
+            (played.is_within what.now (map (λ h. h.now) turn.now) ≡ true → (shown self.now.world).ended run ≡ true) }
     {
         let crash = made_crash(what)?;
         if turn.is_empty() && !self.is_dead(run) {
@@ -178,8 +191,16 @@ impl Course {
         run: u128,
         turn: &[&'a Happening],
     ) -> Result<Option<Within<'a>>, AllocError>
-        ensures now { (start : World) → IsNow start self.old.world self.old.history → IsNow start self.new.world self.new.history }
-        ensures plays { (start : World) → IsNow start self.old.world self.old.history → MatchResult result (λ o. played.Plays start run (left_of o) (map (λ h. h.now) turn.now) (past_of self.old.history) (past_of self.new.history)) (λ _. (left : List Happening) × played.Plays start run left (map (λ h. h.now) turn.now) (past_of self.old.history) (past_of self.new.history)) }
+        ensures now { (start : World) → IsNow start self.old.world self.old.history
+            → IsNow start self.new.world self.new.history }
+        ensures plays { (start : World) → IsNow start self.old.world self.old.history
+            → MatchResult result
+            (λ o.
+            played.Plays start run (left_of o) (map (λ h. h.now) turn.now) (past_of self.old.history)
+            (past_of self.new.history))
+            (λ _. (left : List Happening)
+            × played.Plays start run left (map (λ h. h.now) turn.now) (past_of self.old.history)
+            (past_of self.new.history)) }
         ensures live { IfOk result (λ o. IfSome o (λ _. (shown self.new.world).ended run ≡ false)) }
     {
         match turn.split_first() {
@@ -202,7 +223,11 @@ impl Course {
         step: &Step,
         after: &After,
     ) -> Result<(), AllocError>
-        ensures ok { OnOk result ((self.new.history ≡ self.old.history ++ Event.Act run step.now answer.Failed (played.failing step.now after.now) ∷ []) × (shown self.new.world ≡ left_by (shown self.old.world) run step.now answer.Failed (played.failing step.now after.now))) }
+        ensures ok { OnOk result
+            ((self.new.history ≡ self.old.history
+            ++ Event.Act run step.now answer.Failed (played.failing step.now after.now) ∷ [])
+            × (shown self.new.world
+            ≡ left_by (shown self.old.world) run step.now answer.Failed (played.failing step.now after.now))) }
         ensures err { OnErr result (self.new ≡ self.old) }
     {
         let after = failing(alloc, step, after)?;
@@ -218,8 +243,13 @@ impl Course {
         fail: Option<&After>,
     ) -> Result<Answer, AllocError>
         requires { (shown self.old.world).ended run ≡ false }
-        ensures now { (start : World) → IsNow start self.old.world self.old.history → IsNow start self.new.world self.new.history }
-        ensures ok { (start : World) → IsNow start self.old.world self.old.history → IfOk result (λ a. played.IsAnswered start run step.now (failed_of fail.entry) (past_of self.old.history) [] a (past_of self.new.history)) }
+        ensures now { (start : World) → IsNow start self.old.world self.old.history
+            → IsNow start self.new.world self.new.history }
+        ensures ok { (start : World) → IsNow start self.old.world self.old.history
+            → IfOk result
+            (λ a.
+            played.IsAnswered start run step.now (failed_of fail.entry) (past_of self.old.history) [] a
+            (past_of self.new.history)) }
         ensures err { OnErr result (self.new ≡ self.old) }
     {
         match fail {
@@ -239,8 +269,13 @@ impl Course {
         step: &Step,
         fail: Option<&After>,
     ) -> Result<Answer, AllocError>
-        ensures now { (start : World) → IsNow start self.old.world self.old.history → IsNow start self.new.world self.new.history }
-        ensures ok { (start : World) → IsNow start self.old.world self.old.history → IfOk result (λ a. played.IsAnswered start run step.now (failed_of fail.entry) (past_of self.old.history) [] a (past_of self.new.history)) }
+        ensures now { (start : World) → IsNow start self.old.world self.old.history
+            → IsNow start self.new.world self.new.history }
+        ensures ok { (start : World) → IsNow start self.old.world self.old.history
+            → IfOk result
+            (λ a.
+            played.IsAnswered start run step.now (failed_of fail.entry) (past_of self.old.history) [] a
+            (past_of self.new.history)) }
         ensures err { OnErr result (self.new ≡ self.old) }
     {
         if self.is_dead(run) {
@@ -259,8 +294,14 @@ impl Course {
         crash: Within,
     ) -> Result<Answer, AllocError>
         requires { (shown self.old.world).ended run ≡ false }
-        ensures now { (start : World) → IsNow start self.old.world self.old.history → IsNow start self.new.world self.new.history }
-        ensures ok { (start : World) (fail : Option After) → IsNow start self.old.world self.old.history → IfOk result (λ a. played.IsAnswered start run step.now fail (past_of self.old.history) (happening.Crash crash.entry.keeps.now crash.entry.fill true ∷ []) a (past_of self.new.history)) }
+        ensures now { (start : World) → IsNow start self.old.world self.old.history
+            → IsNow start self.new.world self.new.history }
+        ensures ok { (start : World) (fail : Option After) → IsNow start self.old.world self.old.history
+            → IfOk result
+            (λ a.
+            played.IsAnswered start run step.now fail (past_of self.old.history)
+            (happening.Crash crash.entry.keeps.now crash.entry.fill true ∷ []) a
+            (past_of self.new.history)) }
         ensures err { OnErr result (self.new ≡ self.old) }
     {
         self.crash_within(alloc, run, step, crash.keeps, crash.fill)?;

@@ -38,7 +38,15 @@ impl Model for Room {
 
     ghost Value = { Seen };
 
-    ghost view = { λ r. record { start = r.start; history = r.course.history; asked = r.asked; script = r.script; calls = r.calls; faults = r.faults } };
+    ghost view = { λ r.
+        record {
+          start = r.start;
+          history = r.course.history;
+          asked = r.asked;
+          script = r.script;
+          calls = r.calls;
+          faults = r.faults;
+        } };
 
     ghost invariant = { λ r. IsNow r.start r.course.world r.course.history };
 }
@@ -46,7 +54,8 @@ impl Model for Room {
 impl Room {
     /// A mailbox that is this world.
     pub fn new(alloc: Global, world: World, script: PromptList) -> Result<Room, AllocError>
-        ensures { IfOk result (λ r. r ≡ record { start = world; history = []; asked = []; script = script; calls = 0; faults = 0 }) }
+        ensures { IfOk result
+            (λ r. r ≡ record { start = world; history = []; asked = []; script = script; calls = 0; faults = 0 }) }
     {
         let start = world.duplicate(alloc)?;
         Ok(Room {
@@ -110,9 +119,15 @@ fn take_turn(
     step: &Step,
     turn: &[&Happening],
 ) -> Result<Answer, AllocError>
-    ensures now { (start : World) → IsNow start course.old.world course.old.history → IsNow start course.new.world course.new.history }
-    ensures played { (start : World) → IsNow start course.old.world course.old.history → IsPlayed start run step.now (map (λ h. h.now) turn.now) (past_of course.old.history) result (past_of course.new.history) }
-    ensures asked { MatchResult result (λ a. (start : World) → IsNow start course.old.world course.old.history → (place : ℕ) × ((asked.new ≡ asked.old ++ place ∷ []) × (place + 1 ≡ length course.new.history))) (λ _. asked.new ≡ asked.old) }
+    ensures now { (start : World) → IsNow start course.old.world course.old.history
+        → IsNow start course.new.world course.new.history }
+    ensures played { (start : World) → IsNow start course.old.world course.old.history
+        → IsPlayed start run step.now (map (λ h. h.now) turn.now) (past_of course.old.history) result
+        (past_of course.new.history) }
+    ensures asked { MatchResult result
+        (λ a. (start : World) → IsNow start course.old.world course.old.history
+        → (place : ℕ) × ((asked.new ≡ asked.old ++ place ∷ []) × (place + 1 ≡ length course.new.history)))
+        (λ _. asked.new ≡ asked.old) }
 {
     let fail = fail_of(turn);
     let crash = course.play(alloc, run, turn)?;
@@ -152,8 +167,12 @@ impl Room {
         ensures calls { self.new.calls ≡ one_more self.old.calls }
         ensures faults { self.new.faults ≡ self.old.faults }
         ensures legal { IsLegal self.new.start (past_of self.new.history) }
-        ensures played { IsPlayed self.old.start run step.now (turn_of self.new.calls self.old.script) (past_of self.old.history) result (past_of self.new.history) }
-        ensures asked { MatchResult result (λ a. (place : ℕ) × ((self.new.asked ≡ self.old.asked ++ place ∷ []) × (place + 1 ≡ length self.new.history))) (λ _. self.new.asked ≡ self.old.asked) }
+        ensures played { IsPlayed self.old.start run step.now (turn_of self.new.calls self.old.script)
+            (past_of self.old.history) result (past_of self.new.history) }
+        ensures asked { MatchResult result
+            (λ a. (place : ℕ)
+            × ((self.new.asked ≡ self.old.asked ++ place ∷ []) × (place + 1 ≡ length self.new.history)))
+            (λ _. self.new.asked ≡ self.old.asked) }
     {
         self.calls = self.calls.saturating_add(1);
         match turn_at(alloc, self.script.as_slice(), self.calls) {
@@ -182,12 +201,17 @@ impl Files for Room {
     ghost state = { λ r. record { story = Some (story_of r); faults = r.faults } };
 
     fn act(&mut self, alloc: Global, run: u128, step: &Step) -> Result<Answer, AllocError>
-        ensures step { MatchResult result (λ a. Asks run (Some (story_of self.old)) (Some (story_of self.new)) step.now a) (λ _. Waits run (Some (story_of self.old)) (Some (story_of self.new))) }
+        ensures step { MatchResult result
+            (λ a. Asks run (Some (story_of self.old)) (Some (story_of self.new)) step.now a)
+            (λ _. Waits run (Some (story_of self.old)) (Some (story_of self.new))) }
         ensures row { IfOk result (λ a. IsAnswerOf step.now a) }
-        ensures cause { MatchResult result (λ a. Counts self.old.faults self.new.faults a) (λ _. self.old.faults ≤ self.new.faults) }
-        ensures script { IsPlayed self.old.start run step.now (turn_of self.new.calls self.old.script) (past_of self.old.history) result (past_of self.new.history) }
+        ensures cause { MatchResult result (λ a. Counts self.old.faults self.new.faults a)
+            (λ _. self.old.faults ≤ self.new.faults) }
+        ensures script { IsPlayed self.old.start run step.now (turn_of self.new.calls self.old.script)
+            (past_of self.old.history) result (past_of self.new.history) }
         ensures calls { self.new.calls ≡ one_more self.old.calls }
-        ensures counted { MatchResult result (λ a. self.new.faults ≡ faults_after self.old.faults a) (λ _. self.new.faults ≡ self.old.faults) }
+        ensures counted { MatchResult result (λ a. self.new.faults ≡ faults_after self.old.faults a)
+            (λ _. self.new.faults ≡ self.old.faults) }
         ensures same_start { self.new.start ≡ self.old.start }
         ensures same_script { self.new.script ≡ self.old.script }
     {

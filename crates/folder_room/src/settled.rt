@@ -10,7 +10,8 @@ use std::alloc::{AllocError, Global};
 
 /// The slots but those of this name.
 fn without(alloc: Global, slots: Vec<Slot>, name: &Name) -> Result<Vec<Slot>, AllocError>
-    ensures { IfOk result (λ r. (x : List ℕ) → slot_of r.items x ≡ (if bytes_eq name.now x then None else slot_of slots.items x)) }
+    ensures { IfOk result
+        (λ r. (x : List ℕ) → slot_of r.items x ≡ (if bytes_eq name.now x then None else slot_of slots.items x)) }
 {
     let mut kept = Vec::new(alloc);
     for slot in slots {
@@ -23,7 +24,8 @@ fn without(alloc: Global, slots: Vec<Slot>, name: &Name) -> Result<Vec<Slot>, Al
 
 /// The slots with this name leading to this file.
 fn with(alloc: Global, slots: Vec<Slot>, name: &Name, file: u64) -> Result<Vec<Slot>, AllocError>
-    ensures { IfOk result (λ r. (x : List ℕ) → slot_of r.items x ≡ (if bytes_eq name.now x then Some file else slot_of slots.items x)) }
+    ensures { IfOk result
+        (λ r. (x : List ℕ) → slot_of r.items x ≡ (if bytes_eq name.now x then Some file else slot_of slots.items x)) }
 {
     let name = name.duplicate(alloc)?;
     let mut all = without(alloc, slots, &name)?;
@@ -33,7 +35,11 @@ fn with(alloc: Global, slots: Vec<Slot>, name: &Name, file: u64) -> Result<Vec<S
 
 /// The slots with what one name leads to under another, and nothing under the first.
 fn moved(alloc: Global, slots: Vec<Slot>, from: &Name, to: &Name) -> Result<Vec<Slot>, AllocError>
-    ensures { IfOk result (λ r. (x : List ℕ) → slot_of r.items x ≡ (if bytes_eq to.now x then slot_of slots.items from.now else (if bytes_eq from.now x then None else slot_of slots.items x))) }
+    ensures { IfOk result
+        (λ r. (x : List ℕ)
+        → slot_of r.items x
+        ≡ (if bytes_eq to.now x then slot_of slots.items from.now
+        else (if bytes_eq from.now x then None else slot_of slots.items x))) }
 {
     let file = slot(&slots, from);
     let rest = without(alloc, slots, from)?;

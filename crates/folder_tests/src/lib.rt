@@ -1,4 +1,5 @@
-//! Tests of `folder`, `folder -pack`, `anno`, `sortm` and `mhlist` on a mailbox in memory. There is nothing here but tests.
+//! Tests of `folder`, `folder -pack`, `anno`, `sortm` and `mhlist` on a mailbox in memory. There is nothing here but
+//! tests.
 #![tactic(auto)]
 
 #[cfg(test)]

@@ -20,7 +20,8 @@ spaced_literal_in (c ∷ text) = if c == 32 then literal_in text else Err (c ∷
 abbrev pub decimal_within : ℕ → ℕ → List ℕ → Option ℕ
 decimal_within limit n [] = Some n
 decimal_within limit n (c ∷ text) =
-    if is_digit c && nat_le (n * 10 + digit_value c) limit then decimal_within limit (n * 10 + digit_value c) text else None
+    if is_digit c && nat_le (n * 10 + digit_value c) limit then decimal_within limit (n * 10 + digit_value c) text
+    else None
 
 abbrev pub some_decimal_within : ℕ → List ℕ → Option ℕ
 some_decimal_within limit [] = None

@@ -18,7 +18,8 @@ unfoldable pub words_within : ℕ → Open → List ℕ → Read (List Word)
 words_within most o [] = if is_inside o then Err [] else Ok ([], [])
 words_within zero o (c ∷ text) = Err (c ∷ text)
 words_within (suc most) o (c ∷ text) =
-    word_in o (c ∷ text) >>= λ word behind. words_within most (behind_word word o) behind >>= λ words left. Ok (word ∷ words, left)
+    word_in o (c ∷ text) >>= λ word behind.
+    words_within most (behind_word word o) behind >>= λ words left. Ok (word ∷ words, left)
 
 -- the words of characters: no more than there are characters
 abbrev pub words_of : List ℕ → Read (List Word)
@@ -45,7 +46,8 @@ below_top (ways ∷ around) = around
 
 -- the part of a conditional that begins here counts where the test before it fails
 abbrev pub begun : Format → Items → Items
-begun other s = record { here = Done; around = record { other = other; behind = (top_of s.around).behind } ∷ below_top s.around }
+begun other s =
+    record { here = Done; around = record { other = other; behind = (top_of s.around).behind } ∷ below_top s.around }
 
 -- one word before others
 abbrev pub before : Word → Items → Items
@@ -69,7 +71,9 @@ format_by characters false (Ok words) = Err (place_of characters [])
 
 -- the format of a text, or the byte at which the text is wrong; a line feed at its end doesn't count
 abbrev pub format_of : List ℕ → Result Format ℕ
-format_of text = format_by (characters_in (without_feed text)) (is_utf8 (without_feed text)) (words_of (characters_in (without_feed text)))
+format_of text =
+    format_by (characters_in (without_feed text)) (is_utf8 (without_feed text))
+    (words_of (characters_in (without_feed text)))
 
 -- a program is the code of this format, or the text is refused at this byte; or there was not enough memory
 abbrev pub IsRead : Result Format ℕ → Result (List Instruction) FormatFault → Type 0

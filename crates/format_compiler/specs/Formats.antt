@@ -18,7 +18,8 @@ use Rattle.format_compiler.specs.Words.{behind_word, Open, word_in}
 abbrev pub Stand : List Word → Open → List ℕ → Open → List ℕ → Type 0
 Stand [] open_ones text after left = (open_ones ≡ after) × (text ≡ left)
 Stand (word ∷ words) open_ones text after left =
-    (behind : List ℕ) × (word_in open_ones text ≡ Ok (word, behind)) × Stand words (behind_word word open_ones) behind after left
+    (behind : List ℕ) × (word_in open_ones text ≡ Ok (word, behind))
+    × Stand words (behind_word word open_ones) behind after left
 
 -- the characters are words that are this format
 abbrev pub Denote : List ℕ → Format → Type 0

@@ -183,7 +183,11 @@ has_result Host = true
 
 -- all functions
 unfoldable pub every_function : List Function
-every_function = Msg ∷ Size ∷ Cur ∷ Unseen ∷ Width ∷ Charleft ∷ Timenow ∷ Me ∷ Num ∷ Lit ∷ Eq ∷ Ne ∷ Gt ∷ Plus ∷ Divide ∷ Modulo ∷ Match ∷ Amatch ∷ Strlen ∷ Null ∷ Nonnull ∷ Zero ∷ Nonzero ∷ Void ∷ Comp ∷ Compval ∷ Trim ∷ Unquote ∷ Decode ∷ Putstr ∷ Putstrf ∷ Putnum ∷ Putnumf ∷ Putlit ∷ Sec ∷ Min ∷ Hour ∷ Mday ∷ Mon ∷ Year ∷ Wday ∷ Day ∷ Weekday ∷ Month ∷ Lmonth ∷ Tzone ∷ Clock ∷ Rclock ∷ Tws ∷ Nodate ∷ Friendly ∷ Addr ∷ Pers ∷ Note ∷ Mbox ∷ Host ∷ []
+every_function =
+    Msg ∷ Size ∷ Cur ∷ Unseen ∷ Width ∷ Charleft ∷ Timenow ∷ Me ∷ Num ∷ Lit ∷ Eq ∷ Ne ∷ Gt ∷ Plus ∷ Divide ∷ Modulo
+    ∷ Match ∷ Amatch ∷ Strlen ∷ Null ∷ Nonnull ∷ Zero ∷ Nonzero ∷ Void ∷ Comp ∷ Compval ∷ Trim ∷ Unquote ∷ Decode
+    ∷ Putstr ∷ Putstrf ∷ Putnum ∷ Putnumf ∷ Putlit ∷ Sec ∷ Min ∷ Hour ∷ Mday ∷ Mon ∷ Year ∷ Wday ∷ Day ∷ Weekday
+    ∷ Month ∷ Lmonth ∷ Tzone ∷ Clock ∷ Rclock ∷ Tws ∷ Nodate ∷ Friendly ∷ Addr ∷ Pers ∷ Note ∷ Mbox ∷ Host ∷ []
 
 -- the first of these functions that has this name
 abbrev pub named_among : List Function → List ℕ → Option Function

@@ -31,7 +31,8 @@ mutual
     print : {words rest : List Word} {piece : Piece} {f : Format} → AreItems words rest f
         → AreItems (Print piece ∷ words) rest (Then piece f)
     choice : {words others behind rest : List Word} {test : Test} {taken other f : Format} → AreItems words others taken
-        → AreOthers others behind other → AreItems behind rest f → AreItems (If test ∷ words) rest (Choice test taken other f)
+        → AreOthers others behind other → AreItems behind rest f
+        → AreItems (If test ∷ words) rest (Choice test taken other f)
 
   pub data AreOthers : List Word → List Word → Format → Type 0 where
     end : {rest : List Word} → AreOthers (End ∷ rest) rest Done

@@ -32,14 +32,18 @@ begins_number literal = is_some (number_of literal) || is_some (number_of (liter
 -- what stands behind an opening parenthesis ends within a function's name, or a number, that none begins with: of the
 -- call, or of a function in it
 pub data CallEndsInNone : Bool → List ℕ → Type 0 where
-  in_name : {in_test : Bool} {name : List ℕ} → IsAll is_in_name name → begins_name in_test name ≡ false → CallEndsInNone in_test name
-  in_number : {in_test : Bool} {text literal : List ℕ} {f : Function} → function_in in_test text ≡ Ok (f, 32 ∷ literal) → kind_of f ≡ TakesNumber
+  in_name : {in_test : Bool} {name : List ℕ} → IsAll is_in_name name → begins_name in_test name ≡ false
+      → CallEndsInNone in_test name
+  in_number : {in_test : Bool} {text literal : List ℕ} {f : Function} → function_in in_test text ≡ Ok (f, 32 ∷ literal)
+      → kind_of f ≡ TakesNumber
       → IsAll is_literal literal → begins_number literal ≡ false → CallEndsInNone in_test text
-  in_argument : {in_test : Bool} {text whole inner : List ℕ} {f : Function} → front_in in_test text ≡ Ok (Around f whole, inner)
+  in_argument : {in_test : Bool} {text whole inner : List ℕ} {f : Function}
+      → front_in in_test text ≡ Ok (Around f whole, inner)
       → CallEndsInNone false inner → CallEndsInNone in_test text
 
 -- the text is a word that ends so: behind a percent sign and a width, or behind `%<` or `%?`
 pub data WordEndsInNone : List ℕ → Type 0 where
-  printed : (digits inner : List ℕ) → IsAll is_digit digits → CallEndsInNone false inner → WordEndsInNone (37 ∷ (digits ++ 40 ∷ inner))
+  printed : (digits inner : List ℕ) → IsAll is_digit digits → CallEndsInNone false inner
+      → WordEndsInNone (37 ∷ (digits ++ 40 ∷ inner))
   if_test : {inner : List ℕ} → CallEndsInNone true inner → WordEndsInNone (37 ∷ (60 ∷ (40 ∷ inner)))
   else_if_test : {inner : List ℕ} → CallEndsInNone true inner → WordEndsInNone (37 ∷ (63 ∷ (40 ∷ inner)))

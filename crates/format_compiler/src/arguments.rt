@@ -92,7 +92,8 @@ fn component_call<'a>(
     whole: &'a [char],
     text: &'a [char],
 ) -> Result<(Front<'a>, &'a [char]), Stop<'a>>
-    ensures given { Gives (λ x. (front_of x.0, x.1.now)) result (called function Component (closed_component_in whole.now text.now)) }
+    ensures given { Gives (λ x. (front_of x.0, x.1.now)) result
+        (called function Component (closed_component_in whole.now text.now)) }
     ensures shorter { IfOk result (λ x. length x.1.now < length text.now) }
 {
     let (name, from_end) = component(whole, text)?;
@@ -110,7 +111,8 @@ fn component_argument<'a>(
     function: Function,
     text: &'a [char],
 ) -> Result<(Front<'a>, &'a [char]), Stop<'a>>
-    ensures given { Gives (λ x. (front_of x.0, x.1.now)) result (component_by text.now function (behind_spaces_of text.now)) }
+    ensures given { Gives (λ x. (front_of x.0, x.1.now)) result
+        (component_by text.now function (behind_spaces_of text.now)) }
     ensures shorter { IfOk result (λ x. length x.1.now < length text.now) }
 {
     match behind_spaces(text).split_first() {
@@ -126,7 +128,8 @@ fn source_argument<'a>(
     function: Function,
     text: &'a [char],
 ) -> Result<(Front<'a>, &'a [char]), Stop<'a>>
-    ensures given { Gives (λ x. (front_of x.0, x.1.now)) result (source_by text.now function (behind_spaces_of text.now)) }
+    ensures given { Gives (λ x. (front_of x.0, x.1.now)) result
+        (source_by text.now function (behind_spaces_of text.now)) }
     ensures shorter { IfOk result (λ x. length x.1.now < length text.now) }
 {
     match behind_spaces(text).split_first() {
@@ -180,7 +183,8 @@ fn no_argument<'a>(
     function: Function,
     text: &'a [char],
 ) -> Result<(Front<'a>, &'a [char]), Stop<'a>>
-    ensures given { Gives (λ x. (front_of x.0, x.1.now)) result (then_character 41 (Whole (call_of function Nothing)) text.now) }
+    ensures given { Gives (λ x. (front_of x.0, x.1.now)) result
+        (then_character 41 (Whole (call_of function Nothing)) text.now) }
     ensures shorter { IfOk result (λ x. length x.1.now < length text.now) }
 {
     let behind = closed(text)?;

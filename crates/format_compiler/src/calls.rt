@@ -34,7 +34,8 @@ fn fitting<'a>(
     name: &[char],
     behind: &'a [char],
 ) -> Result<(Function, &'a [char]), Stop<'a>>
-    ensures given { Gives (λ x. (x.0, x.1.now)) result (fitting_of in_test text.now behind.now (function_named name.now)) }
+    ensures given { Gives (λ x. (x.0, x.1.now)) result
+        (fitting_of in_test text.now behind.now (function_named name.now)) }
     ensures same { IfOk result (λ x. x.1.now ≡ behind.now) }
 {
     match named(name) {

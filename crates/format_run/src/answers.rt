@@ -69,7 +69,8 @@ fn date(alloc: Global, view: &View, argument: &Argument) -> Result<Option<MailDa
 
 /// The seconds from the date of an argument to the moment of the view.
 fn age(alloc: Global, view: &View, argument: &Argument) -> Result<i64, AllocError>
-    ensures { IfOk result (λ n. n ≡ date_number (λ d. held (view.now.moment -ℤ clock_of d)) (date_of view.now argument.now)) }
+    ensures { IfOk result
+        (λ n. n ≡ date_number (λ d. held (view.now.moment -ℤ clock_of d)) (date_of view.now argument.now)) }
 {
     let date = date(alloc, view, argument)?;
     Ok(dates::age(date, view.moment))

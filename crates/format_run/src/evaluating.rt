@@ -103,7 +103,8 @@ fn apply(
     function: Function,
     argument: &Argument,
 ) -> Result<Outcome, AllocError>
-    ensures { IfOk result (λ o. record { state = state.new; outcome = o } ≡ applied view.now width function argument.now state.old) }
+    ensures { IfOk result
+        (λ o. record { state = state.new; outcome = o } ≡ applied view.now width function argument.now state.old) }
 {
     give(alloc, view, state, function, argument)?;
     let answer = answer(alloc, view, state, width, function, argument)?;
@@ -126,7 +127,10 @@ fn evaluate_around(
     around: &[Function],
     inner: Outcome,
 ) -> Result<Outcome, AllocError>
-    ensures { IfOk result (λ o. record { state = state.new; outcome = o } ≡ evaluated_around view.now width around.now (record { state = state.old; outcome = inner })) }
+    ensures { IfOk result
+        (λ o.
+        record { state = state.new; outcome = o }
+        ≡ evaluated_around view.now width around.now (record { state = state.old; outcome = inner })) }
 {
     let mut outcome = inner;
     let mut rest = around;
@@ -145,7 +149,8 @@ fn evaluate(
     width: Option<Width>,
     call: &Call,
 ) -> Result<Outcome, AllocError>
-    ensures { IfOk result (λ o. record { state = state.new; outcome = o } ≡ evaluated view.now width call.now state.old) }
+    ensures { IfOk result
+        (λ o. record { state = state.new; outcome = o } ≡ evaluated view.now width call.now state.old) }
 {
     let around = call.around.as_slice();
     let inside = width_inside(around, width);

@@ -1,4 +1,5 @@
-// The state of a line whose text is put on one line no sooner than it must be: most bodies are longer than what a line shows of them.
+// The state of a line whose text is put on one line no sooner than it must be: most bodies are longer than what a line
+// shows of them.
 ghost use Rattle.std.specs.Prelude.{◌≡◌, ◌≤◌, not, false, IfOk, OnOk};
 ghost use Rattle.std.specs.List.{list_any};
 ghost use Rattle.std.specs.Str.{chars};

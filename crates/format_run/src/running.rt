@@ -22,7 +22,10 @@ fn step(
     state: &mut LazyState,
     instruction: &Instruction,
 ) -> Result<usize, AllocError>
-    ensures { IfOk result (λ skipped. (code : List InstructionOf) → run_of view.now 0 (instruction.now ∷ code) (meant state.old) ≡ run_of view.now skipped code (meant state.new)) }
+    ensures { IfOk result
+        (λ skipped. (code : List InstructionOf)
+        → run_of view.now 0 (instruction.now ∷ code) (meant state.old)
+        ≡ run_of view.now skipped code (meant state.new)) }
 {
     match instruction {
         Instruction::Print(piece) => {
@@ -64,7 +67,8 @@ fn run(
 /// The line that a format gives for a message, in so many columns at most.
 pub fn line(alloc: Global, program: &Program, view: &View, width: u32) -> Result<Text, AllocError>
     ensures meaning { (f : Format) → IsCodeOf program.now f → IfOk result (λ text. text ≡ line_of view.now width f) }
-    ensures longest { (f : Format) → IsCodeOf program.now f → IfOk result (IsLongestFit width (written_by view.now width f)) }
+    ensures longest { (f : Format) → IsCodeOf program.now f
+        → IfOk result (IsLongestFit width (written_by view.now width f)) }
     ensures run { IfOk result (λ text. text ≡ line_by view.now width program.now) }
     ensures within { IfOk result (λ text. columns_of text ≤ width) }
 {

@@ -45,7 +45,8 @@ pub(crate) fn trim(alloc: Global, text: &Text) -> Result<Text, AllocError>
 
 /// What the front of a text becomes, and what stands behind it.
 fn unquoted_front(text: &[char]) -> Option<(Option<char>, &[char])>
-    ensures value { MatchOption result (unquoted text.now ≡ []) (λ r. unquoted text.now ≡ option_to_list r.0 ++ unquoted r.1.now) }
+    ensures value { MatchOption result (unquoted text.now ≡ [])
+        (λ r. unquoted text.now ≡ option_to_list r.0 ++ unquoted r.1.now) }
     ensures shorter { MatchOption result (length text.now ≡ 0) (λ r. length r.1.now < length text.now) }
 {
     match text.split_first() {

@@ -23,5 +23,13 @@ impl<'a> Model for View<'a> {
 
     ghost Value = { Viewed };
 
-    ghost view = { λ v. record { number = v.number; current = v.current; unseen = v.unseen; message = v.message; moment = v.moment; user = v.user.now } };
+    ghost view = { λ v.
+        record {
+          number = v.number;
+          current = v.current;
+          unseen = v.unseen;
+          message = v.message;
+          moment = v.moment;
+          user = v.user.now;
+        } };
 }

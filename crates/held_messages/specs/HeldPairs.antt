@@ -52,7 +52,8 @@ unfoldable pub homes : (ℕ → Bool) → ℕ → List HeldPair → List (Option
 homes taken top [] = []
 homes taken top (h ∷ hs) =
     home_of (taken h.number) top h.number
-    ∷ homes (λ k. is_end k (home_of (taken h.number) top h.number) || taken k) (top_after (home_of (taken h.number) top h.number) top) hs
+    ∷ homes (λ k. is_end k (home_of (taken h.number) top h.number) || taken k)
+    (top_after (home_of (taken h.number) top h.number) top) hs
 
 -- the held message stands at this number, and is no longer held
 abbrev pub given_home : HeldPair → ℕ → Folder → Folder

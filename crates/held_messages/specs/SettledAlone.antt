@@ -30,7 +30,8 @@ pub record IsPutBack (own : ℕ) (p : Place) (before after : Mailbox) (s : Settl
 -- so of a call beside which nothing happened
 abbrev pub SettlesAlone : ℕ → Place → Settled → Story → Story → Type 0
 SettlesAlone own p s old new =
-    (added : List ℕ) → new.asked ≡ old.asked ++ added → IsStart new.start → IsPossible old → IsAlone own new.start new.history added →
+    (added : List ℕ) → new.asked ≡ old.asked ++ added → IsStart new.start → IsPossible old
+    → IsAlone own new.start new.history added →
     let first = first_of (length old.history) added in
     IsPutBack own p (mailbox_at new first) (mailbox_at new (first + length added)) s
 

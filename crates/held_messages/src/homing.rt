@@ -31,7 +31,9 @@ fn link_to<F: Files>(
     held: &Name,
     number: MsgNum,
 ) -> Result<Entered, PlanFault>
-    ensures { (h : Hand) → Follows run plan_cause (linked place.now held.now number) (by_hand h (F.state files.old)) (by_hand h (F.state files.new)) result }
+    ensures { (h : Hand)
+        → Follows run plan_cause (linked place.now held.now number) (by_hand h (F.state files.old))
+        (by_hand h (F.state files.new)) result }
 {
     let name = number_name(alloc, number)?;
     Ok(ask_link(alloc, run, files, place, held, &name)?)
@@ -63,7 +65,9 @@ pub fn link_up<F: Files>(
     first: u32,
 ) -> Result<Option<MsgNum>, PlanFault>
     requires { 1 ≤ first }
-    ensures { (h : Hand) → Follows run plan_cause (given_from place.now held.now first) (by_hand h (F.state files.old)) (by_hand h (F.state files.new)) result }
+    ensures { (h : Hand)
+        → Follows run plan_cause (given_from place.now held.now first) (by_hand h (F.state files.old))
+        (by_hand h (F.state files.new)) result }
 {
     for at in first..1_000_000 {
         let number = message_number(at);
@@ -76,8 +80,8 @@ pub fn link_up<F: Files>(
     Ok(None)
 }
 
-/// A name's file is linked to this number, or where that is taken to the first free one above it and the highest; which number that is, or none
-/// where none is free up to 999,999.
+/// A name's file is linked to this number, or where that is taken to the first free one above it and the highest; which
+/// number that is, or none where none is free up to 999,999.
 pub fn link_home<F: Files>(
     alloc: Global,
     run: u128,
@@ -88,7 +92,9 @@ pub fn link_home<F: Files>(
     highest: u32,
 ) -> Result<Option<MsgNum>, PlanFault>
     requires { highest ≤ 999999 }
-    ensures { (h : Hand) → Follows run plan_cause (homed_name place.now name.now number highest) (by_hand h (F.state files.old)) (by_hand h (F.state files.new)) result }
+    ensures { (h : Hand)
+        → Follows run plan_cause (homed_name place.now name.now number highest) (by_hand h (F.state files.old))
+        (by_hand h (F.state files.new)) result }
 {
     match link_to(alloc, run, files, place, name, number)? {
         Entered::Done => Ok(Some(number)),
@@ -110,7 +116,9 @@ pub(crate) fn put_home<F: Files>(
     highest: u32,
 ) -> Result<Option<MsgNum>, PlanFault>
     requires { highest ≤ 999999 }
-    ensures { (h : Hand) → Follows run plan_cause (homed place.now pair.now highest) (by_hand h (F.state files.old)) (by_hand h (F.state files.new)) result }
+    ensures { (h : Hand)
+        → Follows run plan_cause (homed place.now pair.now highest) (by_hand h (F.state files.old))
+        (by_hand h (F.state files.new)) result }
 {
     let held = held_name(alloc, pair)?;
     link_home(alloc, run, files, place, &held, pair.number, highest)

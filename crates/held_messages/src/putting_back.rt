@@ -61,7 +61,9 @@ fn put_all_home<F: Files>(
     highest: u32,
 ) -> Result<HomeList, PlanFault>
     requires { highest ≤ 999999 }
-    ensures { (h : Hand) → Follows run plan_cause (all_homed place.now pairs.now highest []) (by_hand h (F.state files.old)) (by_hand h (F.state files.new)) result }
+    ensures { (h : Hand)
+        → Follows run plan_cause (all_homed place.now pairs.now highest []) (by_hand h (F.state files.old))
+        (by_hand h (F.state files.new)) result }
 {
     let mut ends = HomeList::new(alloc);
     let mut top = highest;
@@ -80,7 +82,9 @@ fn unlink_held<F: Files>(
     place: &Place,
     pair: &HeldPair,
 ) -> Result<(), PlanFault>
-    ensures { (h : Hand) → Follows run plan_cause (removed place.now (held_name_text pair.now)) (by_hand h (F.state files.old)) (by_hand h (F.state files.new)) result }
+    ensures { (h : Hand)
+        → Follows run plan_cause (removed place.now (held_name_text pair.now)) (by_hand h (F.state files.old))
+        (by_hand h (F.state files.new)) result }
 {
     let name = held_name(alloc, pair)?;
     unlink(alloc, run, files, place, &name)
@@ -95,7 +99,9 @@ fn drop_one<F: Files>(
     pair: &HeldPair,
     end: Option<MsgNum>,
 ) -> Result<(), PlanFault>
-    ensures { (h : Hand) → Follows run plan_cause (dropped_one place.now pair.now end) (by_hand h (F.state files.old)) (by_hand h (F.state files.new)) result }
+    ensures { (h : Hand)
+        → Follows run plan_cause (dropped_one place.now pair.now end) (by_hand h (F.state files.old))
+        (by_hand h (F.state files.new)) result }
 {
     match end {
         Some(_) => unlink_held(alloc, run, files, place, pair),
@@ -112,7 +118,9 @@ fn drop_all<F: Files>(
     pairs: &[HeldPair],
     ends: &[Option<MsgNum>],
 ) -> Result<(), PlanFault>
-    ensures { (h : Hand) → Follows run plan_cause (dropped place.now pairs.now ends.now) (by_hand h (F.state files.old)) (by_hand h (F.state files.new)) result }
+    ensures { (h : Hand)
+        → Follows run plan_cause (dropped place.now pairs.now ends.now) (by_hand h (F.state files.old))
+        (by_hand h (F.state files.new)) result }
 {
     for at in 0..pairs.len().min(ends.len()) {
         drop_one(alloc, run, files, place, &pairs[at], ends[at])?;
@@ -147,7 +155,9 @@ fn sync_at<F: Files>(
     place: &Place,
     number: MsgNum,
 ) -> Result<(), PlanFault>
-    ensures { (h : Hand) → Follows run plan_cause (synced_at place.now number) (by_hand h (F.state files.old)) (by_hand h (F.state files.new)) result }
+    ensures { (h : Hand)
+        → Follows run plan_cause (synced_at place.now number) (by_hand h (F.state files.old))
+        (by_hand h (F.state files.new)) result }
 {
     let name = number_name(alloc, number)?;
     sync(alloc, run, files, place, &name)
@@ -163,7 +173,9 @@ fn drop_for_good<F: Files>(
     ends: &[Option<MsgNum>],
     number: MsgNum,
 ) -> Result<(), PlanFault>
-    ensures { (h : Hand) → Follows run plan_cause (dropped_for_good place.now pairs.now ends.now number) (by_hand h (F.state files.old)) (by_hand h (F.state files.new)) result }
+    ensures { (h : Hand)
+        → Follows run plan_cause (dropped_for_good place.now pairs.now ends.now number) (by_hand h (F.state files.old))
+        (by_hand h (F.state files.new)) result }
 {
     drop_all(alloc, run, files, place, pairs, ends)?;
     sync_at(alloc, run, files, place, number)
@@ -179,7 +191,9 @@ fn drop_safely<F: Files>(
     ends: HomeList,
     last: MsgNum,
 ) -> Result<HomeList, PlanFault>
-    ensures { (h : Hand) → Follows run plan_cause (dropped_safely place.now pairs.now ends last) (by_hand h (F.state files.old)) (by_hand h (F.state files.new)) result }
+    ensures { (h : Hand)
+        → Follows run plan_cause (dropped_safely place.now pairs.now ends last) (by_hand h (F.state files.old))
+        (by_hand h (F.state files.new)) result }
 {
     sync_at(alloc, run, files, place, last)?;
     drop_for_good(alloc, run, files, place, pairs, ends.as_slice(), last)?;
@@ -197,7 +211,9 @@ fn settle<F: Files>(
     highest: u32,
 ) -> Result<HomeList, PlanFault>
     requires { highest ≤ 999999 }
-    ensures { (h : Hand) → Follows run plan_cause (settle_plan place.now pairs.now highest) (by_hand h (F.state files.old)) (by_hand h (F.state files.new)) result }
+    ensures { (h : Hand)
+        → Follows run plan_cause (settle_plan place.now pairs.now highest) (by_hand h (F.state files.old))
+        (by_hand h (F.state files.new)) result }
 {
     let ends = put_all_home(alloc, run, files, place, pairs, highest)?;
     match last_number(ends.as_slice()) {
@@ -281,7 +297,9 @@ pub fn put_back<F: Files>(
     files: &mut F,
     place: &Place,
 ) -> Result<Settled, PlanFault>
-    ensures plan { (h : Hand) → Follows run plan_cause (put_back_plan run place.now) (by_hand h (F.state files.old)) (by_hand h (F.state files.new)) result }
+    ensures plan { (h : Hand)
+        → Follows run plan_cause (put_back_plan run place.now) (by_hand h (F.state files.old))
+        (by_hand h (F.state files.new)) result }
     ensures alone { IfOk result (λ s. SettlesIfUnfaulted run place.now s (F.state files.old) (F.state files.new)) }
 {
     let listing = ask_list(alloc, run, files, place)?;

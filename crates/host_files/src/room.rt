@@ -25,8 +25,8 @@ pub(crate) struct FileFront<'a> {
     pub(crate) ends: bool,
 }
 
-/// Reads until the room is full or the file ends: how many bytes came. Where so many came as the file is said to have, and
-/// the last read gave less than it had room for, both say that it ends there.
+/// Reads until the room is full or the file ends: how many bytes came. Where so many came as the file is said to have,
+/// and the last read gave less than it had room for, both say that it ends there.
 fn fill(file: &mut Take<File>, room: &mut [u8], likely: u64) -> Result<usize, HostFault>
     ensures { IfOk result (λ n. n ≤ count room.new) }
 {

@@ -75,7 +75,9 @@ pub record IsHead (head : Head) : Type 0 where
 unfoldable pub rest_read : FilePath → ℕ → ℕ → List ℕ → Commanded (List ℕ)
 rest_read path l zero d = Return (Ok d)
 rest_read path l (suc fuel) d =
-    if nat_lt (length d) l then piece_read path (length d) (min (l - length d) PIECE) >>= (λ bytes. rest_read path l fuel (d ++ bytes)) else Return (Ok d)
+    if nat_lt (length d) l
+    then piece_read path (length d) (min (l - length d) PIECE) >>= (λ bytes. rest_read path l fuel (d ++ bytes))
+    else Return (Ok d)
 
 -- all of it
 unfoldable pub drop_read : FilePath → Commanded (List ℕ)

@@ -40,7 +40,9 @@ piece_taken w path l d taken = do
 -- the rest of a drop of this length, in so many pieces at most
 unfoldable pub rest_taken : Where → FilePath → ℕ → ℕ → Read → Commanded Read
 rest_taken w path l zero s = Return (Ok s)
-rest_taken w path l (suc fuel) s = if nat_lt (length s.bytes) l then piece_taken w path l s.bytes s.taken >>= (λ more. rest_taken w path l fuel more) else Return (Ok s)
+rest_taken w path l (suc fuel) s =
+    if nat_lt (length s.bytes) l then piece_taken w path l s.bytes s.taken >>= (λ more. rest_taken w path l fuel more)
+    else Return (Ok s)
 
 abbrev pub listed : Option (List ℕ) → List (List ℕ)
 listed None = []

@@ -103,12 +103,15 @@ room_counted folder path top = do
 unfoldable pub told_taken : ℕ → IncJob → Opened → DropSize → Commanded Taken
 told_taken run job o size = do
   told ← heading_told job.silent job.folder
-  drop_taken (where_of run job.folder o.place (telling_of job o.sequences.cur)) job.drop size.length size.messages (top_of o.listing)
+  drop_taken (where_of run job.folder o.place (telling_of job o.sequences.cur)) job.drop size.length size.messages
+      (top_of o.listing)
 
 -- the new messages are marked, and the folder becomes the current one
 unfoldable pub new_marked : ℕ → List ℕ → IncJob → Opened → List ℕ → Commanded Unit
 new_marked run path job o numbers = do
-  marked ← lifted (of_plan job.folder) (changed_sequences run o.place (Mail path) o.folder o.sequences (marked_by_all (new_marks job numbers) o.sequences))
+  marked ← lifted (of_plan job.folder)
+      (changed_sequences run o.place (Mail path) o.folder o.sequences
+      (marked_by_all (new_marks job numbers) o.sequences))
   made_current run path job.folder
 
 -- the work on a folder that was begun; at its end the drop is cut, where it is to be

@@ -49,34 +49,50 @@ pub record IsReadOtherwise (f : FilePath) (own : List Deed) : Type 0 where
 -- what shows a fault of the drop, or that no number is left
 pub data ShowsIntake (run : ℕ) (path : List ℕ) (job : IncJob) : CommandFault → List Deed → Type 0 where
   -- there is no drop, or an empty one, or one that is too long
-  no_file : {most : ℕ} {older : List Deed} → ShowsIntake run path job (fault.Refused refusal.NoMail) (did (ReadDrop job.drop 0 most) Gone ∷ older)
-  empty_file : {most : ℕ} {bytes : List ℕ} {older : List Deed} → ShowsIntake run path job (fault.Refused refusal.NoMail) (did (ReadDrop job.drop 0 most) (Piece bytes 0) ∷ older)
+  no_file : {most : ℕ} {older : List Deed}
+      → ShowsIntake run path job (fault.Refused refusal.NoMail) (did (ReadDrop job.drop 0 most) Gone ∷ older)
+  empty_file : {most : ℕ} {bytes : List ℕ} {older : List Deed}
+      → ShowsIntake run path job (fault.Refused refusal.NoMail) (did (ReadDrop job.drop 0 most) (Piece bytes 0) ∷ older)
   long_file : {most l : ℕ} {bytes : List ℕ} {older : List Deed} → nat_lt LONGEST l ≡ true
-      → ShowsIntake run path job (fault.Refused (refusal.TooLarge l LONGEST)) (did (ReadDrop job.drop 0 most) (Piece bytes l) ∷ older)
+      → ShowsIntake run path job (fault.Refused (refusal.TooLarge l LONGEST))
+      (did (ReadDrop job.drop 0 most) (Piece bytes l) ∷ older)
   -- what was read is no drop, or has a message that is too long, or more messages than there are numbers above the
   -- folder's highest
-  no_drop : {drop : List ℕ} {own : List Deed} → HasPieces job.drop drop own → is_drop drop ≡ false → ShowsIntake run path job (fault.Refused refusal.NotADrop) own
-  long_message : {drop : List ℕ} {l : ℕ} {own : List Deed} → HasPieces job.drop drop own → first_long (messages drop) ≡ Some l
+  no_drop : {drop : List ℕ} {own : List Deed} → HasPieces job.drop drop own → is_drop drop ≡ false
+      → ShowsIntake run path job (fault.Refused refusal.NotADrop) own
+  long_message : {drop : List ℕ} {l : ℕ} {own : List Deed} → HasPieces job.drop drop own
+      → first_long (messages drop) ≡ Some l
       → ShowsIntake run path job (fault.Refused (refusal.TooLarge l LIMIT)) own
-  no_room : {drop text context : List ℕ} {listing : List Run} {own : List Deed} → HasPieces job.drop drop own → HaveSeen run (Folder path job.folder) (Mail path) listing text context own
-      → 999999 < top_of listing + length (messages drop) → ShowsIntake run path job (fault.Refused (refusal.Full job.folder)) own
+  no_room : {drop text context : List ℕ} {listing : List Run} {own : List Deed} → HasPieces job.drop drop own
+      → HaveSeen run (Folder path job.folder) (Mail path) listing text context own
+      → 999999 < top_of listing + length (messages drop)
+      → ShowsIntake run path job (fault.Refused (refusal.Full job.folder)) own
   -- the run put a message at the last number, or met one there
-  none_left : {own : List Deed} → HasMetAt (Folder path job.folder) 999999 own → ShowsIntake run path job (fault.Refused (refusal.Full job.folder)) own
+  none_left : {own : List Deed} → HasMetAt (Folder path job.folder) 999999 own
+      → ShowsIntake run path job (fault.Refused (refusal.Full job.folder)) own
   -- the drop was changed: its first piece has not the bytes that its length lets it have
   odd_first : {most l : ℕ} {bytes : List ℕ} {older : List Deed} → length bytes ≢ min l most
-      → ShowsIntake run path job (fault.Refused refusal.DropChanged) (did (ReadDrop job.drop 0 most) (Piece bytes l) ∷ older)
+      → ShowsIntake run path job (fault.Refused refusal.DropChanged)
+      (did (ReadDrop job.drop 0 most) (Piece bytes l) ∷ older)
   -- a later one has not all that were asked for within the length that the first one told; or the drop is gone
-  odd_piece : {from most l now_length : ℕ} {bytes : List ℕ} {older : List Deed} → WasTold job.drop l older → from + most ≤ l → length bytes ≢ most
-      → ShowsIntake run path job (fault.Refused refusal.DropChanged) (did (ReadDrop job.drop from most) (Piece bytes now_length) ∷ older)
-  gone_piece : {from most l : ℕ} {older : List Deed} → WasTold job.drop l older → ShowsIntake run path job (fault.Refused refusal.DropChanged) (did (ReadDrop job.drop from most) Gone ∷ older)
+  odd_piece : {from most l now_length : ℕ} {bytes : List ℕ} {older : List Deed} → WasTold job.drop l older
+      → from + most ≤ l → length bytes ≢ most
+      → ShowsIntake run path job (fault.Refused refusal.DropChanged)
+      (did (ReadDrop job.drop from most) (Piece bytes now_length) ∷ older)
+  gone_piece : {from most l : ℕ} {older : List Deed} → WasTold job.drop l older
+      → ShowsIntake run path job (fault.Refused refusal.DropChanged) (did (ReadDrop job.drop from most) Gone ∷ older)
   -- or other bytes were read the second time
-  other_bytes : {own : List Deed} → IsReadOtherwise job.drop own → ShowsIntake run path job (fault.Refused refusal.DropChanged) own
+  other_bytes : {own : List Deed} → IsReadOtherwise job.drop own
+      → ShowsIntake run path job (fault.Refused refusal.DropChanged) own
   -- mail was delivered before the drop was cut
-  grown : {l : ℕ} {older : List Deed} → ShowsIntake run path job (fault.Refused refusal.DropGrown) (did (CutDrop job.drop l) Grown ∷ older)
+  grown : {l : ℕ} {older : List Deed}
+      → ShowsIntake run path job (fault.Refused refusal.DropGrown) (did (CutDrop job.drop l) Grown ∷ older)
 
 -- what shows each fault of `inc` on its folder
 abbrev pub ShowsInc : ℕ → List ℕ → IncJob → CommandFault → List Deed → Type 0
-ShowsInc run path job e own = (ShowsEnd run path job.folder (inc_answers job) e own ⊎ IsGoneOnceMade (Folder path job.folder) e own) ⊎ ShowsIntake run path job e own
+ShowsInc run path job e own =
+    (ShowsEnd run path job.folder (inc_answers job) e own ⊎ IsGoneOnceMade (Folder path job.folder) e own)
+    ⊎ ShowsIntake run path job e own
 
 -- the run read a drop, and stored each of its messages at a number of its own
 abbrev pub HasTakenMail : ℕ → List ℕ → IncJob → List Deed → Type 0
@@ -85,7 +101,8 @@ HasTakenMail run path job own = (numbers : List ℕ) × HasTakenIn run (Folder p
 -- a text of the heading and of lines of messages that the run has stored
 pub data IsTextOfNew (run : ℕ) (path : List ℕ) (job : IncJob) (own : List Deed) : List ℕ → Type 0 where
   nothing : IsTextOfNew run path job own []
-  piece : {text more : List ℕ} → IsTextOfNew run path job own text → TellsNew run path job own more → IsTextOfNew run path job own (text ++ more)
+  piece : {text more : List ℕ} → IsTextOfNew run path job own text → TellsNew run path job own more
+      → IsTextOfNew run path job own (text ++ more)
 
 -- how it ended: it has taken in all messages, and this is a text of the new ones; or this shows its fault
 abbrev pub ShowsIncorporating : ℕ → List ℕ → IncJob → Result (List ℕ) CommandFault → List Deed → Type 0

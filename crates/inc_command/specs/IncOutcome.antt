@@ -89,7 +89,8 @@ cut_work job k = record { text = []; end = Ok tt; mailbox = with_drop_cut job.tr
 -- the new messages are marked, the folder becomes the current one, and the drop is cut
 abbrev pub marked_work : List ℕ → IncJob → Marked → List ℕ → Kept → Work CommandFault
 marked_work path job m numbers k =
-    after_commits (sequences_kept path job.folder m (marked_by_all (new_marks job numbers) m) k) (λ l. after_commits (context_kept path (current_change job.folder) l) (cut_work job))
+    after_commits (sequences_kept path job.folder m (marked_by_all (new_marks job numbers) m) k)
+    (λ l. after_commits (context_kept path (current_change job.folder) l) (cut_work job))
 
 abbrev pub stored_in : List ℕ → IncJob → ℕ → List (List ℕ) → Kept → Kept
 stored_in path job n mail k =
@@ -97,7 +98,9 @@ stored_in path job n mail k =
 
 -- the messages stand from this number on
 abbrev pub taken_work : List ℕ → IncJob → ℕ → List (List ℕ) → Marked → Kept → Work CommandFault
-taken_work path job n mail m k = behind (text_unless job.silent job.folder ((telling_of job m.cur).line n) n mail) (marked_work path job m (numbers_up n (length mail)) (stored_in path job n mail k))
+taken_work path job n mail m k =
+    behind (text_unless job.silent job.folder ((telling_of job m.cur).line n) n mail)
+    (marked_work path job m (numbers_up n (length mail)) (stored_in path job n mail k))
 
 -- where there is room above the highest number
 abbrev pub room_work : Bool → List ℕ → IncJob → ℕ → List (List ℕ) → Marked → Kept → Work CommandFault
@@ -118,7 +121,9 @@ drop_work false path job top mail m k = refused_at k.mailbox (fault.Refused refu
 abbrev pub bytes_work : List ℕ → IncJob → ℕ → List ℕ → Marked → Kept → Work CommandFault
 bytes_work path job top bytes m k =
     if length bytes == 0 then refused_at k.mailbox (fault.Refused refusal.NoMail)
-    else (if nat_lt LONGEST (length bytes) then refused_at k.mailbox (fault.Refused (refusal.TooLarge (length bytes) LONGEST)) else drop_work (is_drop bytes) path job top (messages bytes) m k)
+    else (if nat_lt LONGEST (length bytes)
+    then refused_at k.mailbox (fault.Refused (refusal.TooLarge (length bytes) LONGEST))
+    else drop_work (is_drop bytes) path job top (messages bytes) m k)
 
 -- where there is a file
 abbrev pub file_work : List ℕ → IncJob → ℕ → Option (List ℕ) → Marked → Kept → Work CommandFault

@@ -36,7 +36,8 @@ pub record HasTakenIn (run : ℕ) (p : Place) (f : FilePath) (numbers : List ℕ
 -- the sequences have the marks of the messages that the run has taken in
 abbrev pub MarksNew : ℕ → List ℕ → IncJob → List Deed → List Run → Marked → Marked → Type 0
 MarksNew run path job own listing m new =
-    (numbers : List ℕ) × HasTakenIn run (Folder path job.folder) job.drop numbers own × (new ≡ marked_by_all (new_marks job numbers) m)
+    (numbers : List ℕ) × HasTakenIn run (Folder path job.folder) job.drop numbers own
+    × (new ≡ marked_by_all (new_marks job numbers) m)
 
 -- what is written of a new message, as the current one or not
 abbrev pub new_line : IncJob → Bool → Writing
@@ -44,7 +45,9 @@ new_line job current n bytes = job.spoken (record { current = current; unseen = 
 
 -- the heading is said, and of messages that are stored their lines; nothing, where nothing is to be written
 abbrev pub TellsNew : ℕ → List ℕ → IncJob → List Deed → List ℕ → Type 0
-TellsNew run path job own piece = (job.silent ≡ false) × ((piece ≡ heading job.folder) ⊎ IsLineOfStored (new_line job) run (Folder path job.folder) own piece)
+TellsNew run path job own piece =
+    (job.silent ≡ false)
+    × ((piece ≡ heading job.folder) ⊎ IsLineOfStored (new_line job) run (Folder path job.folder) own piece)
 
 -- the drop is cut only where it is to be
 abbrev pub CutsIfAsked : IncJob → List Deed → Step → Type 0
@@ -54,7 +57,8 @@ CutsIfAsked job own s = (length_ : ℕ) → s ≡ step.CutDrop job.drop length_ 
 abbrev pub HasSeenNumber : ℕ → List ℕ → List ℕ → ℕ → List Deed → Type 0
 HasSeenNumber run path folder n own =
     (n ≡ 0)
-    ⊎ (((listing : List Run) × (text context : List ℕ) × HaveSeen run (Folder path folder) (Mail path) listing text context own × (has listing n ≡ true))
+    ⊎ (((listing : List Run) × (text context : List ℕ)
+    × HaveSeen run (Folder path folder) (Mail path) listing text context own × (has listing n ≡ true))
     ⊎ HasMetAt (Folder path folder) n own)
 
 -- a number to which it links a new file, or tries to, is one above such a number at most
@@ -78,7 +82,9 @@ pub record HoldsOne (run : ℕ) (f : FilePath) (own : List Deed) : Type 0 where
 
 -- it is so wherever it links a new file to a number, or tries to
 abbrev pub PutsOneByOne : ℕ → List ℕ → IncJob → List Deed → Step → Type 0
-PutsOneByOne run path job own s = (temp number : List ℕ) → s ≡ step.Link (Folder path job.folder) temp number → is_temp (kind_of temp) ≡ true → HoldsOne run job.drop own
+PutsOneByOne run path job own s =
+    (temp number : List ℕ) → s ≡ step.Link (Folder path job.folder) temp number → is_temp (kind_of temp) ≡ true
+    → HoldsOne run job.drop own
 
 -- all that is asked of its steps besides
 abbrev pub MakesSo : ℕ → List ℕ → IncJob → List Deed → Step → Type 0
@@ -86,7 +92,9 @@ MakesSo run path job own s = CutsIfAsked job own s × PutsNear run path job own 
 
 -- `inc` begins the folder, stores messages in it, and keeps its marks
 abbrev pub inc_pledge : ℕ → List ℕ → IncJob → Pledge
-inc_pledge run path job = folder_pledge run path job.folder (MarksNew run path job) (Incorporating path job.folder job.drop) (TellsNew run path job) (MakesSo run path job)
+inc_pledge run path job =
+    folder_pledge run path job.folder (MarksNew run path job) (Incorporating path job.folder job.drop)
+    (TellsNew run path job) (MakesSo run path job)
 
 -- what a call promises of its steps
 abbrev pub PromisesSteps : ℕ → List ℕ → IncJob → State → State → Type 0

@@ -20,5 +20,6 @@ Passes run l plan x y (Err e) = Follows run command_cause plan x y (Err e)
 -- the plan read some bytes, so many, which the cutter took, and these messages were taken in; or it ended by this fault
 abbrev pub Takes : ℕ → Commanded Read → State → State → DropCutter → ℕ → Result Taken CommandFault → Type 0
 Takes run plan x y cutter at (Ok taken) =
-    (d : List ℕ) × HasTaken cutter d × (length d ≡ at) × Follows run command_cause plan x y (Ok (record { bytes = d; taken = taken }))
+    (d : List ℕ) × HasTaken cutter d × (length d ≡ at)
+    × Follows run command_cause plan x y (Ok (record { bytes = d; taken = taken }))
 Takes run plan x y cutter at (Err e) = Follows run command_cause plan x y (Err e)

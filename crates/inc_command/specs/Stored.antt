@@ -6,7 +6,8 @@ use Rattle.message_puts.specs.Stored.{HasStoredAt}
 use Rattle.message_lines.specs.MessageText.{line_of, Writing}
 
 -- the piece is the line of a message, and own steps put that message at the line's number and made its folder safe
-pub record IsLineOfStored {K : Type 0} (line_by : K → Writing) (run : ℕ) (p : Place) (own : List Deed) (piece : List ℕ) : Type 0 where
+pub record IsLineOfStored {K : Type 0} (line_by : K → Writing) (run : ℕ) (p : Place) (own : List Deed)
+    (piece : List ℕ) : Type 0 where
   pub number : ℕ
   pub message : List ℕ
   pub kind : K

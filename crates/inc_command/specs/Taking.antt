@@ -23,7 +23,8 @@ first_of (first ∷ numbers) n = first
 -- how a new message stands: where the first new message becomes the current one it is that, and else the one that was
 -- marked before
 abbrev pub standing_for : Bool → Bool → Option ℕ → ℕ → ℕ → Standing
-standing_for change_cur unseen cur first n = record { current = if change_cur then first == n else is_at cur n; unseen = unseen }
+standing_for change_cur unseen cur first n =
+    record { current = if change_cur then first == n else is_at cur n; unseen = unseen }
 
 -- a line is written, but where nothing is to be
 abbrev pub told_if : Bool → List ℕ → Commanded Unit

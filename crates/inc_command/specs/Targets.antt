@@ -6,5 +6,7 @@ use Rattle.inc_command.specs.declared.taking.Target.{Target}
 abbrev pub told_by : Target → Telling
 told_by t = record {
   silent = t.silent;
-  line = λ first n bytes. coded t.look.now.program (sight_of t.look.now) (standing_for t.change_cur t.unseen t.sequences.now.cur first n) n bytes;
+  line = λ first n bytes.
+      coded t.look.now.program (sight_of t.look.now)
+      (standing_for t.change_cur t.unseen t.sequences.now.cur first n) n bytes;
 }

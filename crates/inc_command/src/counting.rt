@@ -52,7 +52,9 @@ fn count_rest<F: Files>(
 ) -> Result<DropCounter, CommandFault>
     requires begun { from ≤ length }
     requires few { length ≤ 268435456 }
-    ensures { (h : Hand) (d : List ℕ) (fuel : ℕ) → HasCounted first d → length_of d ≡ from → length ≤ from + fuel → Passes run length (rest_read path.now length fuel d) (by_hand h (F.state files.old)) (by_hand h (F.state files.new)) result }
+    ensures { (h : Hand) (d : List ℕ) (fuel : ℕ) → HasCounted first d → length_of d ≡ from → length ≤ from + fuel
+        → Passes run length (rest_read path.now length fuel d) (by_hand h (F.state files.old))
+        (by_hand h (F.state files.new)) result }
 {
     let mut at = from;
     let mut counter = first;
@@ -72,7 +74,9 @@ pub fn count_drop<F: Files>(
     files: &mut F,
     path: &FilePath,
 ) -> Result<DropSize, CommandFault>
-    ensures plan { (h : Hand) → Follows run command_cause (drop_counted path.now) (by_hand h (F.state files.old)) (by_hand h (F.state files.new)) result }
+    ensures plan { (h : Hand)
+        → Follows run command_cause (drop_counted path.now) (by_hand h (F.state files.old))
+        (by_hand h (F.state files.new)) result }
 {
     let head = read_head(alloc, run, files, path)?;
     let mut counter = DropCounter::new();

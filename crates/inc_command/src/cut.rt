@@ -26,14 +26,16 @@ fn cut_at<F: Files>(
     path: &FilePath,
     length: u64,
 ) -> Result<(), CommandFault>
-    ensures { (h : Kept) → Follows run command_cause (drop_ended path.now length) (by_hand h (F.state files.old)) (by_hand h (F.state files.new)) result }
+    ensures { (h : Kept)
+        → Follows run command_cause (drop_ended path.now length) (by_hand h (F.state files.old))
+        (by_hand h (F.state files.new)) result }
 {
     let cut = ask_cut_drop(alloc, run, files, path, length)?;
     cut_end(cut)
 }
 
-/// Cuts a drop of this length in bytes to nothing, where it is to be cut. One that isn't there any more is left; one that has another length is
-/// refused, for mail was delivered meanwhile.
+/// Cuts a drop of this length in bytes to nothing, where it is to be cut. One that isn't there any more is left; one
+/// that has another length is refused, for mail was delivered meanwhile.
 pub fn cut_drop<F: Files>(
     alloc: Global,
     run: u128,
@@ -42,7 +44,9 @@ pub fn cut_drop<F: Files>(
     path: &FilePath,
     length: u64,
 ) -> Result<(), CommandFault>
-    ensures { (h : Kept) → Follows run command_cause (cut_if truncate path.now length) (by_hand h (F.state files.old)) (by_hand h (F.state files.new)) result }
+    ensures { (h : Kept)
+        → Follows run command_cause (cut_if truncate path.now length) (by_hand h (F.state files.old))
+        (by_hand h (F.state files.new)) result }
 {
     if truncate {
         cut_at(alloc, run, files, path, length)

@@ -17,7 +17,8 @@ fn cut_fault(fault: CutFault) -> CommandFault
     }
 }
 
-/// The messages that the next piece finishes; a drop that is none any more, or has a message that is too long, was changed.
+/// The messages that the next piece finishes; a drop that is none any more, or has a message that is too long, was
+/// changed.
 pub(crate) fn feed(cutter: &mut DropCutter, piece: &[u8]) -> Result<BytesList, CommandFault>
     ensures value { (d : List ℕ) → HasTaken cutter.old d → IsGiven (given_by d piece.now) result }
     ensures taken { (d : List ℕ) → HasTaken cutter.old d → OnOk result (HasTaken cutter.new (d ++ piece.now)) }

@@ -33,7 +33,14 @@ fn take_piece<F: Files, O: Sink>(
 ) -> Result<Taken, CommandFault>
     requires within { at ≤ length }
     requires range { taken.highest ≤ 999999 }
-    ensures takes { (d : TextOf ℕ) → HasTaken cutter.old d → length_of d ≡ at → Takes hand.old.run (piece_taken (where_of hand.old.run target.entry.folder.now target.entry.place.now (told_by target.entry)) path.now length d taken) (by_out hand.old.kept (F.state files.old) (O.state out.old)) (by_out hand.new.kept (F.state files.new) (O.state out.new)) cutter.new (at + min (length - at) 65536) result }
+    ensures takes { (d : TextOf ℕ) → HasTaken cutter.old d → length_of d ≡ at
+        → Takes hand.old.run
+        (piece_taken
+        (where_of hand.old.run target.entry.folder.now target.entry.place.now
+        (told_by target.entry)) path.now length d taken)
+        (by_out hand.old.kept (F.state files.old) (O.state out.old))
+        (by_out hand.new.kept (F.state files.new) (O.state out.new)) cutter.new
+        (at + min (length - at) 65536) result }
     ensures same { (hand.new.run ≡ hand.old.run) × (hand.new.mail ≡ hand.old.mail) }
     ensures range { IfOk result (λ t. t.highest ≤ 999999) }
 {
@@ -56,7 +63,13 @@ fn take_rest<F: Files, O: Sink>(
     first: Taken,
 ) -> Result<Taken, CommandFault>
     requires { first.highest ≤ 999999 }
-    ensures takes { HasTaken cutter.old [] → Takes hand.old.run (rest_taken (where_of hand.old.run target.entry.folder.now target.entry.place.now (told_by target.entry)) path.now length length (record { bytes = []; taken = first })) (by_out hand.old.kept (F.state files.old) (O.state out.old)) (by_out hand.new.kept (F.state files.new) (O.state out.new)) cutter.new length result }
+    ensures takes { HasTaken cutter.old []
+        → Takes hand.old.run
+        (rest_taken
+        (where_of hand.old.run target.entry.folder.now target.entry.place.now
+        (told_by target.entry)) path.now length length (record { bytes = []; taken = first }))
+        (by_out hand.old.kept (F.state files.old) (O.state out.old))
+        (by_out hand.new.kept (F.state files.new) (O.state out.new)) cutter.new length result }
     ensures same { (hand.new.run ≡ hand.old.run) × (hand.new.mail ≡ hand.old.mail) }
     ensures range { IfOk result (λ t. t.highest ≤ 999999) }
 {
@@ -82,7 +95,11 @@ fn take_last<F: Files, O: Sink>(
     taken: Taken,
 ) -> Result<Taken, CommandFault>
     requires { taken.highest ≤ 999999 }
-    ensures plan { (d : TextOf ℕ) → HasTaken cutter d → Follows hand.old.run command_cause (ended_taken (where_of hand.old.run target.entry.folder.now target.entry.place.now (told_by target.entry)) (record { bytes = d; taken = taken })) (by_out hand.old.kept (F.state files.old) (O.state out.old)) (by_out hand.new.kept (F.state files.new) (O.state out.new)) result }
+    ensures plan { (d : TextOf ℕ) → HasTaken cutter d
+        → Follows hand.old.run command_cause
+        (ended_taken (where_of hand.old.run target.entry.folder.now target.entry.place.now (told_by target.entry))
+        (record { bytes = d; taken = taken })) (by_out hand.old.kept (F.state files.old) (O.state out.old))
+        (by_out hand.new.kept (F.state files.new) (O.state out.new)) result }
     ensures same { (hand.new.run ≡ hand.old.run) × (hand.new.mail ≡ hand.old.mail) }
 {
     let Some(message) = end(cutter)? else {
@@ -93,8 +110,8 @@ fn take_last<F: Files, O: Sink>(
     take_all(alloc, hand, files, out, target, taken, messages)
 }
 
-/// Reads the first so many bytes of a drop again, and takes its messages in, above the highest number of the folder. The drop was changed where
-/// it is none, has a message that is too long, or not as many messages as were counted.
+/// Reads the first so many bytes of a drop again, and takes its messages in, above the highest number of the folder.
+/// The drop was changed where it is none, has a message that is too long, or not as many messages as were counted.
 pub fn take_drop<F: Files, O: Sink>(
     alloc: Global,
     hand: &mut Hand,
@@ -106,7 +123,12 @@ pub fn take_drop<F: Files, O: Sink>(
     highest: u32,
 ) -> Result<Taken, CommandFault>
     requires { highest ≤ 999999 }
-    ensures plan { Follows hand.old.run command_cause (drop_taken (where_of hand.old.run target.entry.folder.now target.entry.place.now (told_by target.entry)) path.now size.length size.messages highest) (by_out hand.old.kept (F.state files.old) (O.state out.old)) (by_out hand.new.kept (F.state files.new) (O.state out.new)) result }
+    ensures plan { Follows hand.old.run command_cause
+        (drop_taken
+        (where_of hand.old.run target.entry.folder.now target.entry.place.now
+        (told_by target.entry)) path.now size.length size.messages highest)
+        (by_out hand.old.kept (F.state files.old) (O.state out.old))
+        (by_out hand.new.kept (F.state files.new) (O.state out.new)) result }
     ensures same { (hand.new.run ≡ hand.old.run) × (hand.new.mail ≡ hand.old.mail) }
 {
     let mut cutter = DropCutter::new(alloc);

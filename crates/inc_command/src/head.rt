@@ -56,7 +56,9 @@ pub(crate) fn read_head<F: Files>(
     files: &mut F,
     path: &FilePath,
 ) -> Result<Head, CommandFault>
-    ensures plan { (h : Kept) → Follows run command_cause (head_read path.now) (by_hand h (F.state files.old)) (by_hand h (F.state files.new)) result }
+    ensures plan { (h : Kept)
+        → Follows run command_cause (head_read path.now) (by_hand h (F.state files.old))
+        (by_hand h (F.state files.new)) result }
     ensures head { IfOk result IsHead }
 {
     let piece = ask_read_drop(alloc, run, files, path, 0, PIECE)?;

@@ -27,7 +27,9 @@ pub fn tell_heading<O: Sink>(
     silent: bool,
     folder: &FolderName,
 ) -> Result<(), CommandFault>
-    ensures { (run : ℕ) (h : Kept) (f : FilesState) → Follows run command_cause (heading_told silent folder.now) (by_out h f (O.state out.old)) (by_out h f (O.state out.new)) result }
+    ensures { (run : ℕ) (h : Kept) (f : FilesState)
+        → Follows run command_cause (heading_told silent folder.now) (by_out h f (O.state out.old))
+        (by_out h f (O.state out.new)) result }
 {
     if silent {
         return Ok(());

@@ -48,7 +48,9 @@ fn count_with_room<F: Files>(
     highest: u32,
 ) -> Result<DropSize, CommandFault>
     requires { highest ≤ 999999 }
-    ensures { (h : Kept) → Follows run command_cause (room_counted job.now.folder job.now.drop highest) (by_hand h (F.state files.old)) (by_hand h (F.state files.new)) result }
+    ensures { (h : Kept)
+        → Follows run command_cause (room_counted job.now.folder job.now.drop highest) (by_hand h (F.state files.old))
+        (by_hand h (F.state files.new)) result }
 {
     let size = count_drop(alloc, run, files, &job.drop)?;
     ask_room(alloc, &job.folder, highest, size.messages)?;
@@ -72,7 +74,9 @@ fn take_all<F: Files, O: Sink>(
     opened: &Opened,
     size: DropSize,
 ) -> Result<Taken, CommandFault>
-    ensures plan { Follows hand.old.run command_cause (told_taken hand.old.run (asked job.now) opened.now size) (by_out hand.old.kept (F.state files.old) (O.state out.old)) (by_out hand.new.kept (F.state files.new) (O.state out.new)) result }
+    ensures plan { Follows hand.old.run command_cause (told_taken hand.old.run (asked job.now) opened.now size)
+        (by_out hand.old.kept (F.state files.old) (O.state out.old))
+        (by_out hand.new.kept (F.state files.new) (O.state out.new)) result }
     ensures same { (hand.new.run ≡ hand.old.run) × (hand.new.mail ≡ hand.old.mail) }
 {
     let target = Target {
@@ -98,7 +102,9 @@ fn mark_new<F: Files>(
     mut opened: Opened,
     numbers: &[MsgNum],
 ) -> Result<(), CommandFault>
-    ensures plan { Follows hand.old.run command_cause (new_marked hand.old.run hand.old.mail (asked job.now) opened numbers.now) (by_hand hand.old.kept (F.state files.old)) (by_hand hand.new.kept (F.state files.new)) result }
+    ensures plan { Follows hand.old.run command_cause
+        (new_marked hand.old.run hand.old.mail (asked job.now) opened numbers.now)
+        (by_hand hand.old.kept (F.state files.old)) (by_hand hand.new.kept (F.state files.new)) result }
     ensures same { (hand.new.run ≡ hand.old.run) × (hand.new.mail ≡ hand.old.mail) }
 {
     let marks = new_marks(alloc, job, numbers)?;
@@ -118,7 +124,10 @@ fn incorporate<F: Files, O: Sink>(
     job: &IncJob,
     opened: Opened,
 ) -> Result<(), CommandFault>
-    ensures plan { Follows hand.old.run command_cause (opened_incorporated hand.old.run hand.old.mail (asked job.now) opened) (by_out hand.old.kept (F.state files.old) (O.state out.old)) (by_out hand.new.kept (F.state files.new) (O.state out.new)) result }
+    ensures plan { Follows hand.old.run command_cause
+        (opened_incorporated hand.old.run hand.old.mail (asked job.now) opened)
+        (by_out hand.old.kept (F.state files.old) (O.state out.old))
+        (by_out hand.new.kept (F.state files.new) (O.state out.new)) result }
     ensures same { (hand.new.run ≡ hand.old.run) × (hand.new.mail ≡ hand.old.mail) }
 {
     let highest = highest(opened.listing());
@@ -135,8 +144,8 @@ fn incorporate<F: Files, O: Sink>(
     )
 }
 
-/// Takes the drop's messages into the folder, which is made where it is missing, and tells of each once it is stored; then marks them, makes
-/// the folder the current one, and cuts the drop.
+/// Takes the drop's messages into the folder, which is made where it is missing, and tells of each once it is stored;
+/// then marks them, makes the folder the current one, and cuts the drop.
 pub fn inc<F: Files, O: Sink>(
     alloc: Global,
     hand: &mut Hand,
@@ -144,8 +153,12 @@ pub fn inc<F: Files, O: Sink>(
     out: &mut O,
     job: &IncJob,
 ) -> Result<(), CommandFault>
-    ensures plan { Follows hand.old.run command_cause (inc_plan hand.old.run hand.old.mail (asked job.now)) (by_out hand.old.kept (F.state files.old) (O.state out.old)) (by_out hand.new.kept (F.state files.new) (O.state out.new)) result }
-    ensures steps { PromisesSteps hand.old.run hand.old.mail (asked job.now) (by_out hand.old.kept (F.state files.old) (O.state out.old)) (by_out hand.new.kept (F.state files.new) (O.state out.new)) }
+    ensures plan { Follows hand.old.run command_cause (inc_plan hand.old.run hand.old.mail (asked job.now))
+        (by_out hand.old.kept (F.state files.old) (O.state out.old))
+        (by_out hand.new.kept (F.state files.new) (O.state out.new)) result }
+    ensures steps { PromisesSteps hand.old.run hand.old.mail (asked job.now)
+        (by_out hand.old.kept (F.state files.old) (O.state out.old))
+        (by_out hand.new.kept (F.state files.new) (O.state out.new)) }
     ensures run { hand.new.run ≡ hand.old.run }
     ensures mail { hand.new.mail ≡ hand.old.mail }
 {

@@ -29,7 +29,10 @@ pub(crate) fn take_all<F: Files, O: Sink>(
     messages: BytesList,
 ) -> Result<Taken, CommandFault>
     requires { first.highest ≤ 999999 }
-    ensures plan { Follows hand.old.run command_cause (all_taken hand.old.run target.entry.folder.now target.entry.place.now (told_by target.entry) first messages) (by_out hand.old.kept (F.state files.old) (O.state out.old)) (by_out hand.new.kept (F.state files.new) (O.state out.new)) result }
+    ensures plan { Follows hand.old.run command_cause
+        (all_taken hand.old.run target.entry.folder.now target.entry.place.now (told_by target.entry) first messages)
+        (by_out hand.old.kept (F.state files.old) (O.state out.old))
+        (by_out hand.new.kept (F.state files.new) (O.state out.new)) result }
     ensures same { (hand.new.run ≡ hand.old.run) × (hand.new.mail ≡ hand.old.mail) }
     ensures range { IfOk result (λ taken. taken.highest ≤ 999999) }
 {

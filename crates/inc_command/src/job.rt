@@ -5,8 +5,9 @@ use message_lines::Look;
 use mh_base::FolderName;
 use mh_sequences::SeqNameList;
 
-/// What `inc` is to do: the folder; the drop; whether this is cut to nothing at last; whether nothing is written; whether the first new message
-/// becomes the current one; the sequences to which the new messages come; and how messages are looked at.
+/// What `inc` is to do: the folder; the drop; whether this is cut to nothing at last; whether nothing is written;
+/// whether the first new message becomes the current one; the sequences to which the new messages come; and how
+/// messages are looked at.
 #[derive(Drop)]
 pub struct IncJob {
     pub folder: FolderName,

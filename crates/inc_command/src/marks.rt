@@ -54,7 +54,8 @@ fn push_additions(
     names: &[SeqName],
     numbers: &NumSet,
 ) -> Result<(), AllocError>
-    ensures { OnOk result (map plain_mark marks.new ≡ map plain_mark marks.old ++ add_marks numbers.now.runs names.now) }
+    ensures { OnOk result
+        (map plain_mark marks.new ≡ map plain_mark marks.old ++ add_marks numbers.now.runs names.now) }
 {
     for name in names {
         marks.push(addition(alloc, name, numbers)?)?;

@@ -46,7 +46,9 @@ pub(crate) fn read_piece<F: Files>(
     from: u64,
     asked: u64,
 ) -> Result<Bytes, CommandFault>
-    ensures plan { (h : Hand) → Follows run command_cause (piece_read path.now from asked) (by_hand h (F.state files.old)) (by_hand h (F.state files.new)) result }
+    ensures plan { (h : Hand)
+        → Follows run command_cause (piece_read path.now from asked) (by_hand h (F.state files.old))
+        (by_hand h (F.state files.new)) result }
     ensures whole { IfOk result (λ b. length b ≡ asked) }
 {
     let piece = ask_read_drop(alloc, run, files, path, from, asked)?;

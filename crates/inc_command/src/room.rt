@@ -20,7 +20,8 @@ pub fn ask_room(
     messages: u64,
 ) -> Result<(), CommandFault>
     requires { highest ≤ 999999 }
-    ensures { (run : ℕ) (x : State) → Follows run command_cause (if_room (nat_le (highest + messages) 999999) folder.now) x x result }
+    ensures { (run : ℕ) (x : State)
+        → Follows run command_cause (if_room (nat_le (highest + messages) 999999) folder.now) x x result }
 {
     if messages > u64::from(LAST - highest) {
         return Err(CommandFault::Refused(Refusal::Full(folder.duplicate(alloc)?)));

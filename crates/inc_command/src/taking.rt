@@ -20,8 +20,9 @@ use mh_sequences::Sequences;
 use std::alloc::{AllocError, Global};
 use step_plans::{CommandFault, Hand};
 
-/// Where messages go: the folder and its place; whether no line is written of them; and for their lines whether the first becomes the current
-/// message, whether they come to an unseen sequence, the folder's sequences before, and how messages are looked at.
+/// Where messages go: the folder and its place; whether no line is written of them; and for their lines whether the
+/// first becomes the current message, whether they come to an unseen sequence, the folder's sequences before, and how
+/// messages are looked at.
 #[derive(Clone, Copy)]
 pub struct Target<'a> {
     pub folder: &'a FolderName,
@@ -45,7 +46,8 @@ fn first_of(numbers: &[MsgNum], number: MsgNum) -> MsgNum
 
 /// How a new message stands, where the first of them has this number.
 fn standing(target: Target, first: MsgNum, number: MsgNum) -> Standing
-    ensures { result ≡ standing_for target.entry.change_cur target.entry.unseen target.entry.sequences.now.cur first number }
+    ensures { result
+        ≡ standing_for target.entry.change_cur target.entry.unseen target.entry.sequences.now.cur first number }
 {
     let current = if target.change_cur {
         first == number
@@ -66,7 +68,8 @@ fn line(
     number: MsgNum,
     bytes: &[u8],
 ) -> Result<Bytes, AllocError>
-    ensures { IfOk result (λ text. text ≡ line_of ((told_by target.entry).line (first_of_all numbers.now number)) number bytes.now) }
+    ensures { IfOk result
+        (λ text. text ≡ line_of ((told_by target.entry).line (first_of_all numbers.now number)) number bytes.now) }
 {
     let standing = standing(target, first_of(numbers, number), number);
     message_line(alloc, target.look, standing, number, bytes)
@@ -82,7 +85,10 @@ fn store_in<F: Files>(
     bytes: &mut Bytes,
 ) -> Result<MsgNum, CommandFault>
     requires { highest ≤ 999999 }
-    ensures plan { Follows hand.old.run command_cause (lifted (of_plan target.entry.folder.now) (message_stored hand.old.run target.entry.place.now highest bytes.old)) (by_hand hand.old.kept (F.state files.old)) (by_hand hand.new.kept (F.state files.new)) result }
+    ensures plan { Follows hand.old.run command_cause
+        (lifted (of_plan target.entry.folder.now)
+        (message_stored hand.old.run target.entry.place.now highest bytes.old))
+        (by_hand hand.old.kept (F.state files.old)) (by_hand hand.new.kept (F.state files.new)) result }
     ensures same { (hand.new.run ≡ hand.old.run) × (hand.new.mail ≡ hand.old.mail) }
     ensures bytes { OnOk result (bytes.new ≡ bytes.old) }
 {
@@ -102,7 +108,9 @@ fn tell<O: Sink>(
     number: MsgNum,
     bytes: &Bytes,
 ) -> Result<(), CommandFault>
-    ensures { (run : ℕ) (h : Kept) (f : FilesState) → Follows run command_cause (message_told (told_by target.entry) numbers.now number bytes.now) (by_out h f (O.state out.old)) (by_out h f (O.state out.new)) result }
+    ensures { (run : ℕ) (h : Kept) (f : FilesState)
+        → Follows run command_cause (message_told (told_by target.entry) numbers.now number bytes.now)
+        (by_out h f (O.state out.old)) (by_out h f (O.state out.new)) result }
 {
     if target.silent {
         return Ok(());
@@ -112,7 +120,8 @@ fn tell<O: Sink>(
     Ok(())
 }
 
-/// A message is put into the folder after those that got these numbers, and the folder is made safe; and only then its line is written.
+/// A message is put into the folder after those that got these numbers, and the folder is made safe; and only then its
+/// line is written.
 pub(crate) fn take<F: Files, O: Sink>(
     alloc: Global,
     hand: &mut Hand,
@@ -124,7 +133,11 @@ pub(crate) fn take<F: Files, O: Sink>(
     bytes: &mut Bytes,
 ) -> Result<MsgNum, CommandFault>
     requires { highest ≤ 999999 }
-    ensures plan { Follows hand.old.run command_cause (message_taken hand.old.run target.entry.folder.now target.entry.place.now (told_by target.entry) numbers.now highest bytes.old) (by_out hand.old.kept (F.state files.old) (O.state out.old)) (by_out hand.new.kept (F.state files.new) (O.state out.new)) result }
+    ensures plan { Follows hand.old.run command_cause
+        (message_taken hand.old.run target.entry.folder.now target.entry.place.now
+        (told_by target.entry) numbers.now highest bytes.old)
+        (by_out hand.old.kept (F.state files.old) (O.state out.old))
+        (by_out hand.new.kept (F.state files.new) (O.state out.new)) result }
     ensures same { (hand.new.run ≡ hand.old.run) × (hand.new.mail ≡ hand.old.mail) }
 {
     let number = store_in(alloc, hand, files, target, highest, bytes)?;

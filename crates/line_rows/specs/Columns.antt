@@ -29,7 +29,11 @@ free line = if line.closed then 0 else line.width - columns_of line.characters
 unfoldable pub with_more : Kept → List ℕ → Kept
 with_more line more =
     if line.closed then line
-    else record { characters = line.characters ++ fit (free line) more; width = line.width; closed = not (nat_le (columns_of more) (free line)) }
+    else record {
+      characters = line.characters ++ fit (free line) more;
+      width = line.width;
+      closed = not (nat_le (columns_of more) (free line));
+    }
 
 -- a line of this width, which holds nothing yet
 abbrev pub empty_line : ℕ → Kept

@@ -16,7 +16,8 @@ use Rattle.list_words.specs.declared.words.ListWords.{ListWords}
 
 -- what the items say beside the folder
 abbrev pub words_of : Option (List ℕ) → List Item → ListWords
-words_of folder items = record { folder = folder; specs = names_or (codes "cur") (messages items); parts = parts_of items }
+words_of folder items =
+    record { folder = folder; specs = names_or (codes "cur") (messages items); parts = parts_of items }
 
 abbrev pub with_folder : List Item → Result (Option (List ℕ)) CommandFault → Result ListWords Ended
 with_folder items (Ok folder) = Ok (words_of folder items)

@@ -17,7 +17,8 @@ use mh_words::ItemList;
 use mime_tree::PartPath;
 use std::alloc::{AllocError, Global};
 
-/// The words of `mhlist`: the folder, where they name one; the messages' names; and the parts that are wanted, where they name some.
+/// The words of `mhlist`: the folder, where they name one; the messages' names; and the parts that are wanted, where
+/// they name some.
 #[derive(Drop)]
 pub struct ListWords {
     pub folder: Option<FolderName>,

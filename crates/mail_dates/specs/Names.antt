@@ -17,7 +17,8 @@ is_letter b = (nat_le 65 b && nat_le b 90) || (nat_le 97 b && nat_le b 122)
 -- the first three letters of a day's name
 abbrev pub begins_weekday : List ℕ → Bool
 begins_weekday three =
-    bytes_eq three (codes "Sun") || bytes_eq three (codes "Mon") || bytes_eq three (codes "Tue") || bytes_eq three (codes "Wed")
+    bytes_eq three (codes "Sun") || bytes_eq three (codes "Mon") || bytes_eq three (codes "Tue")
+    || bytes_eq three (codes "Wed")
     || bytes_eq three (codes "Thu") || bytes_eq three (codes "Fri") || bytes_eq three (codes "Sat")
 
 -- three or more letters that begin as a day's name does

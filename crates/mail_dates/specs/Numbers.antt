@@ -58,7 +58,8 @@ IsTime t = (t.hour ≤ 23) × (t.minute ≤ 59) × (t.second ≤ 59)
 -- second 60 is read as 59
 abbrev pub time_within : ℕ → ℕ → ℕ → Option Time
 time_within hour minute second =
-    if nat_le hour 23 && nat_le minute 59 && nat_le second 60 then Some (record { hour = hour; minute = minute; second = if second == 60 then 59 else second }) else None
+    if nat_le hour 23 && nat_le minute 59 && nat_le second 60
+    then Some (record { hour = hour; minute = minute; second = if second == 60 then 59 else second }) else None
 
 -- a time with a second that was read
 abbrev pub time_to_second : ℕ → ℕ → Option ℕ → Option Time

@@ -99,7 +99,9 @@ dated_at year month day (Some clock) = dated year month day (Some clock.time) cl
 
 -- a day, a month, a year, and then perhaps a time and a zone
 abbrev pub written_by : ℤ → List (List ℕ) → Option MailDate
-written_by offset words = dated_at (first_by long_year (drop 2 words)) (first_by (month_in Any) (drop 1 words)) (first_by short_number words) (clock_in offset (drop 3 words))
+written_by offset words =
+    dated_at (first_by long_year (drop 2 words)) (first_by (month_in Any) (drop 1 words)) (first_by short_number words)
+    (clock_in offset (drop 3 words))
 
 -- d mon yyyy, with an optional time and an optional zone behind it
 abbrev pub written_date : List ℕ → ℤ → Option MailDate
@@ -117,7 +119,9 @@ midnight_of (Some day) offset = Some (clock_at day (pos 0) offset)
 
 -- the moment that a text names, on this day and by this offset
 abbrev pub picked : ℤ → ℤ → List ℕ → Option ℤ
-picked today offset text = clock_or (numeric_date text offset) (clock_or (written_date text offset) (midnight_of (day_named today text) offset))
+picked today offset text =
+    clock_or (numeric_date text offset)
+    (clock_or (written_date text offset) (midnight_of (day_named today text) offset))
 
 -- the moment that a text names, or that it names none
 abbrev pub PicksDate : ℤ → ℤ → List ℕ → Option ℤ → Type 0

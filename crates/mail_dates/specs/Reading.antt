@@ -31,7 +31,16 @@ first_by f (word ∷ words) = f word
 abbrev pub dated : Option ℕ → Option ℕ → Option ℕ → Option Time → ℤ → Option MailDate
 dated (Some year) (Some month) (Some day) (Some time) offset =
     if day_exists year month day
-    then Some (record { year = pos year; month = pos month; day = pos day; hour = pos time.hour; minute = pos time.minute; second = pos time.second; offset = offset })
+    then Some
+    (record {
+      year = pos year;
+      month = pos month;
+      day = pos day;
+      hour = pos time.hour;
+      minute = pos time.minute;
+      second = pos time.second;
+      offset = offset;
+    })
     else None
 dated None month day time offset = None
 dated (Some year) None day time offset = None
@@ -41,7 +50,8 @@ dated (Some year) (Some month) (Some day) None offset = None
 -- a day, a month, a year, a time, and perhaps a zone; another word in its place, or none, is +0000
 abbrev pub date_from : List (List ℕ) → Option MailDate
 date_from words =
-    dated (first_by year_in (drop 2 words)) (first_by (month_in AsWritten) (drop 1 words)) (first_by short_number words) (first_by time_in (drop 3 words))
+    dated (first_by year_in (drop 2 words)) (first_by (month_in AsWritten) (drop 1 words)) (first_by short_number words)
+    (first_by time_in (drop 3 words))
     (or_utc (first_by zone_in (drop 4 words)))
 
 -- the words behind a weekday, if they begin with one

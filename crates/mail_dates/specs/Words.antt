@@ -9,7 +9,8 @@ outside zero (b ∷ rest) = if b == 40 then outside 1 rest else b ∷ outside 0 
 outside (suc n) (b ∷ []) = []
 outside (suc n) (b ∷ c ∷ rest) =
     if b == 92 then outside (suc n) rest
-    else (if b == 40 then outside (suc (suc n)) (c ∷ rest) else (if b == 41 then outside n (c ∷ rest) else outside (suc n) (c ∷ rest)))
+    else (if b == 40 then outside (suc (suc n)) (c ∷ rest)
+    else (if b == 41 then outside n (c ∷ rest) else outside (suc n) (c ∷ rest)))
 
 -- a space, a tab or a comma
 abbrev pub is_separator : ℕ → Bool

@@ -35,7 +35,8 @@ fn word_len(text: &[u8]) -> usize
 
 /// The first word, and what stands behind it.
 pub(crate) fn next_word(text: &[u8]) -> Option<(&[u8], &[u8])>
-    ensures { MatchOption result (words is_a_blank text.now ≡ []) (λ r. words is_a_blank text.now ≡ r.0.now ∷ words is_a_blank r.1.now) }
+    ensures { MatchOption result (words is_a_blank text.now ≡ [])
+        (λ r. words is_a_blank text.now ≡ r.0.now ∷ words is_a_blank r.1.now) }
 {
     let (_, from_word) = text.split_at(blank_len(text));
     if from_word.is_empty() {

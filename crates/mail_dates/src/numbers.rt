@@ -32,7 +32,8 @@ pub(crate) fn decimal(word: &[u8]) -> Option<u16>
 
 /// The number of one or two digits with which a text begins, and what stands behind it.
 pub(crate) fn short_lead(text: &[u8]) -> Option<(u8, &[u8])>
-    ensures value { MatchOption result (short_lead_of text.now ≡ None) (λ r. short_lead_of text.now ≡ Some (record { value = r.0; rest = r.1.now })) }
+    ensures value { MatchOption result (short_lead_of text.now ≡ None)
+        (λ r. short_lead_of text.now ≡ Some (record { value = r.0; rest = r.1.now })) }
     ensures small { IfSome result (λ r. r.0 < 100) }
 {
     let (first, behind) = text.split_first()?;

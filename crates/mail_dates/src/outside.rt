@@ -20,7 +20,8 @@ impl<'a> Outside<'a> {
 
     /// The next byte outside comments.
     pub(crate) fn next(&mut self) -> Option<u8>
-        ensures { MatchOption result ((left self.old ≡ []) × (left self.new ≡ [])) (λ byte. left self.old ≡ byte ∷ left self.new) }
+        ensures { MatchOption result ((left self.old ≡ []) × (left self.new ≡ []))
+            (λ byte. left self.old ≡ byte ∷ left self.new) }
     {
         let mut depth = 0usize;
         while let Some((byte, behind)) = self.rest.split_first() {

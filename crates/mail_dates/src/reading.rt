@@ -21,7 +21,8 @@ use crate::zones::zone;
 
 /// The first word behind a weekday.
 fn first_word(text: &mut Outside) -> Option<Word>
-    ensures { TakesWord (behind_weekday (words is_separator (left text.old))) result (words is_separator (left text.new)) }
+    ensures { TakesWord (behind_weekday (words is_separator (left text.old))) result
+        (words is_separator (left text.new)) }
 {
     let word = next_word(text)?;
     if word.is_weekday() {
@@ -96,8 +97,8 @@ fn next_offset(text: &mut Outside) -> i16
 }
 
 impl MailDate {
-    /// Reads the date of a header's field (RFC 5322, section 3.3), with the years of two and three digits and the names of zones
-    /// of older mail (section 4.3). The value is unfolded: a line end in it is a byte of its word.
+    /// Reads the date of a header's field (RFC 5322, section 3.3), with the years of two and three digits and the names
+    /// of zones of older mail (section 4.3). The value is unfolded: a line end in it is a byte of its word.
     pub fn read(bytes: &[u8]) -> Option<MailDate>
         ensures value { result ≡ date_in bytes.now }
         ensures valid { IfSome result IsMailDate }

@@ -75,7 +75,8 @@ impl Word {
 /// The next byte that is no separator.
 fn first_byte(text: &mut Outside) -> Option<u8>
     ensures { MatchOption result ((words separates (left text.old) ≡ []) × (words separates (left text.new) ≡ []))
-        (λ byte. (separates byte ≡ false) × (words separates (left text.old) ≡ words separates (byte ∷ left text.new))) }
+        (λ byte. (separates byte ≡ false)
+        × (words separates (left text.old) ≡ words separates (byte ∷ left text.new))) }
 {
     while let Some(byte) = text.next() {
         if !is_separator(byte) {

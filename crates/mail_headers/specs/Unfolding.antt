@@ -17,7 +17,8 @@ abbrev pub is_edge : ℕ → Bool
 is_edge b = is_blank b || b == 13
 
 abbrev pub trimmed : List ℕ → List ℕ
-trimmed bytes = let front = drop (prefix_len is_edge bytes) bytes in take (length front - suffix_len is_edge front) front
+trimmed bytes =
+    let front = drop (prefix_len is_edge bytes) bytes in take (length front - suffix_len is_edge front) front
 
 -- the value without its line ends, and without blanks and carriage returns at its ends
 unfoldable pub unfolded : List ℕ → List ℕ

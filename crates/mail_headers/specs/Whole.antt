@@ -16,7 +16,9 @@ StandBefore (f ∷ fs) rest bytes =
 
 -- what stands behind the fields: nothing, an empty line and the body, or the body at once
 abbrev pub IsBehind : List ℕ → List ℕ → Type 0
-IsBehind body rest = ((rest ≡ []) × (body ≡ [])) ⊎ (rest ≡ 10 ∷ body) ⊎ (rest ≡ 13 ∷ 10 ∷ body) ⊎ ((empty_line_len rest ≡ 0) × (body ≡ rest))
+IsBehind body rest =
+    ((rest ≡ []) × (body ≡ [])) ⊎ (rest ≡ 10 ∷ body) ⊎ (rest ≡ 13 ∷ 10 ∷ body)
+    ⊎ ((empty_line_len rest ≡ 0) × (body ≡ rest))
 
 -- these bytes are a message of these fields and this body
 abbrev pub IsMessage : List FieldText → List ℕ → List ℕ → Type 0

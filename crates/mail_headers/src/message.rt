@@ -63,7 +63,8 @@ impl<'a> Message<'a> {
 
     /// The value of the first field of this name; names go without ASCII case.
     pub fn first(&self, name: &[u8]) -> Option<&'a [u8]>
-        ensures { MatchOption result (first_value name.now (fields_of self.now) ≡ None) (λ v. first_value name.now (fields_of self.now) ≡ Some v.now) }
+        ensures { MatchOption result (first_value name.now (fields_of self.now) ≡ None)
+            (λ v. first_value name.now (fields_of self.now) ≡ Some v.now) }
     {
         for field in self.fields() {
             if field.name.eq_ignore_ascii_case(name) {

@@ -84,8 +84,9 @@ impl Commands {
         Ok(self.streams.unsaid.push(number(word(words, 1)?)?)?)
     }
 
-    /// `$` or `>` and a command's words, which it runs; `in` and what its input has, `in-fails` and the number of a reading of it that is to fail,
-    /// `out` and that of a piece of its output; or a line that looks at the mailbox, or makes a step there.
+    /// `$` or `>` and a command's words, which it runs; `in` and what its input has, `in-fails` and the number of a
+    /// reading of it that is to fail, `out` and that of a piece of its output; or a line that looks at the mailbox, or
+    /// makes a step there.
     pub(crate) fn line(&mut self, line: &[u8], told: &mut Bytes) -> Result<(), Fail> {
         let words = words(self.alloc, line)?;
         match asked_by(word(&words, 0)?) {

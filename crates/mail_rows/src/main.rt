@@ -1,5 +1,5 @@
-//! Rows of commands over a mailbox in memory. `stdin` gives mailboxes, says what else happens, runs commands and asks to be shown what they
-//! leave; `stdout` is what is to be shown. docs/ROWS.md tells the lines.
+//! Rows of commands over a mailbox in memory. `stdin` gives mailboxes, says what else happens, runs commands and asks
+//! to be shown what they leave; `stdout` is what is to be shown. docs/ROWS.md tells the lines.
 #![tactic(auto)]
 
 mod calls;

@@ -9,7 +9,8 @@ use row_text::{from, number, word, words};
 use std::alloc::Global;
 use std::test::Fail;
 
-/// A row: its mailbox, what else happens, and where its commands run from the first of them on; and all that was told so far.
+/// A row: its mailbox, what else happens, and where its commands run from the first of them on; and all that was told
+/// so far.
 #[derive(Drop)]
 struct Play {
     alloc: Global,

@@ -162,7 +162,12 @@ addr_in parts =
 abbrev pub shown_by : List Part → Shown
 shown_by parts =
     let first = before_first is_comma parts in
-    record { pers = pers_in first; mbox = mbox_in (addr_in first); host = host_in (addr_in first); note = note_in first }
+    record {
+      pers = pers_in first;
+      mbox = mbox_in (addr_in first);
+      host = host_in (addr_in first);
+      note = note_in first;
+    }
 
 -- a text of such parts shows this
 abbrev pub Shows : List ℕ → Shown → Type 0

@@ -55,13 +55,20 @@ closed text = option_and_then (after 61) (after 63 text)
 abbrev pub word_of : Charset → Encoding → List ℕ → Option WordText
 word_of charset encoding text =
     option_and_then
-    (λ behind. Some record { charset = charset; encoding = encoding; text = take (prefix_len is_text text) text; behind = behind })
+    (λ behind.
+    Some record {
+      charset = charset;
+      encoding = encoding;
+      text = take (prefix_len is_text text) text;
+      behind = behind;
+    })
     (closed (drop (prefix_len is_text text) text))
 
 -- a letter and a question mark, and then the text
 abbrev pub lettered : Charset → List ℕ → Option WordText
 lettered charset text =
-    option_and_then (λ encoding. option_and_then (word_of charset encoding) (after 63 (drop 1 text))) (encoding_first text)
+    option_and_then (λ encoding. option_and_then (word_of charset encoding) (after 63 (drop 1 text)))
+    (encoding_first text)
 
 -- a charset's name and a question mark, and then the rest of the word
 abbrev pub named : List ℕ → Option WordText

@@ -14,7 +14,8 @@ q_behind n [] = []
 q_behind (suc n) (b ∷ rest) = q_behind n rest
 q_behind zero (b ∷ rest) =
     if b == 95 then 32 ∷ q_behind 0 rest
-    else (if b == 61 then with_escaped (escaped_byte rest) (q_behind 2 rest) (b ∷ q_behind 0 rest) else b ∷ q_behind 0 rest)
+    else (if b == 61 then with_escaped (escaped_byte rest) (q_behind 2 rest) (b ∷ q_behind 0 rest)
+    else b ∷ q_behind 0 rest)
 
 abbrev pub q_decoded : List ℕ → List ℕ
 q_decoded bytes = q_behind 0 bytes

@@ -7,7 +7,12 @@ use Rattle.mail_text.specs.Addresses.{first_address, note_of, pers_of, addr_of, 
 abbrev pub shown_address : List ℕ → Shown
 shown_address value =
     let address = first_address value in
-    record { pers = pers_of address; mbox = mbox_in (addr_of address); host = host_in (addr_of address); note = note_of address }
+    record {
+      pers = pers_of address;
+      mbox = mbox_in (addr_of address);
+      host = host_in (addr_of address);
+      note = note_of address;
+    }
 
 -- mbox@host, or mbox alone where there is no host
 abbrev pub addr_text : Shown → List ℕ

@@ -8,7 +8,8 @@ use Rattle.mail_text.specs.EncodedWords.{WordText, is_inner, is_text, charset_na
 pub record BeginsWith (w : WordText) (text : List ℕ) : Type 0 where
   pub name : List ℕ
   pub letter : ℕ
-  pub spelled : text ≡ codes "=?" ++ (name ++ (codes "?" ++ (letter ∷ (codes "?" ++ (w.text ++ (codes "?=" ++ w.behind))))))
+  pub spelled : text ≡ codes "=?"
+      ++ (name ++ (codes "?" ++ (letter ∷ (codes "?" ++ (w.text ++ (codes "?=" ++ w.behind))))))
   pub charset : charset_named name ≡ Some w.charset
   pub encoding : encoding_of letter ≡ Some w.encoding
   pub name_whole : list_all is_inner name ≡ true

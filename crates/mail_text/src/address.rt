@@ -8,7 +8,8 @@ use crate::parts::{address, cut, first_address, note, pers};
 use mh_base::{Duplicate, Text};
 use std::alloc::{AllocError, Global};
 
-/// The parts of an address (RFC 5322, section 3.4): a name, what stands before the last @ and behind it, and the first comment.
+/// The parts of an address (RFC 5322, section 3.4): a name, what stands before the last @ and behind it, and the first
+/// comment.
 #[derive(Drop)]
 pub struct Shown {
     pub pers: Text,

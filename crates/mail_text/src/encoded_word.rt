@@ -72,7 +72,8 @@ impl<'a> EncodedWord<'a> {
     }
 
     fn lettered(charset: Charset, text: &'a [char]) -> Option<EncodedWord<'a>>
-        ensures { MatchOption result (lettered_of charset text.now ≡ None) (λ w. lettered_of charset text.now ≡ Some (word_text w)) }
+        ensures { MatchOption result (lettered_of charset text.now ≡ None)
+            (λ w. lettered_of charset text.now ≡ Some (word_text w)) }
     {
         let encoding = Encoding::first(text)?;
         let (_, behind) = text.split_first()?;

@@ -22,8 +22,8 @@ fn without_gap(text: &[char]) -> &[char]
     }
 }
 
-/// The text with the characters for which its encoded words stand (RFC 2047, sections 2, 4 and 6.2), in US-ASCII, UTF-8 and
-/// ISO-8859-1.
+/// The text with the characters for which its encoded words stand (RFC 2047, sections 2, 4 and 6.2), in US-ASCII, UTF-8
+/// and ISO-8859-1.
 pub fn decode_words(alloc: Global, text: &Text) -> Result<Text, AllocError>
     ensures pieces { IfOk result (λ line. IsDecodedAs text.now line) }
     ensures alone { IfOk result (λ line. AsNoOther text.now line) }

@@ -30,7 +30,8 @@ fn digit_value(digit: u8) -> Option<u8>
 
 /// The byte for which two digits at the front stand, and what is behind them.
 fn escaped(text: &[u8]) -> Option<(u8, &[u8])>
-    ensures { MatchOption result (escaped_byte text.now ≡ None) (λ r. (escaped_byte text.now ≡ Some r.0) × (r.1.now ≡ drop 2 text.now)) }
+    ensures { MatchOption result (escaped_byte text.now ≡ None)
+        (λ r. (escaped_byte text.now ≡ Some r.0) × (r.1.now ≡ drop 2 text.now)) }
 {
     let (high, rest) = text.split_first()?;
     let (low, rest) = rest.split_first()?;

@@ -47,8 +47,8 @@ fn show(alloc: Global, bytes: &[u8]) -> Result<Text, AllocError>
     }
 }
 
-/// The characters of UTF-8 (RFC 3629, section 4). Each byte that is part of no character, looked at from the left, is a question
-/// mark.
+/// The characters of UTF-8 (RFC 3629, section 4). Each byte that is part of no character, looked at from the left, is a
+/// question mark.
 pub fn show_bytes(alloc: Global, bytes: &[u8]) -> Result<Text, AllocError>
     ensures pieces { IfOk result (λ text. IsShownAs bytes.now text) }
     ensures alone { IfOk result (λ text. AsNoOther bytes.now text) }

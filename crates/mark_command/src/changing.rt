@@ -27,7 +27,8 @@ fn chosen_marks(
     act: MarkAct,
     opened: &Opened,
 ) -> Result<MarkList, CommandFault>
-    ensures { AreMarks job.now act opened.now.listing (chosen_from (mark_task job.now act) opened.now.listing opened.now.sequences) result }
+    ensures { AreMarks job.now act opened.now.listing
+        (chosen_from (mark_task job.now act) opened.now.listing opened.now.sequences) result }
 {
     let chosen = choose(
         alloc,
@@ -48,7 +49,9 @@ fn mark_chosen<F: Files>(
     act: MarkAct,
     mut opened: Opened,
 ) -> Result<Opened, CommandFault>
-    ensures plan { Follows hand.old.run command_cause (chosen_changed hand.old.run hand.old.mail (mark_task job.now act) opened) (by_hand hand.old.kept (F.state files.old)) (by_hand hand.new.kept (F.state files.new)) result }
+    ensures plan { Follows hand.old.run command_cause
+        (chosen_changed hand.old.run hand.old.mail (mark_task job.now act) opened)
+        (by_hand hand.old.kept (F.state files.old)) (by_hand hand.new.kept (F.state files.new)) result }
     ensures run { hand.new.run ≡ hand.old.run }
     ensures mail { hand.new.mail ≡ hand.old.mail }
 {
@@ -70,7 +73,10 @@ fn mark_opened<F: Files, O: Sink>(
     act: MarkAct,
     opened: Opened,
 ) -> Result<(), CommandFault>
-    ensures plan { Follows hand.old.run command_cause (opened_told hand.old.run hand.old.mail (mark_task job.now act) opened) (by_out hand.old.kept (F.state files.old) (O.state out.old)) (by_out hand.new.kept (F.state files.new) (O.state out.new)) result }
+    ensures plan { Follows hand.old.run command_cause
+        (opened_told hand.old.run hand.old.mail (mark_task job.now act) opened)
+        (by_out hand.old.kept (F.state files.old) (O.state out.old))
+        (by_out hand.new.kept (F.state files.new) (O.state out.new)) result }
     ensures run { hand.new.run ≡ hand.old.run }
     ensures mail { hand.new.mail ≡ hand.old.mail }
 {
@@ -87,7 +93,10 @@ fn change<F: Files, O: Sink>(
     job: &MarkJob,
     act: MarkAct,
 ) -> Result<(), CommandFault>
-    ensures plan { Follows hand.old.run command_cause (folder_changed hand.old.run hand.old.mail (mark_task job.now act)) (by_out hand.old.kept (F.state files.old) (O.state out.old)) (by_out hand.new.kept (F.state files.new) (O.state out.new)) result }
+    ensures plan { Follows hand.old.run command_cause
+        (folder_changed hand.old.run hand.old.mail (mark_task job.now act))
+        (by_out hand.old.kept (F.state files.old) (O.state out.old))
+        (by_out hand.new.kept (F.state files.new) (O.state out.new)) result }
     ensures run { hand.new.run ≡ hand.old.run }
     ensures mail { hand.new.mail ≡ hand.old.mail }
 {
@@ -97,8 +106,8 @@ fn change<F: Files, O: Sink>(
     end(alloc, hand.run(), files, &place, done)
 }
 
-/// Sets the marks that the job asks for, on a folder that it begins, or lists its sequences without its lock; and makes the folder the
-/// current one.
+/// Sets the marks that the job asks for, on a folder that it begins, or lists its sequences without its lock; and makes
+/// the folder the current one.
 pub fn mark<F: Files, O: Sink>(
     alloc: Global,
     hand: &mut Hand,
@@ -106,9 +115,15 @@ pub fn mark<F: Files, O: Sink>(
     out: &mut O,
     job: &MarkJob,
 ) -> Result<(), CommandFault>
-    ensures plan { Follows hand.old.run command_cause (mark_plan hand.old.run hand.old.mail job.now) (by_out hand.old.kept (F.state files.old) (O.state out.old)) (by_out hand.new.kept (F.state files.new) (O.state out.new)) result }
-    ensures alone { TellsIfUnfaulted hand.old.run hand.old.mail job.now.folder hand.old.kept (mark_work hand.old.mail job.now) result (F.state files.old) (F.state files.new) (O.state out.old) (O.state out.new) }
-    ensures steps { PromisesSteps hand.old.run hand.old.mail job.now (by_out hand.old.kept (F.state files.old) (O.state out.old)) (by_out hand.new.kept (F.state files.new) (O.state out.new)) }
+    ensures plan { Follows hand.old.run command_cause (mark_plan hand.old.run hand.old.mail job.now)
+        (by_out hand.old.kept (F.state files.old) (O.state out.old))
+        (by_out hand.new.kept (F.state files.new) (O.state out.new)) result }
+    ensures alone { TellsIfUnfaulted hand.old.run hand.old.mail job.now.folder hand.old.kept
+        (mark_work hand.old.mail job.now) result (F.state files.old) (F.state files.new) (O.state out.old)
+        (O.state out.new) }
+    ensures steps { PromisesSteps hand.old.run hand.old.mail job.now
+        (by_out hand.old.kept (F.state files.old) (O.state out.old))
+        (by_out hand.new.kept (F.state files.new) (O.state out.new)) }
     ensures run { hand.new.run ≡ hand.old.run }
     ensures mail { hand.new.mail ≡ hand.old.mail }
 {

@@ -16,9 +16,9 @@ pub enum MarkAct {
     SetOthers,
 }
 
-/// What `mark` is to do: the folder, the words that choose messages, the sequences, what is done to them, or nothing where they are
-/// listed alone; whether they are listed, whether they become public or private, and the prefix of negation, which is empty where there is
-/// none.
+/// What `mark` is to do: the folder, the words that choose messages, the sequences, what is done to them, or nothing
+/// where they are listed alone; whether they are listed, whether they become public or private, and the prefix of
+/// negation, which is empty where there is none.
 #[derive(Drop)]
 pub struct MarkJob {
     pub folder: FolderName,

@@ -46,7 +46,8 @@ fn seen(
     names: &NameList,
     text: &Bytes,
 ) -> Result<Sequences, CommandFault>
-    ensures { AreValue (sequences_seen (look_task job.now) names.now text.now (entries_seen hand.now.kept.context)) result }
+    ensures { AreValue
+        (sequences_seen (look_task job.now) names.now text.now (entries_seen hand.now.kept.context)) result }
 {
     let listing = listed(alloc, names)?;
     let sequences = sequences_listed(alloc, hand, &job.folder, text.as_slice(), &listing)?;
@@ -61,7 +62,9 @@ pub(crate) fn look<F: Files, O: Sink>(
     out: &mut O,
     job: &MarkJob,
 ) -> Result<(), CommandFault>
-    ensures plan { Follows hand.old.run command_cause (folder_looked hand.old.run hand.old.mail (look_task job.now)) (by_out hand.old.kept (F.state files.old) (O.state out.old)) (by_out hand.new.kept (F.state files.new) (O.state out.new)) result }
+    ensures plan { Follows hand.old.run command_cause (folder_looked hand.old.run hand.old.mail (look_task job.now))
+        (by_out hand.old.kept (F.state files.old) (O.state out.old))
+        (by_out hand.new.kept (F.state files.new) (O.state out.new)) result }
     ensures run { hand.new.run ≡ hand.old.run }
     ensures mail { hand.new.mail ≡ hand.old.mail }
 {

@@ -73,7 +73,8 @@ fn marks_on(
     act: MarkAct,
     numbers: &NumSet,
 ) -> Result<MarkList, AllocError>
-    ensures { IfOk result (λ ms. map plain_mark ms ≡ map (mark_with act job.now.public numbers.now.runs) job.now.names) }
+    ensures { IfOk result
+        (λ ms. map plain_mark ms ≡ map (mark_with act job.now.public numbers.now.runs) job.now.names) }
 {
     let mut marks = List::new(alloc);
     for name in job.names.as_slice() {

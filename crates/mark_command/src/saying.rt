@@ -23,7 +23,9 @@ pub(crate) fn say_sequences<O: Sink>(
     job: &MarkJob,
     sequences: &Sequences,
 ) -> Result<(), CommandFault>
-    ensures { (run : ℕ) (h : Hand) (f : FilesState) → Follows run command_cause (lines_said (lines_for job.now.names sequences.now)) (by_out h f (O.state out.old)) (by_out h f (O.state out.new)) result }
+    ensures { (run : ℕ) (h : Hand) (f : FilesState)
+        → Follows run command_cause (lines_said (lines_for job.now.names sequences.now)) (by_out h f (O.state out.old))
+        (by_out h f (O.state out.new)) result }
 {
     let lines = lines(alloc, &job.names, sequences)?;
     say_lines(out, lines.as_slice())
@@ -36,7 +38,9 @@ pub(crate) fn say_if<O: Sink>(
     job: &MarkJob,
     sequences: &Sequences,
 ) -> Result<(), CommandFault>
-    ensures { (run : ℕ) (h : Hand) (f : FilesState) → Follows run command_cause (lines_said (lines_if job.now.list (lines_for job.now.names sequences.now))) (by_out h f (O.state out.old)) (by_out h f (O.state out.new)) result }
+    ensures { (run : ℕ) (h : Hand) (f : FilesState)
+        → Follows run command_cause (lines_said (lines_if job.now.list (lines_for job.now.names sequences.now)))
+        (by_out h f (O.state out.old)) (by_out h f (O.state out.new)) result }
 {
     if job.list {
         say_sequences(alloc, out, job, sequences)

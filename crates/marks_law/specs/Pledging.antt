@@ -23,7 +23,9 @@ MindsMarks w k =
 
 -- the same of marks whose text stands in another directory, and of each commit of that text
 abbrev pub MindsMarksApart : Pledge → Marking → Type 0
-MindsMarksApart w k = (own : List Deed) (s : Step) → w.may_step own s → Changes k.folder s ⊎ CommitsText k s → Minds w.run k (by_text w.run k) own s
+MindsMarksApart w k =
+    (own : List Deed) (s : Step) → w.may_step own s → Changes k.folder s ⊎ CommitsText k s
+    → Minds w.run k (by_text w.run k) own s
 
 -- each step of the other runs that changes the folder minds its marks
 abbrev pub OthersAreMindful : ℕ → Marking → List Event → Type 0
@@ -37,4 +39,6 @@ OthersAreMindfulApart run k past =
 -- each commit of the text by another run is under the folder's lock, or keeps the marks
 abbrev pub OthersAreConsiderate : ℕ → Marking → List Event → Type 0
 OthersAreConsiderate run k past =
-    AtSteps (λ r. r ≢ run) (λ r own s. (temp : List ℕ) → s ≡ Rename k.place temp k.name → HasLock k.folder own ⊎ KeepsMarks r k temp own) past
+    AtSteps (λ r. r ≢ run)
+    (λ r own s. (temp : List ℕ) → s ≡ Rename k.place temp k.name
+    → HasLock k.folder own ⊎ KeepsMarks r k temp own) past

@@ -15,7 +15,8 @@ one_more n = min (n + 1) (2 ^ 64 - 1)
 abbrev pub counted : DropCounter → Turn → DropCounter
 counted c (Joins place) = record c { place = place; size = one_more c.size }
 counted c (Empties place) = record c { place = place; size = one_more c.size; body = c.size }
-counted c Begins = record { place = Separator; size = 0; body = 0; count = one_more c.count; long = option_or c.long (long_of c.body) }
+counted c Begins =
+    record { place = Separator; size = 0; body = 0; count = one_more c.count; long = option_or c.long (long_of c.body) }
 counted c (Passes place) = record c { place = place }
 
 -- so many bytes more in the message in hand

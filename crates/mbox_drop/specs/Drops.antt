@@ -35,7 +35,8 @@ added line s = record { before = line ∷ s.before; parts = s.parts }
 unfoldable pub sections : Bool → List (List ℕ) → Sections
 sections after_empty [] = record { before = []; parts = [] }
 sections after_empty (line ∷ rest) =
-    if begins_from line && after_empty then opened (sections false rest) else added line (sections (is_empty_line line) rest)
+    if begins_from line && after_empty then opened (sections false rest)
+    else added line (sections (is_empty_line line) rest)
 
 -- the lines without the last, where that one is empty
 abbrev pub without_last_empty : List (List ℕ) → List (List ℕ)

@@ -28,7 +28,8 @@ pub record Keeps (old : DropCutter) (hand : List ℕ) (place : DropState) (body 
 
 abbrev pub Holds : DropCutter → DropState → ℕ → List ℕ → DropCutter → Result (List (List ℕ)) CutFault → Type 0
 Holds old place body rest new (Ok given) =
-    (given ≡ []) × (is_lost place ≡ false) × (overlong_of (length (old.hand.items ++ rest)) ≡ None) × Keeps old (old.hand.items ++ rest) place body new
+    (given ≡ []) × (is_lost place ≡ false) × (overlong_of (length (old.hand.items ++ rest)) ≡ None)
+    × Keeps old (old.hand.items ++ rest) place body new
 Holds old place body rest new (Err NotADrop) = (is_lost place ≡ true) × IsStopped new NotADrop
 Holds old place body rest new (Err (TooLong n)) =
     (is_lost place ≡ false) × (overlong_of (length (old.hand.items ++ rest)) ≡ Some n) × IsStopped new (TooLong n)
@@ -36,17 +37,20 @@ Holds old place body rest new (Err Memory) = IsKept old new
 
 abbrev pub Passes : DropCutter → ℕ → List ℕ → Parts → DropCutter → Result (List (List ℕ)) CutFault → Type 0
 Passes old body rest p new (Ok given) =
-    (given ≡ slice_set p.messages.items 0 (take body (old.hand.items ++ rest))) × Keeps old p.text.now p.place p.body new
+    (given ≡ slice_set p.messages.items 0 (take body (old.hand.items ++ rest)))
+    × Keeps old p.text.now p.place p.body new
 Passes old body rest p new (Err NotADrop) = ⊥
 Passes old body rest p new (Err (TooLong n)) = ⊥
 Passes old body rest p new (Err Memory) = IsKept old new
 
 -- what is read after the first separator of the piece, and how much of it is too long
-pub record ReadsParts (body : ℕ) (bytes : List ℕ) (given : List (List ℕ)) (text : List ℕ) (place : DropState) (last : ℕ) (long : Option ℕ) : Type 0 where
+pub record ReadsParts (body : ℕ) (bytes : List ℕ) (given : List (List ℕ)) (text : List ℕ) (place : DropState) (last : ℕ)
+    (long : Option ℕ) : Type 0 where
   pub reads : read opened_reading bytes ≡ at given text (take last text) place
   pub long_is : option_or (option_or (long_of body) (first_long given)) (overlong_of (length text)) ≡ long
 
-pub record GivesAll (old : DropCutter) (body : ℕ) (rest : List ℕ) (next : ℕ) (new : DropCutter) (given : List (List ℕ)) : Type 0 where
+pub record GivesAll (old : DropCutter) (body : ℕ) (rest : List ℕ) (next : ℕ) (new : DropCutter)
+    (given : List (List ℕ)) : Type 0 where
   pub later : List (List ℕ)
   pub given_are : given ≡ take body (old.hand.items ++ rest) ∷ later
   pub reads : ReadsParts body (drop next rest) later new.hand.items new.place new.body None

@@ -73,7 +73,8 @@ impl DropCounter {
 
     /// Takes the next piece of a drop of at most 268,435,456 bytes.
     pub fn feed(&mut self, piece: &[u8])
-        ensures { (d : List ℕ) → length d + length piece.now ≤ 268435456 → HasCounted self.old d → HasCounted self.new (d ++ piece.now) }
+        ensures { (d : List ℕ) → length d + length piece.now ≤ 268435456 → HasCounted self.old d
+            → HasCounted self.new (d ++ piece.now) }
     {
         let start = leap(self.place, piece, 0);
         let mut counter = self.grow(start);
@@ -89,7 +90,8 @@ impl DropCounter {
 
     /// The number of the messages so far.
     pub fn end(&self) -> Result<u64, NotADrop>
-        ensures { (d : List ℕ) → HasCounted self.now d → MatchResult result (λ n. IsTrue (is_drop d) × (n ≡ length (messages d))) (λ _. is_drop d ≡ false) }
+        ensures { (d : List ℕ) → HasCounted self.now d
+            → MatchResult result (λ n. IsTrue (is_drop d) × (n ≡ length (messages d))) (λ _. is_drop d ≡ false) }
     {
         match self.place.stage() {
             Stage::Unread => Ok(0),

@@ -126,7 +126,8 @@ impl DropCutter {
     /// separator's `From `. For want of memory nothing is taken.
     pub fn feed(&mut self, piece: &[u8]) -> Result<BytesList, CutFault>
         ensures taken { (d : List ℕ) → HasTaken self.old d → Feeds d piece.now self.new result }
-        ensures stopped { (fault : CutFault) → IsStopped self.old fault → (result ≡ Err fault) × IsStopped self.new fault }
+        ensures stopped { (fault : CutFault) → IsStopped self.old fault
+            → (result ≡ Err fault) × IsStopped self.new fault }
     {
         if let Some(fault) = self.stop {
             return Err(fault);

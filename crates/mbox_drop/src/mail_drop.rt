@@ -42,7 +42,8 @@ impl<'a> Model for Slices<'a> {
 
 impl<'a> MailDrop<'a> {
     pub fn cut(bytes: &'a [u8]) -> Result<MailDrop<'a>, NotADrop>
-        ensures { MatchResult result (λ drop. IsTrue (is_drop bytes.now) × (drop ≡ bytes.now)) (λ _. is_drop bytes.now ≡ false) }
+        ensures { MatchResult result (λ drop. IsTrue (is_drop bytes.now) × (drop ≡ bytes.now))
+            (λ _. is_drop bytes.now ≡ false) }
     {
         if bytes.is_empty() {
             return Ok(MailDrop { rest: None });

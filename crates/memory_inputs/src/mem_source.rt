@@ -43,8 +43,10 @@ impl Source for MemSource {
         ensures piece { Reads (Some (input_state self.old).left) (Some (input_state self.new).left) result }
         ensures short { IfOk result (λ piece. length piece ≤ most) }
         ensures later { (input_state self.old).faults ≤ (input_state self.new).faults }
-        ensures cause { IsErrOf result SourceFault.Failed → Rose (input_state self.old).faults (input_state self.new).faults }
-        ensures chosen { IsErrOf result SourceFault.Failed ↔ Contains (input_state self.old).failing (next_call (input_state self.old)) }
+        ensures cause { IsErrOf result SourceFault.Failed
+            → Rose (input_state self.old).faults (input_state self.new).faults }
+        ensures chosen { IsErrOf result SourceFault.Failed ↔ Contains (input_state self.old).failing
+            (next_call (input_state self.old)) }
         ensures counted { (input_state self.new).calls ≡ next_call (input_state self.old) }
         ensures same { (input_state self.new).failing ≡ (input_state self.old).failing }
     {

@@ -24,7 +24,8 @@ use Rattle.message_lines.specs.declared.format.LineFormat.TheVariants.{Default, 
 -- answered or else `E` where it is enciphered, the month and the day, `*` where there is no date, who sent it, the
 -- subject, and the body's begin
 abbrev pub default_text : List ℕ
-default_text = codes "%4(msg)%<(cur)+%| %>%<{replied}-%?{encrypted}E%| %>%02(mon{date})/%02(mday{date})%<{date} %|*%>%17(decode(friendly{from}))  %(decode{subject})%<{body}<<%{body}%>"
+default_text =
+    codes "%4(msg)%<(cur)+%| %>%<{replied}-%?{encrypted}E%| %>%02(mon{date})/%02(mday{date})%<{date} %|*%>%17(decode(friendly{from}))  %(decode{subject})%<{body}<<%{body}%>"
 
 -- the longest format, in bytes
 abbrev pub LIMIT_FORMAT : ℕ

@@ -75,7 +75,8 @@ fn read_file<F: Files>(
     files: &mut F,
     path: &FilePath,
 ) -> Result<Program, CommandFault>
-    ensures { (h : Hand) → Finds run (file_read path.now) (by_hand h (F.state files.old)) (by_hand h (F.state files.new)) result }
+    ensures { (h : Hand)
+        → Finds run (file_read path.now) (by_hand h (F.state files.old)) (by_hand h (F.state files.new)) result }
 {
     let reading = ask_read_file(alloc, run, files, path, LIMIT)?;
     file_program(alloc, path, reading)
@@ -88,7 +89,8 @@ pub fn read_format<F: Files>(
     files: &mut F,
     format: &LineFormat,
 ) -> Result<Program, CommandFault>
-    ensures plan { (h : Hand) → Finds run (format_found format.now) (by_hand h (F.state files.old)) (by_hand h (F.state files.new)) result }
+    ensures plan { (h : Hand)
+        → Finds run (format_found format.now) (by_hand h (F.state files.old)) (by_hand h (F.state files.new)) result }
 {
     match format {
         LineFormat::Default => named_format(alloc, None),

@@ -17,8 +17,10 @@ pub fn message_line(
     number: MsgNum,
     message: &[u8],
 ) -> Result<Bytes, AllocError>
-    ensures code { IfOk result (λ text. text ≡ line_of (coded look.now.program (sight_of look.now) standing) number message.now) }
-    ensures format { (f : Format) → IsCodeOf look.now.program f → IfOk result (λ text. text ≡ line_of (formed f (sight_of look.now) standing) number message.now) }
+    ensures code { IfOk result
+        (λ text. text ≡ line_of (coded look.now.program (sight_of look.now) standing) number message.now) }
+    ensures format { (f : Format) → IsCodeOf look.now.program f
+        → IfOk result (λ text. text ≡ line_of (formed f (sight_of look.now) standing) number message.now) }
 {
     let view = View {
         number,

@@ -24,7 +24,10 @@ fn store_in<F: Files>(
     destination: &Destination,
     bytes: &mut Bytes,
 ) -> Result<MsgNum, CommandFault>
-    ensures plan { Follows hand.old.run command_cause (lifted (of_plan destination.now.folder) (message_stored hand.old.run destination.now.place (highest_of destination.now.highest) bytes.old)) (by_hand hand.old.kept (F.state files.old)) (by_hand hand.new.kept (F.state files.new)) result }
+    ensures plan { Follows hand.old.run command_cause
+        (lifted (of_plan destination.now.folder)
+        (message_stored hand.old.run destination.now.place (highest_of destination.now.highest) bytes.old))
+        (by_hand hand.old.kept (F.state files.old)) (by_hand hand.new.kept (F.state files.new)) result }
     ensures same { (hand.new.run ≡ hand.old.run) × (hand.new.mail ≡ hand.old.mail) }
     ensures bytes { OnOk result (bytes.new ≡ bytes.old) }
 {
@@ -44,7 +47,8 @@ fn copy_to<F: Files>(
     destination: &Destination,
     bytes: &mut Bytes,
 ) -> Result<Destination, CommandFault>
-    ensures plan { Follows hand.old.run command_cause (copied_to hand.old.run bytes.old destination.now) (by_hand hand.old.kept (F.state files.old)) (by_hand hand.new.kept (F.state files.new)) result }
+    ensures plan { Follows hand.old.run command_cause (copied_to hand.old.run bytes.old destination.now)
+        (by_hand hand.old.kept (F.state files.old)) (by_hand hand.new.kept (F.state files.new)) result }
     ensures same { (hand.new.run ≡ hand.old.run) × (hand.new.mail ≡ hand.old.mail) }
     ensures bytes { OnOk result (bytes.new ≡ bytes.old) }
 {
@@ -66,7 +70,8 @@ pub(crate) fn copy_to_all<F: Files>(
     destinations: &[Destination],
     mut bytes: Bytes,
 ) -> Result<DestinationList, CommandFault>
-    ensures plan { Follows hand.old.run command_cause (copied_to_all hand.old.run bytes destinations.now []) (by_hand hand.old.kept (F.state files.old)) (by_hand hand.new.kept (F.state files.new)) result }
+    ensures plan { Follows hand.old.run command_cause (copied_to_all hand.old.run bytes destinations.now [])
+        (by_hand hand.old.kept (F.state files.old)) (by_hand hand.new.kept (F.state files.new)) result }
     ensures same { (hand.new.run ≡ hand.old.run) × (hand.new.mail ≡ hand.old.mail) }
 {
     let mut later = DestinationList::new(alloc);
@@ -86,7 +91,9 @@ fn copy_message<F: Files>(
     number: MsgNum,
     destinations: &[Destination],
 ) -> Result<DestinationList, CommandFault>
-    ensures plan { Follows hand.old.run command_cause (message_copied hand.old.run origin.entry.folder.now origin.entry.place.now number destinations.now) (by_hand hand.old.kept (F.state files.old)) (by_hand hand.new.kept (F.state files.new)) result }
+    ensures plan { Follows hand.old.run command_cause
+        (message_copied hand.old.run origin.entry.folder.now origin.entry.place.now number destinations.now)
+        (by_hand hand.old.kept (F.state files.old)) (by_hand hand.new.kept (F.state files.new)) result }
     ensures same { (hand.new.run ≡ hand.old.run) × (hand.new.mail ≡ hand.old.mail) }
 {
     let name = entry_name(alloc, &Entry::Number(number))?;
@@ -94,8 +101,8 @@ fn copy_message<F: Files>(
     copy_to_all(alloc, hand, files, destinations, bytes)
 }
 
-/// The messages of these numbers are copied to each destination, one after another; they keep their numbers. What comes back are the
-/// destinations with their highest numbers then.
+/// The messages of these numbers are copied to each destination, one after another; they keep their numbers. What comes
+/// back are the destinations with their highest numbers then.
 pub fn copy_messages<F: Files>(
     alloc: Global,
     hand: &mut Hand,
@@ -104,7 +111,9 @@ pub fn copy_messages<F: Files>(
     numbers: &[MsgNum],
     destinations: DestinationList,
 ) -> Result<DestinationList, CommandFault>
-    ensures plan { Follows hand.old.run command_cause (messages_copied hand.old.run origin.entry.folder.now origin.entry.place.now numbers.now destinations) (by_hand hand.old.kept (F.state files.old)) (by_hand hand.new.kept (F.state files.new)) result }
+    ensures plan { Follows hand.old.run command_cause
+        (messages_copied hand.old.run origin.entry.folder.now origin.entry.place.now numbers.now destinations)
+        (by_hand hand.old.kept (F.state files.old)) (by_hand hand.new.kept (F.state files.new)) result }
     ensures same { (hand.new.run ≡ hand.old.run) × (hand.new.mail ≡ hand.old.mail) }
 {
     let mut later = destinations;

@@ -9,8 +9,8 @@ use mh_base::Name;
 use std::alloc::Global;
 use step_plans::{PlanFault, sync, unlink};
 
-/// The held name goes, and that it is gone is made safe, so that no crash brings it back. It was changed meanwhile where it is gone
-/// already.
+/// The held name goes, and that it is gone is made safe, so that no crash brings it back. It was changed meanwhile
+/// where it is gone already.
 pub fn discard<F: Files>(
     alloc: Global,
     run: u128,
@@ -18,7 +18,9 @@ pub fn discard<F: Files>(
     place: &Place,
     held: &Name,
 ) -> Result<(), PlanFault>
-    ensures { (h : Hand) → Follows run plan_cause (held_discarded place.now held.now) (by_hand h (F.state files.old)) (by_hand h (F.state files.new)) result }
+    ensures { (h : Hand)
+        → Follows run plan_cause (held_discarded place.now held.now) (by_hand h (F.state files.old))
+        (by_hand h (F.state files.new)) result }
 {
     unlink(alloc, run, files, place, held)?;
     sync(alloc, run, files, place, held)

@@ -1,4 +1,5 @@
-//! Messages that leave their folder, or are copied to others: how one is held aside, read, copied and let go, so that it has a name at each time.
+//! Messages that leave their folder, or are copied to others: how one is held aside, read, copied and let go, so that
+//! it has a name at each time.
 #![tactic(auto)]
 
 mod copying;

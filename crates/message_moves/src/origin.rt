@@ -29,7 +29,10 @@ pub(crate) fn take_in<F: Files>(
     origin: Origin,
     number: MsgNum,
 ) -> Result<Name, CommandFault>
-    ensures { (h : Hand) → Follows run command_cause (lifted (of_plan origin.entry.folder.now) (number_taken run origin.entry.place.now number)) (by_hand h (F.state files.old)) (by_hand h (F.state files.new)) result }
+    ensures { (h : Hand)
+        → Follows run command_cause
+        (lifted (of_plan origin.entry.folder.now) (number_taken run origin.entry.place.now number))
+        (by_hand h (F.state files.old)) (by_hand h (F.state files.new)) result }
 {
     let folder = origin.folder.duplicate(alloc)?;
     match take(alloc, run, files, origin.place, number) {
@@ -46,7 +49,10 @@ pub(crate) fn content_in<F: Files>(
     origin: Origin,
     name: &Name,
 ) -> Result<Bytes, CommandFault>
-    ensures { (h : Hand) → Follows run command_cause (lifted (of_plan origin.entry.folder.now) (content_read origin.entry.place.now name.now)) (by_hand h (F.state files.old)) (by_hand h (F.state files.new)) result }
+    ensures { (h : Hand)
+        → Follows run command_cause
+        (lifted (of_plan origin.entry.folder.now) (content_read origin.entry.place.now name.now))
+        (by_hand h (F.state files.old)) (by_hand h (F.state files.new)) result }
 {
     let folder = origin.folder.duplicate(alloc)?;
     match content(alloc, run, files, origin.place, name) {
@@ -63,7 +69,10 @@ pub(crate) fn discard_in<F: Files>(
     origin: Origin,
     held: &Name,
 ) -> Result<(), CommandFault>
-    ensures { (h : Hand) → Follows run command_cause (lifted (of_plan origin.entry.folder.now) (held_discarded origin.entry.place.now held.now)) (by_hand h (F.state files.old)) (by_hand h (F.state files.new)) result }
+    ensures { (h : Hand)
+        → Follows run command_cause
+        (lifted (of_plan origin.entry.folder.now) (held_discarded origin.entry.place.now held.now))
+        (by_hand h (F.state files.old)) (by_hand h (F.state files.new)) result }
 {
     let folder = origin.folder.duplicate(alloc)?;
     match discard(alloc, run, files, origin.place, held) {

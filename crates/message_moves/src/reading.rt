@@ -29,8 +29,8 @@ fn content_from(
     }
 }
 
-/// The bytes of the message of this name, which is a held name or a number. One that is too long is refused, and where nothing stands
-/// under the name it was changed meanwhile.
+/// The bytes of the message of this name, which is a held name or a number. One that is too long is refused, and where
+/// nothing stands under the name it was changed meanwhile.
 pub fn content<F: Files>(
     alloc: Global,
     run: u128,
@@ -38,7 +38,9 @@ pub fn content<F: Files>(
     place: &Place,
     name: &Name,
 ) -> Result<Bytes, PlanFault>
-    ensures { (h : Hand) → Follows run plan_cause (content_read place.now name.now) (by_hand h (F.state files.old)) (by_hand h (F.state files.new)) result }
+    ensures { (h : Hand)
+        → Follows run plan_cause (content_read place.now name.now) (by_hand h (F.state files.old))
+        (by_hand h (F.state files.new)) result }
 {
     let reading = ask_read(alloc, run, files, place, name, LIMIT)?;
     content_from(alloc, place, name, reading)

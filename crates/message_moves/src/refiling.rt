@@ -12,8 +12,8 @@ use mh_base::MsgNum;
 use std::alloc::Global;
 use step_plans::{CommandFault, Hand};
 
-/// The message of this number is held aside, copied to each destination, and let go once all copies are safe. Where there is no destination
-/// it stays.
+/// The message of this number is held aside, copied to each destination, and let go once all copies are safe. Where
+/// there is no destination it stays.
 fn refile_message<F: Files>(
     alloc: Global,
     hand: &mut Hand,
@@ -22,7 +22,9 @@ fn refile_message<F: Files>(
     number: MsgNum,
     destinations: &[Destination],
 ) -> Result<DestinationList, CommandFault>
-    ensures plan { Follows hand.old.run command_cause (message_refiled hand.old.run origin.entry.folder.now origin.entry.place.now number destinations.now) (by_hand hand.old.kept (F.state files.old)) (by_hand hand.new.kept (F.state files.new)) result }
+    ensures plan { Follows hand.old.run command_cause
+        (message_refiled hand.old.run origin.entry.folder.now origin.entry.place.now number destinations.now)
+        (by_hand hand.old.kept (F.state files.old)) (by_hand hand.new.kept (F.state files.new)) result }
     ensures same { (hand.new.run ≡ hand.old.run) × (hand.new.mail ≡ hand.old.mail) }
 {
     if destinations.is_empty() {
@@ -36,8 +38,9 @@ fn refile_message<F: Files>(
     Ok(later)
 }
 
-/// The messages of these numbers leave the folder for the destinations, one after another: each is held aside, copied to each destination,
-/// and let go once all copies are safe. What comes back are the destinations with their highest numbers then.
+/// The messages of these numbers leave the folder for the destinations, one after another: each is held aside, copied
+/// to each destination, and let go once all copies are safe. What comes back are the destinations with their highest
+/// numbers then.
 pub fn refile_messages<F: Files>(
     alloc: Global,
     hand: &mut Hand,
@@ -46,7 +49,9 @@ pub fn refile_messages<F: Files>(
     numbers: &[MsgNum],
     destinations: DestinationList,
 ) -> Result<DestinationList, CommandFault>
-    ensures plan { Follows hand.old.run command_cause (messages_refiled hand.old.run origin.entry.folder.now origin.entry.place.now numbers.now destinations) (by_hand hand.old.kept (F.state files.old)) (by_hand hand.new.kept (F.state files.new)) result }
+    ensures plan { Follows hand.old.run command_cause
+        (messages_refiled hand.old.run origin.entry.folder.now origin.entry.place.now numbers.now destinations)
+        (by_hand hand.old.kept (F.state files.old)) (by_hand hand.new.kept (F.state files.new)) result }
     ensures same { (hand.new.run ≡ hand.old.run) × (hand.new.mail ≡ hand.old.mail) }
 {
     let mut later = destinations;

@@ -22,14 +22,16 @@ fn rename<F: Files>(
     from: &Name,
     to: &Name,
 ) -> Result<(), PlanFault>
-    ensures { (h : Hand) → Follows run plan_cause (renamed place.now from.now to.now) (by_hand h (F.state files.old)) (by_hand h (F.state files.new)) result }
+    ensures { (h : Hand)
+        → Follows run plan_cause (renamed place.now from.now to.now) (by_hand h (F.state files.old))
+        (by_hand h (F.state files.new)) result }
 {
     let touched = ask_rename(alloc, run, files, place, from, to)?;
     hold_to(alloc, place, from, touched)
 }
 
-/// The message of this number is held aside: whatever stands at the number gets the run's held name of it, which is answered. The number
-/// was changed meanwhile where nothing stands there.
+/// The message of this number is held aside: whatever stands at the number gets the run's held name of it, which is
+/// answered. The number was changed meanwhile where nothing stands there.
 pub fn take<F: Files>(
     alloc: Global,
     run: u128,
@@ -37,7 +39,9 @@ pub fn take<F: Files>(
     place: &Place,
     number: MsgNum,
 ) -> Result<Name, PlanFault>
-    ensures plan { (h : Hand) → Follows run plan_cause (number_taken run place.now number) (by_hand h (F.state files.old)) (by_hand h (F.state files.new)) result }
+    ensures plan { (h : Hand)
+        → Follows run plan_cause (number_taken run place.now number) (by_hand h (F.state files.old))
+        (by_hand h (F.state files.new)) result }
     ensures name { IfOk result (λ name. name ≡ entry_text (Entry.Held run number)) }
 {
     let name = entry_name(alloc, &Entry::Number(number))?;

@@ -11,7 +11,8 @@ use mh_base::MsgNum;
 use std::alloc::Global;
 use step_plans::{Hand, PlanFault};
 
-/// The message of this number is held aside, put anew at its number with the lines in front, and let go once that is safe.
+/// The message of this number is held aside, put anew at its number with the lines in front, and let go once that is
+/// safe.
 fn note_message<F: Files>(
     alloc: Global,
     hand: &mut Hand,
@@ -22,7 +23,8 @@ fn note_message<F: Files>(
     highest: u32,
 ) -> Result<MsgNum, PlanFault>
     requires { highest ≤ 999999 }
-    ensures plan { Follows hand.old.run plan_cause (message_noted hand.old.run place.now lines.now number highest) (by_hand hand.old.kept (F.state files.old)) (by_hand hand.new.kept (F.state files.new)) result }
+    ensures plan { Follows hand.old.run plan_cause (message_noted hand.old.run place.now lines.now number highest)
+        (by_hand hand.old.kept (F.state files.old)) (by_hand hand.new.kept (F.state files.new)) result }
     ensures same { (hand.new.run ≡ hand.old.run) × (hand.new.mail ≡ hand.old.mail) }
 {
     let run = hand.run();
@@ -34,8 +36,9 @@ fn note_message<F: Files>(
     Ok(end)
 }
 
-/// The messages of these numbers get the lines in front of their bytes, one after another, and keep their numbers: each is held aside, read, put
-/// anew, and let go once that is safe. One whose number was taken meanwhile stands above the highest.
+/// The messages of these numbers get the lines in front of their bytes, one after another, and keep their numbers: each
+/// is held aside, read, put anew, and let go once that is safe. One whose number was taken meanwhile stands above the
+/// highest.
 pub fn note_messages<F: Files>(
     alloc: Global,
     hand: &mut Hand,
@@ -46,7 +49,8 @@ pub fn note_messages<F: Files>(
     highest: u32,
 ) -> Result<(), PlanFault>
     requires { highest ≤ 999999 }
-    ensures plan { Follows hand.old.run plan_cause (messages_noted hand.old.run place.now lines.now numbers.now highest) (by_hand hand.old.kept (F.state files.old)) (by_hand hand.new.kept (F.state files.new)) result }
+    ensures plan { Follows hand.old.run plan_cause (messages_noted hand.old.run place.now lines.now numbers.now highest)
+        (by_hand hand.old.kept (F.state files.old)) (by_hand hand.new.kept (F.state files.new)) result }
     ensures same { (hand.new.run ≡ hand.old.run) × (hand.new.mail ≡ hand.old.mail) }
 {
     let mut top = highest;

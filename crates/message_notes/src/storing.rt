@@ -28,7 +28,8 @@ pub(crate) fn with_lines(alloc: Global, lines: &[u8], bytes: &[u8]) -> Result<By
     Ok(new)
 }
 
-/// A message with these bytes is put at the number, or where that is taken above the highest, and the directory is made safe.
+/// A message with these bytes is put at the number, or where that is taken above the highest, and the directory is made
+/// safe.
 pub(crate) fn store_at<F: Files>(
     alloc: Global,
     hand: &mut Hand,
@@ -39,7 +40,8 @@ pub(crate) fn store_at<F: Files>(
     highest: u32,
 ) -> Result<MsgNum, PlanFault>
     requires { highest ≤ 999999 }
-    ensures plan { Follows hand.old.run plan_cause (stored_at hand.old.run place.now number bytes.old highest) (by_hand hand.old.kept (F.state files.old)) (by_hand hand.new.kept (F.state files.new)) result }
+    ensures plan { Follows hand.old.run plan_cause (stored_at hand.old.run place.now number bytes.old highest)
+        (by_hand hand.old.kept (F.state files.old)) (by_hand hand.new.kept (F.state files.new)) result }
     ensures same { (hand.new.run ≡ hand.old.run) × (hand.new.mail ≡ hand.old.mail) }
 {
     let run = hand.run();

@@ -26,4 +26,5 @@ behind_mark text = drop (prefix_len is_blank (drop 3 text)) (drop 3 text)
 -- what is left of a text where each mark at the front is left out
 pub data IsBehindReplies : List ℕ → List ℕ → Type 0 where
   none : {text : List ℕ} → begins_reply text ≡ false → IsBehindReplies text text
-  one : {text rest : List ℕ} → begins_reply text ≡ true → IsBehindReplies (behind_mark text) rest → IsBehindReplies text rest
+  one : {text rest : List ℕ} → begins_reply text ≡ true → IsBehindReplies (behind_mark text) rest
+      → IsBehindReplies text rest

@@ -14,8 +14,8 @@ fn later(last: Option<i64>, date: Option<i64>) -> Option<i64>
     }
 }
 
-/// The moments by which messages are put in order, in seconds from 1970-01-01 00:00:00 UTC: a message without a date has that of the
-/// message before it.
+/// The moments by which messages are put in order, in seconds from 1970-01-01 00:00:00 UTC: a message without a date
+/// has that of the message before it.
 pub fn filled_dates(alloc: Global, dates: &[Option<i64>]) -> Result<Vec<Option<i64>>, AllocError>
     ensures { IfOk result (λ keys. AreFilled dates.now keys.items) }
 {

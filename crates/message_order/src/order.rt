@@ -5,7 +5,8 @@ ghost use Rattle.message_order.specs.Order.{AreInOrder};
 use mh_base::MsgNum;
 use std::alloc::{AllocError, Global};
 
-/// The numbers of messages in the order of their keys, and of those whose keys are the same in the order of their numbers.
+/// The numbers of messages in the order of their keys, and of those whose keys are the same in the order of their
+/// numbers.
 pub fn in_order<K: Ord>(
     alloc: Global,
     mut keyed: Vec<(K, MsgNum)>,
@@ -13,7 +14,8 @@ pub fn in_order<K: Ord>(
 where
     K: Drop,
     ensures order { IfOk result (λ numbers. AreInOrder K.cmp keyed.items numbers.items) }
-    ensures alone { (other : List ℕ) → IfOk result (λ numbers. AreInOrder K.cmp keyed.items other → other ≡ numbers.items) }
+    ensures alone { (other : List ℕ)
+        → IfOk result (λ numbers. AreInOrder K.cmp keyed.items other → other ≡ numbers.items) }
 {
     keyed.sort()?;
     let mut numbers = Vec::new(alloc);

@@ -8,7 +8,8 @@ use Rattle.message_places.specs.declared.moves.Move.{Move}
 
 -- Each move's message stands at the number beside it, and nothing else of the mailbox is changed. Alone these are their
 -- slots. Of the numbers that the call's links were to get, these are the first, and those that are left come later.
-pub record Rearranges (alone : Bool) (before : Mailbox) (p : Place) (ms : List Move) (ends ns later : List ℕ) (after : Mailbox) : Type 0 where
+pub record Rearranges (alone : Bool) (before : Mailbox) (p : Place) (ms : List Move) (ends ns later : List ℕ)
+    (after : Mailbox) : Type 0 where
   pub count : length ends ≡ length ms
   pub valid : AreMsgNums ends
   pub at_slots : alone ≡ true → ends ≡ slots ms

@@ -14,9 +14,9 @@ use mh_base::{List, MsgNum};
 use std::alloc::Global;
 use step_plans::PlanFault;
 
-/// The messages of the numbers in `takes` are held aside, each move's message is then given its slot, or where that is taken a number above
-/// the highest, and once all are safe there they are held no longer. It answers where each ended, one number a move. The moves are of numbers
-/// in `takes`; `highest` is the highest number of the folder.
+/// The messages of the numbers in `takes` are held aside, each move's message is then given its slot, or where that is
+/// taken a number above the highest, and once all are safe there they are held no longer. It answers where each ended,
+/// one number a move. The moves are of numbers in `takes`; `highest` is the highest number of the folder.
 pub fn arrange<F: Files>(
     alloc: Global,
     run: u128,
@@ -27,7 +27,9 @@ pub fn arrange<F: Files>(
     highest: u32,
 ) -> Result<List<MsgNum>, PlanFault>
     requires { highest ≤ 999999 }
-    ensures { (h : Hand) → Follows run plan_cause (arranged run place.now takes.now moves.now highest) (by_hand h (F.state files.old)) (by_hand h (F.state files.new)) result }
+    ensures { (h : Hand)
+        → Follows run plan_cause (arranged run place.now takes.now moves.now highest) (by_hand h (F.state files.old))
+        (by_hand h (F.state files.new)) result }
 {
     take_all(alloc, run, files, place, takes)?;
     let ends = give_all(alloc, run, files, place, moves, highest)?;

@@ -28,8 +28,8 @@ fn higher(number: MsgNum, highest: u32) -> u32
     number.get().max(highest)
 }
 
-/// A message that is held aside is given its slot, or where that is taken the first free number above it and the highest; which number that
-/// is.
+/// A message that is held aside is given its slot, or where that is taken the first free number above it and the
+/// highest; which number that is.
 fn give<F: Files>(
     alloc: Global,
     run: u128,
@@ -39,7 +39,9 @@ fn give<F: Files>(
     highest: u32,
 ) -> Result<MsgNum, PlanFault>
     requires { highest ≤ 999999 }
-    ensures { (h : Hand) → Follows run plan_cause (given run place.now one.now highest) (by_hand h (F.state files.old)) (by_hand h (F.state files.new)) result }
+    ensures { (h : Hand)
+        → Follows run plan_cause (given run place.now one.now highest) (by_hand h (F.state files.old))
+        (by_hand h (F.state files.new)) result }
 {
     let held = name_aside(alloc, run, one.from)?;
     match link_home(alloc, run, files, place, &held, one.slot, highest)? {
@@ -58,7 +60,9 @@ pub(crate) fn give_all<F: Files>(
     highest: u32,
 ) -> Result<List<MsgNum>, PlanFault>
     requires { highest ≤ 999999 }
-    ensures { (h : Hand) → Follows run plan_cause (all_given run place.now moves.now highest []) (by_hand h (F.state files.old)) (by_hand h (F.state files.new)) result }
+    ensures { (h : Hand)
+        → Follows run plan_cause (all_given run place.now moves.now highest []) (by_hand h (F.state files.old))
+        (by_hand h (F.state files.new)) result }
 {
     let mut ends = List::new(alloc);
     let mut top = highest;

@@ -21,7 +21,9 @@ fn sync_at<F: Files>(
     place: &Place,
     number: MsgNum,
 ) -> Result<(), PlanFault>
-    ensures { (h : Hand) → Follows run plan_cause (synced_at place.now number) (by_hand h (F.state files.old)) (by_hand h (F.state files.new)) result }
+    ensures { (h : Hand)
+        → Follows run plan_cause (synced_at place.now number) (by_hand h (F.state files.old))
+        (by_hand h (F.state files.new)) result }
 {
     let name = entry_name(alloc, &Entry::Number(number))?;
     sync(alloc, run, files, place, &name)
@@ -35,7 +37,9 @@ fn drop_one<F: Files>(
     place: &Place,
     one: &Move,
 ) -> Result<(), PlanFault>
-    ensures { (h : Hand) → Follows run plan_cause (removed place.now (aside_name run one.now.from)) (by_hand h (F.state files.old)) (by_hand h (F.state files.new)) result }
+    ensures { (h : Hand)
+        → Follows run plan_cause (removed place.now (aside_name run one.now.from)) (by_hand h (F.state files.old))
+        (by_hand h (F.state files.new)) result }
 {
     let held = name_aside(alloc, run, one.from)?;
     unlink(alloc, run, files, place, &held)
@@ -49,7 +53,9 @@ fn drop_all<F: Files>(
     place: &Place,
     moves: &[Move],
 ) -> Result<(), PlanFault>
-    ensures { (h : Hand) → Follows run plan_cause (all_dropped run place.now moves.now) (by_hand h (F.state files.old)) (by_hand h (F.state files.new)) result }
+    ensures { (h : Hand)
+        → Follows run plan_cause (all_dropped run place.now moves.now) (by_hand h (F.state files.old))
+        (by_hand h (F.state files.new)) result }
 {
     for one in moves {
         drop_one(alloc, run, files, place, one)?;
@@ -66,7 +72,9 @@ fn drop_for_good<F: Files>(
     moves: &[Move],
     number: MsgNum,
 ) -> Result<(), PlanFault>
-    ensures { (h : Hand) → Follows run plan_cause (dropped_for_good run place.now moves.now number) (by_hand h (F.state files.old)) (by_hand h (F.state files.new)) result }
+    ensures { (h : Hand)
+        → Follows run plan_cause (dropped_for_good run place.now moves.now number) (by_hand h (F.state files.old))
+        (by_hand h (F.state files.new)) result }
 {
     drop_all(alloc, run, files, place, moves)?;
     sync_at(alloc, run, files, place, number)
@@ -81,7 +89,9 @@ fn drop_safely<F: Files>(
     moves: &[Move],
     number: MsgNum,
 ) -> Result<(), PlanFault>
-    ensures { (h : Hand) → Follows run plan_cause (dropped_safely run place.now moves.now number) (by_hand h (F.state files.old)) (by_hand h (F.state files.new)) result }
+    ensures { (h : Hand)
+        → Follows run plan_cause (dropped_safely run place.now moves.now number) (by_hand h (F.state files.old))
+        (by_hand h (F.state files.new)) result }
 {
     sync_at(alloc, run, files, place, number)?;
     drop_for_good(alloc, run, files, place, moves, number)
@@ -96,7 +106,9 @@ pub(crate) fn let_go<F: Files>(
     moves: &[Move],
     ends: &[MsgNum],
 ) -> Result<(), PlanFault>
-    ensures { (h : Hand) → Follows run plan_cause (let_go_after run place.now moves.now ends.now) (by_hand h (F.state files.old)) (by_hand h (F.state files.new)) result }
+    ensures { (h : Hand)
+        → Follows run plan_cause (let_go_after run place.now moves.now ends.now) (by_hand h (F.state files.old))
+        (by_hand h (F.state files.new)) result }
 {
     match ends.last() {
         Some(number) => drop_safely(alloc, run, files, place, moves, *number),

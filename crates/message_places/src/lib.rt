@@ -1,4 +1,5 @@
-//! Messages of one folder that change places: all are held aside, each is given its new number, and only then are they let go.
+//! Messages of one folder that change places: all are held aside, each is given its new number, and only then are they
+//! let go.
 #![tactic(auto)]
 
 mod arranging;

@@ -10,7 +10,8 @@ use mh_base::MsgNum;
 use std::alloc::Global;
 use step_plans::PlanFault;
 
-/// The messages of these numbers are held aside, one after another. A number was changed meanwhile where nothing stands there.
+/// The messages of these numbers are held aside, one after another. A number was changed meanwhile where nothing stands
+/// there.
 pub(crate) fn take_all<F: Files>(
     alloc: Global,
     run: u128,
@@ -18,7 +19,9 @@ pub(crate) fn take_all<F: Files>(
     place: &Place,
     numbers: &[MsgNum],
 ) -> Result<(), PlanFault>
-    ensures { (h : Hand) → Follows run plan_cause (all_taken run place.now numbers.now) (by_hand h (F.state files.old)) (by_hand h (F.state files.new)) result }
+    ensures { (h : Hand)
+        → Follows run plan_cause (all_taken run place.now numbers.now) (by_hand h (F.state files.old))
+        (by_hand h (F.state files.new)) result }
 {
     for number in numbers {
         take(alloc, run, files, place, *number)?;

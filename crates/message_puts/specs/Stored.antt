@@ -27,4 +27,7 @@ HasStoredAt run p number bytes own =
 
 -- the run linked a file to this number, or met one there
 abbrev pub HasMetAt : Place → ℕ → List Deed → Type 0
-HasMetAt p number own = Once (λ d older. (temp : List ℕ) × ((d ≡ did (Link p temp (decimal number)) Done) ⊎ (d ≡ did (Link p temp (decimal number)) Exists))) own
+HasMetAt p number own =
+    Once
+    (λ d older. (temp : List ℕ)
+    × ((d ≡ did (Link p temp (decimal number)) Done) ⊎ (d ≡ did (Link p temp (decimal number)) Exists))) own

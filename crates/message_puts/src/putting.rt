@@ -22,7 +22,9 @@ fn link_first<F: Files>(
     highest: u32,
 ) -> Result<Option<MsgNum>, PlanFault>
     requires { highest ≤ 999999 }
-    ensures { (h : Kept) → Follows run plan_cause (linked_first place.now name.now wish highest) (by_hand h (F.state files.old)) (by_hand h (F.state files.new)) result }
+    ensures { (h : Kept)
+        → Follows run plan_cause (linked_first place.now name.now wish highest) (by_hand h (F.state files.old))
+        (by_hand h (F.state files.new)) result }
 {
     match wish {
         Some(number) => link_home(alloc, run, files, place, name, number, highest),
@@ -40,7 +42,9 @@ fn number<F: Files>(
     highest: u32,
 ) -> Result<MsgNum, PlanFault>
     requires { highest ≤ 999999 }
-    ensures { (h : Kept) → Follows run plan_cause (numbered place.now name.now wish highest) (by_hand h (F.state files.old)) (by_hand h (F.state files.new)) result }
+    ensures { (h : Kept)
+        → Follows run plan_cause (numbered place.now name.now wish highest) (by_hand h (F.state files.old))
+        (by_hand h (F.state files.new)) result }
 {
     match link_first(alloc, run, files, place, name, wish, highest)? {
         Some(number) => Ok(number),
@@ -48,8 +52,9 @@ fn number<F: Files>(
     }
 }
 
-/// A message with these bytes is put into a directory whose highest number this is, and gets the number that is wished for; where that is
-/// taken, or none is wished for, the first free one above the highest. It is safe once the directory is made safe.
+/// A message with these bytes is put into a directory whose highest number this is, and gets the number that is wished
+/// for; where that is taken, or none is wished for, the first free one above the highest. It is safe once the directory
+/// is made safe.
 pub fn put<F: Files>(
     alloc: Global,
     hand: &mut Hand,
@@ -60,7 +65,8 @@ pub fn put<F: Files>(
     highest: u32,
 ) -> Result<MsgNum, PlanFault>
     requires { highest ≤ 999999 }
-    ensures plan { Follows hand.old.run plan_cause (message_put hand.old.run place.now bytes.old wish highest) (by_hand hand.old.kept (F.state files.old)) (by_hand hand.new.kept (F.state files.new)) result }
+    ensures plan { Follows hand.old.run plan_cause (message_put hand.old.run place.now bytes.old wish highest)
+        (by_hand hand.old.kept (F.state files.old)) (by_hand hand.new.kept (F.state files.new)) result }
     ensures same { (hand.new.run ≡ hand.old.run) × (hand.new.mail ≡ hand.old.mail) }
     ensures bytes { OnOk result (bytes.new ≡ bytes.old) }
 {

@@ -10,8 +10,8 @@ use mh_base::{Bytes, Entry, MsgNum, entry_name};
 use std::alloc::Global;
 use step_plans::{Hand, PlanFault, sync};
 
-/// A message with these bytes is put into a directory whose highest number this is, at the first free number above it, and the directory is
-/// made safe.
+/// A message with these bytes is put into a directory whose highest number this is, at the first free number above it,
+/// and the directory is made safe.
 pub fn store<F: Files>(
     alloc: Global,
     hand: &mut Hand,
@@ -21,7 +21,8 @@ pub fn store<F: Files>(
     bytes: &mut Bytes,
 ) -> Result<MsgNum, PlanFault>
     requires { highest ≤ 999999 }
-    ensures plan { Follows hand.old.run plan_cause (message_stored hand.old.run place.now highest bytes.old) (by_hand hand.old.kept (F.state files.old)) (by_hand hand.new.kept (F.state files.new)) result }
+    ensures plan { Follows hand.old.run plan_cause (message_stored hand.old.run place.now highest bytes.old)
+        (by_hand hand.old.kept (F.state files.old)) (by_hand hand.new.kept (F.state files.new)) result }
     ensures same { (hand.new.run ≡ hand.old.run) × (hand.new.mail ≡ hand.old.mail) }
     ensures bytes { OnOk result (bytes.new ≡ bytes.old) }
 {

@@ -150,7 +150,8 @@ impl Fed {
         }
     }
 
-    /// How many messages were given and how many bytes are kept, and the length of a message that is too long for the counter.
+    /// How many messages were given and how many bytes are kept, and the length of a message that is too long for the
+    /// counter.
     fn show(&self, alloc: Global, told: &mut Bytes) -> Result<(), Fail> {
         show_number(alloc, told, self.given)?;
         told.extend(b" given, ")?;

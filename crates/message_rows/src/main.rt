@@ -1,5 +1,5 @@
-//! Rows of calls of the crates of messages: codes, dates, texts, drops, parts, drafts, formats and lines. `stdin` names calls and what they are given; `stdout` is what they give.
-//! docs/ROWS.md tells the lines.
+//! Rows of calls of the crates of messages: codes, dates, texts, drops, parts, drafts, formats and lines. `stdin` names
+//! calls and what they are given; `stdout` is what they give. docs/ROWS.md tells the lines.
 #![tactic(auto)]
 
 mod codes;

@@ -1,4 +1,5 @@
-//! The program `mh`: what the system says of the user and the moment, and the top call; and what the program tells of itself.
+//! The program `mh`: what the system says of the user and the moment, and the top call; and what the program tells of
+//! itself.
 #![tactic(auto)]
 
 mod help;

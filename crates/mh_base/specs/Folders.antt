@@ -34,11 +34,15 @@ has_folder_length bytes = nat_le 1 (length bytes) && nat_le (length bytes) 200
 
 -- no plus sign first, and no space first or last
 abbrev pub has_good_ends : List ℕ → Bool
-has_good_ends bytes = not (slice_index bytes 0 == 43) && not (slice_index bytes 0 == 32) && not (slice_index bytes (length bytes - 1) == 32)
+has_good_ends bytes =
+    not (slice_index bytes 0 == 43) && not (slice_index bytes 0 == 32)
+    && not (slice_index bytes (length bytes - 1) == 32)
 
 -- the bytes of a folder's name
 abbrev pub is_folder_text : List ℕ → Bool
-is_folder_text bytes = has_folder_length bytes && has_good_ends bytes && list_all is_folder_byte bytes && is_no_context bytes && list_all is_segment (segments bytes)
+is_folder_text bytes =
+    has_folder_length bytes && has_good_ends bytes && list_all is_folder_byte bytes && is_no_context bytes
+    && list_all is_segment (segments bytes)
 
 -- a folder's name as characters
 unfoldable pub is_folder_name : List ℕ → Bool

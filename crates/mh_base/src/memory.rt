@@ -124,7 +124,8 @@ impl Sink for MemSink {
         ensures put { Puts (Some (mem_state self.old).bytes) (Some (mem_state self.new).bytes) piece.now result }
         ensures later { (mem_state self.old).faults ≤ (mem_state self.new).faults }
         ensures cause { IsErrOf result SinkFault.Failed → Rose (mem_state self.old).faults (mem_state self.new).faults }
-        ensures chosen { IsErrOf result SinkFault.Failed ↔ Contains (mem_state self.old).failing (next_call (mem_state self.old)) }
+        ensures chosen { IsErrOf result SinkFault.Failed ↔ Contains (mem_state self.old).failing
+            (next_call (mem_state self.old)) }
         ensures counted { (mem_state self.new).calls ≡ next_call (mem_state self.old) }
         ensures same { (mem_state self.new).failing ≡ (mem_state self.old).failing }
     {

@@ -41,7 +41,8 @@ with_attribute (Some a) more = option_map (led a) (more a.rest)
 abbrev pub attributes_up_to : ℕ → List ℕ → Option TakenAttributes
 attributes_up_to zero text = Some (record { attributes = []; rest = text })
 attributes_up_to (suc n) text =
-    if is_led 59 text then with_attribute (attribute_in text) (attributes_up_to n) else Some (record { attributes = []; rest = text })
+    if is_led 59 text then with_attribute (attribute_in text) (attributes_up_to n)
+    else Some (record { attributes = []; rest = text })
 
 -- all attributes at the front, and what follows them
 unfoldable pub attributes_in : List ℕ → Option TakenAttributes

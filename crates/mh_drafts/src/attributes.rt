@@ -29,7 +29,8 @@ pub(crate) struct Attributes<'a> {
 
 /// What follows this byte at the front.
 pub(crate) fn behind_byte(text: &[u8], byte: u8) -> Option<&[u8]>
-    ensures value { MatchOption result (rest_behind_byte byte text.now ≡ None) (λ rest. rest_behind_byte byte text.now ≡ Some rest.now) }
+    ensures value { MatchOption result (rest_behind_byte byte text.now ≡ None)
+        (λ rest. rest_behind_byte byte text.now ≡ Some rest.now) }
     ensures inside { MatchOption result ⊤ (λ rest. length rest.now < length text.now) }
 {
     match text.split_first() {
@@ -40,7 +41,8 @@ pub(crate) fn behind_byte(text: &[u8], byte: u8) -> Option<&[u8]>
 
 /// What follows a word that ends here.
 pub(crate) fn behind_word(text: &[u8]) -> Option<&[u8]>
-    ensures value { MatchOption result (rest_behind_word text.now ≡ None) (λ rest. rest_behind_word text.now ≡ Some rest.now) }
+    ensures value { MatchOption result (rest_behind_word text.now ≡ None)
+        (λ rest. rest_behind_word text.now ≡ Some rest.now) }
     ensures inside { MatchOption result ⊤ (λ rest. length rest.now ≤ length text.now) }
 {
     match text.first() {
@@ -61,7 +63,8 @@ fn first_worth(text: &[u8]) -> Option<Word<'_>>
 }
 
 fn valued<'a>(name: Word<'a>, value: Word<'a>) -> Option<RawAttribute<'a>>
-    ensures value { MatchOption result (valued_in (word_of name.entry) (word_of value.entry) ≡ None) (λ a. valued_in (word_of name.entry) (word_of value.entry) ≡ Some (taken_of a)) }
+    ensures value { MatchOption result (valued_in (word_of name.entry) (word_of value.entry) ≡ None)
+        (λ a. valued_in (word_of name.entry) (word_of value.entry) ≡ Some (taken_of a)) }
     ensures inside { MatchOption result ⊤ (λ a. length a.rest.now ≤ length value.entry.rest.now) }
 {
     Some(RawAttribute {
@@ -72,7 +75,8 @@ fn valued<'a>(name: Word<'a>, value: Word<'a>) -> Option<RawAttribute<'a>>
 }
 
 fn named(name: Word<'_>) -> Option<RawAttribute<'_>>
-    ensures value { MatchOption result (named_in (word_of name.entry) ≡ None) (λ a. named_in (word_of name.entry) ≡ Some (taken_of a)) }
+    ensures value { MatchOption result (named_in (word_of name.entry) ≡ None)
+        (λ a. named_in (word_of name.entry) ≡ Some (taken_of a)) }
     ensures inside { MatchOption result ⊤ (λ a. length a.rest.now ≤ length name.entry.rest.now) }
 {
     valued(name, first_worth(behind_byte(name.rest, b'=')?)?)
@@ -100,7 +104,8 @@ pub(crate) fn read_attributes<'a>(
     alloc: Global,
     text: &'a [u8],
 ) -> Result<Option<Attributes<'a>>, AllocError>
-    ensures { IfOk result (λ all. MatchOption all (attributes_in text.now ≡ None) (λ a. attributes_in text.now ≡ Some (all_taken a))) }
+    ensures { IfOk result
+        (λ all. MatchOption all (attributes_in text.now ≡ None) (λ a. attributes_in text.now ≡ Some (all_taken a))) }
 {
     let mut list = List::new(alloc);
     let mut rest = text;

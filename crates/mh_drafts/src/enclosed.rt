@@ -47,7 +47,8 @@ fn closed(text: &[u8], place: usize) -> Enclosed<'_>
 
 /// What stands between these brackets at the front.
 pub(crate) fn read_enclosed(text: &[u8], first: u8, last: u8) -> Option<Enclosed<'_>>
-    ensures { MatchOption result (enclosed_in first last text.now ≡ None) (λ e. enclosed_in first last text.now ≡ Some (enclosed_of e)) }
+    ensures { MatchOption result (enclosed_in first last text.now ≡ None)
+        (λ e. enclosed_in first last text.now ≡ Some (enclosed_of e)) }
 {
     match behind_byte(text, first) {
         Some(rest) => Some(closed(rest, byte_place(rest, last)?)),

@@ -44,7 +44,8 @@ impl Gathering {
     fn add_text(&mut self, line: &[u8]) -> Result<(), AllocError>
         ensures depth { OnOk result (self.new.depth ≡ self.old.depth) }
         ensures signs { OnOk result (length self.new.signs ≡ length self.old.signs + 1) }
-        ensures whole { OnOk result ((marks : List Mark) → completed self.new marks ≡ completed self.old (text_mark line.now ∷ marks)) }
+        ensures whole { OnOk result
+            ((marks : List Mark) → completed self.new marks ≡ completed self.old (text_mark line.now ∷ marks)) }
     {
         let said = is_said(line);
         self.text.extend(line)?;
@@ -92,7 +93,8 @@ impl Gathering {
         requires { self.old.depth + 1 < 2 ^ 64 }
         ensures depth { OnOk result (self.new.depth ≡ open_behind_directive self.old.depth directive) }
         ensures signs { OnOk result (length self.new.signs ≡ length self.old.signs + 1) }
-        ensures whole { OnOk result ((marks : List Mark) → completed self.new marks ≡ completed self.old (order_mark directive ∷ marks)) }
+        ensures whole { OnOk result
+            ((marks : List Mark) → completed self.new marks ≡ completed self.old (order_mark directive ∷ marks)) }
     {
         self.end_text(alloc)?;
         self.signs.push(Sign::of(&directive))?;
@@ -103,9 +105,12 @@ impl Gathering {
     /// One line more.
     fn add(&mut self, alloc: Global, line: &[u8]) -> Result<(), AllocError>
         requires { self.old.depth + 1 < 2 ^ 64 }
-        ensures depth { OnOk result (self.new.depth ≡ open_after self.old.depth (placed self.old.depth (mark_of line.now))) }
+        ensures depth { OnOk result
+            (self.new.depth ≡ open_after self.old.depth (placed self.old.depth (mark_of line.now))) }
         ensures signs { OnOk result (length self.new.signs ≡ length self.old.signs + 1) }
-        ensures whole { OnOk result ((marks : List Mark) → completed self.new marks ≡ completed self.old (placed self.old.depth (mark_of line.now) ∷ marks)) }
+        ensures whole { OnOk result
+            ((marks : List Mark)
+            → completed self.new marks ≡ completed self.old (placed self.old.depth (mark_of line.now) ∷ marks)) }
     {
         match Line::of(line) {
             Line::Text(line) => self.add_text(line),
@@ -137,7 +142,8 @@ fn open_behind(depth: u64, directive: &Directive) -> u64
 
 /// All that the lines of a body say.
 pub(crate) fn gather(alloc: Global, body: &[u8]) -> Result<Gathering, AllocError>
-    ensures whole { IfOk result (λ g. record { items = g.items; wants = g.wants; signs = g.signs } ≡ whole_of (marks_in body.now)) }
+    ensures whole { IfOk result
+        (λ g. record { items = g.items; wants = g.wants; signs = g.signs } ≡ whole_of (marks_in body.now)) }
     ensures inside { IfOk result (λ g. length g.signs ≤ length body.now) }
 {
     let mut gathering = Gathering::new(alloc);

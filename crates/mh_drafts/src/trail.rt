@@ -27,7 +27,8 @@ pub(crate) struct Trail<'a> {
 }
 
 fn slashed<'a>(kind: Word<'a>, subtype: Word<'a>) -> Option<Heading<'a>>
-    ensures { MatchOption result (slashed_in (word_of kind.entry) (word_of subtype.entry) ≡ None) (λ h. slashed_in (word_of kind.entry) (word_of subtype.entry) ≡ Some (heading_of h)) }
+    ensures { MatchOption result (slashed_in (word_of kind.entry) (word_of subtype.entry) ≡ None)
+        (λ h. slashed_in (word_of kind.entry) (word_of subtype.entry) ≡ Some (heading_of h)) }
 {
     Some(Heading {
         kind: kind.value,

@@ -30,7 +30,8 @@ written_current m path text written =
 -- all of this was written; the context says so, or it is written
 abbrev pub made_current : Mailbox → List ℕ → List NamedValue → List ℕ → List ℕ → Work CommandFault
 made_current m path entries folder written =
-    if says entries (current_change folder) then record { text = written; end = Ok tt; mailbox = m } else written_current m path (current_text entries folder) written
+    if says entries (current_change folder) then record { text = written; end = Ok tt; mailbox = m }
+    else written_current m path (current_text entries folder) written
 
 abbrev pub text_of : (ℕ → Option (List ℕ)) → ℕ → List ℕ
 text_of messages n = unwrap_or (messages n) []
@@ -39,12 +40,15 @@ text_of messages n = unwrap_or (messages n) []
 unfoldable pub lines_of : Writing → (ℕ → Option (List ℕ)) → List ℕ → List ℕ
 lines_of lined messages [] = []
 lines_of lined messages (n ∷ ns) =
-    if nat_lt LIMIT_BYTES (length (text_of messages n)) then [] else line_of lined n (text_of messages n) ++ lines_of lined messages ns
+    if nat_lt LIMIT_BYTES (length (text_of messages n)) then []
+    else line_of lined n (text_of messages n) ++ lines_of lined messages ns
 
 -- the length of the first message that is too long
 unfoldable pub too_long_of : (ℕ → Option (List ℕ)) → List ℕ → Option ℕ
 too_long_of messages [] = None
-too_long_of messages (n ∷ ns) = if nat_lt LIMIT_BYTES (length (text_of messages n)) then Some (length (text_of messages n)) else too_long_of messages ns
+too_long_of messages (n ∷ ns) =
+    if nat_lt LIMIT_BYTES (length (text_of messages n)) then Some (length (text_of messages n))
+    else too_long_of messages ns
 
 abbrev pub lines_written : Mailbox → List ℕ → List NamedValue → List ℕ → List ℕ → Option ℕ → Work CommandFault
 lines_written m path entries folder lines (Some l) = record { text = lines; end = Err (too_large l); mailbox = m }
@@ -64,7 +68,8 @@ chosen_shown lined m path entries job f (Err e) = refused_at m e
 abbrev pub sequences_read : Mailbox → List ℕ → List NamedValue → ScanJob → FolderValue → Result (List ℕ) CommandFault
     → Work CommandFault
 sequences_read m path entries job f (Ok text) =
-    chosen_shown (lined_by job text entries) m path entries job f (chosen_in (folder_with job.negation (numbers_of f) (marks_in text entries job.folder)) job.specs)
+    chosen_shown (lined_by job text entries) m path entries job f
+    (chosen_in (folder_with job.negation (numbers_of f) (marks_in text entries job.folder)) job.specs)
 sequences_read m path entries job f (Err e) = refused_at m e
 
 abbrev pub folder_shown : Mailbox → List ℕ → List NamedValue → ScanJob → Option FolderValue → Work CommandFault

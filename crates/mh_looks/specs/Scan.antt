@@ -81,5 +81,7 @@ scan run mail job = do
   names ← folder_listed (Folder mail job.folder) job.folder
   text ← text_read (Folder mail job.folder) (entry_text Sequences)
   numbers ← Recall (λ h. Return (chosen_by job names text (entries_seen h.context)))
-  shown ← Recall (λ h. all_shown (lined_by job text (entries_seen h.context)) (Folder mail job.folder) (ordered job.reverse numbers))
+  shown ← Recall
+      (λ h.
+      all_shown (lined_by job text (entries_seen h.context)) (Folder mail job.folder) (ordered job.reverse numbers))
   made_current run mail job.folder

@@ -19,7 +19,8 @@ HasListed p own = Once (λ d older. (names : List (List ℕ)) × (d ≡ did (Lis
 -- listed that folder
 abbrev pub MarksCurrent : List ℕ → List Deed → Place → List ℕ → List ℕ → List ℕ → Type 0
 MarksCurrent mail own p name old new =
-    (folder : List ℕ) × (is_folder_name folder ≡ true) × HasListed (Folder mail folder) own × MarksContext mail (current_change folder) p name old new
+    (folder : List ℕ) × (is_folder_name folder ≡ true) × HasListed (Folder mail folder) own
+    × MarksContext mail (current_change folder) p name old new
 
 -- a command that looks at a folder of this mail directory changes nothing but the current folder, and may say anything
 abbrev pub scan_pledge : ℕ → List ℕ → Pledge

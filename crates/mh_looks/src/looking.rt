@@ -48,7 +48,9 @@ fn show<O: Sink>(
     number: MsgNum,
     reading: Reading,
 ) -> Result<(), CommandFault>
-    ensures { (run : ℕ) (h : Kept) (f : FilesState) → Follows run command_cause (shown_by (lined lines.entry) place.now number reading) (by_out h f (O.state out.old)) (by_out h f (O.state out.new)) result }
+    ensures { (run : ℕ) (h : Kept) (f : FilesState)
+        → Follows run command_cause (shown_by (lined lines.entry) place.now number reading)
+        (by_out h f (O.state out.old)) (by_out h f (O.state out.new)) result }
 {
     match reading {
         Reading::Content(bytes) => {
@@ -73,7 +75,9 @@ fn show_one<F: Files, O: Sink>(
     place: &Place,
     number: MsgNum,
 ) -> Result<(), CommandFault>
-    ensures { (h : Kept) → Follows run command_cause (one_shown (lined lines.entry) place.now number) (by_out h (F.state files.old) (O.state out.old)) (by_out h (F.state files.new) (O.state out.new)) result }
+    ensures { (h : Kept)
+        → Follows run command_cause (one_shown (lined lines.entry) place.now number)
+        (by_out h (F.state files.old) (O.state out.old)) (by_out h (F.state files.new) (O.state out.new)) result }
 {
     let name = entry_name(alloc, &Entry::Number(number))?;
     let reading = ask_read(alloc, run, files, place, &name, LIMIT)?;
@@ -89,7 +93,9 @@ fn show_all<F: Files, O: Sink>(
     place: &Place,
     numbers: &[MsgNum],
 ) -> Result<(), CommandFault>
-    ensures { (h : Kept) → Follows run command_cause (all_shown (lined lines.entry) place.now numbers.now) (by_out h (F.state files.old) (O.state out.old)) (by_out h (F.state files.new) (O.state out.new)) result }
+    ensures { (h : Kept)
+        → Follows run command_cause (all_shown (lined lines.entry) place.now numbers.now)
+        (by_out h (F.state files.old) (O.state out.old)) (by_out h (F.state files.new) (O.state out.new)) result }
 {
     for number in numbers {
         show_one(alloc, run, files, out, lines, place, *number)?;
@@ -134,7 +140,9 @@ pub fn scan<F: Files, O: Sink>(
     out: &mut O,
     job: &ScanJob,
 ) -> Result<(), CommandFault>
-    ensures plan { Follows hand.old.run command_cause (scan_plan hand.old.run hand.old.mail (asked job.now)) (by_out hand.old.kept (F.state files.old) (O.state out.old)) (by_out hand.new.kept (F.state files.new) (O.state out.new)) result }
+    ensures plan { Follows hand.old.run command_cause (scan_plan hand.old.run hand.old.mail (asked job.now))
+        (by_out hand.old.kept (F.state files.old) (O.state out.old))
+        (by_out hand.new.kept (F.state files.new) (O.state out.new)) result }
     ensures run { hand.new.run ≡ hand.old.run }
     ensures mail { hand.new.mail ≡ hand.old.mail }
 {

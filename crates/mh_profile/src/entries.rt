@@ -97,7 +97,9 @@ impl Entries {
 
     /// The value of the entry of this name, where there is one.
     pub fn get(&self, name: &[u8]) -> Result<Option<&Bytes>, AllocError>
-        ensures { IfOk result (λ found. MatchOption found (value_of name.now self.now ≡ None) (λ v. value_of name.now self.now ≡ Some v.now)) }
+        ensures { IfOk result
+            (λ found.
+            MatchOption found (value_of name.now self.now ≡ None) (λ v. value_of name.now self.now ≡ Some v.now)) }
     {
         let key = name_key(self.alloc, name)?;
         match self.map.get(key.as_slice()) {
@@ -126,7 +128,8 @@ impl Entries {
         }
     }
 
-    /// Takes the entry of this name away, where there is one. It moves all entries behind it: to take many, `remove_all`.
+    /// Takes the entry of this name away, where there is one. It moves all entries behind it: to take many,
+    /// `remove_all`.
     pub fn remove(&mut self, name: &[u8]) -> Result<(), AllocError>
         ensures ok { OnOk result (self.new ≡ without name.now self.old) }
         ensures err { OnErr result (self.new ≡ self.old) }
@@ -160,7 +163,8 @@ impl Entries {
 
     /// The name of the entry at this place, from 0.
     pub fn name_at(&self, index: u64) -> Option<&Bytes>
-        ensures { MatchOption result (length self.now ≤ index) (λ n. slice_get (map (λ e. e.name) self.now) index ≡ Some n.now) }
+        ensures { MatchOption result (length self.now ≤ index)
+            (λ n. slice_get (map (λ e. e.name) self.now) index ≡ Some n.now) }
     {
         match self.map.get_index(index as usize) {
             Some((_key, entry)) => Some(&entry.name),

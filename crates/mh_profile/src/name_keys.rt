@@ -16,7 +16,8 @@ pub(crate) struct NameKeys {
 impl NameKeys {
     /// The keys of these names.
     pub(crate) fn of(alloc: Global, names: &[&[u8]]) -> Result<NameKeys, AllocError>
-        ensures { IfOk result (λ k. (name : List ℕ) → has_key k (key_of name) ≡ is_named (map (λ n. n.now) names.now) name) }
+        ensures { IfOk result
+            (λ k. (name : List ℕ) → has_key k (key_of name) ≡ is_named (map (λ n. n.now) names.now) name) }
     {
         let mut keys = IndexSet::new(alloc);
         for name in names {

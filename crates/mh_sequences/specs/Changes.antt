@@ -35,7 +35,9 @@ IsChanged f old new = AreRuns new × ((n : ℕ) → has new n ≡ f (has old) n)
 -- each sequence is changed, and is left out where nothing is left of it
 abbrev pub IsEach : ((ℕ → Bool) → ℕ → Bool) → List Sequence → List Sequence → Type 0
 IsEach f [] ys = ys ≡ []
-IsEach f (x ∷ xs) ys = (runs : List Run) × (rest : List Sequence) × IsChanged f x.runs runs × (ys ≡ alone x.name x.public runs ++ rest) × IsEach f xs rest
+IsEach f (x ∷ xs) ys =
+    (runs : List Run) × (rest : List Sequence) × IsChanged f x.runs runs × (ys ≡ alone x.name x.public runs ++ rest)
+    × IsEach f xs rest
 
 -- every sequence has changed so, and nothing else has
 pub record IsAllChanged (f : (ℕ → Bool) → ℕ → Bool) (old new : List Sequence) : Type 0 where
@@ -45,11 +47,17 @@ pub record IsAllChanged (f : (ℕ → Bool) → ℕ → Bool) (old new : List Se
 -- absent numbers are dropped from the sequences, and the current message stays
 pub record IsCut (listing : List Run) (old new : Marked) : Type 0 where
   pub numbers : (name : List ℕ) (n : ℕ) → member new.users name n ≡ (member old.users name n && has listing n)
-  pub public : (name : List ℕ) (n : ℕ) → IsTrue (member new.users name n) → public_of new.users name ≡ public_of old.users name
+  pub public : (name : List ℕ) (n : ℕ) → IsTrue (member new.users name n)
+      → public_of new.users name ≡ public_of old.users name
   pub cur : new.cur ≡ old.cur
 
 -- a set is joined to the sequence of this name, and nothing else changes
-pub record IsJoined (name : List ℕ) (numbers : List Run) (how : Join) (public : Option Bool) (old new : Marked) : Type 0 where
-  pub members : (s : List ℕ) (n : ℕ) → member new.users s n ≡ (if bytes_eq s name then joins how (member old.users s n) (has numbers n) else member old.users s n)
-  pub state : (s : List ℕ) (n : ℕ) → IsTrue (member new.users s n) → public_of new.users s ≡ (if bytes_eq s name then set_to public (public_of old.users s) else public_of old.users s)
+pub record IsJoined (name : List ℕ) (numbers : List Run) (how : Join) (public : Option Bool)
+    (old new : Marked) : Type 0 where
+  pub members : (s : List ℕ) (n : ℕ)
+      → member new.users s n
+      ≡ (if bytes_eq s name then joins how (member old.users s n) (has numbers n) else member old.users s n)
+  pub state : (s : List ℕ) (n : ℕ) → IsTrue (member new.users s n)
+      → public_of new.users s
+      ≡ (if bytes_eq s name then set_to public (public_of old.users s) else public_of old.users s)
   pub cur : new.cur ≡ old.cur

@@ -32,7 +32,9 @@ is_no_dash b = not (b == 45)
 
 -- the run that an item names: a number, or two with a dash between, of which the first is at most the second
 unfoldable pub run_in : List ℕ → Option Run
-run_in item = alone_or (number_of item) (up_to (number_of (take (prefix_len is_no_dash item) item)) (drop (prefix_len is_no_dash item) item))
+run_in item =
+    alone_or (number_of item)
+    (up_to (number_of (take (prefix_len is_no_dash item) item)) (drop (prefix_len is_no_dash item) item))
 
 abbrev pub is_listed : List ℕ → Bool
 is_listed item = is_some (run_in item)

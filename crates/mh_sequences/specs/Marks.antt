@@ -54,5 +54,6 @@ marked_cur (Cur cur) old = cur
 -- what the mark makes of sequences
 pub record IsMarked (mark : Mark) (old new : Marked) : Type 0 where
   pub numbers : (name : List ℕ) (n : ℕ) → member new.users name n ≡ marked mark name (member old.users name) n
-  pub public : (name : List ℕ) (n : ℕ) → IsTrue (member new.users name n) → public_of new.users name ≡ marked_public mark name (public_of old.users name)
+  pub public : (name : List ℕ) (n : ℕ) → IsTrue (member new.users name n)
+      → public_of new.users name ≡ marked_public mark name (public_of old.users name)
   pub cur : new.cur ≡ marked_cur mark old.cur

@@ -28,7 +28,8 @@ pub record AreNoted (name : List ℕ) (runs : List Run) (old new : List Mention)
 -- the runs of a list were noted under a name, where it is a sequence's
 pub record IsMentioned (name list : List ℕ) (old new : List Mention) : Type 0 where
   pub valid : All IsMention new
-  pub given : (s : List ℕ) (n : ℕ) → given new s n ≡ (given old s n || (is_seq_name s && (bytes_eq name s && lists list n)))
+  pub given : (s : List ℕ) (n : ℕ)
+      → given new s n ≡ (given old s n || (is_seq_name s && (bytes_eq name s && lists list n)))
 
 -- a run was added to the sequence of a name
 pub record IsRunAdded (name : List ℕ) (run : Run) (public : Bool) (old new : List Sequence) : Type 0 where

@@ -11,7 +11,8 @@ begins_with_letter (c ∷ cs) = is_ascii_alphabetic c
 abbrev pub is_reserved : List ℕ → Bool
 is_reserved name =
     bytes_eq name (codes "first") || bytes_eq name (codes "last") || bytes_eq name (codes "cur")
-    || bytes_eq name (codes "prev") || bytes_eq name (codes "next") || bytes_eq name (codes "all") || bytes_eq name (codes "new")
+    || bytes_eq name (codes "prev") || bytes_eq name (codes "next") || bytes_eq name (codes "all")
+    || bytes_eq name (codes "new")
 
 -- a letter and then letters and digits, ASCII, at most 64 bytes, and not reserved
 unfoldable pub is_seq_name : List ℕ → Bool

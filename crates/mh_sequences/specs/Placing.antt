@@ -21,7 +21,9 @@ by_order Greater x y z = z
 -- it stands in byte order of the names, in the place of one of its name
 abbrev pub placed : List ℕ → Bool → List Run → List Sequence → List Sequence
 placed name public runs [] = alone name public runs
-placed name public runs (s ∷ ss) = by_order (order name s.name) (alone name public runs ++ (s ∷ ss)) (alone name public runs ++ ss) (s ∷ placed name public runs ss)
+placed name public runs (s ∷ ss) =
+    by_order (order name s.name) (alone name public runs ++ (s ∷ ss)) (alone name public runs ++ ss)
+    (s ∷ placed name public runs ss)
 
 -- the sequence stands before this name
 abbrev pub stands_before : List ℕ → Sequence → Bool
@@ -30,7 +32,8 @@ stands_before name s = is_lt (order s.name name)
 -- the sequence of this name stands at this place
 pub record IsAt (name : List ℕ) (ss : List Sequence) (i : ℕ) : Type 0 where
   pub within : i < length ss
-  pub put : (public : Bool) (runs : List Run) → placed name public runs ss ≡ take i ss ++ (alone name public runs ++ drop (i + 1) ss)
+  pub put : (public : Bool) (runs : List Run)
+      → placed name public runs ss ≡ take i ss ++ (alone name public runs ++ drop (i + 1) ss)
   pub named : (d : Sequence) → (slice_index_or ss i d).name ≡ name
   pub runs : (d : Sequence) → runs_of ss name ≡ (slice_index_or ss i d).runs
   pub public : (d : Sequence) → public_of ss name ≡ (slice_index_or ss i d).public
@@ -38,7 +41,8 @@ pub record IsAt (name : List ℕ) (ss : List Sequence) (i : ℕ) : Type 0 where
 -- there is none, and one is to stand before this place
 pub record IsBefore (name : List ℕ) (ss : List Sequence) (i : ℕ) : Type 0 where
   pub within : i ≤ length ss
-  pub put : (public : Bool) (runs : List Run) → placed name public runs ss ≡ take i ss ++ (alone name public runs ++ drop i ss)
+  pub put : (public : Bool) (runs : List Run)
+      → placed name public runs ss ≡ take i ss ++ (alone name public runs ++ drop i ss)
   pub runs : runs_of ss name ≡ []
   pub public : public_of ss name ≡ true
 

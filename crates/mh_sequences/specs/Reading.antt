@@ -50,13 +50,18 @@ first_or (Some item) later = number_of item
 -- the current message: the first listed item of the fields `cur`, where it is a single number
 abbrev pub cur_in : List FieldText → Option ℕ
 cur_in [] = None
-cur_in (f ∷ fs) = if bytes_eq f.name (codes "cur") then first_or (find is_listed (items (unfolded f.value))) (cur_in fs) else cur_in fs
+cur_in (f ∷ fs) =
+    if bytes_eq f.name (codes "cur") then first_or (find is_listed (items (unfolded f.value))) (cur_in fs)
+    else cur_in fs
 
 -- what a text and a context's entries say of the sequences of a folder: the numbers of both, and public are those that
 -- the text has
 pub record IsReading (text : List ℕ) (context : List NamedValue) (folder : List ℕ) (read : Marked) : Type 0 where
-  pub numbers : (name : List ℕ) (n : ℕ) → member read.users name n ≡ (is_seq_name name && (lists_public (fields_of text) name n || lists_private context (suffix folder) name n))
-  pub public : (name : List ℕ) (n : ℕ) → IsTrue (member read.users name n) → public_of read.users name ≡ has_field (fields_of text) name
+  pub numbers : (name : List ℕ) (n : ℕ)
+      → member read.users name n
+      ≡ (is_seq_name name && (lists_public (fields_of text) name n || lists_private context (suffix folder) name n))
+  pub public : (name : List ℕ) (n : ℕ) → IsTrue (member read.users name n)
+      → public_of read.users name ≡ has_field (fields_of text) name
   pub cur : read.cur ≡ cur_in (fields_of text)
 
 -- what the fields of a text give sequences was noted
@@ -65,9 +70,11 @@ pub record IsPublicPart (fields : List FieldText) (mentions : List Mention) : Ty
   pub given : (name : List ℕ) (n : ℕ) → given mentions name n ≡ (is_seq_name name && lists_public fields name n)
 
 -- the sequences of a text's fields and of the context's entries
-pub record AreBothParts (fields : List FieldText) (entries : List NamedValue) (ending : List ℕ) (users : List Sequence) : Type 0 where
+pub record AreBothParts (fields : List FieldText) (entries : List NamedValue) (ending : List ℕ)
+    (users : List Sequence) : Type 0 where
   pub valid : AreSequences users
-  pub numbers : (name : List ℕ) (n : ℕ) → member users name n ≡ (is_seq_name name && (lists_public fields name n || lists_private entries ending name n))
+  pub numbers : (name : List ℕ) (n : ℕ)
+      → member users name n ≡ (is_seq_name name && (lists_public fields name n || lists_private entries ending name n))
   pub public : (name : List ℕ) (n : ℕ) → IsTrue (member users name n) → public_of users name ≡ has_field fields name
 
 -- the name stands between `atr-` and the ending
@@ -93,4 +100,5 @@ IsPlaceNoted entries i ending old new =
 -- what the entries give private sequences was noted besides
 pub record IsContextNoted (entries : List NamedValue) (ending : List ℕ) (old new : List Mention) : Type 0 where
   pub valid : All IsMention new
-  pub given : (name : List ℕ) (n : ℕ) → given new name n ≡ (given old name n || (is_seq_name name && lists_private entries ending name n))
+  pub given : (name : List ℕ) (n : ℕ)
+      → given new name n ≡ (given old name n || (is_seq_name name && lists_private entries ending name n))

@@ -43,7 +43,8 @@ pub(crate) fn sources(alloc: Global, pairs: &PairList) -> Result<NumSet, AllocEr
 
 /// The new numbers of those that pairs move.
 fn targets(alloc: Global, numbers: &NumSet, pairs: &PairList) -> Result<NumSet, AllocError>
-    ensures { IfOk result (λ s. (n : ℕ) → has s.runs n ≡ list_any (λ p. n == p.to && has numbers.now.runs p.from) pairs.now) }
+    ensures { IfOk result
+        (λ s. (n : ℕ) → has s.runs n ≡ list_any (λ p. n == p.to && has numbers.now.runs p.from) pairs.now) }
 {
     let mut pile = Pile::new(alloc);
     for pair in pairs.as_slice() {
@@ -100,7 +101,9 @@ fn keep(
     change: Change<'_>,
 ) -> Result<(), AllocError>
     requires { IsReady change }
-    ensures { OnOk result ((runs : List RunValue) × IsChanged (change_of change.entry) user.now.numbers.runs runs × (map told kept.new.items ≡ map told kept.old.items ++ alone user.now.name user.now.public runs)) }
+    ensures { OnOk result
+        ((runs : List RunValue) × IsChanged (change_of change.entry) user.now.numbers.runs runs
+        × (map told kept.new.items ≡ map told kept.old.items ++ alone user.now.name user.now.public runs)) }
 {
     let numbers = changed(alloc, &user.numbers, change)?;
     if numbers.is_empty() {

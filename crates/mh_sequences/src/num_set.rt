@@ -19,9 +19,9 @@ use std::marker::Model;
 
 /// A set of message numbers. Contracts see its runs, and for how many more it has room.
 ///
-/// Looking a number or a place up halves the runs. A change moves the runs between its place and the nearer end, and forgets how
-/// those behind it were counted. So one number after another is cheap at either end, and at both as long as there is room for a
-/// good part of the runs more. To change many in any order, make a `Pile` and `join` its set.
+/// Looking a number or a place up halves the runs. A change moves the runs between its place and the nearer end, and
+/// forgets how those behind it were counted. So one number after another is cheap at either end, and at both as long as
+/// there is room for a good part of the runs more. To change many in any order, make a `Pile` and `join` its set.
 #[derive(Drop)]
 pub struct NumSet {
     runs: RunList,
@@ -139,7 +139,8 @@ impl NumSet {
 
     /// The run at this place, ascending from 0.
     pub fn run_at(&self, index: u64) -> Option<Run>
-        ensures { MatchOption result (slice_get self.now.runs index ≡ None) (λ r. slice_get self.now.runs index ≡ Some r) }
+        ensures { MatchOption result (slice_get self.now.runs index ≡ None)
+            (λ r. slice_get self.now.runs index ≡ Some r) }
     {
         self.runs.as_slice().get(index as usize).copied()
     }
@@ -207,7 +208,8 @@ impl NumSet {
 
     /// The set of this and another. It takes no more steps than the smaller one has runs, and what comes out.
     pub fn join(&self, alloc: Global, other: &NumSet, how: Join) -> Result<NumSet, AllocError>
-        ensures numbers { IfOk result (λ s. (n : ℕ) → has s.runs n ≡ joins how (has self.now.runs n) (has other.now.runs n)) }
+        ensures numbers { IfOk result
+            (λ s. (n : ℕ) → has s.runs n ≡ joins how (has self.now.runs n) (has other.now.runs n)) }
         ensures valid { IfOk result (λ s. AreRuns s.runs) }
         ensures valid_self { AreRuns self.now.runs }
     {

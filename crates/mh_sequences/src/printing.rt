@@ -58,8 +58,8 @@ fn list_of(alloc: Global, runs: &[Run]) -> Result<Bytes, AllocError>
 }
 
 impl NumSet {
-    /// The numbers as a list: ascending, with one space between, and two or more consecutive ones as their first and last with a
-    /// dash between.
+    /// The numbers as a list: ascending, with one space between, and two or more consecutive ones as their first and
+    /// last with a dash between.
     pub fn list(&self, alloc: Global) -> Result<Bytes, AllocError>
         ensures { IfOk result (λ b. b ≡ list_text self.now.runs) }
     {
@@ -93,7 +93,8 @@ fn is_shown(user: &User, before: bool) -> bool
 }
 
 fn put_user(alloc: Global, text: &mut Bytes, user: &User, before: bool) -> Result<(), AllocError>
-    ensures { OnOk result (text.new ≡ text.old ++ printed (map entry_of (filter (stands_in_text before) (told user.now ∷ [])))) }
+    ensures { OnOk result
+        (text.new ≡ text.old ++ printed (map entry_of (filter (stands_in_text before) (told user.now ∷ [])))) }
 {
     if !is_shown(user, before) {
         return Ok(());
@@ -109,7 +110,8 @@ pub(crate) fn put_lines(
     users: &[User],
     before: bool,
 ) -> Result<(), AllocError>
-    ensures { OnOk result (text.new ≡ text.old ++ printed (map entry_of (filter (stands_in_text before) (map told users.now)))) }
+    ensures { OnOk result
+        (text.new ≡ text.old ++ printed (map entry_of (filter (stands_in_text before) (map told users.now)))) }
 {
     for user in users {
         put_user(alloc, text, user, before)?;

@@ -62,7 +62,8 @@ fn note_field<'a>(
     field: Field<'a>,
 ) -> Result<(), AllocError>
     requires { All IsMention mentions.old }
-    ensures { OnOk result (IsMentioned field.entry.name.now (unfolded field.entry.value.now) mentions.old mentions.new) }
+    ensures { OnOk result
+        (IsMentioned field.entry.name.now (unfolded field.entry.value.now) mentions.old mentions.new) }
 {
     let list = unfold(alloc, field.value)?;
     note(alloc, mentions, field.name, list.as_slice())
@@ -184,7 +185,8 @@ pub(crate) fn read_users(
     context: &Entries,
     folder: &FolderName,
 ) -> Result<Vec<User>, AllocError>
-    ensures { IfOk result (λ users. AreBothParts (fields_of text.now) context.now (suffix folder.now) (map told users.items)) }
+    ensures { IfOk result
+        (λ users. AreBothParts (fields_of text.now) context.now (suffix folder.now) (map told users.items)) }
 {
     let mut mentions = List::new(alloc);
     note_public(alloc, &mut mentions, text)?;

@@ -6,10 +6,11 @@ use crate::slots::{cut_before, cut_out, put, put_before, room_before, room_behin
 use std::alloc::{AllocError, Global};
 use std::marker::Model;
 
-/// Runs in slots, of which some before them and some behind may be unused. Contracts see the runs and how many slots are unused.
+/// Runs in slots, of which some before them and some behind may be unused. Contracts see the runs and how many slots
+/// are unused.
 ///
-/// A change moves the runs between its place and the nearer end. Where no slot is unused there, half of those at the other end
-/// go there first, which moves all: seldom, unless few are left and both ends change in turns.
+/// A change moves the runs between its place and the nearer end. Where no slot is unused there, half of those at the
+/// other end go there first, which moves all: seldom, unless few are left and both ends change in turns.
 #[derive(Drop)]
 pub(crate) struct RunList {
     slots: Vec<Run>,

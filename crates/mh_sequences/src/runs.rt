@@ -102,7 +102,8 @@ fn split(runs: &mut RunList, at: usize, run: Run, n: u32) -> Result<(), AllocErr
     requires is { slice_get runs.old.runs at ≡ Some run }
     requires from { run.from ≤ n }
     requires to { n ≤ run.to }
-    ensures ok { OnOk result (runs.new.runs ≡ take at runs.old.runs ++ (front run n ++ (back run n ++ drop (at + 1) runs.old.runs))) }
+    ensures ok { OnOk result
+        (runs.new.runs ≡ take at runs.old.runs ++ (front run n ++ (back run n ++ drop (at + 1) runs.old.runs))) }
     ensures err { OnErr result (runs.new ≡ runs.old) }
     ensures succeeds { 1 ≤ runs.old.spare → IsOk result }
     ensures spare { runs.old.spare ≤ runs.new.spare + 1 }

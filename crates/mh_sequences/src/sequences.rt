@@ -55,7 +55,8 @@ fn put(
     public: bool,
 ) -> Result<(), AllocError>
     requires { AreSequences (map told users.old.items) }
-    ensures ok { OnOk result (map told users.new.items ≡ placed name.now public numbers.runs (map told users.old.items)) }
+    ensures ok { OnOk result
+        (map told users.new.items ≡ placed name.now public numbers.runs (map told users.old.items)) }
     ensures valid { AreSequences (map told users.new.items) }
     ensures err { OnErr result (map told users.new.items ≡ map told users.old.items) }
 {
@@ -108,7 +109,9 @@ impl Sequences {
     ) -> Result<Sequences, AllocError>
         ensures reading { IfOk result (λ s. IsReading public.now context.now folder.now s) }
         ensures valid { IfOk result (λ s. AreSequences s.users) }
-        ensures alone { IfOk result (λ s. (other : Marked) → AreSequences other.users → IsReading public.now context.now folder.now other → other ≡ s) }
+        ensures alone { IfOk result
+            (λ s. (other : Marked) → AreSequences other.users → IsReading public.now context.now folder.now other
+            → other ≡ s) }
     {
         Sequences::read_all(alloc, public, context, folder)
     }
@@ -131,7 +134,8 @@ impl Sequences {
 
     /// The name at this place in byte order, from 0.
     pub fn name_at(&self, index: u64) -> Option<&SeqName>
-        ensures { MatchOption result (length self.now.users ≤ index) (λ n. slice_get (map (λ s. s.name) self.now.users) index ≡ Some n.now) }
+        ensures { MatchOption result (length self.now.users ≤ index)
+            (λ n. slice_get (map (λ s. s.name) self.now.users) index ≡ Some n.now) }
     {
         match self.users.get(index as usize) {
             Some(user) => Some(&user.name),
@@ -141,7 +145,8 @@ impl Sequences {
 
     /// The numbers of the sequence of this name, where there is one.
     pub fn get(&self, name: &SeqName) -> Option<&NumSet>
-        ensures { MatchOption result (runs_of self.now.users name.now ≡ []) (λ s. s.now.runs ≡ runs_of self.now.users name.now) }
+        ensures { MatchOption result (runs_of self.now.users name.now ≡ [])
+            (λ s. s.now.runs ≡ runs_of self.now.users name.now) }
     {
         match place_of(&self.users, name.bytes()) {
             Position::At(at) => Some(&self.users[at].numbers),
@@ -168,7 +173,8 @@ impl Sequences {
 
     /// The set of the sequence of this name and another set.
     fn joined(&self, name: &SeqName, numbers: &NumSet, how: Join) -> Result<NumSet, AllocError>
-        ensures { IfOk result (λ s. (n : ℕ) → has s.runs n ≡ joins how (member self.now.users name.now n) (has numbers.now.runs n)) }
+        ensures { IfOk result
+            (λ s. (n : ℕ) → has s.runs n ≡ joins how (member self.now.users name.now n) (has numbers.now.runs n)) }
     {
         match self.get(name) {
             Some(old) => old.join(self.alloc, numbers, how),
@@ -233,7 +239,9 @@ impl Sequences {
 
     fn move_numbers(&mut self, pairs: &PairList) -> Result<(), AllocError>
         ensures valid { AreSequences self.new.users }
-        ensures ok { OnOk result (IsAllChanged (moved pairs.now) self.old.users self.new.users × (self.new.cur ≡ moved_cur pairs.now self.old.cur)) }
+        ensures ok { OnOk result
+            (IsAllChanged (moved pairs.now) self.old.users self.new.users
+            × (self.new.cur ≡ moved_cur pairs.now self.old.cur)) }
         ensures err { OnErr result (self.new ≡ self.old) }
     {
         let sources = sources(self.alloc, pairs)?;
@@ -292,7 +300,10 @@ impl Sequences {
     /// folder's sequences just the entries of `context_entries` it reads back as these sequences.
     pub fn print(&self, alloc: Global) -> Result<Bytes, AllocError>
         ensures text { IfOk result (λ text. text ≡ text_of self.now) }
-        ensures reads_back { IfOk result (λ text. (folder : List ℕ) (context : List EntryValue) → HasJust (suffix folder) (private_entries (suffix folder) self.now.users) context → IsReading text context folder self.now) }
+        ensures reads_back { IfOk result
+            (λ text. (folder : List ℕ) (context : List EntryValue)
+            → HasJust (suffix folder) (private_entries (suffix folder) self.now.users) context
+            → IsReading text context folder self.now) }
     {
         self.text(alloc)
     }

@@ -36,7 +36,8 @@ pub(crate) fn put(slots: &mut Vec<Run>, at: usize, run: Run) -> Result<(), Alloc
 pub(crate) fn put_before(slots: &mut Vec<Run>, start: usize, at: usize, run: Run)
     requires room { 1 ≤ start }
     requires within { start + at ≤ vec_len slots.old }
-    ensures runs { drop (start - 1) slots.new.items ≡ take at (drop start slots.old.items) ++ run ∷ drop at (drop start slots.old.items) }
+    ensures runs { drop (start - 1) slots.new.items ≡ take at (drop start slots.old.items) ++ run
+        ∷ drop at (drop start slots.old.items) }
     ensures len { vec_len slots.new ≡ vec_len slots.old }
     ensures capacity { vec_capacity slots.new ≡ vec_capacity slots.old }
 {
@@ -48,7 +49,8 @@ pub(crate) fn put_before(slots: &mut Vec<Run>, start: usize, at: usize, run: Run
 pub(crate) fn cut_before(slots: &mut Vec<Run>, start: usize, from: usize, to: usize)
     requires order { from ≤ to }
     requires within { start + to ≤ vec_len slots.old }
-    ensures runs { drop (start + (to - from)) slots.new.items ≡ take from (drop start slots.old.items) ++ drop to (drop start slots.old.items) }
+    ensures runs { drop (start + (to - from)) slots.new.items ≡ take from (drop start slots.old.items)
+        ++ drop to (drop start slots.old.items) }
     ensures len { vec_len slots.new ≡ vec_len slots.old }
     ensures capacity { vec_capacity slots.new ≡ vec_capacity slots.old }
 {
@@ -78,7 +80,8 @@ pub(crate) fn room_before(slots: &mut Vec<Run>, start: usize) -> usize
     ensures runs { drop result slots.new.items ≡ drop start slots.old.items }
     ensures some { 1 ≤ result }
     ensures within { result ≤ vec_len slots.new }
-    ensures spare { vec_capacity slots.old - vec_len slots.old + start ≤ vec_capacity slots.new - vec_len slots.new + result }
+    ensures spare { vec_capacity slots.old - vec_len slots.old + start ≤ vec_capacity slots.new - vec_len slots.new
+        + result }
 {
     if start > 0 {
         return start;
@@ -89,12 +92,14 @@ pub(crate) fn room_before(slots: &mut Vec<Run>, start: usize) -> usize
     by
 }
 
-/// Where the runs begin once a slot behind them is free, if any is: if none is there, half of those before them go there.
+/// Where the runs begin once a slot behind them is free, if any is: if none is there, half of those before them go
+/// there.
 pub(crate) fn room_behind(slots: &mut Vec<Run>, start: usize) -> usize
     requires { start ≤ vec_len slots.old }
     ensures runs { drop result slots.new.items ≡ drop start slots.old.items }
     ensures within { result ≤ vec_len slots.new }
-    ensures spare { vec_capacity slots.new - vec_len slots.new + result ≡ vec_capacity slots.old - vec_len slots.old + start }
+    ensures spare { vec_capacity slots.new - vec_len slots.new + result ≡ vec_capacity slots.old - vec_len slots.old
+        + start }
     ensures some { 1 ≤ vec_capacity slots.old - vec_len slots.old + start → vec_len slots.new < vec_capacity slots.new }
 {
     if slots.len() < slots.capacity() {

@@ -36,7 +36,9 @@ HasHeard (Some old) None heard = ⊥
 -- this holds of what the call heard of its input; or of whatever it might have heard, as of a call that does not look
 -- at it
 abbrev pub ByHeard : Call → (Heard → Type 0) → Type 0
-ByHeard c Holds = ((heard : Heard) × HasHeard c.before.input.left c.after.input.left heard × Holds heard) ⊎ ((heard : Heard) → Holds heard)
+ByHeard c Holds =
+    ((heard : Heard) × HasHeard c.before.input.left c.after.input.left heard × Holds heard)
+    ⊎ ((heard : Heard) → Holds heard)
 
 -- the counts of the files, the input and the output did not rise
 pub record IsUnfaulted (c : Call) : Type 0 where
@@ -50,10 +52,15 @@ pub record IsUnfaulted (c : Call) : Type 0 where
 -- words, and of what it heard, on the mailbox at its first step, or wants memory. Nothing else is answered then.
 abbrev pub HasOutcomeAlone : Call → Story → Story → Type 0
 HasOutcomeAlone c old new =
-    (added : List ℕ) → new.asked ≡ old.asked ++ added → IsStart new.start → IsPossible old → IsAlone c.setting.run new.start new.history added →
+    (added : List ℕ) → new.asked ≡ old.asked ++ added → IsStart new.start → IsPossible old
+    → IsAlone c.setting.run new.start new.history added →
     let first = first_of (length old.history) added in
     (StoresFiles c → HasClearWork c.setting.run (contents_of (world_at new first))) →
-    (c.status ≡ NoMemory) ⊎ ByHeard c (λ heard. HasOutcome (outcome_of c.words (mailbox_at new first) c.setting heard) (mailbox_at new (first + length added)) c)
+    (c.status ≡ NoMemory)
+    ⊎ ByHeard c
+    (λ heard.
+    HasOutcome (outcome_of c.words (mailbox_at new first) c.setting heard)
+    (mailbox_at new (first + length added)) c)
 
 -- the same, where a story is told
 abbrev pub AloneIfTold : Call → Option Story → Option Story → Type 0

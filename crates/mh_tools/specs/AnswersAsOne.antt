@@ -34,7 +34,10 @@ pub record AreAnsweredBy (c : Call) (before after : Mailbox) (deeds : List Deed)
 pub record AnswersAsOne (c : Call) : Type 0 where
   pub deeds : List Deed
   pub made : MadeBy c deeds
-  pub prefix : (m n : Mailbox) → AreAnsweredBy c m n deeds → ByHeard c (λ heard. AddsPart c.before.out.told c.after.out.told (outcome_on c m heard).output)
-  pub verdict : (m n : Mailbox) → AreAnsweredBy c m n deeds → IsVerdict c.status → ByHeard c (λ heard. HasOutcome (outcome_on c m heard) n c)
+  pub prefix : (m n : Mailbox) → AreAnsweredBy c m n deeds
+      → ByHeard c (λ heard. AddsPart c.before.out.told c.after.out.told (outcome_on c m heard).output)
+  pub verdict : (m n : Mailbox) → AreAnsweredBy c m n deeds → IsVerdict c.status
+      → ByHeard c (λ heard. HasOutcome (outcome_on c m heard) n c)
   pub unlocked : (m n : Mailbox) → AreAnsweredBy c m n deeds → (place : Place) → c.status ≢ Locked place
-  pub unmeddled : (m n : Mailbox) → AreAnsweredBy c m n deeds → (place : Place) (name : List ℕ) → c.status ≢ Meddled place name
+  pub unmeddled : (m n : Mailbox) → AreAnsweredBy c m n deeds → (place : Place) (name : List ℕ)
+      → c.status ≢ Meddled place name

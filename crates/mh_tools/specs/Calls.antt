@@ -30,7 +30,8 @@ abbrev pub around : FilesState → SourceState → SinkState → SinkState → S
 around f n o e = record { files = f; input = n; out = o; err = e }
 
 abbrev pub called : List (List ℕ) → SettingParts → Surroundings → Surroundings → Status → Call
-called words setting before after status = record { words = words; setting = setting; before = before; after = after; status = status }
+called words setting before after status =
+    record { words = words; setting = setting; before = before; after = after; status = status }
 
 -- the state in which its command begins, and the one in which it ends
 abbrev pub begins : Call → Hand → State

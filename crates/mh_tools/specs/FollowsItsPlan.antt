@@ -23,7 +23,9 @@ use Rattle.mh_tools.specs.Callers.{caller_of}
 abbrev pub TellsStatus : Option (List ℕ) → SinkState → SinkState → Status → Type 0
 TellsStatus word e d Done = d ≡ e
 TellsStatus word e d NoMemory = AddsPart e.told d.told (error_line_of word NoMemory)
-TellsStatus word e d status = Adds e.told d.told (error_line_of word status) ⊎ (AddsPart e.told d.told (error_line_of word status) × Rose e.faults d.faults)
+TellsStatus word e d status =
+    Adds e.told d.told (error_line_of word status)
+    ⊎ (AddsPart e.told d.told (error_line_of word status) × Rose e.faults d.faults)
 
 -- the status after its line was put: want of memory there is want of memory of the call
 abbrev pub told_status : Result Unit SinkFault → Status → Status
@@ -36,7 +38,8 @@ told_status (Err sink.Memory) status = NoMemory
 pub record FollowsItsPlan (c : Call) : Type 0 where
   pub outcome : Result Unit Ended
   pub left : Hand
-  pub follows : Follows c.setting.run ended_cause (command c.setting.run (caller_of c.setting) c.words) (begins c fresh) (ends c left) outcome
+  pub follows : Follows c.setting.run ended_cause (command c.setting.run (caller_of c.setting) c.words) (begins c fresh)
+      (ends c left) outcome
   pub unread : LeavesInput (command_of c.words) c.before.input c.after.input outcome
   pub ends_so : (c.status ≡ ended_status outcome) ⊎ (c.status ≡ NoMemory)
   pub told : TellsStatus (ended_word outcome) c.before.err c.after.err c.status

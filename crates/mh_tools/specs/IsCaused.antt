@@ -33,10 +33,14 @@ use Rattle.mh_tools.specs.Callers.{caller_of}
 -- made or locked, or a name that it had met, or where its fresh name was taken.
 pub record IsShown (c : Call) (deeds : List Deed) : Type 0 where
   pub refused : (r : Refusal) → c.status ≡ Refused r
-      → (IsRefusedByWords (caller_of c.setting) c.words (fault.Refused r) deeds ⊎ ShowsRefusal r deeds) × (Made IsFailed deeds → ⊥)
-  pub out : c.status ≡ Faulted Out → (m : Mailbox) (heard : Heard) → MailboxAgrees m deeds → (outcome_on c m heard).output ≢ []
-  pub locked : (place : Place) → c.status ≡ Locked place → ((mail : List ℕ) × (place ≡ Mail mail) × IsHeld place TRIES deeds) × (Made IsFailed deeds → ⊥)
-  pub meddled : (place : Place) (name : List ℕ) → c.status ≡ Meddled place name → IsMeddled c.setting.run place name deeds × (Made IsFailed deeds → ⊥)
+      → (IsRefusedByWords (caller_of c.setting) c.words (fault.Refused r) deeds ⊎ ShowsRefusal r deeds)
+      × (Made IsFailed deeds → ⊥)
+  pub out : c.status ≡ Faulted Out → (m : Mailbox) (heard : Heard) → MailboxAgrees m deeds
+      → (outcome_on c m heard).output ≢ []
+  pub locked : (place : Place) → c.status ≡ Locked place
+      → ((mail : List ℕ) × (place ≡ Mail mail) × IsHeld place TRIES deeds) × (Made IsFailed deeds → ⊥)
+  pub meddled : (place : Place) (name : List ℕ) → c.status ≡ Meddled place name
+      → IsMeddled c.setting.run place name deeds × (Made IsFailed deeds → ⊥)
 
 -- the words name a command that begins a folder, by its name at least, and never more than one (`refile`, which begins
 -- several, is apart)
@@ -57,10 +61,12 @@ pub record IsShownBegun (c : Call) (deeds : List Deed) : Type 0 where
   pub locked : (place : Place) → c.status ≡ Locked place
       → IsShownBy (ShowsFault c.setting.run (caller_of c.setting) c.words (fault.Locked place)) deeds
   pub meddled : (place : Place) (name : List ℕ) → c.status ≡ Meddled place name
-      → ShowsFault c.setting.run (caller_of c.setting) c.words (fault.Meddled place name) deeds × (Made IsFailed deeds → ⊥)
+      → ShowsFault c.setting.run (caller_of c.setting) c.words (fault.Meddled place name) deeds
+      × (Made IsFailed deeds → ⊥)
   pub told : (said : List ℕ) × Adds c.before.out.told c.after.out.told said
       × IsToldBy (TellsOnFolder c.setting.run (caller_of c.setting) c.words) said deeds
-  pub out : c.status ≡ Faulted Out → (text : List ℕ) × TellsOnFolder c.setting.run (caller_of c.setting) c.words text deeds × (text ≢ [])
+  pub out : c.status ≡ Faulted Out
+      → (text : List ℕ) × TellsOnFolder c.setting.run (caller_of c.setting) c.words text deeds × (text ≢ [])
 
 -- the words name `refile`, by its name at least
 abbrev pub Refiles : Call → Type 0
@@ -76,7 +82,8 @@ pub record IsShownRefiled (c : Call) (deeds : List Deed) : Type 0 where
   pub locked : (place : Place) → c.status ≡ Locked place
       → IsShownFirst (ShowsFault c.setting.run (caller_of c.setting) c.words (fault.Locked place)) deeds
   pub meddled : (place : Place) (name : List ℕ) → c.status ≡ Meddled place name
-      → ShowsFault c.setting.run (caller_of c.setting) c.words (fault.Meddled place name) deeds × (Made IsFailed deeds → ⊥)
+      → ShowsFault c.setting.run (caller_of c.setting) c.words (fault.Meddled place name) deeds
+      × (Made IsFailed deeds → ⊥)
   pub told : Adds c.before.out.told c.after.out.told []
   pub out : c.status ≢ Faulted Out
 
@@ -91,7 +98,8 @@ pub record IsShownBuilt (c : Call) (deeds : List Deed) : Type 0 where
       → ShowsBuildFault c.setting.run (caller_of c.setting) c.words (fault.Refused r) deeds × (Made IsFailed deeds → ⊥)
   pub unlocked : (place : Place) → c.status ≢ Locked place
   pub meddled : (place : Place) (name : List ℕ) → c.status ≡ Meddled place name
-      → ShowsBuildFault c.setting.run (caller_of c.setting) c.words (fault.Meddled place name) deeds × (Made IsFailed deeds → ⊥)
+      → ShowsBuildFault c.setting.run (caller_of c.setting) c.words (fault.Meddled place name) deeds
+      × (Made IsFailed deeds → ⊥)
   pub told : (said : List ℕ) × Adds c.before.out.told c.after.out.told said
       × IsToldBy (TellsBuilt c.setting.run c.words) said deeds
   pub out : c.status ≡ Faulted Out → (text : List ℕ) × TellsBuilt c.setting.run c.words text deeds × (text ≢ [])

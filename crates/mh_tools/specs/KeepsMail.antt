@@ -24,7 +24,9 @@ pub record KeepsMail (c : Call) : Type 0 where
   pub made : MadeBy c deeds
   pub begun : HaveBegun profile context deeds
   pub finished : c.status ≡ Done → IsDone (command_of c.words) (path_by profile) deeds
-  pub promises : Promises (command_pledge c.setting.run (caller_of c.setting) c.words (entries_by profile) (entries_by context)) (begins c fresh) (ends c fresh)
+  pub promises : Promises
+      (command_pledge c.setting.run (caller_of c.setting) c.words (entries_by profile) (entries_by context))
+      (begins c fresh) (ends c fresh)
 
 -- no mark of a sequence that users name passes to another message, where the others mind them: by a command that looks,
 -- by `inc` and `mark`, and by `rmm` where no message was left held aside in the folder when it removed one

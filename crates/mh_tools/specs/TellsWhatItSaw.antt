@@ -37,9 +37,12 @@ pub record TellsWhatItSaw (c : Call) : Type 0 where
   pub deeds : List Deed
   pub made : MadeBy c deeds
   pub exists : SomeAgrees c.before.files.story deeds
-  pub prefix : (m : Mailbox) (heard : Heard) → MailboxAgrees m deeds → AddsPart c.before.out.told c.after.out.told (outcome_on c m heard).output
-  pub whole : (m : Mailbox) (heard : Heard) → MailboxAgrees m deeds → IsVerdict c.status → Adds c.before.out.told c.after.out.told (outcome_on c m heard).output
-  pub verdict : (m : Mailbox) (heard : Heard) → MailboxAgrees m deeds → IsVerdict c.status → (c.status ≡ (outcome_on c m heard).status) ⊎ (IsLate c.status × IsLate (outcome_on c m heard).status)
+  pub prefix : (m : Mailbox) (heard : Heard) → MailboxAgrees m deeds
+      → AddsPart c.before.out.told c.after.out.told (outcome_on c m heard).output
+  pub whole : (m : Mailbox) (heard : Heard) → MailboxAgrees m deeds → IsVerdict c.status
+      → Adds c.before.out.told c.after.out.told (outcome_on c m heard).output
+  pub verdict : (m : Mailbox) (heard : Heard) → MailboxAgrees m deeds → IsVerdict c.status
+      → (c.status ≡ (outcome_on c m heard).status) ⊎ (IsLate c.status × IsLate (outcome_on c m heard).status)
 
 -- so does a command that only looks at a folder
 abbrev pub TellsIfItLooks : Call → Type 0

@@ -38,7 +38,9 @@ fn say_number(line: &mut Bytes, words: &[u8], number: u64) -> Result<(), AllocEr
 }
 
 fn say_lengths(line: &mut Bytes, length: u64, limit: u64) -> Result<(), AllocError>
-    ensures { OnOk result (line.new ≡ line.old ++ ((codes "too large: " ++ decimal length) ++ (codes " bytes, limit " ++ decimal limit))) }
+    ensures { OnOk result
+        (line.new ≡ line.old
+        ++ ((codes "too large: " ++ decimal length) ++ (codes " bytes, limit " ++ decimal limit))) }
 {
     say_number(line, b"too large: ", length)?;
     say_number(line, b" bytes, limit ", limit)
@@ -136,7 +138,9 @@ fn say_locked(line: &mut Bytes, place: &Place) -> Result<(), AllocError>
 }
 
 fn say_meddled(line: &mut Bytes, place: &Place, name: &[u8]) -> Result<(), AllocError>
-    ensures { OnOk result (line.new ≡ line.old ++ (codes "name " ++ name.now ++ codes " in " ++ place_text place.now ++ codes " was changed meanwhile")) }
+    ensures { OnOk result
+        (line.new ≡ line.old
+        ++ (codes "name " ++ name.now ++ codes " in " ++ place_text place.now ++ codes " was changed meanwhile")) }
 {
     say_bytes(line, b"name ", name)?;
     line.extend(b" in ")?;

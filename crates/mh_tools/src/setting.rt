@@ -20,13 +20,16 @@ impl Model for Setting {
 
     ghost Value = { SettingParts };
 
-    ghost view = { λ s. record { run = s.run; moment = s.caller.clock.moment; offset = s.caller.clock.offset; user = s.caller.user } };
+    ghost view = { λ s.
+        record { run = s.run; moment = s.caller.clock.moment; offset = s.caller.clock.offset; user = s.caller.user } };
 }
 
 impl Setting {
     /// `now` runs from 0 to 253,402,000,000 and the offset from -1439 to 1439.
     pub fn new(run: u128, now: i64, offset_minutes: i32, user: Text) -> Option<Setting>
-        ensures { MatchOption result (IsSetting now offset_minutes → ⊥) (λ s. IsSetting now offset_minutes × (s ≡ record { run = run; moment = now; offset = offset_minutes; user = user })) }
+        ensures { MatchOption result (IsSetting now offset_minutes → ⊥)
+            (λ s. IsSetting now offset_minutes
+            × (s ≡ record { run = run; moment = now; offset = offset_minutes; user = user })) }
     {
         let clock = Clock::new(now, offset_minutes)?;
         Some(Setting {

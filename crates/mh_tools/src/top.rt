@@ -72,14 +72,38 @@ pub fn mh<F: Files, I: Source, O: Sink, E: Sink>(
     out: &mut O,
     err: &mut E,
 ) -> Status
-    ensures plan { FollowsItsPlan (called (map string_bytes words.now.items) setting.now (around (F.state files.old) (I.state input.old) (O.state out.old) (E.state err.old)) (around (F.state files.new) (I.state input.new) (O.state out.new) (E.state err.new)) result) }
-    ensures caused { IsCaused (called (map string_bytes words.now.items) setting.now (around (F.state files.old) (I.state input.old) (O.state out.old) (E.state err.old)) (around (F.state files.new) (I.state input.new) (O.state out.new) (E.state err.new)) result) }
-    ensures seen { TellsIfItLooks (called (map string_bytes words.now.items) setting.now (around (F.state files.old) (I.state input.old) (O.state out.old) (E.state err.old)) (around (F.state files.new) (I.state input.new) (O.state out.new) (E.state err.new)) result) }
-    ensures alone { AnswersAlone (called (map string_bytes words.now.items) setting.now (around (F.state files.old) (I.state input.old) (O.state out.old) (E.state err.old)) (around (F.state files.new) (I.state input.new) (O.state out.new) (E.state err.new)) result) }
-    ensures as_one { AnswersAsOne (called (map string_bytes words.now.items) setting.now (around (F.state files.old) (I.state input.old) (O.state out.old) (E.state err.old)) (around (F.state files.new) (I.state input.new) (O.state out.new) (E.state err.new)) result) }
-    ensures keeps { KeepsMail (called (map string_bytes words.now.items) setting.now (around (F.state files.old) (I.state input.old) (O.state out.old) (E.state err.old)) (around (F.state files.new) (I.state input.new) (O.state out.new) (E.state err.new)) result) }
-    ensures marks { KeepsMarks (called (map string_bytes words.now.items) setting.now (around (F.state files.old) (I.state input.old) (O.state out.old) (E.state err.old)) (around (F.state files.new) (I.state input.new) (O.state out.new) (E.state err.new)) result) }
-    ensures input { ReadsInput (called (map string_bytes words.now.items) setting.now (around (F.state files.old) (I.state input.old) (O.state out.old) (E.state err.old)) (around (F.state files.new) (I.state input.new) (O.state out.new) (E.state err.new)) result) }
+    ensures plan { FollowsItsPlan
+        (called (map string_bytes words.now.items) setting.now
+        (around (F.state files.old) (I.state input.old) (O.state out.old) (E.state err.old))
+        (around (F.state files.new) (I.state input.new) (O.state out.new) (E.state err.new)) result) }
+    ensures caused { IsCaused
+        (called (map string_bytes words.now.items) setting.now
+        (around (F.state files.old) (I.state input.old) (O.state out.old) (E.state err.old))
+        (around (F.state files.new) (I.state input.new) (O.state out.new) (E.state err.new)) result) }
+    ensures seen { TellsIfItLooks
+        (called (map string_bytes words.now.items) setting.now
+        (around (F.state files.old) (I.state input.old) (O.state out.old) (E.state err.old))
+        (around (F.state files.new) (I.state input.new) (O.state out.new) (E.state err.new)) result) }
+    ensures alone { AnswersAlone
+        (called (map string_bytes words.now.items) setting.now
+        (around (F.state files.old) (I.state input.old) (O.state out.old) (E.state err.old))
+        (around (F.state files.new) (I.state input.new) (O.state out.new) (E.state err.new)) result) }
+    ensures as_one { AnswersAsOne
+        (called (map string_bytes words.now.items) setting.now
+        (around (F.state files.old) (I.state input.old) (O.state out.old) (E.state err.old))
+        (around (F.state files.new) (I.state input.new) (O.state out.new) (E.state err.new)) result) }
+    ensures keeps { KeepsMail
+        (called (map string_bytes words.now.items) setting.now
+        (around (F.state files.old) (I.state input.old) (O.state out.old) (E.state err.old))
+        (around (F.state files.new) (I.state input.new) (O.state out.new) (E.state err.new)) result) }
+    ensures marks { KeepsMarks
+        (called (map string_bytes words.now.items) setting.now
+        (around (F.state files.old) (I.state input.old) (O.state out.old) (E.state err.old))
+        (around (F.state files.new) (I.state input.new) (O.state out.new) (E.state err.new)) result) }
+    ensures input { ReadsInput
+        (called (map string_bytes words.now.items) setting.now
+        (around (F.state files.old) (I.state input.old) (O.state out.old) (E.state err.old))
+        (around (F.state files.new) (I.state input.new) (O.state out.new) (E.state err.new)) result) }
 {
     let outcome = run_command(
         alloc,

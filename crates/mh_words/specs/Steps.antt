@@ -26,11 +26,15 @@ IsStep table words place (Err Memory) = Unit {0}
 
 -- whatever switch word of this name stands at the place, this is its step
 abbrev pub IsSwitchStep : SwitchTable → List (List ℕ) → ℕ → List ℕ → Result Taken WordFault → Type 0
-IsSwitchStep table words place name result = (word : List ℕ) → IsWordAt words place word → IsSwitchWord table.components word name → IsStep table words place result
+IsSwitchStep table words place name result =
+    (word : List ℕ) → IsWordAt words place word → IsSwitchWord table.components word name
+    → IsStep table words place result
 
 -- whatever component of this name stands at the place, this is its step, in each table that allows components
 abbrev pub IsComponentStep : List (List ℕ) → ℕ → List ℕ → Result Taken WordFault → Type 0
-IsComponentStep words place name result = (table : SwitchTable) (word : List ℕ) → IsWordAt words place word → IsComponent table.components word name → IsStep table words place result
+IsComponentStep words place name result =
+    (table : SwitchTable) (word : List ℕ) → IsWordAt words place word → IsComponent table.components word name
+    → IsStep table words place result
 
 -- these are the items of the words, or what is wrong with them
 abbrev pub IsReading : SwitchTable → List (List ℕ) → Result (List Item) WordFault → Type 0

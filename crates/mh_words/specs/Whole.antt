@@ -25,7 +25,8 @@ pub record Wrong : Type 0 where
 unfoldable pub found_from : List SwitchType → List ℕ → ℕ → Found → Found
 found_from [] text i found = found
 found_from (s ∷ ss) text i found =
-    if bytes_eq s.name text then One i s.kind else found_from ss text (i + 1) (if starts_with nat_eq s.name text then one_more found i s.kind else found)
+    if bytes_eq s.name text then One i s.kind
+    else found_from ss text (i + 1) (if starts_with nat_eq s.name text then one_more found i s.kind else found)
 
 -- what the first word is: an item by itself, an item with the next word as its value, or wrong
 pub data FirstWord : Type 0 where
@@ -43,12 +44,15 @@ named Several place = IsBad Ambiguous
 abbrev pub dashed : SwitchTable → ℕ → List ℕ → FirstWord
 dashed table place [] = IsBad Unknown
 dashed table place (c ∷ name) =
-    if table.components && (c == 45) then Valued (λ value. Component name value place) else named (found_from table.switches (c ∷ name) 0 Nothing) place
+    if table.components && (c == 45) then Valued (λ value. Component name value place)
+    else named (found_from table.switches (c ∷ name) 0 Nothing) place
 
 -- by its first character: 43 is a plus sign
 abbrev pub first_word : SwitchTable → ℕ → List ℕ → FirstWord
 first_word table place [] = Alone (Message [] place)
-first_word table place (c ∷ rest) = if c == 43 then Alone (Folder (c ∷ rest) place) else (if c == 45 then dashed table place rest else Alone (Message (c ∷ rest) place))
+first_word table place (c ∷ rest) =
+    if c == 43 then Alone (Folder (c ∷ rest) place)
+    else (if c == 45 then dashed table place rest else Alone (Message (c ∷ rest) place))
 
 abbrev pub before : Item → Result (List Item) Wrong → Result (List Item) Wrong
 before item (Ok items) = Ok (item ∷ items)
@@ -72,7 +76,8 @@ unfoldable pub read_in : SwitchTable → ℕ → List (List ℕ) → Result (Lis
 read_in table place [] = Ok []
 read_in table place (word ∷ []) = last_read (first_word table place word) place
 read_in table place (word ∷ (next ∷ left)) =
-    next_read (first_word table place word) place next (read_in table (place + 1) (next ∷ left)) (read_in table (place + 2) left)
+    next_read (first_word table place word) place next (read_in table (place + 1) (next ∷ left))
+    (read_in table (place + 2) left)
 
 -- the result is this, or there was not enough memory
 abbrev pub IsWhole : Result (List Item) Wrong → Result Words WordFault → Type 0

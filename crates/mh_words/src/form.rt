@@ -16,7 +16,8 @@ pub enum Form<'a> {
 /// What follows the mark, where the text begins with it.
 fn after_mark(text: &str, mark: char) -> Option<&str>
     requires { mark < 128 }
-    ensures { MatchOption result ((rest : List ℕ) → chars text.now ≢ mark ∷ rest) (λ rest. chars text.now ≡ mark ∷ chars rest.now) }
+    ensures { MatchOption result ((rest : List ℕ) → chars text.now ≢ mark ∷ rest)
+        (λ rest. chars text.now ≡ mark ∷ chars rest.now) }
 {
     text.strip_prefix(mark)
 }

@@ -21,7 +21,8 @@ fn word_in(words: &[Text], place: usize) -> Option<&Text>
 
 /// The word at this place, from 0 through the profile's words and on through the command's.
 pub fn word_at<'a>(line: &Line<'a>, place: usize) -> Option<&'a Text>
-    ensures word { MatchOption result (drop place (words_of line.now) ≡ []) (λ w. IsWordAt (words_of line.now) place w.now) }
+    ensures word { MatchOption result (drop place (words_of line.now) ≡ [])
+        (λ w. IsWordAt (words_of line.now) place w.now) }
     ensures inside { IsSome result ↔ (place < length (words_of line.now)) }
 {
     if place < line.profile.len() {

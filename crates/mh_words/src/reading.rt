@@ -162,8 +162,10 @@ pub fn read_words(
     ensures refuses { IfErr result (IsFault table.now (profile_words.now ++ words.now)) }
 
     // Where the words are read or refused, the result says so, unless memory runs out.
-    ensures admits { (items : List Item) → Reads table.now 0 (profile_words.now ++ words.now) items → IsReadAs items result }
-    ensures fails { (bad : ℕ) (why : WordWhy) → Fails table.now 0 (profile_words.now ++ words.now) bad why → IsRefusedAs bad why result }
+    ensures admits { (items : List Item) → Reads table.now 0 (profile_words.now ++ words.now) items
+        → IsReadAs items result }
+    ensures fails { (bad : ℕ) (why : WordWhy) → Fails table.now 0 (profile_words.now ++ words.now) bad why
+        → IsRefusedAs bad why result }
 
     // The same as one value.
     ensures whole { IsWhole (read_in table.now 0 (profile_words.now ++ words.now)) result }

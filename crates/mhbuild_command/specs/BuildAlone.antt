@@ -25,12 +25,16 @@ use Rattle.mhbuild_command.specs.declared.job.BuildJob.{BuildJob}
 -- all that was left of the input was heard, and is not too long; or so much of it that this is
 abbrev pub IsHeard : List ℕ → List ℕ → Result (List ℕ) CommandFault → Type 0
 IsHeard old new (Ok text) = (text ≡ old) × (new ≡ []) × (nat_lt LIMIT_BYTES (length text) ≡ false)
-IsHeard old new (Err e) = (front : List ℕ) × (front ++ new ≡ old) × (e ≡ too_large (length front)) × (nat_lt LIMIT_BYTES (length front) ≡ true)
+IsHeard old new (Err e) =
+    (front : List ℕ) × (front ++ new ≡ old) × (e ≡ too_large (length front))
+    × (nat_lt LIMIT_BYTES (length front) ≡ true)
 
 -- the call ended as the work says of what it heard; or it wanted memory
 abbrev pub ComesToHeard : (Result (List ℕ) CommandFault → WorkValue CommandFault) → Mailbox → List ℕ → List ℕ
     → SinkState → SinkState → Result Unit CommandFault → Type 0
-ComesToHeard work after old new x y result = (result ≡ Err fault.Memory) ⊎ ((heard : Result (List ℕ) CommandFault) × IsHeard old new heard × ComesTo (work heard) after x y result)
+ComesToHeard work after old new x y result =
+    (result ≡ Err fault.Memory)
+    ⊎ ((heard : Result (List ℕ) CommandFault) × IsHeard old new heard × ComesTo (work heard) after x y result)
 
 -- where the input tells what it has left
 abbrev pub ComesToInput : (Result (List ℕ) CommandFault → WorkValue CommandFault) → Mailbox → Option (List ℕ)
@@ -61,10 +65,16 @@ pub record IsClear (run : ℕ) (h : Hand) (w : WorldMap) : Type 0 where
 abbrev pub TellsAlone : ℕ → List ℕ → BuildJob → Hand → Result Unit CommandFault → SourceState → SourceState → SinkState
     → SinkState → Story → Story → Type 0
 TellsAlone run path job h result n m x y earlier later =
-    (added : List ℕ) → later.asked ≡ earlier.asked ++ added → IsStart later.start → IsPossible earlier → IsAlone run later.start later.history added →
+    (added : List ℕ) → later.asked ≡ earlier.asked ++ added → IsStart later.start → IsPossible earlier
+    → IsAlone run later.start later.history added →
     let first = first_of (length earlier.history) added in
-    run < 2 ^ 128 → IsValid job.draft → HasReadContext (mailbox_at later first) path h → IsClear run h (world_at later first) →
-    ComesToBuilt job.draft (λ text. build_work run path (entries_in (filled ((mailbox_at later first).context (Mail path)))) job text (mailbox_at later first)) (mailbox_at later first) (mailbox_at later (first + length added)) n m x y result
+    run < 2 ^ 128 → IsValid job.draft → HasReadContext (mailbox_at later first) path h
+    → IsClear run h (world_at later first) →
+    ComesToBuilt job.draft
+    (λ text.
+    build_work run path (entries_in (filled ((mailbox_at later first).context (Mail path)))) job text
+    (mailbox_at later first)) (mailbox_at later first)
+    (mailbox_at later (first + length added)) n m x y result
 
 -- where a story is told
 abbrev pub TellsInStory : ℕ → List ℕ → BuildJob → Hand → Result Unit CommandFault → SourceState → SourceState
@@ -79,4 +89,5 @@ TellsInStory run path job h result n m x y (Some earlier) None = ⊥
 abbrev pub TellsIfUnfaulted : ℕ → List ℕ → BuildJob → Hand → Result Unit CommandFault → FilesState → FilesState
     → SourceState → SourceState → SinkState → SinkState → Type 0
 TellsIfUnfaulted run path job h result f g n m x y =
-    (Rose f.faults g.faults → ⊥) → (Rose n.faults m.faults → ⊥) → (Rose x.faults y.faults → ⊥) → TellsInStory run path job h result n m x y f.story g.story
+    (Rose f.faults g.faults → ⊥) → (Rose n.faults m.faults → ⊥) → (Rose x.faults y.faults → ⊥)
+    → TellsInStory run path job h result n m x y f.story g.story

@@ -27,31 +27,41 @@ use Rattle.mhbuild_command.specs.declared.job.BuildJob.{BuildJob}
 -- of this name, which the run had read, or a name that it had made there, or the directory
 pub data IsMeddledHere (run : ℕ) (name : List ℕ) : List ℕ → List Deed → Type 0 where
   -- its fresh name is taken, or the directory is gone
-  fresh_taken : {x bytes : List ℕ} {a : Answer} {older : List Deed} → (k : ℕ) → x ≡ temp_name run k → (WasMade Work x older → ⊥) → (a ≡ Exists) ⊎ (a ≡ Gone)
+  fresh_taken : {x bytes : List ℕ} {a : Answer} {older : List Deed} → (k : ℕ) → x ≡ temp_name run k
+      → (WasMade Work x older → ⊥) → (a ≡ Exists) ⊎ (a ≡ Gone)
       → IsMeddledHere run name x (did (Create Work x bytes) a ∷ older)
   -- the draft is gone, as it is set aside
-  draft_gone : {older : List Deed} → (text : List ℕ) → HasText (Some name) text older → IsMeddledHere run name name (did (Rename Work name (original_of name)) Gone ∷ older)
+  draft_gone : {older : List Deed} → (text : List ℕ) → HasText (Some name) text older
+      → IsMeddledHere run name name (did (Rename Work name (original_of name)) Gone ∷ older)
   -- what it made is gone, or the directory as it makes safe what it put there last
   made_gone : {x : List ℕ} {own : List Deed} → IsMeddled run Work x own → IsMeddledHere run name x own
 
 -- what shows each fault that `mhbuild` returns, where it begins with this hand's next number
-pub data NotBuilt (run : ℕ) (path : List ℕ) (job : BuildJob) (entries : List NamedValue) (next : ℕ) : CommandFault → List Deed → Type 0 where
+pub data NotBuilt (run : ℕ) (path : List ℕ) (job : BuildJob) (entries : List NamedValue) (next : ℕ) : CommandFault
+    → List Deed → Type 0 where
   -- the draft isn't there
-  no_draft : {older : List Deed} → (name : List ℕ) → job.draft ≡ Some name → NotBuilt run path job entries next (no_file (in_work name)) (did (Read Work name LIMIT_BYTES) Gone ∷ older)
+  no_draft : {older : List Deed} → (name : List ℕ) → job.draft ≡ Some name
+      → NotBuilt run path job entries next (no_file (in_work name)) (did (Read Work name LIMIT_BYTES) Gone ∷ older)
   -- it is too long
-  long_draft : {l : ℕ} {older : List Deed} → (name : List ℕ) → job.draft ≡ Some name → NotBuilt run path job entries next (too_large l) (did (Read Work name LIMIT_BYTES) (Long l) ∷ older)
+  long_draft : {l : ℕ} {older : List Deed} → (name : List ℕ) → job.draft ≡ Some name
+      → NotBuilt run path job entries next (too_large l) (did (Read Work name LIMIT_BYTES) (Long l) ∷ older)
   -- or the input is
-  long_input : {l : ℕ} {own : List Deed} → job.draft ≡ None → nat_lt LIMIT_BYTES l ≡ true → NotBuilt run path job entries next (too_large l) own
+  long_input : {l : ℕ} {own : List Deed} → job.draft ≡ None → nat_lt LIMIT_BYTES l ≡ true
+      → NotBuilt run path job entries next (too_large l) own
   -- a line of the draft is wrong, and this is the first
-  wrong_line : {line : ℕ} {own : List Deed} → (text : List ℕ) → HasText job.draft text own → first_wrong_line text ≡ Some line
+  wrong_line : {line : ℕ} {own : List Deed} → (text : List ℕ) → HasText job.draft text own
+      → first_wrong_line text ≡ Some line
       → NotBuilt run path job entries next (fault.Refused (refusal.BadDraft line)) own
   -- something that the draft wants is not given
-  not_given : {e : CommandFault} {own : List Deed} → (text : List ℕ) (draft : Drafted) → HasText job.draft text own → parsed text ≡ Ok draft
+  not_given : {e : CommandFault} {own : List Deed} → (text : List ℕ) (draft : Drafted) → HasText job.draft text own
+      → parsed text ≡ Ok draft
       → IsNotGiven path job.forwarding entries draft.wants e own → NotBuilt run path job entries next e own
   -- the message is too long
-  long_message : {own : List Deed} → (message : List ℕ) → IsBuilt run path job message own → nat_lt LIMIT_BYTES (length message) ≡ true
+  long_message : {own : List Deed} → (message : List ℕ) → IsBuilt run path job message own
+      → nat_lt LIMIT_BYTES (length message) ≡ true
       → NotBuilt run path job entries next (too_large (length message)) own
   -- others changed the current directory meanwhile
-  meddled : {x : List ℕ} {own : List Deed} → (name : List ℕ) → job.draft ≡ Some name → IsMeddledHere run name x own → NotBuilt run path job entries next (fault.Meddled Work x) own
+  meddled : {x : List ℕ} {own : List Deed} → (name : List ℕ) → job.draft ≡ Some name → IsMeddledHere run name x own
+      → NotBuilt run path job entries next (fault.Meddled Work x) own
   -- the run has no number left for a name
   no_name : {own : List Deed} → nat_lt next (2 ^ 64) ≡ false → NotBuilt run path job entries next fault.Memory own

@@ -19,7 +19,8 @@ pub record HasPlaced (run : ℕ) (path : List ℕ) (job : BuildJob) (name : List
       own
       ≡ did (SyncFolder Work) Done
       ∷ (did (Rename Work temp name) Done
-      ∷ (did (Rename Work name (original_of name)) Done ∷ (did (SyncFile Work temp) Done ∷ (did (Create Work temp message) Done ∷ older))))
+      ∷ (did (Rename Work name (original_of name)) Done
+      ∷ (did (SyncFile Work temp) Done ∷ (did (Create Work temp message) Done ∷ older))))
   pub built : IsBuilt run path job message older
 
 abbrev pub PlacedBy : ℕ → List ℕ → BuildJob → Option (List ℕ) → List Deed → Type 0

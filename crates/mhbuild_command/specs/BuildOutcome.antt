@@ -18,7 +18,8 @@ abbrev pub with_message : Mailbox → List ℕ → List ℕ → List ℕ → Mai
 with_message m name draft message = record {
   folders = m.folders;
   home = m.home;
-  work = λ x. if bytes_eq name x then Some message else (if bytes_eq (original_of name) x then Some draft else m.work x);
+  work = λ x. if bytes_eq name x then Some message
+      else (if bytes_eq (original_of name) x then Some draft else m.work x);
   context = m.context;
   outside = m.outside;
 }
@@ -26,12 +27,16 @@ with_message m name draft message = record {
 -- the message of a text, with what the mailbox has of what it wants; or the first refusal
 abbrev pub built : ℕ → List ℕ → List NamedValue → BuildJob → Mailbox → List ℕ → Result (List ℕ) CommandFault
 built run path entries job m text =
-    and_then (parsed text) (λ draft. and_then (all_found path job.forwarding entries m [] draft.wants) (λ givens. within_limit (composed run draft givens)))
+    and_then (parsed text)
+    (λ draft.
+    and_then (all_found path job.forwarding entries m [] draft.wants)
+    (λ givens. within_limit (composed run draft givens)))
 
 -- the message of a draft that was the input is written; that of another takes its place
 abbrev pub ended_work : Mailbox → Option (List ℕ) → List ℕ → Result (List ℕ) CommandFault → Work CommandFault
 ended_work m None text (Ok message) = record { text = message; end = Ok tt; mailbox = m }
-ended_work m (Some name) text (Ok message) = record { text = []; end = Ok tt; mailbox = with_message m name text message }
+ended_work m (Some name) text (Ok message) =
+    record { text = []; end = Ok tt; mailbox = with_message m name text message }
 ended_work m draft text (Err e) = refused_at m e
 
 -- `mhbuild`, where the context has these entries and the draft this text, or is refused

@@ -29,4 +29,6 @@ keys_of run items givens = keys_from (takes_any run (all_nodes items givens)) 0 
 
 -- the message: the fields, and then the nodes of the items with these keys
 unfoldable pub composed : ℕ → Drafted → List Given → List ℕ
-composed run d givens = opened d.fields ++ written run [] (flags_of (all_nodes d.items givens)) (keys_of run d.items givens) (all_nodes d.items givens)
+composed run d givens =
+    opened d.fields
+    ++ written run [] (flags_of (all_nodes d.items givens)) (keys_of run d.items givens) (all_nodes d.items givens)

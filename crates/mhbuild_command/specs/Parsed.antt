@@ -12,7 +12,12 @@ use Rattle.mh_drafts.specs.Marks.{marks_in}
 
 -- its fields, its items and its wants
 abbrev pub drafted : List ℕ → Drafted
-drafted text = record { fields = fields_in text; items = items_of (marks_in (body_of text)); wants = wants_of (marks_in (body_of text)) }
+drafted text =
+    record {
+      fields = fields_in text;
+      items = items_of (marks_in (body_of text));
+      wants = wants_of (marks_in (body_of text));
+    }
 
 abbrev pub unless_wrong : List ℕ → Option ℕ → Result Drafted CommandFault
 unless_wrong text (Some line) = Err (fault.Refused (refusal.BadDraft line))

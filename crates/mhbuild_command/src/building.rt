@@ -19,7 +19,9 @@ use std::alloc::Global;
 use step_plans::{CommandFault, Hand};
 
 fn say_message<O: Sink>(out: &mut O, message: &Bytes) -> Result<(), CommandFault>
-    ensures { (run : ℕ) (h : Kept) (f : FilesState) → Follows run command_cause (lifted of_sink (say_plan message.now)) (by_out h f (O.state out.old)) (by_out h f (O.state out.new)) result }
+    ensures { (run : ℕ) (h : Kept) (f : FilesState)
+        → Follows run command_cause (lifted of_sink (say_plan message.now)) (by_out h f (O.state out.old))
+        (by_out h f (O.state out.new)) result }
 {
     say(out, message.as_slice())?;
     Ok(())
@@ -34,7 +36,9 @@ fn finish<F: Files, O: Sink>(
     draft: &Option<DraftName>,
     message: &mut Bytes,
 ) -> Result<(), CommandFault>
-    ensures plan { Follows hand.old.run command_cause (message_done hand.old.run draft.now message.old) (by_out hand.old.kept (F.state files.old) (O.state out.old)) (by_out hand.new.kept (F.state files.new) (O.state out.new)) result }
+    ensures plan { Follows hand.old.run command_cause (message_done hand.old.run draft.now message.old)
+        (by_out hand.old.kept (F.state files.old) (O.state out.old))
+        (by_out hand.new.kept (F.state files.new) (O.state out.new)) result }
     ensures run { hand.new.run ≡ hand.old.run }
     ensures mail { hand.new.mail ≡ hand.old.mail }
 {
@@ -44,8 +48,8 @@ fn finish<F: Files, O: Sink>(
     }
 }
 
-/// Reads the draft, by its name or as the input, and what it wants, in its order. The message of a draft that was the input is written; another takes the draft's
-/// name, and the draft stays beside it under the name of its original.
+/// Reads the draft, by its name or as the input, and what it wants, in its order. The message of a draft that was the
+/// input is written; another takes the draft's name, and the draft stays beside it under the name of its original.
 pub fn mhbuild<F: Files, I: Source, O: Sink>(
     alloc: Global,
     hand: &mut Hand,
@@ -54,9 +58,14 @@ pub fn mhbuild<F: Files, I: Source, O: Sink>(
     out: &mut O,
     job: &BuildJob,
 ) -> Result<(), CommandFault>
-    ensures plan { Follows hand.old.run command_cause (mhbuild_plan hand.old.run hand.old.mail job.now) (all hand.old.kept (F.state files.old) (I.state input.old) (O.state out.old)) (all hand.new.kept (F.state files.new) (I.state input.new) (O.state out.new)) result }
-    ensures alone { TellsIfUnfaulted hand.old.run hand.old.mail job.now hand.old.kept result (F.state files.old) (F.state files.new) (I.state input.old) (I.state input.new) (O.state out.old) (O.state out.new) }
-    ensures steps { PromisesSteps hand.old.run hand.old.mail job.now (all hand.old.kept (F.state files.old) (I.state input.old) (O.state out.old)) (all hand.new.kept (F.state files.new) (I.state input.new) (O.state out.new)) }
+    ensures plan { Follows hand.old.run command_cause (mhbuild_plan hand.old.run hand.old.mail job.now)
+        (all hand.old.kept (F.state files.old) (I.state input.old) (O.state out.old))
+        (all hand.new.kept (F.state files.new) (I.state input.new) (O.state out.new)) result }
+    ensures alone { TellsIfUnfaulted hand.old.run hand.old.mail job.now hand.old.kept result (F.state files.old)
+        (F.state files.new) (I.state input.old) (I.state input.new) (O.state out.old) (O.state out.new) }
+    ensures steps { PromisesSteps hand.old.run hand.old.mail job.now
+        (all hand.old.kept (F.state files.old) (I.state input.old) (O.state out.old))
+        (all hand.new.kept (F.state files.new) (I.state input.new) (O.state out.new)) }
     ensures input { IfSome job.now.draft (λ _. I.state input.new ≡ I.state input.old) }
     ensures run { hand.new.run ≡ hand.old.run }
     ensures mail { hand.new.mail ≡ hand.old.mail }

@@ -48,7 +48,8 @@ pub(crate) fn build<F: Files>(
     job: &BuildJob,
     text: &Bytes,
 ) -> Result<Bytes, CommandFault>
-    ensures { Follows hand.now.run command_cause (text_built hand.now.run hand.now.mail job.now text.now) (by_hand hand.now.kept (F.state files.old)) (by_hand hand.now.kept (F.state files.new)) result }
+    ensures { Follows hand.now.run command_cause (text_built hand.now.run hand.now.mail job.now text.now)
+        (by_hand hand.now.kept (F.state files.old)) (by_hand hand.now.kept (F.state files.new)) result }
 {
     let draft = parse(alloc, text)?;
     let givens = give_all(

@@ -20,7 +20,9 @@ pub(crate) fn read_text<F: Files, I: Source>(
     input: &mut I,
     draft: &Option<DraftName>,
 ) -> Result<Bytes, CommandFault>
-    ensures plan { (h : Hand) (o : SinkState) → Follows run command_cause (draft_text draft.now) (all h (F.state files.old) (I.state input.old) o) (all h (F.state files.new) (I.state input.new) o) result }
+    ensures plan { (h : Hand) (o : SinkState)
+        → Follows run command_cause (draft_text draft.now) (all h (F.state files.old) (I.state input.old) o)
+        (all h (F.state files.new) (I.state input.new) o) result }
     ensures input { IfSome draft.now (λ _. I.state input.new ≡ I.state input.old) }
 {
     match draft {

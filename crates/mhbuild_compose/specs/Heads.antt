@@ -33,7 +33,8 @@ needs_charset label = bytes_eq label.kind (codes "text") && not (list_any is_cha
 -- it is given one, by whether its body has a byte above 127
 abbrev pub charset_text : Label → Bool → List ℕ
 charset_text label high =
-    if not (needs_charset label) then [] else (if high then codes "; charset=\"utf-8\"" else codes "; charset=\"us-ascii\"")
+    if not (needs_charset label) then []
+    else (if high then codes "; charset=\"utf-8\"" else codes "; charset=\"us-ascii\"")
 
 -- what is there, between these texts
 abbrev pub bracketed : List ℕ → Option (List ℕ) → List ℕ → List ℕ
@@ -48,7 +49,8 @@ name_text label = codes "Content-Type: " ++ (label.kind ++ (codes "/" ++ label.s
 unfoldable pub type_text : Label → Bool → List ℕ
 type_text label high =
     name_text label
-    ++ (attributes_text label.attributes ++ (charset_text label high ++ (bracketed (codes " (") label.comment (codes ")") ++ codes "\n")))
+    ++ (attributes_text label.attributes
+    ++ (charset_text label high ++ (bracketed (codes " (") label.comment (codes ")") ++ codes "\n")))
 
 abbrev pub encoding_line : Encoding → List ℕ
 encoding_line SevenBit = []

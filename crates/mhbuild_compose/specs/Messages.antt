@@ -20,9 +20,12 @@ opened fields = ended fields ++ codes "MIME-Version: 1.0\n"
 -- the message of these fields and items with what is given: the fields and the root, whose multiparts have the least
 -- keys, in their order, that no line of a part takes. Where the items write parts, the root is their tree, and its text
 -- that of a tree
-pub record IsComposed (fields : List ℕ) (items : List Item) (givens : List Given) (run : ℕ) (message : List ℕ) : Type 0 where
+pub record IsComposed (fields : List ℕ) (items : List Item) (givens : List Given) (run : ℕ)
+    (message : List ℕ) : Type 0 where
   pub keys : List ℕ
   pub are_keys : AreKeys (takes_any run (all_nodes items givens)) 0 keys
   pub are_all : length keys ≡ begins_in (all_nodes items givens)
-  pub is_tree : (parts : Parts) → items ≡ items_written parts → message ≡ opened fields ++ tree_text run None (root (tree_of parts givens)) keys
-  pub is_written : message ≡ opened fields ++ written run [] (flags_of (all_nodes items givens)) keys (all_nodes items givens)
+  pub is_tree : (parts : Parts) → items ≡ items_written parts
+      → message ≡ opened fields ++ tree_text run None (root (tree_of parts givens)) keys
+  pub is_written : message ≡ opened fields
+      ++ written run [] (flags_of (all_nodes items givens)) keys (all_nodes items givens)

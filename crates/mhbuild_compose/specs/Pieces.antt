@@ -37,4 +37,8 @@ is_eight Base64 = false
 abbrev pub piece_of : Label → List ℕ → Piece
 piece_of label text =
     let encoding = encoding_of label.kind text in
-    record { head = head_of label (list_any is_high text) encoding; eight = is_eight encoding; body = encoded_by encoding text }
+    record {
+      head = head_of label (list_any is_high text) encoding;
+      eight = is_eight encoding;
+      body = encoded_by encoding text;
+    }

@@ -86,4 +86,5 @@ tree_text run within (several kind parts more) keys =
     lead_by run within
     ++ (multipart_head run kind (has_eight parts) (first_key keys)
     ++ (tree_text run (Some (first_key keys)) parts (keys_left keys)
-    ++ (closing_of run (first_key keys) ++ (trail_by within ++ tree_text run within more (keys_after parts (keys_left keys))))))
+    ++ (closing_of run (first_key keys)
+    ++ (trail_by within ++ tree_text run within more (keys_after parts (keys_left keys))))))

@@ -70,7 +70,8 @@ encoding_with eight = if eight then EightBit else SevenBit
 -- the line that names a multipart's type
 unfoldable pub multipart_type : ℕ → Kind → ℕ → List ℕ
 multipart_type run kind key =
-    codes "Content-Type: multipart/" ++ (kind_text kind ++ (codes "; boundary=\"" ++ (boundary_of run key ++ codes "\"\n")))
+    codes "Content-Type: multipart/"
+    ++ (kind_text kind ++ (codes "; boundary=\"" ++ (boundary_of run key ++ codes "\"\n")))
 
 -- the header lines of a multipart and the empty line behind them
 abbrev pub multipart_head : ℕ → Kind → Bool → ℕ → List ℕ

@@ -36,7 +36,8 @@ fn line_mark(alloc: Global, run: u128) -> Result<Bytes, AllocError>
 }
 
 fn behind_mark<'a>(line: &'a [u8], mark: &[u8]) -> Option<&'a [u8]>
-    ensures { MatchOption result (behind_front mark.now line.now ≡ None) (λ rest. behind_front mark.now line.now ≡ Some rest.now) }
+    ensures { MatchOption result (behind_front mark.now line.now ≡ None)
+        (λ rest. behind_front mark.now line.now ≡ Some rest.now) }
 {
     line.strip_prefix(mark)
 }
@@ -56,7 +57,8 @@ impl Keys {
     }
 
     fn add_line(&mut self, alloc: Global, mark: &[u8], line: &[u8]) -> Result<(), AllocError>
-        ensures { OnOk result ((d : List ℕ) → has_digits self.new d ≡ has_digits self.old d || takes mark.now d line.now) }
+        ensures { OnOk result
+            ((d : List ℕ) → has_digits self.new d ≡ has_digits self.old d || takes mark.now d line.now) }
     {
         match behind_mark(line, mark) {
             Some(rest) => self.insert(alloc, front(rest, 16)),
@@ -65,7 +67,9 @@ impl Keys {
     }
 
     fn add_text(&mut self, alloc: Global, mark: &[u8], text: &[u8]) -> Result<(), AllocError>
-        ensures { OnOk result ((d : List ℕ) → has_digits self.new d ≡ has_digits self.old d || list_any (takes mark.now d) (lines text.now)) }
+        ensures { OnOk result
+            ((d : List ℕ)
+            → has_digits self.new d ≡ has_digits self.old d || list_any (takes mark.now d) (lines text.now)) }
     {
         let mut rest = text;
         while !rest.is_empty() {
@@ -77,7 +81,8 @@ impl Keys {
     }
 
     fn add_node(&mut self, alloc: Global, mark: &[u8], node: &Node) -> Result<(), AllocError>
-        ensures { OnOk result ((d : List ℕ) → has_digits self.new d ≡ has_digits self.old d || node_takes mark.now d node.now) }
+        ensures { OnOk result
+            ((d : List ℕ) → has_digits self.new d ≡ has_digits self.old d || node_takes mark.now d node.now) }
     {
         match node {
             Node::Leaf(piece) => self.add_text(alloc, mark, piece.body.as_slice()),

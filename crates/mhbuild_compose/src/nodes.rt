@@ -94,7 +94,10 @@ pub(crate) fn push_file(
 
 impl<'a> Nodes<'a> {
     fn add_leaf(&mut self, alloc: Global, leaf: &Leaf) -> Result<(), AllocError>
-        ensures { OnOk result ((items : List ItemValue) → self.new.list.items ++ nodes_of items self.new.givens.now ≡ self.old.list.items ++ nodes_of (leaf_item leaf.now ∷ items) self.old.givens.now) }
+        ensures { OnOk result
+            ((items : List ItemValue)
+            → self.new.list.items ++ nodes_of items self.new.givens.now ≡ self.old.list.items
+            ++ nodes_of (leaf_item leaf.now ∷ items) self.old.givens.now) }
     {
         match leaf {
             Leaf::Text(text) => {
@@ -116,7 +119,10 @@ impl<'a> Nodes<'a> {
 
     /// One item more.
     pub(crate) fn add(&mut self, alloc: Global, item: &Item) -> Result<(), AllocError>
-        ensures { OnOk result ((items : List ItemValue) → self.new.list.items ++ nodes_of items self.new.givens.now ≡ self.old.list.items ++ nodes_of (item.now ∷ items) self.old.givens.now) }
+        ensures { OnOk result
+            ((items : List ItemValue)
+            → self.new.list.items ++ nodes_of items self.new.givens.now ≡ self.old.list.items
+            ++ nodes_of (item.now ∷ items) self.old.givens.now) }
     {
         match item {
             Item::Leaf(leaf) => self.add_leaf(alloc, leaf),

@@ -12,8 +12,8 @@ use mh_base::Bytes;
 use mh_drafts::Kind;
 use std::alloc::AllocError;
 
-/// A message that is written: the text so far, the keys of the multiparts that are open, the innermost on top, and what is
-/// known of those that are to begin: whether one of their parts has bytes above 127 as they are, and their keys.
+/// A message that is written: the text so far, the keys of the multiparts that are open, the innermost on top, and what
+/// is known of those that are to begin: whether one of their parts has bytes above 127 as they are, and their keys.
 #[derive(Drop)]
 pub(crate) struct Writer<'a> {
     pub(crate) out: Bytes,
@@ -170,7 +170,9 @@ impl<'a> Writer<'a> {
     }
 
     fn add_leaf(&mut self, piece: &Piece) -> Result<(), AllocError>
-        ensures out { OnOk result (self.new.out ≡ self.old.out ++ node_text self.old.run self.old.levels self.old.flags.now self.old.keys.now (leaf_node piece.now)) }
+        ensures out { OnOk result
+            (self.new.out ≡ self.old.out
+            ++ node_text self.old.run self.old.levels self.old.flags.now self.old.keys.now (leaf_node piece.now)) }
         ensures run { OnOk result (self.new.run ≡ self.old.run) }
         ensures levels { OnOk result (self.new.levels ≡ self.old.levels) }
         ensures flags { OnOk result (self.new.flags ≡ self.old.flags) }
@@ -183,7 +185,9 @@ impl<'a> Writer<'a> {
     }
 
     fn begin(&mut self, kind: Kind) -> Result<(), AllocError>
-        ensures out { OnOk result (self.new.out ≡ self.old.out ++ node_text self.old.run self.old.levels self.old.flags.now self.old.keys.now (begin_node kind)) }
+        ensures out { OnOk result
+            (self.new.out ≡ self.old.out
+            ++ node_text self.old.run self.old.levels self.old.flags.now self.old.keys.now (begin_node kind)) }
         ensures run { OnOk result (self.new.run ≡ self.old.run) }
         ensures levels { OnOk result (self.new.levels ≡ first_key self.old.keys.now ∷ self.old.levels) }
         ensures flags { OnOk result (self.new.flags.now ≡ flags_left self.old.flags.now) }
@@ -200,7 +204,9 @@ impl<'a> Writer<'a> {
     }
 
     fn end(&mut self) -> Result<(), AllocError>
-        ensures out { OnOk result (self.new.out ≡ self.old.out ++ node_text self.old.run self.old.levels self.old.flags.now self.old.keys.now end_node) }
+        ensures out { OnOk result
+            (self.new.out ≡ self.old.out
+            ++ node_text self.old.run self.old.levels self.old.flags.now self.old.keys.now end_node) }
         ensures run { OnOk result (self.new.run ≡ self.old.run) }
         ensures levels { OnOk result (self.new.levels ≡ levels_left self.old.levels) }
         ensures flags { OnOk result (self.new.flags ≡ self.old.flags) }
@@ -218,7 +224,9 @@ impl<'a> Writer<'a> {
 
     /// One node more.
     pub(crate) fn add(&mut self, node: &Node) -> Result<(), AllocError>
-        ensures out { OnOk result (self.new.out ≡ self.old.out ++ node_text self.old.run self.old.levels self.old.flags.now self.old.keys.now node.now) }
+        ensures out { OnOk result
+            (self.new.out ≡ self.old.out
+            ++ node_text self.old.run self.old.levels self.old.flags.now self.old.keys.now node.now) }
         ensures run { OnOk result (self.new.run ≡ self.old.run) }
         ensures levels { OnOk result (self.new.levels ≡ levels_behind self.old.levels self.old.keys.now node.now) }
         ensures flags { OnOk result (self.new.flags.now ≡ flags_behind self.old.flags.now node.now) }

@@ -56,7 +56,8 @@ told_of wanted messages = header ++ flat_map (λ m. joined (rows_of m.number wan
 -- The newest steps listed the folder, read its sequences, and then read these messages, one after another. By the
 -- listing and the sequences, and by the entries of the context that were read before, the job's words choose these
 -- messages, and behind them those that are left. Each message that was read has all parts that are wanted.
-pub record HasJustRead (path : List ℕ) (job : ListJob) (entries : List NamedValue) (messages : List ReadMessage) (left : List ℕ)
+pub record HasJustRead (path : List ℕ) (job : ListJob) (entries : List NamedValue) (messages : List ReadMessage)
+    (left : List ℕ)
     (own : List Deed) : Type 0 where
   pub names : List (List ℕ)
   pub text : List ℕ
@@ -64,13 +65,15 @@ pub record HasJustRead (path : List ℕ) (job : ListJob) (entries : List NamedVa
   pub older : List Deed
   pub seen :
       own
-      ≡ after_reading (Folder path job.folder) messages (reading ∷ did (Lists (Folder path job.folder)) (Names names) ∷ older)
+      ≡ after_reading (Folder path job.folder) messages
+      (reading ∷ did (Lists (Folder path job.folder)) (Names names) ∷ older)
   pub told : TellsText (Folder path job.folder) (entry_text Sequences) text reading
   pub chosen : chosen_seen job names text entries ≡ Ok (numbers_in messages ++ left)
   pub whole : AreWhole job.parts messages
 
 -- up to some step they did so
-pub record HasRead (path : List ℕ) (job : ListJob) (entries : List NamedValue) (messages : List ReadMessage) (left : List ℕ)
+pub record HasRead (path : List ℕ) (job : ListJob) (entries : List NamedValue) (messages : List ReadMessage)
+    (left : List ℕ)
     (own : List Deed) : Type 0 where
   pub newer : List Deed
   pub before : List Deed
@@ -91,7 +94,8 @@ TellsFirstRows path job entries said own =
 
 -- the newest two steps listed the folder and read its sequences; by these, and by the entries of the context that were
 -- read before, the job's words are refused so
-pub record IsRefusedByListing (path : List ℕ) (job : ListJob) (entries : List NamedValue) (r : Refusal) (own : List Deed)
+pub record IsRefusedByListing (path : List ℕ) (job : ListJob) (entries : List NamedValue) (r : Refusal)
+    (own : List Deed)
     : Type 0 where
   pub names : List (List ℕ)
   pub text : List ℕ
@@ -103,7 +107,8 @@ pub record IsRefusedByListing (path : List ℕ) (job : ListJob) (entries : List 
 
 -- the newest step read the next of the chosen messages, and the part that this word names is the first of the wanted
 -- ones that the message has not
-pub record LacksPart (path : List ℕ) (job : ListJob) (entries : List NamedValue) (word : List ℕ) (own : List Deed) : Type 0 where
+pub record LacksPart (path : List ℕ) (job : ListJob) (entries : List NamedValue) (word : List ℕ)
+    (own : List Deed) : Type 0 where
   pub messages : List ReadMessage
   pub next : ReadMessage
   pub left : List ℕ

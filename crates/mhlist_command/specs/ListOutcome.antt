@@ -30,7 +30,9 @@ text_of messages n = unwrap_or (messages n) []
 
 -- why a message with this text isn't listed: it is too long, or lacks a part that is wanted; of these the first counts
 abbrev pub refused_text : List (List ℕ) → List ℕ → Option CommandFault
-refused_text wanted text = if nat_lt LIMIT_BYTES (length text) then Some (too_large (length text)) else option_map no_part (first_missing wanted (parts_of text))
+refused_text wanted text =
+    if nat_lt LIMIT_BYTES (length text) then Some (too_large (length text))
+    else option_map no_part (first_missing wanted (parts_of text))
 
 abbrev pub first_of : Option CommandFault → Option CommandFault → Option CommandFault
 first_of (Some e) later = Some e
@@ -49,7 +51,9 @@ unless_refused None rows = rows
 -- the rows of these messages, up to that one
 unfoldable pub rows_among : List (List ℕ) → (ℕ → Option (List ℕ)) → List ℕ → List ℕ
 rows_among wanted messages [] = []
-rows_among wanted messages (n ∷ ns) = unless_refused (refused_text wanted (text_of messages n)) (joined (rows_of n wanted (text_of messages n)) ++ rows_among wanted messages ns)
+rows_among wanted messages (n ∷ ns) =
+    unless_refused (refused_text wanted (text_of messages n))
+    (joined (rows_of n wanted (text_of messages n)) ++ rows_among wanted messages ns)
 
 -- all that is written of these messages
 abbrev pub list_text : ListJob → (ℕ → Option (List ℕ)) → List ℕ → List ℕ
@@ -76,7 +80,9 @@ chosen_from job listing m = chosen_in (folder_with job.negation (numbers_of list
 
 -- a folder with these messages, whose sequences have this text, or none that can be read
 abbrev pub looked_work : List ℕ → ListJob → Kept → FolderValue → Result (List ℕ) CommandFault → Work CommandFault
-looked_work path job k f (Ok text) = chosen_work path job k f.messages (chosen_from job (runs_in f) (cut_to (runs_in f) (sequences_in text k.entries job.folder)))
+looked_work path job k f (Ok text) =
+    chosen_work path job k f.messages
+    (chosen_from job (runs_in f) (cut_to (runs_in f) (sequences_in text k.entries job.folder)))
 looked_work path job k f (Err e) = refused_at k.mailbox e
 
 abbrev pub folder_work : List ℕ → ListJob → Kept → Option FolderValue → Work CommandFault

@@ -9,7 +9,15 @@ use Rattle.mhlist_command.specs.declared.job.ListJob.{ListJob}
 
 -- of its folder nothing is changed
 abbrev pub task_of : ListJob → Task
-task_of job = record { folder = job.folder; specs = job.specs; negation = job.negation; becomes = λ listing numbers m. m; lines = λ listing m. [] }
+task_of job =
+    record {
+      folder = job.folder;
+      specs = job.specs;
+      negation = job.negation;
+      becomes = λ listing numbers m.
+          m;
+      lines = λ listing m. [];
+    }
 
 -- it changes nothing but the current folder, which becomes the one that it listed, and may say anything
 abbrev pub list_pledge : ℕ → List ℕ → ListJob → Pledge

@@ -69,7 +69,9 @@ all_listed wanted place (n ∷ ns) = do
 abbrev pub chosen_by : List ℕ → List (List ℕ) → List ℕ → List (List ℕ) → List ℕ → List NamedValue
     → Result (List ℕ) CommandFault
 chosen_by folder specs negation names text entries =
-    chosen_in (folder_with negation (numbers_of (listed_runs names)) (marks_of (sequences_listed names text entries folder))) specs
+    chosen_in
+    (folder_with negation (numbers_of (listed_runs names))
+    (marks_of (sequences_listed names text entries folder))) specs
 
 -- those that the job's words choose
 abbrev pub chosen_seen : ListJob → List (List ℕ) → List ℕ → List NamedValue → Result (List ℕ) CommandFault

@@ -30,7 +30,8 @@ pub fn chosen_messages(
     names: &NameList,
     text: &Bytes,
 ) -> Result<Vec<MsgNum>, CommandFault>
-    ensures { AreValue (chosen_by folder.now specs.now negation.now names.now text.now (entries_seen hand.now.kept.context)) result }
+    ensures { AreValue
+        (chosen_by folder.now specs.now negation.now names.now text.now (entries_seen hand.now.kept.context)) result }
 {
     let listing = listed(alloc, names)?;
     let sequences = sequences_listed(alloc, hand, folder, text.as_slice(), &listing)?;
@@ -38,8 +39,9 @@ pub fn chosen_messages(
     Ok(numbers(alloc, &set)?)
 }
 
-/// Writes a header line, and then the rows of each chosen message: of its parts that are wanted, or of all. A message that lacks one of those that are wanted
-/// ends the call, by the first of them, before a row of it is written. Then the folder becomes the current one.
+/// Writes a header line, and then the rows of each chosen message: of its parts that are wanted, or of all. A message
+/// that lacks one of those that are wanted ends the call, by the first of them, before a row of it is written. Then the
+/// folder becomes the current one.
 pub fn mhlist<F: Files, O: Sink>(
     alloc: Global,
     hand: &mut Hand,
@@ -47,9 +49,15 @@ pub fn mhlist<F: Files, O: Sink>(
     out: &mut O,
     job: &ListJob,
 ) -> Result<(), CommandFault>
-    ensures plan { Follows hand.old.run command_cause (mhlist_plan hand.old.run hand.old.mail job.now) (by_out hand.old.kept (F.state files.old) (O.state out.old)) (by_out hand.new.kept (F.state files.new) (O.state out.new)) result }
-    ensures alone { TellsIfUnfaulted hand.old.run hand.old.mail job.now.folder hand.old.kept (λ entries held m. mhlist_work hand.old.mail entries job.now m) result (F.state files.old) (F.state files.new) (O.state out.old) (O.state out.new) }
-    ensures steps { PromisesSteps hand.old.run hand.old.mail job.now (by_out hand.old.kept (F.state files.old) (O.state out.old)) (by_out hand.new.kept (F.state files.new) (O.state out.new)) }
+    ensures plan { Follows hand.old.run command_cause (mhlist_plan hand.old.run hand.old.mail job.now)
+        (by_out hand.old.kept (F.state files.old) (O.state out.old))
+        (by_out hand.new.kept (F.state files.new) (O.state out.new)) result }
+    ensures alone { TellsIfUnfaulted hand.old.run hand.old.mail job.now.folder hand.old.kept
+        (λ entries held m. mhlist_work hand.old.mail entries job.now m) result (F.state files.old) (F.state files.new)
+        (O.state out.old) (O.state out.new) }
+    ensures steps { PromisesSteps hand.old.run hand.old.mail job.now
+        (by_out hand.old.kept (F.state files.old) (O.state out.old))
+        (by_out hand.new.kept (F.state files.new) (O.state out.new)) }
     ensures run { hand.new.run ≡ hand.old.run }
     ensures mail { hand.new.mail ≡ hand.old.mail }
 {

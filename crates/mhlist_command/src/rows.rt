@@ -19,7 +19,8 @@ use told_folders::say_lines;
 
 /// Writes the line above all rows.
 pub(crate) fn say_header<O: Sink>(alloc: Global, out: &mut O) -> Result<(), CommandFault>
-    ensures { (run : ℕ) (h : Kept) (f : FilesState) → Follows run command_cause header_said (by_out h f (O.state out.old)) (by_out h f (O.state out.new)) result }
+    ensures { (run : ℕ) (h : Kept) (f : FilesState)
+        → Follows run command_cause header_said (by_out h f (O.state out.old)) (by_out h f (O.state out.new)) result }
 {
     let mut lines = List::new(alloc);
     lines.push(header_line(alloc)?)?;
@@ -54,7 +55,9 @@ fn say_rows<O: Sink>(
     number: MsgNum,
     message: &[u8],
 ) -> Result<(), CommandFault>
-    ensures { (run : ℕ) (h : Kept) (f : FilesState) → Follows run command_cause (rows_said wanted.now number message.now) (by_out h f (O.state out.old)) (by_out h f (O.state out.new)) result }
+    ensures { (run : ℕ) (h : Kept) (f : FilesState)
+        → Follows run command_cause (rows_said wanted.now number message.now) (by_out h f (O.state out.old))
+        (by_out h f (O.state out.new)) result }
 {
     let parts = MessageParts::cut(alloc, message)?;
     match parts.first_missing(wanted) {
@@ -75,7 +78,9 @@ fn list<O: Sink>(
     number: MsgNum,
     reading: Reading,
 ) -> Result<(), CommandFault>
-    ensures { (run : ℕ) (h : Kept) (f : FilesState) → Follows run command_cause (listed_by wanted.now place.now number reading) (by_out h f (O.state out.old)) (by_out h f (O.state out.new)) result }
+    ensures { (run : ℕ) (h : Kept) (f : FilesState)
+        → Follows run command_cause (listed_by wanted.now place.now number reading) (by_out h f (O.state out.old))
+        (by_out h f (O.state out.new)) result }
 {
     match reading {
         Reading::Content(bytes) => say_rows(alloc, out, wanted, number, bytes.as_slice()),
@@ -96,7 +101,9 @@ fn list_one<F: Files, O: Sink>(
     place: &Place,
     number: MsgNum,
 ) -> Result<(), CommandFault>
-    ensures { (h : Kept) → Follows run command_cause (one_listed wanted.now place.now number) (by_out h (F.state files.old) (O.state out.old)) (by_out h (F.state files.new) (O.state out.new)) result }
+    ensures { (h : Kept)
+        → Follows run command_cause (one_listed wanted.now place.now number)
+        (by_out h (F.state files.old) (O.state out.old)) (by_out h (F.state files.new) (O.state out.new)) result }
 {
     let name = entry_name(alloc, &Entry::Number(number))?;
     let reading = ask_read(alloc, run, files, place, &name, LIMIT)?;
@@ -113,7 +120,9 @@ pub(crate) fn list_all<F: Files, O: Sink>(
     place: &Place,
     numbers: &[MsgNum],
 ) -> Result<(), CommandFault>
-    ensures { (h : Kept) → Follows run command_cause (all_listed wanted.now place.now numbers.now) (by_out h (F.state files.old) (O.state out.old)) (by_out h (F.state files.new) (O.state out.new)) result }
+    ensures { (h : Kept)
+        → Follows run command_cause (all_listed wanted.now place.now numbers.now)
+        (by_out h (F.state files.old) (O.state out.old)) (by_out h (F.state files.new) (O.state out.new)) result }
 {
     for number in numbers {
         list_one(alloc, run, files, out, wanted, place, *number)?;

@@ -27,11 +27,14 @@ HasNoTemps run h m = (k : ℕ) → h.next ≤ k → k < 2 ^ 64 → m.work (temp_
 abbrev pub StoresAlone : ℕ → List ℕ → StoreJob → Hand → Result Unit CommandFault → SinkState → SinkState → Story → Story
     → Type 0
 StoresAlone run path job h result x y earlier later =
-    (added : List ℕ) → later.asked ≡ earlier.asked ++ added → IsStart later.start → IsPossible earlier → IsAlone run later.start later.history added →
+    (added : List ℕ) → later.asked ≡ earlier.asked ++ added → IsStart later.start → IsPossible earlier
+    → IsAlone run later.start later.history added →
     let first = first_of (length earlier.history) added in
     run < 2 ^ 128 → HasReadContext (mailbox_at later first) path h → is_folder_name job.folder ≡ true
     → ((world_at later first).directories Work).there ≡ true → HasNoTemps run h (mailbox_at later first)
-    → ComesTo (mhstore_work path (entries_in (filled ((mailbox_at later first).context (Mail path)))) job (mailbox_at later first))
+    → ComesTo
+    (mhstore_work path (entries_in (filled ((mailbox_at later first).context (Mail path)))) job
+    (mailbox_at later first))
     (mailbox_at later (first + length added)) x y result
 
 -- where a story is told
@@ -47,4 +50,5 @@ StoresInStory run path job h result x y (Some earlier) None = ⊥
 abbrev pub StoresIfUnfaulted : ℕ → List ℕ → StoreJob → Hand → Result Unit CommandFault → FilesState → FilesState
     → SinkState → SinkState → Type 0
 StoresIfUnfaulted run path job h result f g x y =
-    (Rose f.faults g.faults → ⊥) → (Rose x.faults y.faults → ⊥) → StoresInStory run path job h result x y f.story g.story
+    (Rose f.faults g.faults → ⊥) → (Rose x.faults y.faults → ⊥)
+    → StoresInStory run path job h result x y f.story g.story

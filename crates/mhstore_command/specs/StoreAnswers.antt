@@ -53,7 +53,8 @@ AreStored run (f ∷ fs) own = HasStoredAs run f.name f.content own × AreStored
 -- The run listed the folder and then read its sequences. By these, and by the entries of the context that were read
 -- before, the words choose these messages, and behind them those that are left. It has read these messages since; each
 -- has all parts that are wanted. Of their files it has stored the first ones, and the others are to come.
-pub record HasStored (run : ℕ) (path : List ℕ) (job : StoreJob) (entries : List NamedValue) (messages : List ReadMessage)
+pub record HasStored (run : ℕ) (path : List ℕ) (job : StoreJob) (entries : List NamedValue)
+    (messages : List ReadMessage)
     (left : List ℕ) (files rest : List StoredFile) (own : List Deed) : Type 0 where
   pub names : List (List ℕ)
   pub text : List ℕ
@@ -76,7 +77,8 @@ TellsFiles run path job entries said own =
     × (said ≡ lines_of (files_in job.parts messages))
 
 -- the same of the first of them, while some are to come
-pub record TellsFirstFiles (run : ℕ) (path : List ℕ) (job : StoreJob) (entries : List NamedValue) (said : List ℕ) (own : List Deed)
+pub record TellsFirstFiles (run : ℕ) (path : List ℕ) (job : StoreJob) (entries : List NamedValue) (said : List ℕ)
+    (own : List Deed)
     : Type 0 where
   pub messages : List ReadMessage
   pub left : List ℕ
@@ -87,7 +89,8 @@ pub record TellsFirstFiles (run : ℕ) (path : List ℕ) (job : StoreJob) (entri
 
 -- the newest step read the next of the chosen messages, all files of those before it were stored, and the part that
 -- this word names is the first of the wanted ones that it has not
-pub record LacksPart (run : ℕ) (path : List ℕ) (job : StoreJob) (entries : List NamedValue) (word : List ℕ) (own : List Deed)
+pub record LacksPart (run : ℕ) (path : List ℕ) (job : StoreJob) (entries : List NamedValue) (word : List ℕ)
+    (own : List Deed)
     : Type 0 where
   pub messages : List ReadMessage
   pub next : ReadMessage
@@ -101,7 +104,8 @@ pub record LacksPart (run : ℕ) (path : List ℕ) (job : StoreJob) (entries : L
 
 -- the name is that of the next file, the newest steps met a file there and took the run's own away again, and none is
 -- to be replaced
-pub record MeetsFile (run : ℕ) (path : List ℕ) (job : StoreJob) (entries : List NamedValue) (name : List ℕ) (own : List Deed)
+pub record MeetsFile (run : ℕ) (path : List ℕ) (job : StoreJob) (entries : List NamedValue) (name : List ℕ)
+    (own : List Deed)
     : Type 0 where
   pub messages : List ReadMessage
   pub left : List ℕ
@@ -119,7 +123,8 @@ pub record MeetsFile (run : ℕ) (path : List ℕ) (job : StoreJob) (entries : L
 -- or made its fresh name, or that the directory is gone
 pub data IsMeddledHere (run : ℕ) (x : List ℕ) : List Deed → Type 0 where
   -- its fresh name is taken, or the directory is gone
-  fresh_taken : {bytes : List ℕ} {a : Answer} {older : List Deed} → (k : ℕ) → x ≡ temp_name run k → (WasMade Work x older → ⊥)
+  fresh_taken : {bytes : List ℕ} {a : Answer} {older : List Deed} → (k : ℕ) → x ≡ temp_name run k
+      → (WasMade Work x older → ⊥)
       → (a ≡ Exists) ⊎ (a ≡ Gone) → IsMeddledHere run x (did (step.Create Work x bytes) a ∷ older)
   -- a name that it made is gone, or the directory as it makes safe what it put there last
   met_gone : {own : List Deed} → IsMeddledIn run Work x own → IsMeddledHere run x own

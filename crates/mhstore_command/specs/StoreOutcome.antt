@@ -39,7 +39,8 @@ abbrev pub nothing_at : Mailbox → Work CommandFault
 nothing_at m = record { text = []; end = Ok tt; mailbox = m }
 
 abbrev pub then_by : Work CommandFault → (Mailbox → Work CommandFault) → Result Unit CommandFault → Work CommandFault
-then_by w next (Ok u) = record { text = w.text ++ (next w.mailbox).text; end = (next w.mailbox).end; mailbox = (next w.mailbox).mailbox }
+then_by w next (Ok u) =
+    record { text = w.text ++ (next w.mailbox).text; end = (next w.mailbox).end; mailbox = (next w.mailbox).mailbox }
 then_by w next (Err e) = w
 
 -- a part, and where it is done the next, on the mailbox that it left
@@ -88,7 +89,8 @@ messages_work job messages (n ∷ ns) m =
 -- and then the folder becomes the current one
 abbrev pub numbers_work : List ℕ → StoreJob → Kept → (ℕ → Option (List ℕ)) → List ℕ → Work CommandFault
 numbers_work path job k messages numbers =
-    then_work (messages_work job messages numbers k.mailbox) (λ m. current_work path job.folder [] (kept_of m k.entries))
+    then_work (messages_work job messages numbers k.mailbox)
+    (λ m. current_work path job.folder [] (kept_of m k.entries))
 
 abbrev pub chosen_work : List ℕ → StoreJob → Kept → (ℕ → Option (List ℕ)) → Result (List ℕ) CommandFault
     → Work CommandFault
@@ -103,7 +105,8 @@ chosen_from job listing m = chosen_in (folder_with job.negation (numbers_of list
 -- a folder with these messages, whose sequences have this text, or none that can be read
 abbrev pub looked_work : List ℕ → StoreJob → Kept → FolderValue → Result (List ℕ) CommandFault → Work CommandFault
 looked_work path job k f (Ok text) =
-    chosen_work path job k f.messages (chosen_from job (runs_in f) (cut_to (runs_in f) (sequences_in text k.entries job.folder)))
+    chosen_work path job k f.messages
+    (chosen_from job (runs_in f) (cut_to (runs_in f) (sequences_in text k.entries job.folder)))
 looked_work path job k f (Err e) = refused_at k.mailbox e
 
 abbrev pub folder_work : List ℕ → StoreJob → Kept → Option FolderValue → Work CommandFault

@@ -82,7 +82,8 @@ abbrev pub store_pledge : ℕ → List ℕ → StoreJob → Pledge
 store_pledge run path job = record {
   run = run;
   manner = Storing path;
-  may_mark = λ own p name old text. HasListed (Folder path job.folder) own × MarksContext path (current_change job.folder) p name old text;
+  may_mark = λ own p name old text. HasListed (Folder path job.folder) own
+      × MarksContext path (current_change job.folder) p name old text;
   may_tell = TellsStored run path job;
   may_step = StoresPart path job;
 }

@@ -31,7 +31,9 @@ fn store_in<F: Files>(
     name: &Name,
     bytes: &mut Bytes,
 ) -> Result<bool, CommandFault>
-    ensures plan { Follows hand.old.run command_cause (lifted (of_plan job.now.folder) (file_stored hand.old.run job.now.clobber name.now bytes.old)) (by_hand hand.old.kept (F.state files.old)) (by_hand hand.new.kept (F.state files.new)) result }
+    ensures plan { Follows hand.old.run command_cause
+        (lifted (of_plan job.now.folder) (file_stored hand.old.run job.now.clobber name.now bytes.old))
+        (by_hand hand.old.kept (F.state files.old)) (by_hand hand.new.kept (F.state files.new)) result }
     ensures same { (hand.new.run ≡ hand.old.run) × (hand.new.mail ≡ hand.old.mail) }
 {
     let folder = job.folder.duplicate(alloc)?;
@@ -43,7 +45,9 @@ fn store_in<F: Files>(
 
 /// Writes the line of a file that was stored. One whose name was taken is refused.
 fn tell<O: Sink>(out: &mut O, name: Name, line: &Bytes, free: bool) -> Result<(), CommandFault>
-    ensures { (run : ℕ) (h : Kept) (f : FilesState) → Follows run command_cause (told_by name line.now free) (by_out h f (O.state out.old)) (by_out h f (O.state out.new)) result }
+    ensures { (run : ℕ) (h : Kept) (f : FilesState)
+        → Follows run command_cause (told_by name line.now free) (by_out h f (O.state out.old))
+        (by_out h f (O.state out.new)) result }
 {
     if free {
         say(out, line.as_slice())?;
@@ -64,7 +68,10 @@ fn store_part<F: Files, O: Sink>(
     message: &MessageParts<'_>,
     part: &Part,
 ) -> Result<(), CommandFault>
-    ensures plan { Follows hand.old.run command_cause (one_filed hand.old.run job.now (file_of number (view_of message.now part.now))) (by_out hand.old.kept (F.state files.old) (O.state out.old)) (by_out hand.new.kept (F.state files.new) (O.state out.new)) result }
+    ensures plan { Follows hand.old.run command_cause
+        (one_filed hand.old.run job.now (file_of number (view_of message.now part.now)))
+        (by_out hand.old.kept (F.state files.old) (O.state out.old))
+        (by_out hand.new.kept (F.state files.new) (O.state out.new)) result }
     ensures same { (hand.new.run ≡ hand.old.run) × (hand.new.mail ≡ hand.old.mail) }
 {
     let name = file_name(alloc, number, part)?;
@@ -85,7 +92,10 @@ fn store_parts<F: Files, O: Sink>(
     message: &MessageParts<'_>,
     parts: &[&Part],
 ) -> Result<(), CommandFault>
-    ensures plan { Follows hand.old.run command_cause (all_filed hand.old.run job.now (map (λ p. file_of number (view_of message.now p.now)) parts.now)) (by_out hand.old.kept (F.state files.old) (O.state out.old)) (by_out hand.new.kept (F.state files.new) (O.state out.new)) result }
+    ensures plan { Follows hand.old.run command_cause
+        (all_filed hand.old.run job.now (map (λ p. file_of number (view_of message.now p.now)) parts.now))
+        (by_out hand.old.kept (F.state files.old) (O.state out.old))
+        (by_out hand.new.kept (F.state files.new) (O.state out.new)) result }
     ensures same { (hand.new.run ≡ hand.old.run) × (hand.new.mail ≡ hand.old.mail) }
 {
     for part in parts {
@@ -104,7 +114,9 @@ pub(crate) fn store_message<F: Files, O: Sink>(
     number: MsgNum,
     message: &[u8],
 ) -> Result<(), CommandFault>
-    ensures plan { Follows hand.old.run command_cause (parts_filed hand.old.run job.now number message.now) (by_out hand.old.kept (F.state files.old) (O.state out.old)) (by_out hand.new.kept (F.state files.new) (O.state out.new)) result }
+    ensures plan { Follows hand.old.run command_cause (parts_filed hand.old.run job.now number message.now)
+        (by_out hand.old.kept (F.state files.old) (O.state out.old))
+        (by_out hand.new.kept (F.state files.new) (O.state out.new)) result }
     ensures same { (hand.new.run ≡ hand.old.run) × (hand.new.mail ≡ hand.old.mail) }
 {
     let message = MessageParts::cut(alloc, message)?;

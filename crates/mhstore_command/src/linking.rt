@@ -30,7 +30,9 @@ fn link<F: Files>(
     temp: &Name,
     name: &Name,
 ) -> Result<bool, PlanFault>
-    ensures { (h : Kept) → Follows run plan_cause (linked temp.now name.now) (by_hand h (F.state files.old)) (by_hand h (F.state files.new)) result }
+    ensures { (h : Kept)
+        → Follows run plan_cause (linked temp.now name.now) (by_hand h (F.state files.old))
+        (by_hand h (F.state files.new)) result }
 {
     let entered = ask_link(alloc, run, files, &Place::Work, temp, name)?;
     free_by(alloc, temp, entered)
@@ -44,7 +46,9 @@ fn sync_free<F: Files>(
     name: &Name,
     free: bool,
 ) -> Result<bool, PlanFault>
-    ensures { (h : Kept) → Follows run plan_cause (if_free name.now free) (by_hand h (F.state files.old)) (by_hand h (F.state files.new)) result }
+    ensures { (h : Kept)
+        → Follows run plan_cause (if_free name.now free) (by_hand h (F.state files.old))
+        (by_hand h (F.state files.new)) result }
 {
     if free {
         sync(alloc, run, files, &Place::Work, name)?;
@@ -62,7 +66,8 @@ fn add_file<F: Files>(
     name: &Name,
     bytes: &mut Bytes,
 ) -> Result<bool, PlanFault>
-    ensures plan { Follows hand.old.run plan_cause (file_added hand.old.run name.now bytes.old) (by_hand hand.old.kept (F.state files.old)) (by_hand hand.new.kept (F.state files.new)) result }
+    ensures plan { Follows hand.old.run plan_cause (file_added hand.old.run name.now bytes.old)
+        (by_hand hand.old.kept (F.state files.old)) (by_hand hand.new.kept (F.state files.new)) result }
     ensures same { (hand.new.run ≡ hand.old.run) × (hand.new.mail ≡ hand.old.mail) }
 {
     let run = hand.run();
@@ -80,15 +85,16 @@ fn put_file<F: Files>(
     name: &Name,
     bytes: &mut Bytes,
 ) -> Result<bool, PlanFault>
-    ensures plan { Follows hand.old.run plan_cause (file_replaced hand.old.run name.now bytes.old) (by_hand hand.old.kept (F.state files.old)) (by_hand hand.new.kept (F.state files.new)) result }
+    ensures plan { Follows hand.old.run plan_cause (file_replaced hand.old.run name.now bytes.old)
+        (by_hand hand.old.kept (F.state files.old)) (by_hand hand.new.kept (F.state files.new)) result }
     ensures same { (hand.new.run ≡ hand.old.run) × (hand.new.mail ≡ hand.old.mail) }
 {
     replace_file(alloc, hand, files, &Place::Work, name, bytes)?;
     Ok(true)
 }
 
-/// A file with these bytes gets the name in the current directory, and is made safe there: it takes the place of a file that stands there, or is not
-/// stored then. Says whether it was stored.
+/// A file with these bytes gets the name in the current directory, and is made safe there: it takes the place of a file
+/// that stands there, or is not stored then. Says whether it was stored.
 pub(crate) fn store_file<F: Files>(
     alloc: Global,
     hand: &mut Hand,
@@ -97,7 +103,8 @@ pub(crate) fn store_file<F: Files>(
     name: &Name,
     bytes: &mut Bytes,
 ) -> Result<bool, PlanFault>
-    ensures plan { Follows hand.old.run plan_cause (file_stored_plan hand.old.run clobber name.now bytes.old) (by_hand hand.old.kept (F.state files.old)) (by_hand hand.new.kept (F.state files.new)) result }
+    ensures plan { Follows hand.old.run plan_cause (file_stored_plan hand.old.run clobber name.now bytes.old)
+        (by_hand hand.old.kept (F.state files.old)) (by_hand hand.new.kept (F.state files.new)) result }
     ensures same { (hand.new.run ≡ hand.old.run) × (hand.new.mail ≡ hand.old.mail) }
 {
     if clobber {

@@ -27,7 +27,9 @@ fn store_read<F: Files, O: Sink>(
     number: MsgNum,
     reading: Reading,
 ) -> Result<(), CommandFault>
-    ensures plan { Follows hand.old.run command_cause (stored_by hand.old.run job.now place.now number reading) (by_out hand.old.kept (F.state files.old) (O.state out.old)) (by_out hand.new.kept (F.state files.new) (O.state out.new)) result }
+    ensures plan { Follows hand.old.run command_cause (stored_by hand.old.run job.now place.now number reading)
+        (by_out hand.old.kept (F.state files.old) (O.state out.old))
+        (by_out hand.new.kept (F.state files.new) (O.state out.new)) result }
     ensures same { (hand.new.run ≡ hand.old.run) × (hand.new.mail ≡ hand.old.mail) }
 {
     match reading {
@@ -51,7 +53,9 @@ fn store_one<F: Files, O: Sink>(
     place: &Place,
     number: MsgNum,
 ) -> Result<(), CommandFault>
-    ensures plan { Follows hand.old.run command_cause (one_stored hand.old.run job.now place.now number) (by_out hand.old.kept (F.state files.old) (O.state out.old)) (by_out hand.new.kept (F.state files.new) (O.state out.new)) result }
+    ensures plan { Follows hand.old.run command_cause (one_stored hand.old.run job.now place.now number)
+        (by_out hand.old.kept (F.state files.old) (O.state out.old))
+        (by_out hand.new.kept (F.state files.new) (O.state out.new)) result }
     ensures same { (hand.new.run ≡ hand.old.run) × (hand.new.mail ≡ hand.old.mail) }
 {
     let name = entry_name(alloc, &Entry::Number(number))?;
@@ -69,7 +73,9 @@ fn store_all<F: Files, O: Sink>(
     place: &Place,
     numbers: &[MsgNum],
 ) -> Result<(), CommandFault>
-    ensures plan { Follows hand.old.run command_cause (all_stored hand.old.run job.now place.now numbers.now) (by_out hand.old.kept (F.state files.old) (O.state out.old)) (by_out hand.new.kept (F.state files.new) (O.state out.new)) result }
+    ensures plan { Follows hand.old.run command_cause (all_stored hand.old.run job.now place.now numbers.now)
+        (by_out hand.old.kept (F.state files.old) (O.state out.old))
+        (by_out hand.new.kept (F.state files.new) (O.state out.new)) result }
     ensures same { (hand.new.run ≡ hand.old.run) × (hand.new.mail ≡ hand.old.mail) }
 {
     for number in numbers {
@@ -78,9 +84,10 @@ fn store_all<F: Files, O: Sink>(
     Ok(())
 }
 
-/// Stores the wanted parts of each chosen message, or its leaves where none are named, in files of the current directory, and writes a line for each. A
-/// message that lacks a wanted part ends the call, by the first of them, before a part of it is stored. A file that stands there is replaced where the job says
-/// so; else it stays, and the call ends. Then the folder becomes the current one.
+/// Stores the wanted parts of each chosen message, or its leaves where none are named, in files of the current
+/// directory, and writes a line for each. A message that lacks a wanted part ends the call, by the first of them,
+/// before a part of it is stored. A file that stands there is replaced where the job says so; else it stays, and the
+/// call ends. Then the folder becomes the current one.
 pub fn mhstore<F: Files, O: Sink>(
     alloc: Global,
     hand: &mut Hand,
@@ -88,9 +95,14 @@ pub fn mhstore<F: Files, O: Sink>(
     out: &mut O,
     job: &StoreJob,
 ) -> Result<(), CommandFault>
-    ensures plan { Follows hand.old.run command_cause (mhstore_plan hand.old.run hand.old.mail job.now) (by_out hand.old.kept (F.state files.old) (O.state out.old)) (by_out hand.new.kept (F.state files.new) (O.state out.new)) result }
-    ensures alone { StoresIfUnfaulted hand.old.run hand.old.mail job.now hand.old.kept result (F.state files.old) (F.state files.new) (O.state out.old) (O.state out.new) }
-    ensures steps { PromisesSteps hand.old.run hand.old.mail job.now (by_out hand.old.kept (F.state files.old) (O.state out.old)) (by_out hand.new.kept (F.state files.new) (O.state out.new)) }
+    ensures plan { Follows hand.old.run command_cause (mhstore_plan hand.old.run hand.old.mail job.now)
+        (by_out hand.old.kept (F.state files.old) (O.state out.old))
+        (by_out hand.new.kept (F.state files.new) (O.state out.new)) result }
+    ensures alone { StoresIfUnfaulted hand.old.run hand.old.mail job.now hand.old.kept result (F.state files.old)
+        (F.state files.new) (O.state out.old) (O.state out.new) }
+    ensures steps { PromisesSteps hand.old.run hand.old.mail job.now
+        (by_out hand.old.kept (F.state files.old) (O.state out.old))
+        (by_out hand.new.kept (F.state files.new) (O.state out.new)) }
     ensures run { hand.new.run ≡ hand.old.run }
     ensures mail { hand.new.mail ≡ hand.old.mail }
 {

@@ -20,8 +20,8 @@ fn before_padding(text: &[u8]) -> &[u8]
     front
 }
 
-/// Decodes a base64 text (RFC 2045, section 6.8). The bytes are written at the front of `into`, the rest of which stays; the count
-/// of the bytes is returned.
+/// Decodes a base64 text (RFC 2045, section 6.8). The bytes are written at the front of `into`, the rest of which
+/// stays; the count of the bytes is returned.
 pub fn b64_decode(into: &mut [u8], from: &[u8]) -> usize
     requires { length into.old ≡ length from.now }
     ensures count { result ≡ length (b64_decoded from.now) }

@@ -4,8 +4,8 @@ ghost use Rattle.mime_codes.specs.QuotedPrintable.{qp_decoded};
 
 use crate::piece::{Piece, first_piece};
 
-/// Decodes a quoted-printable text (RFC 2045, section 6.7). The bytes are written at the front of `into`, the rest of which
-/// stays; the count of the bytes is returned.
+/// Decodes a quoted-printable text (RFC 2045, section 6.7). The bytes are written at the front of `into`, the rest of
+/// which stays; the count of the bytes is returned.
 pub fn qp_decode(into: &mut [u8], from: &[u8]) -> usize
     requires { length into.old ≡ length from.now }
     ensures count { result ≡ length (qp_decoded from.now) }

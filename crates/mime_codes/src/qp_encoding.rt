@@ -79,8 +79,8 @@ fn put(text: &mut Vec<u8>, column: usize, byte: u8, rest: &[u8]) -> Result<usize
     }
 }
 
-/// Encodes bytes as a quoted-printable text (RFC 2045, section 6.7) of lines of at most 76 characters. Line feeds are the ends of
-/// lines.
+/// Encodes bytes as a quoted-printable text (RFC 2045, section 6.7) of lines of at most 76 characters. Line feeds are
+/// the ends of lines.
 pub fn qp_encode(alloc: Global, from: &[u8]) -> Result<Bytes, AllocError>
     ensures value { IfOk result (λ text. text ≡ qp_encoded from.now) }
     ensures back { IfOk result (λ text. qp_decoded text ≡ from.now) }

@@ -24,8 +24,8 @@ fn count_of(byte: u8) -> usize
     usize::from(COUNTS[usize::from(byte)])
 }
 
-/// Puts the symbols of a text behind so many bytes, and says how many bytes there are then. Among mixed bytes no guess is right
-/// which of them are symbols, so no branch asks.
+/// Puts the symbols of a text behind so many bytes, and says how many bytes there are then. Among mixed bytes no guess
+/// is right which of them are symbols, so no branch asks.
 fn gather(bytes: &mut [u8], len: usize, text: &[u8]) -> usize
     requires { len + length text.now ≤ length bytes.old }
     ensures value { take result bytes.new ≡ take len bytes.old ++ filter is_of_alphabet text.now }

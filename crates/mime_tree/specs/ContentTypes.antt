@@ -18,7 +18,9 @@ pub record Halves : Type 0 where
   pub subtype : Taken
 
 abbrev pub halves_behind : Taken → Option Halves
-halves_behind kind = option_map (λ subtype. record { kind = kind; subtype = subtype }) (option_and_then word_in (behind_sign 47 kind.rest))
+halves_behind kind =
+    option_map (λ subtype. record { kind = kind; subtype = subtype })
+    (option_and_then word_in (behind_sign 47 kind.rest))
 
 -- a word, a slash and another word, with gaps anywhere between them
 abbrev pub halves_in : List ℕ → Option Halves
@@ -27,7 +29,8 @@ halves_in value = option_and_then halves_behind (option_and_then word_in (behind
 -- the type of these two words and the parameters that follow
 abbrev pub type_of : Halves → Option ContentType
 type_of h =
-    option_map (λ params. record { kind = shown h.kind.value; subtype = shown h.subtype.value; params = params }) (params_in h.subtype.rest)
+    option_map (λ params. record { kind = shown h.kind.value; subtype = shown h.subtype.value; params = params })
+    (params_in h.subtype.rest)
 
 -- the type that a value names; none where it isn't of that form
 unfoldable pub type_in : List ℕ → Option ContentType

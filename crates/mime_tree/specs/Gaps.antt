@@ -14,7 +14,8 @@ abbrev pub place_behind : Nesting → ℕ → Option Nesting
 place_behind Between c = if c == 40 then Some (Inside 1) else (if is_blank c then Some Between else None)
 place_behind (Inside depth) c =
     if c == 92 then Some (Protected depth)
-    else (if c == 40 then Some (Inside (depth + 1)) else (if c == 41 then Some (closed_of depth) else Some (Inside depth)))
+    else (if c == 40 then Some (Inside (depth + 1))
+    else (if c == 41 then Some (closed_of depth) else Some (Inside depth)))
 place_behind (Protected depth) c = Some (Inside depth)
 
 -- the text ends here

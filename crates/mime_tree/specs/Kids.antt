@@ -24,5 +24,7 @@ cut_by (Some boundary) bytes body = pieces boundary body.from (lines (text_at by
 unfoldable pub kids_of : ContentType → Encoding → List ℕ → Span → Found
 kids_of t encoding bytes body =
     if is_multipart t
-    then (if is_plain encoding then cut_by (boundary_of t.params) bytes body else record { spans = []; odd = NoBoundary })
-    else (if is_message t && is_plain encoding then record { spans = body ∷ []; odd = no_odd } else record { spans = []; odd = no_odd })
+    then (if is_plain encoding then cut_by (boundary_of t.params) bytes body
+    else record { spans = []; odd = NoBoundary })
+    else (if is_message t && is_plain encoding then record { spans = body ∷ []; odd = no_odd }
+    else record { spans = []; odd = no_odd })

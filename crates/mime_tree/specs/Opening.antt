@@ -18,7 +18,8 @@ pub record Opens (bytes : List ℕ) (fallback : Fallback) (span : Span) (opened 
   pub kids_are : found opened.kids ≡ kids_at bytes fallback span
 
 -- the part of these
-pub record IsPartOf (opened : Opened) (span : Span) (path : List ℕ) (odd : Odd) (kids : List Part) (part : Part) : Type 0 where
+pub record IsPartOf (opened : Opened) (span : Span) (path : List ℕ) (odd : Odd) (kids : List Part)
+    (part : Part) : Type 0 where
   pub path_is : (out-Part part).path ≡ path
   pub kind_is : (out-Part part).kind ≡ opened.content_type.kind
   pub subtype_is : (out-Part part).subtype ≡ opened.content_type.subtype

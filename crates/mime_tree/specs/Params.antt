@@ -11,12 +11,14 @@ pub record TakenParam : Type 0 where
 
 -- the parameter of this name, and with this value in front
 abbrev pub param_named : List ℕ → Taken → TakenParam
-param_named name value = record { param = record { name = shown name; value = shown (unprotected value.value) }; rest = value.rest }
+param_named name value =
+    record { param = record { name = shown name; value = shown (unprotected value.value) }; rest = value.rest }
 
 -- a name, an equals sign, and a token or a quoted string
 abbrev pub named_in : Taken → Option TakenParam
 named_in name =
-    option_map (param_named name.value) (option_and_then (λ value. option_and_then with_gap (worth_in value)) (behind_sign 61 name.rest))
+    option_map (param_named name.value)
+    (option_and_then (λ value. option_and_then with_gap (worth_in value)) (behind_sign 61 name.rest))
 
 -- the parameter at the front, with the semicolon before it
 abbrev pub param_in : List ℕ → Option TakenParam

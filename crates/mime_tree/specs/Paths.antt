@@ -24,7 +24,8 @@ path_with n (dot ∷ rest) more = option_map (λ ns. n ∷ ns) (more rest)
 unfoldable pub path_up_to : ℕ → List ℕ → Option (List ℕ)
 path_up_to zero text = None
 path_up_to (suc n) text =
-    option_and_then (λ number. path_with number (drop (word_len text) text) (path_up_to n)) (step_of (take (word_len text) text))
+    option_and_then (λ number. path_with number (drop (word_len text) text) (path_up_to n))
+    (step_of (take (word_len text) text))
 
 -- the path that a text is: at most 64 numbers joined by dots
 unfoldable pub path_of : List ℕ → Option (List ℕ)

@@ -33,7 +33,8 @@ kids_at bytes fallback span =
     kids_of (type_at bytes fallback span) (encoding_of (text_at bytes span)) bytes (body_at bytes span)
 
 -- the part is the message at this span, whatever its kids are
-pub record IsMessagePart (bytes : List ℕ) (fallback : Fallback) (path : List ℕ) (span : Span) (part : Part) : Type 0 where
+pub record IsMessagePart (bytes : List ℕ) (fallback : Fallback) (path : List ℕ) (span : Span)
+    (part : Part) : Type 0 where
   pub path_is : (out-Part part).path ≡ path
   pub kind_is : (out-Part part).kind ≡ (type_at bytes fallback span).kind
   pub subtype_is : (out-Part part).subtype ≡ (type_at bytes fallback span).subtype
@@ -62,7 +63,8 @@ IsPart zero bytes fallback path span part =
     × ((out-Part part).odd ≡ odd_at zero (kids_at bytes fallback span))
 IsPart (suc levels) bytes fallback path span part =
     IsMessagePart bytes fallback path span part
-    × AreKids (IsPart levels bytes (fallback_in (type_at bytes fallback span))) path 1 (kids_at bytes fallback span).spans (out-Part part).kids.items
+    × AreKids (IsPart levels bytes (fallback_in (type_at bytes fallback span))) path 1
+    (kids_at bytes fallback span).spans (out-Part part).kids.items
     × ((out-Part part).odd ≡ odd_at (suc levels) (kids_at bytes fallback span))
 
 -- the bytes that a part carries: a leaf's body decoded, another's as it stands

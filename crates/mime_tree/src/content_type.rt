@@ -89,7 +89,8 @@ fn is_named(text: &Text, word: &[u8]) -> bool
 
 #[tactic(auto, unfolding(crate::specs::ContentTypes::param_value))]
 fn first_value<'a>(params: &'a ParamList, name: &[u8]) -> Option<&'a Text>
-    ensures { MatchOption result (param_value name.now params.now ≡ None) (λ v. param_value name.now params.now ≡ Some v.now) }
+    ensures { MatchOption result (param_value name.now params.now ≡ None)
+        (λ v. param_value name.now params.now ≡ Some v.now) }
 {
     for param in params.as_slice() {
         if is_named(&param.name, name) {
@@ -168,7 +169,8 @@ impl ContentType {
     /// The boundary, where there is one to cut by.
     #[tactic(auto, unfolding(crate::specs::ContentTypes::boundary_of))]
     pub(crate) fn boundary(&self) -> Option<&[u8]>
-        ensures { MatchOption result (boundary_of self.now.params ≡ None) (λ b. boundary_of self.now.params ≡ Some b.now) }
+        ensures { MatchOption result (boundary_of self.now.params ≡ None)
+            (λ b. boundary_of self.now.params ≡ Some b.now) }
     {
         usable(first_value(&self.params, b"boundary")?)
     }

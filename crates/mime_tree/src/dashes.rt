@@ -9,7 +9,8 @@ use std::alloc::{AllocError, Global};
 
 /// Adds the place of a line that begins with two hyphens.
 fn put_place(marks: &mut Vec<u64>, line: &[u8], place: u64) -> Result<(), AllocError>
-    ensures { OnOk result (marks.new.items ≡ (if is_dashed line.now then marks.old.items ++ place ∷ [] else marks.old.items)) }
+    ensures { OnOk result
+        (marks.new.items ≡ (if is_dashed line.now then marks.old.items ++ place ∷ [] else marks.old.items)) }
 {
     if line.strip_prefix(b"--").is_some() {
         marks.push(place)?;

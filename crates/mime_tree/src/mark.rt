@@ -35,7 +35,8 @@ fn is_blank_text(text: &[u8]) -> bool
 
 /// What follows this front.
 fn behind<'a>(text: &'a [u8], front: &[u8]) -> Option<&'a [u8]>
-    ensures { MatchOption result (behind_front front.now text.now ≡ None) (λ rest. behind_front front.now text.now ≡ Some rest.now) }
+    ensures { MatchOption result (behind_front front.now text.now ≡ None)
+        (λ rest. behind_front front.now text.now ≡ Some rest.now) }
 {
     text.strip_prefix(front)
 }
@@ -50,7 +51,8 @@ fn ends_boundary(text: &[u8]) -> bool
 }
 
 fn behind_boundary<'a>(line: &'a [u8], boundary: &[u8]) -> Option<&'a [u8]>
-    ensures { MatchOption result (option_and_then (behind_front boundary.now) (behind_front hyphens line.now) ≡ None) (λ rest. option_and_then (behind_front boundary.now) (behind_front hyphens line.now) ≡ Some rest.now) }
+    ensures { MatchOption result (option_and_then (behind_front boundary.now) (behind_front hyphens line.now) ≡ None)
+        (λ rest. option_and_then (behind_front boundary.now) (behind_front hyphens line.now) ≡ Some rest.now) }
 {
     behind(behind(line, b"--")?, boundary)
 }

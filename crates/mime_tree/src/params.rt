@@ -19,7 +19,8 @@ pub(crate) struct RawParam<'a> {
 }
 
 fn named(name: Word<'_>) -> Option<RawParam<'_>>
-    ensures value { MatchOption result (named_in (word_of name.entry) ≡ None) (λ p. named_in (word_of name.entry) ≡ Some (taken_of p)) }
+    ensures value { MatchOption result (named_in (word_of name.entry) ≡ None)
+        (λ p. named_in (word_of name.entry) ≡ Some (taken_of p)) }
     ensures inside { MatchOption result ⊤ (λ p. length p.rest.now ≤ length name.entry.rest.now) }
 {
     let value = first_worth(behind_sign(name.rest, b'=')?)?;

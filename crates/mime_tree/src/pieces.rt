@@ -72,8 +72,8 @@ fn piece_of<'a>(from: u64, text: &[u8], marks: &'a [u64]) -> Piece<'a>
     }
 }
 
-/// The pieces of a body with what stands before the first boundary line, which ends it. Of all lines only those that begin
-/// with two hyphens are looked at.
+/// The pieces of a body with what stands before the first boundary line, which ends it. Of all lines only those that
+/// begin with two hyphens are looked at.
 fn cut_sections<'a>(
     alloc: Global,
     bytes: &[u8],
@@ -83,7 +83,8 @@ fn cut_sections<'a>(
 ) -> Result<Pieces<'a>, AllocError>
     requires inside { IsInside bytes.now body }
     requires marked { Marks IsPlain body.from (lines (text_at bytes.now body)) marks.now }
-    ensures found { IfOk result (λ p. found p ≡ section_pieces body.from (section boundary.now body.from (lines (text_at bytes.now body)))) }
+    ensures found { IfOk result
+        (λ p. found p ≡ section_pieces body.from (section boundary.now body.from (lines (text_at bytes.now body)))) }
     ensures ready { IfOk result (λ p. AreReady bytes.now p.pieces.items) }
 {
     let mut pieces = Vec::new(alloc);

@@ -82,7 +82,8 @@ pub fn quoted(text: &[u8]) -> Option<Word<'_>>
 }
 
 fn with_gap(word: Word<'_>) -> Option<Word<'_>>
-    ensures value { MatchOption result (gap_behind (word_of word.entry) ≡ None) (λ w. gap_behind (word_of word.entry) ≡ Some (word_of w)) }
+    ensures value { MatchOption result (gap_behind (word_of word.entry) ≡ None)
+        (λ w. gap_behind (word_of word.entry) ≡ Some (word_of w)) }
     ensures inside { MatchOption result ⊤ (λ w. length w.rest.now ≤ length word.entry.rest.now) }
 {
     Some(Word {
@@ -93,7 +94,8 @@ fn with_gap(word: Word<'_>) -> Option<Word<'_>>
 
 /// The token or the quoted string at the front, with the gap behind it.
 pub(crate) fn first_worth(text: &[u8]) -> Option<Word<'_>>
-    ensures value { MatchOption result (option_and_then gap_behind (worth_in text.now) ≡ None) (λ w. option_and_then gap_behind (worth_in text.now) ≡ Some (word_of w)) }
+    ensures value { MatchOption result (option_and_then gap_behind (worth_in text.now) ≡ None)
+        (λ w. option_and_then gap_behind (worth_in text.now) ≡ Some (word_of w)) }
     ensures inside { MatchOption result ⊤ (λ w. length w.rest.now ≤ length text.now) }
 {
     match text.split_first() {
@@ -112,7 +114,8 @@ pub(crate) fn first_word(text: &[u8]) -> Option<Word<'_>>
 
 /// What follows this sign and the gap behind it.
 pub(crate) fn behind_sign(text: &[u8], sign: u8) -> Option<&[u8]>
-    ensures value { MatchOption result (sign_rest sign text.now ≡ None) (λ rest. sign_rest sign text.now ≡ Some rest.now) }
+    ensures value { MatchOption result (sign_rest sign text.now ≡ None)
+        (λ rest. sign_rest sign text.now ≡ Some rest.now) }
     ensures inside { MatchOption result ⊤ (λ rest. length rest.now < length text.now) }
 {
     match text.split_first() {
@@ -124,7 +127,9 @@ pub(crate) fn behind_sign(text: &[u8], sign: u8) -> Option<&[u8]>
 /// Adds the byte unless it protects the next; whether it does is returned.
 #[tactic(auto, unfolding(crate::specs::Tokens::unprotected_at))]
 fn keep(bytes: &mut Vec<u8>, protected: bool, byte: u8) -> Result<bool, AllocError>
-    ensures { IfOk result (λ p. (rest : List ℕ) → bytes.new.items ++ unprotected_at p rest ≡ bytes.old.items ++ unprotected_at protected (byte ∷ rest)) }
+    ensures { IfOk result
+        (λ p. (rest : List ℕ)
+        → bytes.new.items ++ unprotected_at p rest ≡ bytes.old.items ++ unprotected_at protected (byte ∷ rest)) }
 {
     if protects(protected, byte) {
         Ok(true)

@@ -55,7 +55,8 @@ impl<'a> Tree<'a> {
 
     /// The part at this path.
     pub fn part(&self, path: &PartPath) -> Option<&Part>
-        ensures { MatchOption result (part_at path.now self.now.root ≡ None) (λ p. part_at path.now self.now.root ≡ Some p.now) }
+        ensures { MatchOption result (part_at path.now self.now.root ≡ None)
+            (λ p. part_at path.now self.now.root ≡ Some p.now) }
     {
         self.root.below(path.numbers().as_slice())
     }

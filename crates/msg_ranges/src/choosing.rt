@@ -19,7 +19,10 @@ fn choose_one(
     sequences: &Sequences,
     name: &Base,
 ) -> Result<NumSet, SelectFault>
-    ensures { Gives index (unless_void index (is_end_name name.now) (numbers_of listing.now.runs) (one_of index (numbers_of listing.now.runs) (named_number (numbers_of listing.now.runs) sequences.now.cur name.now))) result }
+    ensures { Gives index
+        (unless_void index (is_end_name name.now) (numbers_of listing.now.runs)
+        (one_of index (numbers_of listing.now.runs)
+        (named_number (numbers_of listing.now.runs) sequences.now.cur name.now))) result }
 {
     if is_end(name) && listing.is_empty() {
         return Err(SelectFault::EmptyRange(index));
@@ -35,7 +38,11 @@ fn choose_range(
     from: &Base,
     to: &Base,
 ) -> Result<NumSet, SelectFault>
-    ensures { Gives index (unless_void index (is_end_name from.now || is_end_name to.now) (numbers_of listing.now.runs) (between index (numbers_of listing.now.runs) (named_number (numbers_of listing.now.runs) sequences.now.cur from.now) (named_number (numbers_of listing.now.runs) sequences.now.cur to.now))) result }
+    ensures { Gives index
+        (unless_void index (is_end_name from.now || is_end_name to.now) (numbers_of listing.now.runs)
+        (between index (numbers_of listing.now.runs)
+        (named_number (numbers_of listing.now.runs) sequences.now.cur from.now)
+        (named_number (numbers_of listing.now.runs) sequences.now.cur to.now))) result }
 {
     if (is_end(from) || is_end(to)) && listing.is_empty() {
         return Err(SelectFault::EmptyRange(index));
@@ -58,7 +65,11 @@ fn choose_count(
     way: Way,
     count: u32,
 ) -> Result<NumSet, SelectFault>
-    ensures { Gives index (unless_void index (is_end_name name.now) (numbers_of listing.now.runs) (counted_from index (numbers_of listing.now.runs) (named_number (numbers_of listing.now.runs) sequences.now.cur name.now) (goes_up_by name.now way) count)) result }
+    ensures { Gives index
+        (unless_void index (is_end_name name.now) (numbers_of listing.now.runs)
+        (counted_from index (numbers_of listing.now.runs)
+        (named_number (numbers_of listing.now.runs) sequences.now.cur name.now)
+        (goes_up_by name.now way) count)) result }
 {
     if is_end(name) && listing.is_empty() {
         return Err(SelectFault::EmptyRange(index));

@@ -16,7 +16,8 @@ pub(crate) fn members(
     sequences: &Sequences,
     name: &SeqName,
 ) -> Result<NumSet, AllocError>
-    ensures { IfOk result (λ s. numbers_of s.runs ≡ members_of (numbers_of listing.now.runs) (marks_of sequences.now) name.now) }
+    ensures { IfOk result
+        (λ s. numbers_of s.runs ≡ members_of (numbers_of listing.now.runs) (marks_of sequences.now) name.now) }
 {
     match sequences.get(name) {
         Some(set) => common(alloc, listing, set),
@@ -31,7 +32,8 @@ pub(crate) fn others(
     sequences: &Sequences,
     name: &SeqName,
 ) -> Result<NumSet, AllocError>
-    ensures { IfOk result (λ s. numbers_of s.runs ≡ others_of (numbers_of listing.now.runs) (marks_of sequences.now) name.now) }
+    ensures { IfOk result
+        (λ s. numbers_of s.runs ≡ others_of (numbers_of listing.now.runs) (marks_of sequences.now) name.now) }
 {
     let none = NumSet::new(alloc);
     let set = match sequences.get(name) {

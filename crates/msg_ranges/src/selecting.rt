@@ -22,7 +22,8 @@ fn select_word(
     sequences: &Sequences,
     negation: &[u8],
 ) -> Result<NumSet, SelectFault>
-    ensures { GivesWord (folder_of negation.now (numbers_of listing.now.runs) sequences.now) index (encode_utf8_all word.now) result }
+    ensures { GivesWord (folder_of negation.now (numbers_of listing.now.runs) sequences.now) index
+        (encode_utf8_all word.now) result }
 {
     match Spec::read(alloc, word, negation) {
         Ok(spec) => choose(alloc, index, &spec, listing, sequences),
@@ -48,11 +49,19 @@ pub fn select(
     sequences: &Sequences,
     negation: &[u8],
 ) -> Result<NumSet, SelectFault>
-    ensures selection { IfOk result (λ s. IsSelection (folder_of negation.now (numbers_of listing.now.runs) sequences.now) (map encode_utf8_all specs.now) s.runs) }
-    ensures refusal { IfErr result (λ e. IsRefusal (folder_of negation.now (numbers_of listing.now.runs) sequences.now) (map encode_utf8_all specs.now) e) }
+    ensures selection { IfOk result
+        (λ s.
+        IsSelection (folder_of negation.now (numbers_of listing.now.runs) sequences.now)
+        (map encode_utf8_all specs.now) s.runs) }
+    ensures refusal { IfErr result
+        (λ e.
+        IsRefusal (folder_of negation.now (numbers_of listing.now.runs) sequences.now)
+        (map encode_utf8_all specs.now) e) }
 
     // The same as one value.
-    ensures whole { IsSelected (selected_of (folder_of negation.now (numbers_of listing.now.runs) sequences.now) (map encode_utf8_all specs.now)) result }
+    ensures whole { IsSelected
+        (selected_of (folder_of negation.now (numbers_of listing.now.runs) sequences.now)
+        (map encode_utf8_all specs.now)) result }
 {
     let mut selected = Pile::new(alloc);
     for (index, word) in specs.as_slice().iter().enumerate() {

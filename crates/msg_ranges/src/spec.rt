@@ -64,7 +64,8 @@ impl Spec {
     /// Reads a word. Where the prefix is empty no word is negated.
     pub fn read(alloc: Global, text: &Text, negation: &[u8]) -> Result<Spec, SelectFault>
         ensures reading { IfOk result (λ spec. Reads negation.now (encode_utf8_all text.now) spec) }
-        ensures alone { IfOk result (λ spec. (other : SpecValue) → Reads negation.now (encode_utf8_all text.now) other → other ≡ spec) }
+        ensures alone { IfOk result
+            (λ spec. (other : SpecValue) → Reads negation.now (encode_utf8_all text.now) other → other ≡ spec) }
         ensures refused { IsErrOf result (SelectFault.BadSpec 0) → IsBad negation.now (encode_utf8_all text.now) }
         ensures faults { IfErr result (λ e. (e ≡ SelectFault.BadSpec 0) ⊎ (e ≡ SelectFault.Memory)) }
     {

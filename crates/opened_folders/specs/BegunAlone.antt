@@ -39,12 +39,14 @@ pub record IsBegun (run : ℕ) (path folder : List ℕ) (before after : Mailbox)
   pub sequences : o.sequences ≡ cut_to o.listing read
   pub hand : Hand
   pub seen : hand.context ≡ Some (entries_in (filled (before.context (Mail path))))
-  pub mailbox : AreCommitted (with_folder_changed before (Folder path folder) (λ f. settled f pairs o.ends)) after (Folder path folder) path folder read o.sequences hand
+  pub mailbox : AreCommitted (with_folder_changed before (Folder path folder) (λ f. settled f pairs o.ends)) after
+      (Folder path folder) path folder read o.sequences hand
 
 -- so of a call beside which nothing happened
 abbrev pub BeginsAlone : ℕ → List ℕ → List ℕ → Opened → Story → Story → Type 0
 BeginsAlone run path folder o earlier later =
-    (added : List ℕ) → later.asked ≡ earlier.asked ++ added → IsStart later.start → IsPossible earlier → IsAlone run later.start later.history added →
+    (added : List ℕ) → later.asked ≡ earlier.asked ++ added → IsStart later.start → IsPossible earlier
+    → IsAlone run later.start later.history added →
     let first = first_of (length earlier.history) added in
     run < 2 ^ 128 → IsBegun run path folder (mailbox_at later first) (mailbox_at later (first + length added)) o
 

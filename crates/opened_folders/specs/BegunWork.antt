@@ -69,7 +69,8 @@ abbrev pub folder_work : List ℕ → List ℕ → List NamedValue → Homes →
     → (List Run → Marked → Kept → Work CommandFault) → Work CommandFault
 folder_work path folder entries h m None next = refused_at m (fault.Refused (refusal.NoFolder folder))
 folder_work path folder entries h m (Some f) next =
-    text_work path folder entries (runs_in (settled_by h f)) (with_folder_changed m (Folder path folder) (settled_by h)) (readable f.sequences) next
+    text_work path folder entries (runs_in (settled_by h f)) (with_folder_changed m (Folder path folder) (settled_by h))
+    (readable f.sequences) next
 
 -- a folder is begun where the context has these entries, and the command goes on so
 unfoldable pub begun_work : List ℕ → List ℕ → List NamedValue → Homes → Mailbox

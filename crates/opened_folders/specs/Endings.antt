@@ -96,7 +96,8 @@ pub record Answering : Type 1 where
 
 -- the run has the folder's lock, and under it listed the folder and read its sequences and then the context; by these
 -- the command refuses its words so
-pub record IsRefusedBy (run : ℕ) (path folder : List ℕ) (Answers : Answering) (r : Refusal) (own : List Deed) : Type 0 where
+pub record IsRefusedBy (run : ℕ) (path folder : List ℕ) (Answers : Answering) (r : Refusal)
+    (own : List Deed) : Type 0 where
   pub listing : List Run
   pub text : List ℕ
   pub context : List ℕ

@@ -31,19 +31,25 @@ WritesText path folder new p name text = (p ≡ Folder path folder) × (name ≡
 
 -- the context gets the entries of the private ones
 abbrev pub WritesEntries : List ℕ → List ℕ → Marked → Place → List ℕ → List ℕ → List ℕ → Type 0
-WritesEntries path folder new p name old text = (seen : List NamedValue) × MarksContext path (changes_to (suffix folder) (private_entries (suffix folder) new.users) seen) p name old text
+WritesEntries path folder new p name old text =
+    (seen : List NamedValue)
+    × MarksContext path
+    (changes_to (suffix folder) (private_entries (suffix folder) new.users) seen) p name old text
 
 -- The run has listed the folder, and read its text and then the context. It writes the text of the sequences that these
 -- tell of, without numbers that have no message, or of those that the command makes of them after its deeds; their
 -- entries in the context; or the folder as the current one.
-pub record WritesMarks (run : ℕ) (path folder : List ℕ) (Makes : List Deed → List Run → Marked → Marked → Type 0) (own : List Deed) (p : Place) (name old text : List ℕ) : Type 0 where
+pub record WritesMarks (run : ℕ) (path folder : List ℕ) (Makes : List Deed → List Run → Marked → Marked → Type 0)
+    (own : List Deed) (p : Place) (name old text : List ℕ) : Type 0 where
   pub listing : List Run
   pub read_text : List ℕ
   pub context : List ℕ
   pub seen : HaveSeen run (Folder path folder) (Mail path) listing read_text context own
   pub new : Marked
-  pub made : (new ≡ told_within listing read_text context folder) ⊎ Makes own listing (told_within listing read_text context folder) new
-  pub writes : WritesText path folder new p name text ⊎ (WritesEntries path folder new p name old text ⊎ MarksContext path (current_change folder) p name old text)
+  pub made : (new ≡ told_within listing read_text context folder)
+      ⊎ Makes own listing (told_within listing read_text context folder) new
+  pub writes : WritesText path folder new p name text
+      ⊎ (WritesEntries path folder new p name old text ⊎ MarksContext path (current_change folder) p name old text)
 
 -- it makes its steps in this manner, and what it makes of the folder's sequences after its deeds is this; it says such
 -- pieces, and asks this of its steps besides

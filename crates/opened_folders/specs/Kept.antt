@@ -47,7 +47,8 @@ context_kept path cs k = if says k.entries cs then all_made k else entries_writt
 abbrev pub sequences_written : List ℕ → List ℕ → Marked → Kept → Commits
 sequences_written path folder new k =
     if nat_lt LIMIT_BYTES (length (text_of new)) then too_long k (length (text_of new))
-    else context_kept path (private_changes folder new.users k.entries) (kept_of (with_sequences_text k.mailbox (Folder path folder) (text_of new)) k.entries)
+    else context_kept path (private_changes folder new.users k.entries)
+    (kept_of (with_sequences_text k.mailbox (Folder path folder) (text_of new)) k.entries)
 
 -- new sequences of the folder in place of others, where they tell anything else
 unfoldable pub sequences_kept : List ℕ → List ℕ → Marked → Marked → Kept → Commits

@@ -33,7 +33,8 @@ pub record Opened : Type 0 where
   pub ends : List (Option ℕ)
 
 abbrev pub opened_of : Place → List ℕ → List Run → Marked → List (Option ℕ) → Opened
-opened_of place folder listing sequences ends = record { place = place; folder = folder; listing = listing; sequences = sequences; ends = ends }
+opened_of place folder listing sequences ends =
+    record { place = place; folder = folder; listing = listing; sequences = sequences; ends = ends }
 
 -- the same folder with other sequences
 abbrev pub with_sequences : Marked → Opened → Opened

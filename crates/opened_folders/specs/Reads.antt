@@ -18,7 +18,10 @@ TellsText p name text d = IsRead p name text d ⊎ ((limit : ℕ) × (d ≡ did 
 
 -- the run read the folder's sequences as this text, and later the mail directory's context as that one
 abbrev pub HaveRead : Place → Place → List ℕ → List ℕ → List Deed → Type 0
-HaveRead p mail text context own = Once (λ d older. TellsText mail context_name context d × Once (λ e before. TellsText p (entry_text Sequences) text e) older) own
+HaveRead p mail text context own =
+    Once
+    (λ d older. TellsText mail context_name context d
+    × Once (λ e before. TellsText p (entry_text Sequences) text e) older) own
 
 -- the run listed the folder; these are the numbers of its messages, with those of what it put back there
 abbrev pub HaveListed : ℕ → Place → List Run → List Deed → Type 0
@@ -26,6 +29,7 @@ HaveListed run p listing own =
     (s : Settled) × (listing ≡ numbers_settled run s) × Once (λ d older. d ≡ did (Lists p) (Names s.names)) own
 
 -- it listed the folder so, and read these texts
-pub record HaveSeen (run : ℕ) (p mail : Place) (listing : List Run) (text context : List ℕ) (own : List Deed) : Type 0 where
+pub record HaveSeen (run : ℕ) (p mail : Place) (listing : List Run) (text context : List ℕ)
+    (own : List Deed) : Type 0 where
   pub listed : HaveListed run p listing own
   pub read : HaveRead p mail text context own

@@ -40,7 +40,9 @@ fn lock_folder<F: Files>(
     files: &mut F,
     place: &Place,
 ) -> Result<(), PlanFault>
-    ensures { (h : KeptValue) → Follows run plan_cause (folder_locked place.now) (by_hand h (F.state files.old)) (by_hand h (F.state files.new)) result }
+    ensures { (h : KeptValue)
+        → Follows run plan_cause (folder_locked place.now) (by_hand h (F.state files.old))
+        (by_hand h (F.state files.new)) result }
 {
     let locking = ask_lock(alloc, run, files, place)?;
     locked_from(alloc, place, locking)
@@ -53,7 +55,9 @@ fn make_mail<F: Files>(
     files: &mut F,
     mail: &Bytes,
 ) -> Result<(), PlanFault>
-    ensures { (h : KeptValue) → Follows run plan_cause (mail_made (Mail mail.now)) (by_hand h (F.state files.old)) (by_hand h (F.state files.new)) result }
+    ensures { (h : KeptValue)
+        → Follows run plan_cause (mail_made (Mail mail.now)) (by_hand h (F.state files.old))
+        (by_hand h (F.state files.new)) result }
 {
     let place = Place::Mail(mail.duplicate(alloc)?);
     let name = entry_name(alloc, &Entry::LockFile)?;
@@ -71,7 +75,9 @@ fn cut_marks<F: Files>(
     settled: Settled,
     mut sequences: Sequences,
 ) -> Result<Opened, PlanFault>
-    ensures plan { Follows hand.old.run plan_cause (marks_cut hand.old.run place (mail_place hand.old) folder.now settled sequences) (by_hand hand.old.kept (F.state files.old)) (by_hand hand.new.kept (F.state files.new)) result }
+    ensures plan { Follows hand.old.run plan_cause
+        (marks_cut hand.old.run place (mail_place hand.old) folder.now settled sequences)
+        (by_hand hand.old.kept (F.state files.old)) (by_hand hand.new.kept (F.state files.new)) result }
     ensures same { (hand.new.run ≡ hand.old.run) × (hand.new.mail ≡ hand.old.mail) }
 {
     let listing = settled_numbers(alloc, hand.run(), &settled)?;
@@ -94,7 +100,9 @@ fn read_settled<F: Files>(
     folder: &FolderName,
     settled: Settled,
 ) -> Result<Opened, PlanFault>
-    ensures plan { Follows hand.old.run plan_cause (settled_read hand.old.run place (mail_place hand.old) folder.now settled) (by_hand hand.old.kept (F.state files.old)) (by_hand hand.new.kept (F.state files.new)) result }
+    ensures plan { Follows hand.old.run plan_cause
+        (settled_read hand.old.run place (mail_place hand.old) folder.now settled)
+        (by_hand hand.old.kept (F.state files.old)) (by_hand hand.new.kept (F.state files.new)) result }
     ensures same { (hand.new.run ≡ hand.old.run) × (hand.new.mail ≡ hand.old.mail) }
 {
     clear(alloc, hand.run(), files, &place, settled.names())?;
@@ -109,7 +117,8 @@ fn begin_locked<F: Files>(
     place: Place,
     folder: &FolderName,
 ) -> Result<Opened, PlanFault>
-    ensures plan { Follows hand.old.run plan_cause (locked_begun hand.old.run place (mail_place hand.old) folder.now) (by_hand hand.old.kept (F.state files.old)) (by_hand hand.new.kept (F.state files.new)) result }
+    ensures plan { Follows hand.old.run plan_cause (locked_begun hand.old.run place (mail_place hand.old) folder.now)
+        (by_hand hand.old.kept (F.state files.old)) (by_hand hand.new.kept (F.state files.new)) result }
     ensures same { (hand.new.run ≡ hand.old.run) × (hand.new.mail ≡ hand.old.mail) }
 {
     make_mail(alloc, hand.run(), files, hand.mail())?;
@@ -124,23 +133,27 @@ fn begin_at<F: Files>(
     place: Place,
     folder: &FolderName,
 ) -> Result<Opened, PlanFault>
-    ensures plan { Follows hand.old.run plan_cause (begun hand.old.run place (mail_place hand.old) folder.now) (by_hand hand.old.kept (F.state files.old)) (by_hand hand.new.kept (F.state files.new)) result }
+    ensures plan { Follows hand.old.run plan_cause (begun hand.old.run place (mail_place hand.old) folder.now)
+        (by_hand hand.old.kept (F.state files.old)) (by_hand hand.new.kept (F.state files.new)) result }
     ensures same { (hand.new.run ≡ hand.old.run) × (hand.new.mail ≡ hand.old.mail) }
 {
     lock_folder(alloc, hand.run(), files, &place)?;
     begin_locked(alloc, hand, files, place, folder)
 }
 
-/// Begins a folder of the run's mail directory: takes its lock, puts back what other runs hold aside there, unlinks temporary names,
-/// reads its sequences and the context, and commits the sequences where they name absent messages.
+/// Begins a folder of the run's mail directory: takes its lock, puts back what other runs hold aside there, unlinks
+/// temporary names, reads its sequences and the context, and commits the sequences where they name absent messages.
 pub fn begin<F: Files>(
     alloc: Global,
     hand: &mut Hand,
     files: &mut F,
     folder: &FolderName,
 ) -> Result<Opened, PlanFault>
-    ensures plan { Follows hand.old.run plan_cause (begun hand.old.run (Folder hand.old.mail folder.now) (mail_place hand.old) folder.now) (by_hand hand.old.kept (F.state files.old)) (by_hand hand.new.kept (F.state files.new)) result }
-    ensures alone { IfOk result (λ o. BeginsIfUnfaulted hand.old.run hand.old.mail folder.now o (F.state files.old) (F.state files.new)) }
+    ensures plan { Follows hand.old.run plan_cause
+        (begun hand.old.run (Folder hand.old.mail folder.now) (mail_place hand.old) folder.now)
+        (by_hand hand.old.kept (F.state files.old)) (by_hand hand.new.kept (F.state files.new)) result }
+    ensures alone { IfOk result
+        (λ o. BeginsIfUnfaulted hand.old.run hand.old.mail folder.now o (F.state files.old) (F.state files.new)) }
     ensures same { (hand.new.run ≡ hand.old.run) × (hand.new.mail ≡ hand.old.mail) }
 {
     let place = Place::Folder(hand.mail().duplicate(alloc)?, folder.duplicate(alloc)?);
@@ -154,7 +167,10 @@ pub fn open<F: Files>(
     files: &mut F,
     folder: &FolderName,
 ) -> Result<Opened, CommandFault>
-    ensures plan { Follows hand.old.run command_cause (lifted (of_plan folder.now) (begun hand.old.run (Folder hand.old.mail folder.now) (mail_place hand.old) folder.now)) (by_hand hand.old.kept (F.state files.old)) (by_hand hand.new.kept (F.state files.new)) result }
+    ensures plan { Follows hand.old.run command_cause
+        (lifted (of_plan folder.now)
+        (begun hand.old.run (Folder hand.old.mail folder.now) (mail_place hand.old) folder.now))
+        (by_hand hand.old.kept (F.state files.old)) (by_hand hand.new.kept (F.state files.new)) result }
     ensures run { hand.new.run ≡ hand.old.run }
     ensures mail { hand.new.mail ≡ hand.old.mail }
 {

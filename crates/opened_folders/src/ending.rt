@@ -18,7 +18,9 @@ fn finish<F: Files>(
     files: &mut F,
     place: &Place,
 ) -> Result<(), CommandFault>
-    ensures { (h : Hand) → Follows run command_cause (finished place.now) (by_hand h (F.state files.old)) (by_hand h (F.state files.new)) result }
+    ensures { (h : Hand)
+        → Follows run command_cause (finished place.now) (by_hand h (F.state files.old))
+        (by_hand h (F.state files.new)) result }
 {
     ask_unlock(alloc, run, files, place)?;
     Ok(())
@@ -33,15 +35,17 @@ fn give_up<F: Files>(
     fault: CommandFault,
 ) -> Result<(), CommandFault>
     requires { command_cause fault ≡ OfPlan }
-    ensures { (h : Hand) → Follows run command_cause (given_up place.now fault) (by_hand h (F.state files.old)) (by_hand h (F.state files.new)) result }
+    ensures { (h : Hand)
+        → Follows run command_cause (given_up place.now fault) (by_hand h (F.state files.old))
+        (by_hand h (F.state files.new)) result }
 {
     attempt_unlock(alloc, run, files, place)?;
     Err(fault)
 }
 
-/// Ends a command whose work on the folder ended so. The folder's lock falls: where all is done the command fails if that does; a
-/// refusal, and a lock that another run has, stand in any case. After a fault, a name that was changed meanwhile, and want of memory
-/// nothing more is done.
+/// Ends a command whose work on the folder ended so. The folder's lock falls: where all is done the command fails if
+/// that does; a refusal, and a lock that another run has, stand in any case. After a fault, a name that was changed
+/// meanwhile, and want of memory nothing more is done.
 pub fn end<F: Files>(
     alloc: Global,
     run: u128,
@@ -49,7 +53,8 @@ pub fn end<F: Files>(
     place: &Place,
     done: Result<(), CommandFault>,
 ) -> Result<(), CommandFault>
-    ensures { (h : Hand) → Ends run place.now done (by_hand h (F.state files.old)) (by_hand h (F.state files.new)) result }
+    ensures { (h : Hand)
+        → Ends run place.now done (by_hand h (F.state files.old)) (by_hand h (F.state files.new)) result }
 {
     match done {
         Ok(()) => finish(alloc, run, files, place),

@@ -89,7 +89,8 @@ fn existing(alloc: Global, run: u128, settled: &Settled) -> Result<Pile, AllocEr
     Ok(pile)
 }
 
-/// The numbers of the folder's messages: those that were listed, and those at which a held message was put or found another's.
+/// The numbers of the folder's messages: those that were listed, and those at which a held message was put or found
+/// another's.
 pub(crate) fn settled_numbers(
     alloc: Global,
     run: u128,

@@ -1,5 +1,5 @@
-//! Folders that a command has begun: locked, put in order, and their sequences read; how what it marks there is committed, and how
-//! it lets them go.
+//! Folders that a command has begun: locked, put in order, and their sequences read; how what it marks there is
+//! committed, and how it lets them go.
 #![tactic(auto)]
 
 mod beginning;

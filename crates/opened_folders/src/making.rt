@@ -36,7 +36,9 @@ fn begin_made<F: Files>(
     files: &mut F,
     folder: &FolderName,
 ) -> Result<Opened, PlanFault>
-    ensures plan { Follows hand.old.run plan_cause (made_begun hand.old.run (Folder hand.old.mail folder.now) (mail_place hand.old) folder.now) (by_hand hand.old.kept (F.state files.old)) (by_hand hand.new.kept (F.state files.new)) result }
+    ensures plan { Follows hand.old.run plan_cause
+        (made_begun hand.old.run (Folder hand.old.mail folder.now) (mail_place hand.old) folder.now)
+        (by_hand hand.old.kept (F.state files.old)) (by_hand hand.new.kept (F.state files.new)) result }
     ensures same { (hand.new.run ≡ hand.old.run) × (hand.new.mail ≡ hand.old.mail) }
 {
     let place = folder_place(alloc, hand, folder)?;
@@ -55,7 +57,10 @@ pub fn open_made<F: Files>(
     files: &mut F,
     folder: &FolderName,
 ) -> Result<Opened, CommandFault>
-    ensures plan { Follows hand.old.run command_cause (lifted (of_plan folder.now) (made_begun hand.old.run (Folder hand.old.mail folder.now) (mail_place hand.old) folder.now)) (by_hand hand.old.kept (F.state files.old)) (by_hand hand.new.kept (F.state files.new)) result }
+    ensures plan { Follows hand.old.run command_cause
+        (lifted (of_plan folder.now)
+        (made_begun hand.old.run (Folder hand.old.mail folder.now) (mail_place hand.old) folder.now))
+        (by_hand hand.old.kept (F.state files.old)) (by_hand hand.new.kept (F.state files.new)) result }
     ensures run { hand.new.run ≡ hand.old.run }
     ensures mail { hand.new.mail ≡ hand.old.mail }
 {

@@ -17,8 +17,8 @@ use std::alloc::Global;
 use std::marker::Model;
 use step_plans::{Hand, PlanFault};
 
-/// A folder whose lock this run has: the numbers of its messages, its sequences, and where each message stands now that another run
-/// held aside there.
+/// A folder whose lock this run has: the numbers of its messages, its sequences, and where each message stands now that
+/// another run held aside there.
 #[derive(Drop)]
 pub struct Opened {
     pub(crate) place: Place,
@@ -63,7 +63,8 @@ impl Opened {
         &self.sequences
     }
 
-    /// Where each message stands now that another run held aside, by its number and then by that run; none where it stays held.
+    /// Where each message stands now that another run held aside, by its number and then by that run; none where it
+    /// stays held.
     pub fn ends(&self) -> &[Option<MsgNum>]
         ensures { result.now ≡ self.now.ends }
     {
@@ -71,8 +72,9 @@ impl Opened {
     }
 }
 
-/// Does what these marks say with the folder's sequences, and commits what they are then: the text of the folder, and then the private
-/// ones in the context of the run's mail directory, under its lock. No step where the marks change nothing.
+/// Does what these marks say with the folder's sequences, and commits what they are then: the text of the folder, and
+/// then the private ones in the context of the run's mail directory, under its lock. No step where the marks change
+/// nothing.
 pub fn commit_marks<F: Files>(
     alloc: Global,
     hand: &mut Hand,
@@ -80,9 +82,13 @@ pub fn commit_marks<F: Files>(
     opened: &mut Opened,
     marks: &[Mark],
 ) -> Result<(), PlanFault>
-    ensures plan { Follows hand.old.run plan_cause (marks_committed hand.old.run opened.old.place (mail_place hand.old) opened.old.folder opened.old.sequences marks.now) (by_hand hand.old.kept (F.state files.old)) (by_hand hand.new.kept (F.state files.new)) result }
+    ensures plan { Follows hand.old.run plan_cause
+        (marks_committed hand.old.run opened.old.place
+        (mail_place hand.old) opened.old.folder opened.old.sequences marks.now)
+        (by_hand hand.old.kept (F.state files.old)) (by_hand hand.new.kept (F.state files.new)) result }
     ensures place { opened.new.place ≡ opened.old.place }
-    ensures marked { OnOk result (opened.new ≡ with_sequences (marked_by_all marks.now opened.old.sequences) opened.old) }
+    ensures marked { OnOk result
+        (opened.new ≡ with_sequences (marked_by_all marks.now opened.old.sequences) opened.old) }
     ensures same { (hand.new.run ≡ hand.old.run) × (hand.new.mail ≡ hand.old.mail) }
 {
     commit_sequences(

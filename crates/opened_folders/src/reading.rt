@@ -37,7 +37,9 @@ fn read_text<F: Files>(
     files: &mut F,
     place: &Place,
 ) -> Result<Bytes, PlanFault>
-    ensures { (h : KeptValue) → Follows run plan_cause (sequences_read place.now) (by_hand h (F.state files.old)) (by_hand h (F.state files.new)) result }
+    ensures { (h : KeptValue)
+        → Follows run plan_cause (sequences_read place.now) (by_hand h (F.state files.old))
+        (by_hand h (F.state files.new)) result }
 {
     let name = entry_name(alloc, &Entry::Sequences)?;
     let reading = ask_read(alloc, run, files, place, &name, LIMIT)?;
@@ -50,7 +52,9 @@ fn read_entries<F: Files>(
     files: &mut F,
     mail: &Bytes,
 ) -> Result<Entries, PlanFault>
-    ensures { (h : KeptValue) → Follows run plan_cause (context_read (Mail mail.now)) (by_hand h (F.state files.old)) (by_hand h (F.state files.new)) result }
+    ensures { (h : KeptValue)
+        → Follows run plan_cause (context_read (Mail mail.now)) (by_hand h (F.state files.old))
+        (by_hand h (F.state files.new)) result }
 {
     let place = Place::Mail(mail.duplicate(alloc)?);
     read_context(alloc, run, files, &place)
@@ -64,7 +68,8 @@ pub(crate) fn read_marks<F: Files>(
     place: &Place,
     folder: &FolderName,
 ) -> Result<Sequences, PlanFault>
-    ensures plan { Follows hand.old.run plan_cause (marks_read place.now (mail_place hand.old) folder.now) (by_hand hand.old.kept (F.state files.old)) (by_hand hand.new.kept (F.state files.new)) result }
+    ensures plan { Follows hand.old.run plan_cause (marks_read place.now (mail_place hand.old) folder.now)
+        (by_hand hand.old.kept (F.state files.old)) (by_hand hand.new.kept (F.state files.new)) result }
     ensures same { (hand.new.run ≡ hand.old.run) × (hand.new.mail ≡ hand.old.mail) }
 {
     let text = read_text(alloc, hand.run(), files, place)?;

@@ -13,9 +13,11 @@ use Rattle.pack_command.specs.declared.job.PackJob.{PackJob}
 
 -- each message of a folder with these numbers and sequences that was to get another number got the one beside it, and
 -- the marks went along
-pub record AllPacked (run : ℕ) (path : List ℕ) (job : PackJob) (listing : List Run) (m : Marked) (ends : List ℕ) (own : List Deed) : Type 0 where
+pub record AllPacked (run : ℕ) (path : List ℕ) (job : PackJob) (listing : List Run) (m : Marked) (ends : List ℕ)
+    (own : List Deed) : Type 0 where
   pub moved : AllSettled run (Folder path job.folder) (listing_moves listing) ends own
-  pub marks : MarksWent job.folder (Folder path job.folder) m (froms (listing_moves listing)) (listing_moves listing) ends own
+  pub marks : MarksWent job.folder (Folder path job.folder) m (froms (listing_moves listing))
+      (listing_moves listing) ends own
 
 -- The run listed the folder and read its sequences and then the context. Each message that was to get another number
 -- got one, its place or one in place of that, and the marks went along.

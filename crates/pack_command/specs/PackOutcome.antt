@@ -38,7 +38,8 @@ mail_packed run path folder m ms k = marks_along path folder m (froms ms) ms (wi
 -- of a folder with these numbers and sequences: then its line is said, and it becomes the current one
 abbrev pub opened_work : ℕ → List ℕ → PackJob → List Run → Marked → Kept → Work CommandFault
 opened_work run path job listing m k =
-    after_commits (mail_packed run path job.folder m (listing_moves listing) k) (current_work path job.folder (line_after job listing m (slots (listing_moves listing))))
+    after_commits (mail_packed run path job.folder m (listing_moves listing) k)
+    (current_work path job.folder (line_after job listing m (slots (listing_moves listing))))
 
 -- `folder -pack` of this run, where the context has these entries, and what was held aside in the folder goes so
 unfoldable pub pack_work : ℕ → List ℕ → List NamedValue → Homes → PackJob → Mailbox → Work CommandFault

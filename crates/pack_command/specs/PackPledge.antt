@@ -35,11 +35,15 @@ PacksSo run path job own s = MovesSo run path job.folder TakesMoving own s
 -- the line is said only once all messages have their numbers and their marks again, and it is the one of the folder as
 -- the run left it
 abbrev pub TellsPacked : ℕ → List ℕ → PackJob → List Deed → List ℕ → Type 0
-TellsPacked run path job own piece = (f : HasPacked run path job own) × (piece ≡ line_after job f.listing (told_within f.listing f.text f.context job.folder) f.ends)
+TellsPacked run path job own piece =
+    (f : HasPacked run path job own)
+    × (piece ≡ line_after job f.listing (told_within f.listing f.text f.context job.folder) f.ends)
 
 -- `folder -pack` begins the folder and keeps its marks, gives its messages other numbers, and tells of the folder then
 abbrev pub pack_pledge : ℕ → List ℕ → PackJob → Pledge
-pack_pledge run path job = folder_pledge run path job.folder (MakesMarks run path job) (Sorting path job.folder every_message) (TellsPacked run path job) (PacksSo run path job)
+pack_pledge run path job =
+    folder_pledge run path job.folder (MakesMarks run path job) (Sorting path job.folder every_message)
+    (TellsPacked run path job) (PacksSo run path job)
 
 -- what a call promises of its steps
 abbrev pub PromisesSteps : ℕ → List ℕ → PackJob → State → State → Type 0

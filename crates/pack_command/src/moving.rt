@@ -34,7 +34,8 @@ pub(crate) fn renumber<F: Files>(
     opened: &mut Opened,
     moves: &[Move],
 ) -> Result<List<MsgNum>, PlanFault>
-    ensures plan { Follows hand.old.run plan_cause (renumbered hand.old.run (mail_place hand.old) opened.old moves.now) (by_hand hand.old.kept (F.state files.old)) (by_hand hand.new.kept (F.state files.new)) result }
+    ensures plan { Follows hand.old.run plan_cause (renumbered hand.old.run (mail_place hand.old) opened.old moves.now)
+        (by_hand hand.old.kept (F.state files.old)) (by_hand hand.new.kept (F.state files.new)) result }
     ensures left { IfOk result (λ ends. opened.new.sequences ≡ sequences_after moves.now ends opened.old.sequences) }
     ensures same { (hand.new.run ≡ hand.old.run) × (hand.new.mail ≡ hand.old.mail) }
 {

@@ -45,8 +45,12 @@ fn pack_messages<F: Files>(
     numbers: &[MsgNum],
     places: &[MsgNum],
 ) -> Result<List<MsgNum>, CommandFault>
-    ensures plan { Follows hand.old.run command_cause (lifted (of_plan job.now.folder) (renumbered hand.old.run (mail_place hand.old) opened.old (moves_of numbers.now places.now))) (by_hand hand.old.kept (F.state files.old)) (by_hand hand.new.kept (F.state files.new)) result }
-    ensures left { IfOk result (λ ends. opened.new.sequences ≡ sequences_after (moves_of numbers.now places.now) ends opened.old.sequences) }
+    ensures plan { Follows hand.old.run command_cause
+        (lifted (of_plan job.now.folder)
+        (renumbered hand.old.run (mail_place hand.old) opened.old (moves_of numbers.now places.now)))
+        (by_hand hand.old.kept (F.state files.old)) (by_hand hand.new.kept (F.state files.new)) result }
+    ensures left { IfOk result
+        (λ ends. opened.new.sequences ≡ sequences_after (moves_of numbers.now places.now) ends opened.old.sequences) }
     ensures run { hand.new.run ≡ hand.old.run }
     ensures mail { hand.new.mail ≡ hand.old.mail }
 {
@@ -67,7 +71,9 @@ fn pack_opened<F: Files, O: Sink>(
     job: &PackJob,
     mut opened: Opened,
 ) -> Result<(), CommandFault>
-    ensures plan { Follows hand.old.run command_cause (opened_packed hand.old.run hand.old.mail job.now opened) (by_out hand.old.kept (F.state files.old) (O.state out.old)) (by_out hand.new.kept (F.state files.new) (O.state out.new)) result }
+    ensures plan { Follows hand.old.run command_cause (opened_packed hand.old.run hand.old.mail job.now opened)
+        (by_out hand.old.kept (F.state files.old) (O.state out.old))
+        (by_out hand.new.kept (F.state files.new) (O.state out.new)) result }
     ensures run { hand.new.run ≡ hand.old.run }
     ensures mail { hand.new.mail ≡ hand.old.mail }
 {
@@ -93,8 +99,9 @@ fn pack_opened<F: Files, O: Sink>(
     make_current(alloc, hand, files, &job.folder)
 }
 
-/// Numbers the messages of a folder anew, from 1 on, in the order that they have, in a folder that is begun. Marks and the current message go with their
-/// messages. Where all stand so nothing is changed. Then the folder is told of as `folder` does it, and becomes the current one.
+/// Numbers the messages of a folder anew, from 1 on, in the order that they have, in a folder that is begun. Marks and
+/// the current message go with their messages. Where all stand so nothing is changed. Then the folder is told of as
+/// `folder` does it, and becomes the current one.
 pub fn pack<F: Files, O: Sink>(
     alloc: Global,
     hand: &mut Hand,
@@ -102,9 +109,14 @@ pub fn pack<F: Files, O: Sink>(
     out: &mut O,
     job: &PackJob,
 ) -> Result<(), CommandFault>
-    ensures plan { Follows hand.old.run command_cause (pack_plan hand.old.run hand.old.mail job.now) (by_out hand.old.kept (F.state files.old) (O.state out.old)) (by_out hand.new.kept (F.state files.new) (O.state out.new)) result }
-    ensures alone { PacksIfUnfaulted hand.old.run hand.old.mail job.now hand.old.kept result (F.state files.old) (F.state files.new) (O.state out.old) (O.state out.new) }
-    ensures steps { PromisesSteps hand.old.run hand.old.mail job.now (by_out hand.old.kept (F.state files.old) (O.state out.old)) (by_out hand.new.kept (F.state files.new) (O.state out.new)) }
+    ensures plan { Follows hand.old.run command_cause (pack_plan hand.old.run hand.old.mail job.now)
+        (by_out hand.old.kept (F.state files.old) (O.state out.old))
+        (by_out hand.new.kept (F.state files.new) (O.state out.new)) result }
+    ensures alone { PacksIfUnfaulted hand.old.run hand.old.mail job.now hand.old.kept result (F.state files.old)
+        (F.state files.new) (O.state out.old) (O.state out.new) }
+    ensures steps { PromisesSteps hand.old.run hand.old.mail job.now
+        (by_out hand.old.kept (F.state files.old) (O.state out.old))
+        (by_out hand.new.kept (F.state files.new) (O.state out.new)) }
     ensures run { hand.new.run ≡ hand.old.run }
     ensures mail { hand.new.mail ≡ hand.old.mail }
 {

@@ -26,7 +26,8 @@ name_of number path subtype = take 255 (whole_name number path subtype)
 -- the line that says that the part at this path is stored in the file of this name
 unfoldable pub line_for : ℕ → List ℕ → List ℕ → List ℕ
 line_for number path name =
-    codes "storing message " ++ decimal number ++ codes " part " ++ path_text path ++ codes " as file " ++ name ++ 10 ∷ []
+    codes "storing message " ++ decimal number ++ codes " part " ++ path_text path ++ codes " as file " ++ name ++ 10
+    ∷ []
 
 -- a file, and the line that tells of it
 pub record StoredFile : Type 0 where
@@ -37,7 +38,8 @@ pub record StoredFile : Type 0 where
 -- the file of a part
 abbrev pub file_of : ℕ → PartView → StoredFile
 file_of number part =
-    let name = name_of number part.path part.subtype in record { name = name; content = part.content; line = line_for number part.path name }
+    let name = name_of number part.path part.subtype in
+    record { name = name; content = part.content; line = line_for number part.path name }
 
 -- the files that the parts of a message are stored in, where these paths are wanted
 abbrev pub files_of : ℕ → List (List ℕ) → List ℕ → List StoredFile

@@ -64,7 +64,8 @@ view_of bytes part = record {
 -- the bytes that the message at this span carries: a leaf's body decoded, another's as it stands
 abbrev pub content_at : Bool → List ℕ → Span → List ℕ
 content_at is_leaf bytes span =
-    let body = text_at bytes (body_at bytes span) in if is_leaf then decoded (encoding_of (text_at bytes span)) body else body
+    let body = text_at bytes (body_at bytes span) in
+    if is_leaf then decoded (encoding_of (text_at bytes span)) body else body
 
 -- what is told of the message at this span, with what is odd about it and whether it is a leaf
 abbrev pub view_at : Odd → Bool → List ℕ → Fallback → List ℕ → Span → PartView

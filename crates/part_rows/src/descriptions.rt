@@ -57,7 +57,8 @@ fn put_note(text: &mut Text, note: &[u8]) -> Result<(), AllocError>
 
 /// The part's description, and what is odd about the part.
 pub(crate) fn last_column(alloc: Global, bytes: &[u8], part: &Part) -> Result<Text, AllocError>
-    ensures { IfOk result (λ text. text ≡ beside (view_of bytes.now part.now).description (note_of (view_of bytes.now part.now).odd)) }
+    ensures { IfOk result
+        (λ text. text ≡ beside (view_of bytes.now part.now).description (note_of (view_of bytes.now part.now).odd)) }
 {
     let message = Message::cut(message_of(bytes, part));
     let mut text = description(alloc, &message)?;

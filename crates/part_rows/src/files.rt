@@ -38,7 +38,8 @@ fn put_subtype(name: &mut Bytes, subtype: &[u8]) -> Result<(), AllocError>
 
 /// The name, however long.
 fn long_name(alloc: Global, number: MsgNum, part: &Part) -> Result<Bytes, AllocError>
-    ensures value { IfOk result (λ name. name ≡ whole_name number (out-Part part.now).path (out-Part part.now).subtype) }
+    ensures value { IfOk result
+        (λ name. name ≡ whole_name number (out-Part part.now).path (out-Part part.now).subtype) }
     ensures clean { IfOk result (λ name. list_all is_name_byte name ≡ true) }
 {
     let mut name = Bytes::new(alloc);

@@ -1,4 +1,5 @@
-//! What is told of the parts of a message: rows that list them, and the names and lines of the files that they are stored in.
+//! What is told of the parts of a message: rows that list them, and the names and lines of the files that they are
+//! stored in.
 #![tactic(auto)]
 
 mod choices;

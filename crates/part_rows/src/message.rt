@@ -33,7 +33,8 @@ impl<'a> Model for MessageParts<'a> {
 
     ghost view = { λ m. m.bytes.now };
 
-    ghost invariant = { λ m. (m.tree.bytes.now ≡ m.bytes.now) × IsPart 64 m.bytes.now plain_text [] (whole m.bytes.now) m.tree.root };
+    ghost invariant = { λ m. (m.tree.bytes.now ≡ m.bytes.now)
+        × IsPart 64 m.bytes.now plain_text [] (whole m.bytes.now) m.tree.root };
 }
 
 impl<'a> MessageParts<'a> {
@@ -47,7 +48,8 @@ impl<'a> MessageParts<'a> {
 
     /// The first of the wanted paths that no part has.
     pub fn first_missing<'w>(&self, wanted: &'w [PartPath]) -> Option<&'w PartPath>
-        ensures { MatchOption result (first_missing_of wanted.now (parts_of self.now) ≡ None) (λ path. first_missing_of wanted.now (parts_of self.now) ≡ Some path.now) }
+        ensures { MatchOption result (first_missing_of wanted.now (parts_of self.now) ≡ None)
+            (λ path. first_missing_of wanted.now (parts_of self.now) ≡ Some path.now) }
     {
         for path in wanted {
             if self.tree.part(path).is_none() {
@@ -58,17 +60,20 @@ impl<'a> MessageParts<'a> {
     }
 
     fn chosen(&self, alloc: Global, choice: Choice<'_>) -> Result<Vec<&Part>, AllocError>
-        ensures { IfOk result (λ parts. map (λ p. view_of self.now p.now) parts.items ≡ filter (chooses choice.entry) (parts_of self.now)) }
+        ensures { IfOk result
+            (λ parts.
+            map (λ p. view_of self.now p.now) parts.items ≡ filter (chooses choice.entry) (parts_of self.now)) }
     {
         let mut parts = Vec::new(alloc);
         push_chosen(&mut parts, choice, self.tree.root())?;
         Ok(parts)
     }
 
-    /// The parts that are stored where these paths are wanted, in the order of the tree: those that the paths name, or without
-    /// a path the leaves.
+    /// The parts that are stored where these paths are wanted, in the order of the tree: those that the paths name, or
+    /// without a path the leaves.
     pub fn stored(&self, alloc: Global, wanted: &[PartPath]) -> Result<Vec<&Part>, AllocError>
-        ensures { IfOk result (λ parts. map (λ p. view_of self.now p.now) parts.items ≡ stored_of wanted.now (parts_of self.now)) }
+        ensures { IfOk result
+            (λ parts. map (λ p. view_of self.now p.now) parts.items ≡ stored_of wanted.now (parts_of self.now)) }
     {
         self.chosen(alloc, Choice::Stored(wanted))
     }
@@ -99,8 +104,8 @@ impl<'a> MessageParts<'a> {
         line(alloc, &columns)
     }
 
-    /// The rows of the message of this number, each with its line feed: of the parts that these paths name, or without a path of all,
-    /// in the order of the tree.
+    /// The rows of the message of this number, each with its line feed: of the parts that these paths name, or without
+    /// a path of all, in the order of the tree.
     pub fn rows(
         &self,
         alloc: Global,

@@ -63,7 +63,8 @@ pub(crate) fn part_columns(
     part: &Part,
     size: usize,
 ) -> Result<Columns, AllocError>
-    ensures { IfOk result (λ c. c ≡ record (columns_of_part number (view_of bytes.now part.now)) { size = decimal size }) }
+    ensures { IfOk result
+        (λ c. c ≡ record (columns_of_part number (view_of bytes.now part.now)) { size = decimal size }) }
 {
     Ok(Columns {
         number: number_text(alloc, u64::from(number.get()))?,

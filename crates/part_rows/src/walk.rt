@@ -16,7 +16,10 @@ fn push_one<'a>(
     choice: Choice<'_>,
     part: &'a Part,
 ) -> Result<(), AllocError>
-    ensures { (bytes : List ℕ) → OnOk result (map (λ p. view_of bytes p.now) parts.new.items ≡ map (λ p. view_of bytes p.now) parts.old.items ++ filter (chooses choice.entry) (view_of bytes part.now ∷ [])) }
+    ensures { (bytes : List ℕ)
+        → OnOk result
+        (map (λ p. view_of bytes p.now) parts.new.items ≡ map (λ p. view_of bytes p.now) parts.old.items
+        ++ filter (chooses choice.entry) (view_of bytes part.now ∷ [])) }
 {
     if choice.has(part) {
         parts.push(part)?;
@@ -30,7 +33,11 @@ pub(crate) fn push_chosen<'a>(
     choice: Choice<'_>,
     part: &'a Part,
 ) -> Result<(), AllocError>
-    ensures { (levels : ℕ) (bytes : List ℕ) (fallback : Fallback) (path : List ℕ) (span : Span) → IsPart levels bytes fallback path span part.now → OnOk result (map (λ p. view_of bytes p.now) parts.new.items ≡ map (λ p. view_of bytes p.now) parts.old.items ++ filter (chooses choice.entry) (parts_at levels bytes fallback path span)) }
+    ensures { (levels : ℕ) (bytes : List ℕ) (fallback : Fallback) (path : List ℕ) (span : Span)
+        → IsPart levels bytes fallback path span part.now
+        → OnOk result
+        (map (λ p. view_of bytes p.now) parts.new.items ≡ map (λ p. view_of bytes p.now) parts.old.items
+        ++ filter (chooses choice.entry) (parts_at levels bytes fallback path span)) }
 {
     push_one(parts, choice, part)?;
     for kid in part.kids.as_slice() {

@@ -44,11 +44,14 @@ found_in messages expr numbers = filter (λ n. picks expr (text_of messages n)) 
 -- the length of the first message that is too long
 unfoldable pub too_long_among : (ℕ → Option (List ℕ)) → List ℕ → Option ℕ
 too_long_among messages [] = None
-too_long_among messages (n ∷ ns) = if nat_lt LIMIT_BYTES (length (text_of messages n)) then Some (length (text_of messages n)) else too_long_among messages ns
+too_long_among messages (n ∷ ns) =
+    if nat_lt LIMIT_BYTES (length (text_of messages n)) then Some (length (text_of messages n))
+    else too_long_among messages ns
 
 -- where no message matches, this is said, where the job lists, and it is refused
 abbrev pub unless_none : PickJob → Mailbox → (List ℕ → Work CommandFault) → List ℕ → Work CommandFault
-unless_none job m next [] = record { text = text_if job.list (lines_for []); end = Err (fault.Refused refusal.NoMatch); mailbox = m }
+unless_none job m next [] =
+    record { text = text_if job.list (lines_for []); end = Err (fault.Refused refusal.NoMatch); mailbox = m }
 unless_none job m next (n ∷ ns) = next (n ∷ ns)
 
 abbrev pub unless_long : PickJob → Mailbox → (List ℕ → Work CommandFault) → List ℕ → Option ℕ → Work CommandFault
@@ -78,7 +81,8 @@ marked_work path job p m k found =
 -- a folder with these numbers and sequences was begun
 abbrev pub opened_work : List ℕ → PickJob → PickMarks → List Run → Marked → Kept → Work CommandFault
 opened_work path job p listing m k =
-    chosen_work job k.mailbox (messages_of (k.mailbox.folders (Folder path job.folder))) (marked_work path job p m k) (chosen_from job listing m)
+    chosen_work job k.mailbox (messages_of (k.mailbox.folders (Folder path job.folder))) (marked_work path job p m k)
+    (chosen_from job listing m)
 
 -- a `pick` that marks
 unfoldable pub changes_work : List ℕ → List NamedValue → Homes → PickJob → PickMarks → Mailbox → Work CommandFault
@@ -87,7 +91,8 @@ changes_work path entries h job p m = begun_work path job.folder entries h m (op
 -- a folder with these messages, whose sequences have this text, or none that can be read
 abbrev pub looked_work : List ℕ → PickJob → Kept → FolderValue → Result (List ℕ) CommandFault → Work CommandFault
 looked_work path job k f (Ok text) =
-    chosen_work job k.mailbox f.messages (told_work path job k) (chosen_from job (runs_in f) (cut_to (runs_in f) (sequences_in text k.entries job.folder)))
+    chosen_work job k.mailbox f.messages (told_work path job k)
+    (chosen_from job (runs_in f) (cut_to (runs_in f) (sequences_in text k.entries job.folder)))
 looked_work path job k f (Err e) = refused_at k.mailbox e
 
 abbrev pub folder_looked : List ℕ → PickJob → Kept → Option FolderValue → Work CommandFault

@@ -62,7 +62,8 @@ found_told run path job found = do
 -- the sequences of a folder that was begun get those that match, and are committed; then these are told
 unfoldable pub found_marked : ℕ → List ℕ → PickJob → PickMarks → Opened → List ℕ → Commanded Unit
 found_marked run path job p o found = do
-  done ← lifted (of_plan job.folder) (changed_sequences run o.place (Mail path) o.folder o.sequences (marked_for p found o.sequences))
+  done ← lifted (of_plan job.folder)
+      (changed_sequences run o.place (Mail path) o.folder o.sequences (marked_for p found o.sequences))
   found_told run path job found
 
 -- of the messages that the words choose, those that match are marked

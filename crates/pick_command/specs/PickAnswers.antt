@@ -93,7 +93,8 @@ ShowsPicking run path job p e own =
 
 -- the newest two steps listed the folder and read its sequences; by these, and by the entries of the context that were
 -- read before, a `pick` that marks nothing refuses its words so
-pub record IsRefusedByListing (path : List ℕ) (job : PickJob) (entries : List NamedValue) (r : Refusal) (own : List Deed)
+pub record IsRefusedByListing (path : List ℕ) (job : PickJob) (entries : List NamedValue) (r : Refusal)
+    (own : List Deed)
     : Type 0 where
   pub names : List (List ℕ)
   pub text : List ℕ

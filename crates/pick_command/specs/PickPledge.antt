@@ -22,19 +22,23 @@ use Rattle.pick_command.specs.declared.job.PickMarks.{PickMarks}
 -- match
 abbrev pub Picks : List ℕ → PickJob → PickMarks → List Deed → List Run → Marked → Marked → Type 0
 Picks path job p own listing m new =
-    (numbers : List ℕ) × (found : List ℕ) × (chosen_from job listing m ≡ Ok numbers) × HaveTested (Folder path job.folder) job.expr numbers found own
+    (numbers : List ℕ) × (found : List ℕ) × (chosen_from job listing m ≡ Ok numbers)
+    × HaveTested (Folder path job.folder) job.expr numbers found own
     × (new ≡ marked_for p found m)
 
 -- a `pick` that marks changes what marks a folder of this mail directory, and may say anything
 abbrev pub pick_pledge : ℕ → List ℕ → PickJob → PickMarks → Pledge
-pick_pledge run path job p = folder_pledge run path job.folder (Picks path job p) (Marking path job.folder) (λ own piece. Unit {0}) (λ own s. Unit {0})
+pick_pledge run path job p =
+    folder_pledge run path job.folder (Picks path job p) (Marking path job.folder) (λ own piece. Unit {0})
+    (λ own s. Unit {0})
 
 -- one that marks nothing changes nothing but the current folder, which becomes the one that it listed
 abbrev pub looks_pledge : ℕ → List ℕ → PickJob → Pledge
 looks_pledge run path job = record {
   run = run;
   manner = Noting path;
-  may_mark = λ own p name old text. HasListed (Folder path job.folder) own × MarksContext path (current_change job.folder) p name old text;
+  may_mark = λ own p name old text. HasListed (Folder path job.folder) own
+      × MarksContext path (current_change job.folder) p name old text;
   may_tell = λ own piece. Unit {0};
   may_step = λ own s. Unit {0};
 }

@@ -22,11 +22,14 @@ use Rattle.pick_command.specs.declared.job.PickJob.{PickJob}
 abbrev pub PicksAlone : ℕ → List ℕ → Hand → PickJob → Result Unit CommandFault → SinkState → SinkState → Story → Story
     → Type 0
 PicksAlone run path h job result x y earlier later =
-    (added : List ℕ) → later.asked ≡ earlier.asked ++ added → IsStart later.start → IsPossible earlier → IsAlone run later.start later.history added →
+    (added : List ℕ) → later.asked ≡ earlier.asked ++ added → IsStart later.start → IsPossible earlier
+    → IsAlone run later.start later.history added →
     let first = first_of (length earlier.history) added in
     run < 2 ^ 128 → HasReadContext (mailbox_at later first) path h → is_folder_name job.folder ≡ true →
     (held : Homes) → AreHomesAt run ((mailbox_at later first).folders (Folder path job.folder)) held →
-    ComesTo (pick_work path (entries_in (filled ((mailbox_at later first).context (Mail path)))) held job (mailbox_at later first)) (mailbox_at later (first + length added)) x y result
+    ComesTo
+    (pick_work path (entries_in (filled ((mailbox_at later first).context (Mail path)))) held job
+    (mailbox_at later first)) (mailbox_at later (first + length added)) x y result
 
 -- where a story is told
 abbrev pub PicksInStory : ℕ → List ℕ → Hand → PickJob → Result Unit CommandFault → SinkState → SinkState → Option Story

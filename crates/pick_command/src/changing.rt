@@ -47,7 +47,11 @@ fn commit_found<F: Files>(
     opened: &mut Opened,
     found: &[MsgNum],
 ) -> Result<(), CommandFault>
-    ensures plan { Follows hand.old.run command_cause (lifted (of_plan job.now.folder) (changed_sequences hand.old.run opened.old.place (Mail hand.old.mail) opened.old.folder opened.old.sequences (marked_for to.now found.now opened.old.sequences))) (by_hand hand.old.kept (F.state files.old)) (by_hand hand.new.kept (F.state files.new)) result }
+    ensures plan { Follows hand.old.run command_cause
+        (lifted (of_plan job.now.folder)
+        (changed_sequences hand.old.run opened.old.place (Mail hand.old.mail) opened.old.folder opened.old.sequences
+        (marked_for to.now found.now opened.old.sequences))) (by_hand hand.old.kept (F.state files.old))
+        (by_hand hand.new.kept (F.state files.new)) result }
     ensures run { hand.new.run ≡ hand.old.run }
     ensures mail { hand.new.mail ≡ hand.old.mail }
 {
@@ -70,7 +74,10 @@ fn mark_found<F: Files, O: Sink>(
     mut opened: Opened,
     found: &[MsgNum],
 ) -> Result<(), CommandFault>
-    ensures plan { Follows hand.old.run command_cause (found_marked hand.old.run hand.old.mail job.now to.now opened found.now) (by_out hand.old.kept (F.state files.old) (O.state out.old)) (by_out hand.new.kept (F.state files.new) (O.state out.new)) result }
+    ensures plan { Follows hand.old.run command_cause
+        (found_marked hand.old.run hand.old.mail job.now to.now opened found.now)
+        (by_out hand.old.kept (F.state files.old) (O.state out.old))
+        (by_out hand.new.kept (F.state files.new) (O.state out.new)) result }
     ensures run { hand.new.run ≡ hand.old.run }
     ensures mail { hand.new.mail ≡ hand.old.mail }
 {
@@ -88,7 +95,9 @@ fn pick_opened<F: Files, O: Sink>(
     to: &PickMarks,
     opened: Opened,
 ) -> Result<(), CommandFault>
-    ensures plan { Follows hand.old.run command_cause (opened_picked hand.old.run hand.old.mail job.now to.now opened) (by_out hand.old.kept (F.state files.old) (O.state out.old)) (by_out hand.new.kept (F.state files.new) (O.state out.new)) result }
+    ensures plan { Follows hand.old.run command_cause (opened_picked hand.old.run hand.old.mail job.now to.now opened)
+        (by_out hand.old.kept (F.state files.old) (O.state out.old))
+        (by_out hand.new.kept (F.state files.new) (O.state out.new)) result }
     ensures run { hand.new.run ≡ hand.old.run }
     ensures mail { hand.new.mail ≡ hand.old.mail }
 {
@@ -113,7 +122,9 @@ fn change<F: Files, O: Sink>(
     job: &PickJob,
     to: &PickMarks,
 ) -> Result<(), CommandFault>
-    ensures plan { Follows hand.old.run command_cause (pick_changes hand.old.run hand.old.mail job.now to.now) (by_out hand.old.kept (F.state files.old) (O.state out.old)) (by_out hand.new.kept (F.state files.new) (O.state out.new)) result }
+    ensures plan { Follows hand.old.run command_cause (pick_changes hand.old.run hand.old.mail job.now to.now)
+        (by_out hand.old.kept (F.state files.old) (O.state out.old))
+        (by_out hand.new.kept (F.state files.new) (O.state out.new)) result }
     ensures run { hand.new.run ≡ hand.old.run }
     ensures mail { hand.new.mail ≡ hand.old.mail }
 {
@@ -123,8 +134,9 @@ fn change<F: Files, O: Sink>(
     end(alloc, hand.run(), files, &place, done)
 }
 
-/// Finds the messages of which the expression holds, among those that the words choose: brings them into the sequences of the job, on a
-/// folder that it begins, or looks for them without its lock; tells their numbers, and makes the folder the current one.
+/// Finds the messages of which the expression holds, among those that the words choose: brings them into the sequences
+/// of the job, on a folder that it begins, or looks for them without its lock; tells their numbers, and makes the
+/// folder the current one.
 pub fn pick<F: Files, O: Sink>(
     alloc: Global,
     hand: &mut Hand,
@@ -132,9 +144,14 @@ pub fn pick<F: Files, O: Sink>(
     out: &mut O,
     job: &PickJob,
 ) -> Result<(), CommandFault>
-    ensures plan { Follows hand.old.run command_cause (pick_plan hand.old.run hand.old.mail job.now) (by_out hand.old.kept (F.state files.old) (O.state out.old)) (by_out hand.new.kept (F.state files.new) (O.state out.new)) result }
-    ensures alone { PicksIfUnfaulted hand.old.run hand.old.mail hand.old.kept job.now result (F.state files.old) (F.state files.new) (O.state out.old) (O.state out.new) }
-    ensures steps { PromisesSteps hand.old.run hand.old.mail job.now (by_out hand.old.kept (F.state files.old) (O.state out.old)) (by_out hand.new.kept (F.state files.new) (O.state out.new)) }
+    ensures plan { Follows hand.old.run command_cause (pick_plan hand.old.run hand.old.mail job.now)
+        (by_out hand.old.kept (F.state files.old) (O.state out.old))
+        (by_out hand.new.kept (F.state files.new) (O.state out.new)) result }
+    ensures alone { PicksIfUnfaulted hand.old.run hand.old.mail hand.old.kept job.now result (F.state files.old)
+        (F.state files.new) (O.state out.old) (O.state out.new) }
+    ensures steps { PromisesSteps hand.old.run hand.old.mail job.now
+        (by_out hand.old.kept (F.state files.old) (O.state out.old))
+        (by_out hand.new.kept (F.state files.new) (O.state out.new)) }
     ensures run { hand.new.run ≡ hand.old.run }
     ensures mail { hand.new.mail ≡ hand.old.mail }
 {

@@ -13,8 +13,8 @@ pub enum PickAct {
     Add,
 }
 
-/// The sequences that the messages which match are brought into: their names, whether they become public or private, and what is done
-/// to them.
+/// The sequences that the messages which match are brought into: their names, whether they become public or private,
+/// and what is done to them.
 #[derive(Drop)]
 pub struct PickMarks {
     pub names: SeqNameList,
@@ -22,9 +22,9 @@ pub struct PickMarks {
     pub act: PickAct,
 }
 
-/// What `pick` is to do: the folder, the words that choose messages, the expression that is tested with each of them, the sequences that
-/// those which match are brought into, or none where nothing is marked; whether they are listed, and the prefix of negation, which is
-/// empty where there is none.
+/// What `pick` is to do: the folder, the words that choose messages, the expression that is tested with each of them,
+/// the sequences that those which match are brought into, or none where nothing is marked; whether they are listed, and
+/// the prefix of negation, which is empty where there is none.
 #[derive(Drop)]
 pub struct PickJob {
     pub folder: FolderName,

@@ -45,7 +45,9 @@ pub(crate) fn look<F: Files, O: Sink>(
     out: &mut O,
     job: &PickJob,
 ) -> Result<(), CommandFault>
-    ensures plan { Follows hand.old.run command_cause (pick_looks hand.old.run hand.old.mail job.now) (by_out hand.old.kept (F.state files.old) (O.state out.old)) (by_out hand.new.kept (F.state files.new) (O.state out.new)) result }
+    ensures plan { Follows hand.old.run command_cause (pick_looks hand.old.run hand.old.mail job.now)
+        (by_out hand.old.kept (F.state files.old) (O.state out.old))
+        (by_out hand.new.kept (F.state files.new) (O.state out.new)) result }
     ensures run { hand.new.run ≡ hand.old.run }
     ensures mail { hand.new.mail ≡ hand.old.mail }
 {

@@ -22,7 +22,9 @@ fn unless_none<O: Sink>(
     list: bool,
     found: List<MsgNum>,
 ) -> Result<List<MsgNum>, CommandFault>
-    ensures { (run : ℕ) (h : Kept) (f : FilesState) → Follows run command_cause (unless_none_plan list found) (by_out h f (O.state out.old)) (by_out h f (O.state out.new)) result }
+    ensures { (run : ℕ) (h : Kept) (f : FilesState)
+        → Follows run command_cause (unless_none_plan list found) (by_out h f (O.state out.old))
+        (by_out h f (O.state out.new)) result }
 {
     if found.is_empty() {
         say_if(alloc, out, list, found.as_slice())?;
@@ -42,7 +44,9 @@ pub(crate) fn find<F: Files, O: Sink>(
     job: &PickJob,
     numbers: &[MsgNum],
 ) -> Result<List<MsgNum>, CommandFault>
-    ensures { (h : Kept) → Follows run command_cause (some_found place.now job.now numbers.now) (by_out h (F.state files.old) (O.state out.old)) (by_out h (F.state files.new) (O.state out.new)) result }
+    ensures { (h : Kept)
+        → Follows run command_cause (some_found place.now job.now numbers.now)
+        (by_out h (F.state files.old) (O.state out.old)) (by_out h (F.state files.new) (O.state out.new)) result }
 {
     let found = test_all(alloc, run, files, place, &job.expr, numbers)?;
     unless_none(alloc, out, job.list, found)
@@ -57,7 +61,9 @@ pub(crate) fn tell<F: Files, O: Sink>(
     job: &PickJob,
     found: &[MsgNum],
 ) -> Result<(), CommandFault>
-    ensures plan { Follows hand.old.run command_cause (found_told hand.old.run hand.old.mail job.now found.now) (by_out hand.old.kept (F.state files.old) (O.state out.old)) (by_out hand.new.kept (F.state files.new) (O.state out.new)) result }
+    ensures plan { Follows hand.old.run command_cause (found_told hand.old.run hand.old.mail job.now found.now)
+        (by_out hand.old.kept (F.state files.old) (O.state out.old))
+        (by_out hand.new.kept (F.state files.new) (O.state out.new)) result }
     ensures run { hand.new.run ≡ hand.old.run }
     ensures mail { hand.new.mail ≡ hand.old.mail }
 {

@@ -15,7 +15,9 @@ use step_plans::CommandFault;
 use told_folders::say_lines;
 
 fn say_found<O: Sink>(alloc: Global, out: &mut O, found: &[MsgNum]) -> Result<(), CommandFault>
-    ensures { (run : ℕ) (h : Hand) (f : FilesState) → Follows run command_cause (lines_said (lines_for found.now)) (by_out h f (O.state out.old)) (by_out h f (O.state out.new)) result }
+    ensures { (run : ℕ) (h : Hand) (f : FilesState)
+        → Follows run command_cause (lines_said (lines_for found.now)) (by_out h f (O.state out.old))
+        (by_out h f (O.state out.new)) result }
 {
     let lines = lines(alloc, found)?;
     say_lines(out, lines.as_slice())
@@ -28,7 +30,9 @@ pub(crate) fn say_if<O: Sink>(
     list: bool,
     found: &[MsgNum],
 ) -> Result<(), CommandFault>
-    ensures { (run : ℕ) (h : Hand) (f : FilesState) → Follows run command_cause (said_if list (lines_for found.now)) (by_out h f (O.state out.old)) (by_out h f (O.state out.new)) result }
+    ensures { (run : ℕ) (h : Hand) (f : FilesState)
+        → Follows run command_cause (said_if list (lines_for found.now)) (by_out h f (O.state out.old))
+        (by_out h f (O.state out.new)) result }
 {
     if list {
         say_found(alloc, out, found)

@@ -29,7 +29,8 @@ fn test_read(
     number: MsgNum,
     reading: Reading,
 ) -> Result<bool, CommandFault>
-    ensures { (run : ℕ) (x : State) → Follows run command_cause (tested_by place.now expr.now number reading) x x result }
+    ensures { (run : ℕ) (x : State)
+        → Follows run command_cause (tested_by place.now expr.now number reading) x x result }
 {
     match reading {
         Reading::Content(bytes) => Ok(holds(alloc, expr, bytes.as_slice())?),
@@ -49,7 +50,9 @@ fn test_one<F: Files>(
     expr: &Expr,
     number: MsgNum,
 ) -> Result<bool, CommandFault>
-    ensures { (h : Hand) → Follows run command_cause (one_tested place.now expr.now number) (by_hand h (F.state files.old)) (by_hand h (F.state files.new)) result }
+    ensures { (h : Hand)
+        → Follows run command_cause (one_tested place.now expr.now number) (by_hand h (F.state files.old))
+        (by_hand h (F.state files.new)) result }
 {
     let name = entry_name(alloc, &Entry::Number(number))?;
     let reading = ask_read(alloc, run, files, place, &name, LIMIT)?;
@@ -71,7 +74,9 @@ pub(crate) fn test_all<F: Files>(
     expr: &Expr,
     numbers: &[MsgNum],
 ) -> Result<List<MsgNum>, CommandFault>
-    ensures { (h : Hand) → Follows run command_cause (all_tested place.now expr.now [] numbers.now) (by_hand h (F.state files.old)) (by_hand h (F.state files.new)) result }
+    ensures { (h : Hand)
+        → Follows run command_cause (all_tested place.now expr.now [] numbers.now) (by_hand h (F.state files.old))
+        (by_hand h (F.state files.new)) result }
 {
     let mut found = List::new(alloc);
     for number in numbers {

@@ -10,7 +10,8 @@ use Rattle.pick_expr.specs.Places.{has_place}
 pub record IsMask (elements : List Element) (byte : ℕ) (mask : Places) : Type 0 where
   pub inside : (i : ℕ) → length elements ≤ i → has_place mask i ≡ false
   pub steps : (to_end : Bool) (line : List ℕ) (i : ℕ) → i < length elements
-      → finishes (drop i elements) to_end (byte ∷ line) ≡ (has_place mask i && finishes (drop (i + 1) elements) to_end line)
+      → finishes (drop i elements) to_end (byte ∷ line)
+      ≡ (has_place mask i && finishes (drop (i + 1) elements) to_end line)
 
 abbrev pub AreMasks : List Element → List Places → Type 0
 AreMasks elements masks = (byte : ℕ) (mask : Places) → byte < length masks → mask ≡ slice_index_or masks byte mask

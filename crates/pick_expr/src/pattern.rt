@@ -35,7 +35,8 @@ impl Model for Pattern {
 
 fn shaped(alloc: Global, read: ReadElements, from_start: bool) -> Result<Pattern, AllocError>
     requires { length read.elements ≤ 127 }
-    ensures { IfOk result (λ p. p ≡ record { elements = read.elements; from_start = from_start; to_end = read.to_end }) }
+    ensures { IfOk result
+        (λ p. p ≡ record { elements = read.elements; from_start = from_start; to_end = read.to_end }) }
 {
     let resting = Resting::of(alloc, read.elements.as_slice(), read.to_end)?;
     Ok(Pattern {

@@ -263,7 +263,9 @@ fn choose_one(
     sequences: &Sequences,
     name: &Base,
 ) -> Result<List<MsgNum>, SelectFault>
-    ensures { GivesList index (unless_void index (is_end_name name.now) numbers.now (one_of index numbers.now (named_number numbers.now sequences.now.cur name.now))) result }
+    ensures { GivesList index
+        (unless_void index (is_end_name name.now) numbers.now
+        (one_of index numbers.now (named_number numbers.now sequences.now.cur name.now))) result }
 {
     if is_end(name) && numbers.is_empty() {
         return Err(SelectFault::EmptyRange(index));
@@ -280,7 +282,10 @@ fn choose_range(
     a: &Base,
     b: &Base,
 ) -> Result<List<MsgNum>, SelectFault>
-    ensures { GivesList index (unless_void index (is_end_name a.now || is_end_name b.now) numbers.now (between index numbers.now (named_number numbers.now sequences.now.cur a.now) (named_number numbers.now sequences.now.cur b.now))) result }
+    ensures { GivesList index
+        (unless_void index (is_end_name a.now || is_end_name b.now) numbers.now
+        (between index numbers.now (named_number numbers.now sequences.now.cur a.now)
+        (named_number numbers.now sequences.now.cur b.now))) result }
 {
     let end = is_end(a) || is_end(b);
     if end && numbers.is_empty() {
@@ -300,7 +305,10 @@ fn choose_count(
     way: Way,
     count: u32,
 ) -> Result<List<MsgNum>, SelectFault>
-    ensures { GivesList index (unless_void index (is_end_name name.now) numbers.now (counted_from index numbers.now (named_number numbers.now sequences.now.cur name.now) (goes_up_by name.now way) count)) result }
+    ensures { GivesList index
+        (unless_void index (is_end_name name.now) numbers.now
+        (counted_from index numbers.now (named_number numbers.now sequences.now.cur name.now)
+        (goes_up_by name.now way) count)) result }
 {
     if is_end(name) && numbers.is_empty() {
         return Err(SelectFault::EmptyRange(index));

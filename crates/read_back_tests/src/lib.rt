@@ -1,4 +1,5 @@
-//! Tests that the messages of generated drafts are read back: part by part, what the drafts asked for. There is nothing here but tests.
+//! Tests that the messages of generated drafts are read back: part by part, what the drafts asked for. There is nothing
+//! here but tests.
 #![tactic(auto)]
 
 #[cfg(test)]

@@ -29,7 +29,9 @@ after_one before (Err e) others = Return (gathered before (Err e))
 -- the folders of these names are made where they are missing, and begun, after those before
 unfoldable pub all_begun : ℕ → List ℕ → List (List ℕ) → List Opened → Plan Gathered
 all_begun run path [] before = Return (gathered before (Ok tt))
-all_begun run path (name ∷ names) before = bind (lifted (of_plan name) (made_begun run (Folder path name) (Mail path) name)) (λ r. after_one before r (λ now. all_begun run path names now))
+all_begun run path (name ∷ names) before =
+    bind (lifted (of_plan name) (made_begun run (Folder path name) (Mail path) name))
+    (λ r. after_one before r (λ now. all_begun run path names now))
 
 -- the locks of these places fall, one after another, and the command is done; where one of these steps fails it ends
 unfoldable pub all_finished : List Place → Commanded Unit

@@ -25,7 +25,9 @@ GoesOn run later opened (Err fault.Memory) y z s = (s ≡ Err fault.Memory) × (
 
 -- the code followed this plan, which begins folders: so it does together with whatever comes after
 abbrev pub Gathers : ℕ → Plan Gathered → State → State → List Opened → Result Unit CommandFault → Type 0
-Gathers run p x y opened r = (later : Gathered → Commanded Unit) (z : State) (s : Result Unit CommandFault) → GoesOn run later opened r y z s → Follows run command_cause (bind p later) x z s
+Gathers run p x y opened r =
+    (later : Gathered → Commanded Unit) (z : State) (s : Result Unit CommandFault) → GoesOn run later opened r y z s
+    → Follows run command_cause (bind p later) x z s
 
 -- the work followed this plan, where all folders were begun; else nothing was done
 abbrev pub WorksIf : ℕ → Commanded Unit → Result Unit CommandFault → State → State → Result Unit CommandFault → Type 0

@@ -55,4 +55,6 @@ unfoldable pub mail_moved : Moves → Place → List ℕ → List Destination �
 mail_moved moves p [] to k = all_made k
 mail_moved moves p (n ∷ ns) to k =
     where_message (message_of (k.mailbox.folders p) n) (mail_moved moves p ns to k)
-    (λ bytes. if nat_lt LIMIT_BYTES (length bytes) then too_long (kept_of (moves.stays n bytes k.mailbox) k.entries) (length bytes) else mail_moved moves p ns (map raised to) (kept_of (moves.goes n bytes to k.mailbox) k.entries))
+    (λ bytes. if nat_lt LIMIT_BYTES (length bytes)
+    then too_long (kept_of (moves.stays n bytes k.mailbox) k.entries) (length bytes)
+    else mail_moved moves p ns (map raised to) (kept_of (moves.goes n bytes to k.mailbox) k.entries))

@@ -80,7 +80,8 @@ unfoldable pub messages_left : ℕ → List ℕ → RefileJob → Opened → Lis
 messages_left run path job o to numbers = do
   gone ← messages_refiled run job.source o.place numbers to
   safe ← lifted (of_plan job.source) (synced o.place lock_name)
-  lifted (of_plan job.source) (changed_sequences run o.place (Mail path) o.folder o.sequences (withdrawn numbers o.sequences))
+  lifted (of_plan job.source)
+      (changed_sequences run o.place (Mail path) o.folder o.sequences (withdrawn numbers o.sequences))
 
 -- they are copied there, and nothing of their folder changes
 unfoldable pub messages_stay : ℕ → RefileJob → Opened → List Destination → List ℕ → Commanded Unit
@@ -126,4 +127,5 @@ places_of o g = o.place ∷ map (λ to. to.place) g.opened
 unfoldable pub refile : ℕ → List ℕ → RefileJob → Commanded Unit
 refile run path job = do
   o ← lifted (of_plan job.source) (begun run (Folder path job.source) (Mail path) job.source)
-  bind (all_begun run path (names_without job.source (targets_of job)) []) (λ g. bind (gathered_refiled run path job o g) (all_ended (places_of o g)))
+  bind (all_begun run path (names_without job.source (targets_of job)) [])
+      (λ g. bind (gathered_refiled run path job o g) (all_ended (places_of o g)))

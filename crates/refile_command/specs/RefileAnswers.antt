@@ -26,7 +26,8 @@ use Rattle.refile_command.specs.declared.job.RefileJob.{RefileJob}
 -- that chooses none refuses
 abbrev pub source_answers : RefileJob → Answering
 source_answers job = record {
-  makes = λ listing m new. (job.link ≡ false) × (numbers : List ℕ) × (refile_chosen job listing m ≡ Ok numbers) × (new ≡ withdrawn numbers m);
+  makes = λ listing m new. (job.link ≡ false) × (numbers : List ℕ) × (refile_chosen job listing m ≡ Ok numbers)
+      × (new ≡ withdrawn numbers m);
   refuses = λ listing m r. refile_chosen job listing m ≡ Err (fault.Refused r);
 }
 
@@ -52,25 +53,33 @@ pub record HaveChosen (run : ℕ) (path : List ℕ) (job : RefileJob) (numbers :
 -- what shows that the messages that the words choose can't go where they are to
 pub data ShowsMoves (run : ℕ) (path : List ℕ) (job : RefileJob) : CommandFault → List Deed → Type 0 where
   -- the words name the source as a folder for its own messages to go to
-  same_folder : {numbers : List ℕ} {own : List Deed} → HaveChosen run path job numbers own → names_source job ≡ true → ShowsMoves run path job (fault.Refused (refusal.SameFolder job.source)) own
+  same_folder : {numbers : List ℕ} {own : List Deed} → HaveChosen run path job numbers own → names_source job ≡ true
+      → ShowsMoves run path job (fault.Refused (refusal.SameFolder job.source)) own
   -- above the greatest number that the run listed in a destination so many are not left
-  no_room : {target text context : List ℕ} {listing : List Run} {numbers : List ℕ} {own : List Deed} → Contains (destinations_of job) target → HaveSeen run (Folder path target) (Mail path) listing text context own
-      → HaveChosen run path job numbers own → 999999 < highest_of (greatest_of listing) + length numbers → ShowsMoves run path job (fault.Refused (refusal.Full target)) own
+  no_room : {target text context : List ℕ} {listing : List Run} {numbers : List ℕ} {own : List Deed}
+      → Contains (destinations_of job) target → HaveSeen run (Folder path target) (Mail path) listing text context own
+      → HaveChosen run path job numbers own → 999999 < highest_of (greatest_of listing) + length numbers
+      → ShowsMoves run path job (fault.Refused (refusal.Full target)) own
   -- the run put a message at the last number there, or met one
-  none_left : {target : List ℕ} {own : List Deed} → Contains (destinations_of job) target → HasMetAt (Folder path target) 999999 own → ShowsMoves run path job (fault.Refused (refusal.Full target)) own
+  none_left : {target : List ℕ} {own : List Deed} → Contains (destinations_of job) target
+      → HasMetAt (Folder path target) 999999 own → ShowsMoves run path job (fault.Refused (refusal.Full target)) own
   -- a message that the words choose was just read, and is too long, with this length
   long_message : {n l : ℕ} {older : List Deed} → WasChosen run path job n older
-      → ShowsMoves run path job (fault.Refused (refusal.TooLarge l LIMIT_BYTES)) (did (Read (Folder path job.source) (name_read job.link run n) LIMIT_BYTES) (Long l) ∷ older)
+      → ShowsMoves run path job (fault.Refused (refusal.TooLarge l LIMIT_BYTES))
+      (did (Read (Folder path job.source) (name_read job.link run n) LIMIT_BYTES) (Long l) ∷ older)
 
 -- what shows each fault of `refile` on its folders
 abbrev pub ShowsRefile : ℕ → List ℕ → RefileJob → CommandFault → List Deed → Type 0
-ShowsRefile run path job e own = ShowsEnd run path job.source (source_answers job) e own ⊎ (ShowsTarget run path job e own ⊎ ShowsMoves run path job e own)
+ShowsRefile run path job e own =
+    ShowsEnd run path job.source (source_answers job) e own
+    ⊎ (ShowsTarget run path job e own ⊎ ShowsMoves run path job e own)
 
 -- These deeds show it, and no step of them failed. Where the run then let folders go that it had locked, those were its
 -- last steps, whatever they were answered.
 pub data IsShownFirst (S : List Deed → Type 0) : List Deed → Type 0 where
   none_let_go : {own : List Deed} → S own → (Made IsFailed own → ⊥) → IsShownFirst S own
-  one_let_go : {path folder : List ℕ} {a : Answer} {own : List Deed} → IsShownFirst S own → WasDone (Lock (Folder path folder)) own → IsShownFirst S (did (Unlock (Folder path folder)) a ∷ own)
+  one_let_go : {path folder : List ℕ} {a : Answer} {own : List Deed} → IsShownFirst S own
+      → WasDone (Lock (Folder path folder)) own → IsShownFirst S (did (Unlock (Folder path folder)) a ∷ own)
 
 -- how a command ends by a fault that is shown so: at a refusal, and where another run has a lock, it may let its
 -- folders go then

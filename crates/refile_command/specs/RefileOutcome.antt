@@ -42,7 +42,8 @@ unfoldable pub targets_work : List ℕ → HomesOfAll → List (List ℕ) → Li
     → (List Destination → Kept → Work CommandFault) → Work CommandFault
 targets_work path homes [] before k next = next before k
 targets_work path homes (name ∷ names) before k next =
-    begun_work path name k.entries (homes name) (with_folder_made k.mailbox (Folder path name)) (λ listing m l. targets_work path homes names (before ++ target_of path name listing ∷ []) l next)
+    begun_work path name k.entries (homes name) (with_folder_made k.mailbox (Folder path name))
+    (λ listing m l. targets_work path homes names (before ++ target_of path name listing ∷ []) l next)
 
 -- the source becomes the current folder, where it is to
 abbrev pub set_work : Bool → List ℕ → List ℕ → Kept → Work CommandFault
@@ -52,10 +53,14 @@ set_work false path source k = ended_so [] (all_made k)
 -- the messages are in the other folders too; or in these alone, and leave the sequences of the source, which are
 -- committed
 abbrev pub moved_work : Bool → ℕ → List ℕ → RefileJob → Marked → List ℕ → List Destination → Kept → Work CommandFault
-moved_work true run path job m numbers to k = after_commits (mail_moved copied_from (Folder path job.source) numbers to k) (set_work job.set_current path job.source)
+moved_work true run path job m numbers to k =
+    after_commits (mail_moved copied_from (Folder path job.source) numbers to k)
+    (set_work job.set_current path job.source)
 moved_work false run path job m numbers to k =
     after_commits (mail_moved (gone_from run (Folder path job.source)) (Folder path job.source) numbers to k)
-    (λ l. after_commits (sequences_kept path job.source m (withdrawn numbers m) l) (set_work job.set_current path job.source))
+    (λ l.
+    after_commits (sequences_kept path job.source m (withdrawn numbers m) l)
+    (set_work job.set_current path job.source))
 
 -- the first of these folders that has no room for so many messages above its highest number
 unfoldable pub first_full : List Destination → ℕ → Option (List ℕ)
@@ -82,7 +87,9 @@ said_work run path job m to k (Err e) = refused_at k.mailbox e
 
 -- the source was begun, with these numbers and sequences: the other folders that the words name are begun too
 abbrev pub source_work : ℕ → List ℕ → HomesOfAll → RefileJob → List Run → Marked → Kept → Work CommandFault
-source_work run path homes job listing m k = targets_work path homes (names_without job.source (targets_of job)) [] k (λ to l. said_work run path job m to l (refile_chosen job listing m))
+source_work run path homes job listing m k =
+    targets_work path homes (names_without job.source (targets_of job)) [] k
+    (λ to l. said_work run path job m to l (refile_chosen job listing m))
 
 -- `refile` of this run, where the context has these entries, and what was held aside in the folders goes so
 unfoldable pub refile_work : ℕ → List ℕ → List NamedValue → HomesOfAll → RefileJob → Mailbox → Work CommandFault

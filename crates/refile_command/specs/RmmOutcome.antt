@@ -32,7 +32,9 @@ removed_from path job numbers k =
 
 -- the chosen messages leave the folder and its sequences, and it becomes the current one
 abbrev pub chosen_work : List ℕ → RmmJob → Marked → Kept → Result (List ℕ) CommandFault → Work CommandFault
-chosen_work path job m k (Ok numbers) = after_commits (sequences_kept path job.folder m (withdrawn numbers m) (removed_from path job numbers k)) (current_work path job.folder [])
+chosen_work path job m k (Ok numbers) =
+    after_commits (sequences_kept path job.folder m (withdrawn numbers m) (removed_from path job numbers k))
+    (current_work path job.folder [])
 chosen_work path job m k (Err e) = refused_at k.mailbox e
 
 -- of a folder with these numbers and sequences

@@ -55,7 +55,9 @@ RemovesChosen run path job own s = (n : ℕ) → Removes (Folder path job.folder
 
 -- `rmm` begins the folder and keeps its marks, and removes messages that its words chose; it says nothing
 abbrev pub rmm_pledge : ℕ → List ℕ → RmmJob → Pledge
-rmm_pledge run path job = folder_pledge run path job.folder (λ own. Withdraws job) (Removing path job.folder every_message) (λ own piece. ⊥) (RemovesChosen run path job)
+rmm_pledge run path job =
+    folder_pledge run path job.folder (λ own. Withdraws job) (Removing path job.folder every_message) (λ own piece. ⊥)
+    (RemovesChosen run path job)
 
 -- what a call promises of its steps
 abbrev pub PromisesSteps : ℕ → List ℕ → RmmJob → State → State → Type 0

@@ -10,7 +10,8 @@ use opened_folders::{Opened, open_made};
 use std::alloc::Global;
 use step_plans::{CommandFault, Hand};
 
-/// The folders of these names are made where they are missing, and begun, after those before; where one can't be, those before it were.
+/// The folders of these names are made where they are missing, and begun, after those before; where one can't be, those
+/// before it were.
 pub(crate) fn begin_all<F: Files>(
     alloc: Global,
     hand: &mut Hand,
@@ -18,7 +19,8 @@ pub(crate) fn begin_all<F: Files>(
     names: &[FolderName],
     opened: &mut List<Opened>,
 ) -> Result<(), CommandFault>
-    ensures plan { Gathers hand.old.run (all_begun hand.old.run hand.old.mail names.now opened.old) (by_hand hand.old.kept (F.state files.old)) (by_hand hand.new.kept (F.state files.new)) opened.new result }
+    ensures plan { Gathers hand.old.run (all_begun hand.old.run hand.old.mail names.now opened.old)
+        (by_hand hand.old.kept (F.state files.old)) (by_hand hand.new.kept (F.state files.new)) opened.new result }
     ensures same { (hand.new.run ≡ hand.old.run) × (hand.new.mail ≡ hand.old.mail) }
 {
     for name in names {

@@ -2,8 +2,8 @@
 
 use mh_base::{Bytes, FolderName, List, TextList};
 
-/// What `rmm` is to do: the folder, the words that choose messages, whether these are unlinked, or else kept as backups, and the prefix of
-/// negation, which is empty where there is none.
+/// What `rmm` is to do: the folder, the words that choose messages, whether these are unlinked, or else kept as
+/// backups, and the prefix of negation, which is empty where there is none.
 #[derive(Drop)]
 pub struct RmmJob {
     pub folder: FolderName,
@@ -12,8 +12,9 @@ pub struct RmmJob {
     pub negation: Bytes,
 }
 
-/// What `refile` is to do: the folder that messages leave, and whether it becomes the current one; the words that choose messages; the folder
-/// that they go to, and others; whether they are copied there and stay; and the prefix of negation, which is empty where there is none.
+/// What `refile` is to do: the folder that messages leave, and whether it becomes the current one; the words that
+/// choose messages; the folder that they go to, and others; whether they are copied there and stay; and the prefix of
+/// negation, which is empty where there is none.
 #[derive(Drop)]
 pub struct RefileJob {
     pub source: FolderName,

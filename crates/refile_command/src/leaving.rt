@@ -37,7 +37,8 @@ fn remove_chosen<F: Files>(
     job: &RmmJob,
     mut opened: Opened,
 ) -> Result<(), CommandFault>
-    ensures plan { Follows hand.old.run command_cause (said_removed hand.old.run hand.old.mail job.now opened) (by_hand hand.old.kept (F.state files.old)) (by_hand hand.new.kept (F.state files.new)) result }
+    ensures plan { Follows hand.old.run command_cause (said_removed hand.old.run hand.old.mail job.now opened)
+        (by_hand hand.old.kept (F.state files.old)) (by_hand hand.new.kept (F.state files.new)) result }
     ensures run { hand.new.run ≡ hand.old.run }
     ensures mail { hand.new.mail ≡ hand.old.mail }
 {
@@ -57,7 +58,8 @@ fn remove_opened<F: Files>(
     job: &RmmJob,
     opened: Opened,
 ) -> Result<(), CommandFault>
-    ensures plan { Follows hand.old.run command_cause (opened_removed hand.old.run hand.old.mail job.now opened) (by_hand hand.old.kept (F.state files.old)) (by_hand hand.new.kept (F.state files.new)) result }
+    ensures plan { Follows hand.old.run command_cause (opened_removed hand.old.run hand.old.mail job.now opened)
+        (by_hand hand.old.kept (F.state files.old)) (by_hand hand.new.kept (F.state files.new)) result }
     ensures run { hand.new.run ≡ hand.old.run }
     ensures mail { hand.new.mail ≡ hand.old.mail }
 {
@@ -65,16 +67,19 @@ fn remove_opened<F: Files>(
     make_current(alloc, hand, files, &job.folder)
 }
 
-/// Removes the messages that the job's words choose of the folder, which it begins: each gets its backup's name, or none; then the folder is
-/// made safe, and they leave its sequences; the current message stays. At last the folder becomes the current one.
+/// Removes the messages that the job's words choose of the folder, which it begins: each gets its backup's name, or
+/// none; then the folder is made safe, and they leave its sequences; the current message stays. At last the folder
+/// becomes the current one.
 pub fn rmm<F: Files>(
     alloc: Global,
     hand: &mut Hand,
     files: &mut F,
     job: &RmmJob,
 ) -> Result<(), CommandFault>
-    ensures plan { Follows hand.old.run command_cause (rmm_plan hand.old.run hand.old.mail job.now) (by_hand hand.old.kept (F.state files.old)) (by_hand hand.new.kept (F.state files.new)) result }
-    ensures steps { PromisesSteps hand.old.run hand.old.mail job.now (by_hand hand.old.kept (F.state files.old)) (by_hand hand.new.kept (F.state files.new)) }
+    ensures plan { Follows hand.old.run command_cause (rmm_plan hand.old.run hand.old.mail job.now)
+        (by_hand hand.old.kept (F.state files.old)) (by_hand hand.new.kept (F.state files.new)) result }
+    ensures steps { PromisesSteps hand.old.run hand.old.mail job.now (by_hand hand.old.kept (F.state files.old))
+        (by_hand hand.new.kept (F.state files.new)) }
     ensures run { hand.new.run ≡ hand.old.run }
     ensures mail { hand.new.mail ≡ hand.old.mail }
 {

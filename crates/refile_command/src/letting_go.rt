@@ -20,7 +20,9 @@ fn finish_all<F: Files>(
     files: &mut F,
     opened: &[Opened],
 ) -> Result<(), CommandFault>
-    ensures { (h : Hand) → Follows run command_cause (all_finished (map (λ o. o.place) opened.now)) (by_hand h (F.state files.old)) (by_hand h (F.state files.new)) result }
+    ensures { (h : Hand)
+        → Follows run command_cause (all_finished (map (λ o. o.place) opened.now)) (by_hand h (F.state files.old))
+        (by_hand h (F.state files.new)) result }
 {
     for one in opened {
         end(alloc, run, files, one.place(), Ok(()))?;
@@ -36,7 +38,9 @@ fn finish<F: Files>(
     source: &Opened,
     others: &[Opened],
 ) -> Result<(), CommandFault>
-    ensures { (h : Hand) → Follows run command_cause (all_finished (source.now.place ∷ map (λ o. o.place) others.now)) (by_hand h (F.state files.old)) (by_hand h (F.state files.new)) result }
+    ensures { (h : Hand)
+        → Follows run command_cause (all_finished (source.now.place ∷ map (λ o. o.place) others.now))
+        (by_hand h (F.state files.old)) (by_hand h (F.state files.new)) result }
 {
     end(alloc, run, files, source.place(), Ok(()))?;
     finish_all(alloc, run, files, others)
@@ -51,7 +55,9 @@ fn give_up_all<F: Files>(
     fault: CommandFault,
 ) -> Result<(), CommandFault>
     requires { command_cause fault ≡ OfPlan }
-    ensures { (h : Hand) → Follows run command_cause (all_given_up (map (λ o. o.place) opened.now) fault) (by_hand h (F.state files.old)) (by_hand h (F.state files.new)) result }
+    ensures { (h : Hand)
+        → Follows run command_cause (all_given_up (map (λ o. o.place) opened.now) fault) (by_hand h (F.state files.old))
+        (by_hand h (F.state files.new)) result }
 {
     for one in opened {
         attempt_unlock(alloc, run, files, one.place())?;
@@ -69,15 +75,17 @@ fn give_up<F: Files>(
     fault: CommandFault,
 ) -> Result<(), CommandFault>
     requires { command_cause fault ≡ OfPlan }
-    ensures { (h : Hand) → Follows run command_cause (all_given_up (source.now.place ∷ map (λ o. o.place) others.now) fault) (by_hand h (F.state files.old)) (by_hand h (F.state files.new)) result }
+    ensures { (h : Hand)
+        → Follows run command_cause (all_given_up (source.now.place ∷ map (λ o. o.place) others.now) fault)
+        (by_hand h (F.state files.old)) (by_hand h (F.state files.new)) result }
 {
     attempt_unlock(alloc, run, files, source.place())?;
     give_up_all(alloc, run, files, others, fault)
 }
 
-/// Ends a command whose work on these folders ended so. Their locks fall in the order in which they were had: where all is done the command
-/// fails if that does; a refusal, and a lock that another run has, stand in any case. After a fault, a name that was changed meanwhile, and want
-/// of memory nothing more is done.
+/// Ends a command whose work on these folders ended so. Their locks fall in the order in which they were had: where all
+/// is done the command fails if that does; a refusal, and a lock that another run has, stand in any case. After a
+/// fault, a name that was changed meanwhile, and want of memory nothing more is done.
 pub(crate) fn end_all<F: Files>(
     alloc: Global,
     run: u128,
@@ -86,7 +94,9 @@ pub(crate) fn end_all<F: Files>(
     others: &[Opened],
     done: Result<(), CommandFault>,
 ) -> Result<(), CommandFault>
-    ensures { (h : Hand) → EndsAll run (source.now.place ∷ map (λ o. o.place) others.now) done (by_hand h (F.state files.old)) (by_hand h (F.state files.new)) result }
+    ensures { (h : Hand)
+        → EndsAll run (source.now.place ∷ map (λ o. o.place) others.now) done (by_hand h (F.state files.old))
+        (by_hand h (F.state files.new)) result }
 {
     match done {
         Ok(()) => finish(alloc, run, files, source, others),

@@ -32,7 +32,9 @@ fn sync_source<F: Files>(
     source: &FolderName,
     place: &Place,
 ) -> Result<(), CommandFault>
-    ensures { (h : Kept) → Follows run command_cause (lifted (of_plan source.now) (synced place.now lock_name)) (by_hand h (F.state files.old)) (by_hand h (F.state files.new)) result }
+    ensures { (h : Kept)
+        → Follows run command_cause (lifted (of_plan source.now) (synced place.now lock_name))
+        (by_hand h (F.state files.old)) (by_hand h (F.state files.new)) result }
 {
     let folder = source.duplicate(alloc)?;
     let lock = entry_name(alloc, &Entry::LockFile)?;
@@ -51,7 +53,12 @@ fn withdraw<F: Files>(
     opened: &mut Opened,
     chosen: NumSet,
 ) -> Result<(), CommandFault>
-    ensures plan { Follows hand.old.run command_cause (lifted (of_plan source.now) (changed_sequences hand.old.run opened.old.place (mail_place hand.old) opened.old.folder opened.old.sequences (withdrawn (numbers_of chosen.runs) opened.old.sequences))) (by_hand hand.old.kept (F.state files.old)) (by_hand hand.new.kept (F.state files.new)) result }
+    ensures plan { Follows hand.old.run command_cause
+        (lifted (of_plan source.now)
+        (changed_sequences hand.old.run opened.old.place
+        (mail_place hand.old) opened.old.folder opened.old.sequences
+        (withdrawn (numbers_of chosen.runs) opened.old.sequences))) (by_hand hand.old.kept (F.state files.old))
+        (by_hand hand.new.kept (F.state files.new)) result }
     ensures same { (hand.new.run ≡ hand.old.run) × (hand.new.mail ≡ hand.old.mail) }
     ensures place { opened.new.place ≡ opened.old.place }
 {
@@ -72,7 +79,9 @@ fn refile_chosen<F: Files>(
     chosen: &NumSet,
     to: DestinationList,
 ) -> Result<DestinationList, CommandFault>
-    ensures plan { Follows hand.old.run command_cause (messages_refiled hand.old.run origin.entry.folder.now origin.entry.place.now (numbers_of chosen.now.runs) to) (by_hand hand.old.kept (F.state files.old)) (by_hand hand.new.kept (F.state files.new)) result }
+    ensures plan { Follows hand.old.run command_cause
+        (messages_refiled hand.old.run origin.entry.folder.now origin.entry.place.now (numbers_of chosen.now.runs) to)
+        (by_hand hand.old.kept (F.state files.old)) (by_hand hand.new.kept (F.state files.new)) result }
     ensures same { (hand.new.run ≡ hand.old.run) × (hand.new.mail ≡ hand.old.mail) }
 {
     let numbers = numbers(alloc, chosen)?;
@@ -89,7 +98,9 @@ fn leave<F: Files>(
     chosen: NumSet,
     to: DestinationList,
 ) -> Result<(), CommandFault>
-    ensures plan { Follows hand.old.run command_cause (messages_left hand.old.run hand.old.mail job.now opened.old to (numbers_of chosen.runs)) (by_hand hand.old.kept (F.state files.old)) (by_hand hand.new.kept (F.state files.new)) result }
+    ensures plan { Follows hand.old.run command_cause
+        (messages_left hand.old.run hand.old.mail job.now opened.old to (numbers_of chosen.runs))
+        (by_hand hand.old.kept (F.state files.old)) (by_hand hand.new.kept (F.state files.new)) result }
     ensures same { (hand.new.run ≡ hand.old.run) × (hand.new.mail ≡ hand.old.mail) }
     ensures place { opened.new.place ≡ opened.old.place }
 {
@@ -112,7 +123,9 @@ fn stay<F: Files>(
     chosen: &NumSet,
     to: DestinationList,
 ) -> Result<(), CommandFault>
-    ensures plan { Follows hand.old.run command_cause (messages_stay hand.old.run job.now opened.now to (numbers_of chosen.now.runs)) (by_hand hand.old.kept (F.state files.old)) (by_hand hand.new.kept (F.state files.new)) result }
+    ensures plan { Follows hand.old.run command_cause
+        (messages_stay hand.old.run job.now opened.now to (numbers_of chosen.now.runs))
+        (by_hand hand.old.kept (F.state files.old)) (by_hand hand.new.kept (F.state files.new)) result }
     ensures same { (hand.new.run ≡ hand.old.run) × (hand.new.mail ≡ hand.old.mail) }
 {
     let numbers = numbers(alloc, chosen)?;
@@ -134,7 +147,9 @@ pub(crate) fn move_messages<F: Files>(
     chosen: NumSet,
     to: DestinationList,
 ) -> Result<(), CommandFault>
-    ensures plan { Follows hand.old.run command_cause (moved_by job.now.link hand.old.run hand.old.mail job.now opened.old to (numbers_of chosen.runs)) (by_hand hand.old.kept (F.state files.old)) (by_hand hand.new.kept (F.state files.new)) result }
+    ensures plan { Follows hand.old.run command_cause
+        (moved_by job.now.link hand.old.run hand.old.mail job.now opened.old to (numbers_of chosen.runs))
+        (by_hand hand.old.kept (F.state files.old)) (by_hand hand.new.kept (F.state files.new)) result }
     ensures same { (hand.new.run ≡ hand.old.run) × (hand.new.mail ≡ hand.old.mail) }
     ensures place { opened.new.place ≡ opened.old.place }
 {

@@ -44,7 +44,9 @@ fn refile_said<F: Files>(
     source: &mut Opened,
     others: &[Opened],
 ) -> Result<(), CommandFault>
-    ensures plan { Follows hand.old.run command_cause (said_refiled hand.old.run hand.old.mail job.now source.old (map destination_of others.now)) (by_hand hand.old.kept (F.state files.old)) (by_hand hand.new.kept (F.state files.new)) result }
+    ensures plan { Follows hand.old.run command_cause
+        (said_refiled hand.old.run hand.old.mail job.now source.old (map destination_of others.now))
+        (by_hand hand.old.kept (F.state files.old)) (by_hand hand.new.kept (F.state files.new)) result }
     ensures same { (hand.new.run ≡ hand.old.run) × (hand.new.mail ≡ hand.old.mail) }
     ensures place { source.new.place ≡ source.old.place }
 {
@@ -64,7 +66,9 @@ fn refile_opened<F: Files>(
     source: &mut Opened,
     others: &[Opened],
 ) -> Result<(), CommandFault>
-    ensures plan { Follows hand.old.run command_cause (opened_refiled hand.old.run hand.old.mail job.now source.old others.now) (by_hand hand.old.kept (F.state files.old)) (by_hand hand.new.kept (F.state files.new)) result }
+    ensures plan { Follows hand.old.run command_cause
+        (opened_refiled hand.old.run hand.old.mail job.now source.old others.now)
+        (by_hand hand.old.kept (F.state files.old)) (by_hand hand.new.kept (F.state files.new)) result }
     ensures same { (hand.new.run ≡ hand.old.run) × (hand.new.mail ≡ hand.old.mail) }
     ensures place { source.new.place ≡ source.old.place }
 {
@@ -86,7 +90,8 @@ fn refile_gathered<F: Files>(
     others: &[Opened],
     begun: Result<(), CommandFault>,
 ) -> Result<(), CommandFault>
-    ensures plan { WorksIf hand.old.run (opened_refiled hand.old.run hand.old.mail job.now source.old others.now) begun (by_hand hand.old.kept (F.state files.old)) (by_hand hand.new.kept (F.state files.new)) result }
+    ensures plan { WorksIf hand.old.run (opened_refiled hand.old.run hand.old.mail job.now source.old others.now) begun
+        (by_hand hand.old.kept (F.state files.old)) (by_hand hand.new.kept (F.state files.new)) result }
     ensures same { (hand.new.run ≡ hand.old.run) × (hand.new.mail ≡ hand.old.mail) }
     ensures place { source.new.place ≡ source.old.place }
 {
@@ -96,17 +101,20 @@ fn refile_gathered<F: Files>(
     }
 }
 
-/// Moves the messages that the job's words choose of the source, which it begins, to the other folders that they name, which are made where they
-/// are missing: each is held aside, copied to each of them, and let go once all copies are safe; then they leave the source's sequences. Or they
-/// are copied and stay. At last the source becomes the current folder, where it is to.
+/// Moves the messages that the job's words choose of the source, which it begins, to the other folders that they name,
+/// which are made where they are missing: each is held aside, copied to each of them, and let go once all copies are
+/// safe; then they leave the source's sequences. Or they are copied and stay. At last the source becomes the current
+/// folder, where it is to.
 pub fn refile<F: Files>(
     alloc: Global,
     hand: &mut Hand,
     files: &mut F,
     job: &RefileJob,
 ) -> Result<(), CommandFault>
-    ensures plan { Follows hand.old.run command_cause (refile_plan hand.old.run hand.old.mail job.now) (by_hand hand.old.kept (F.state files.old)) (by_hand hand.new.kept (F.state files.new)) result }
-    ensures steps { PromisesSteps hand.old.run hand.old.mail job.now (by_hand hand.old.kept (F.state files.old)) (by_hand hand.new.kept (F.state files.new)) }
+    ensures plan { Follows hand.old.run command_cause (refile_plan hand.old.run hand.old.mail job.now)
+        (by_hand hand.old.kept (F.state files.old)) (by_hand hand.new.kept (F.state files.new)) result }
+    ensures steps { PromisesSteps hand.old.run hand.old.mail job.now (by_hand hand.old.kept (F.state files.old))
+        (by_hand hand.new.kept (F.state files.new)) }
     ensures run { hand.new.run ≡ hand.old.run }
     ensures mail { hand.new.mail ≡ hand.old.mail }
 {

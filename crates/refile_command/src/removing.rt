@@ -25,7 +25,9 @@ fn remove_all<F: Files>(
     numbers: &[MsgNum],
     backup: bool,
 ) -> Result<(), PlanFault>
-    ensures { (h : Kept) → Follows run plan_cause (all_removed place.now backup numbers.now) (by_hand h (F.state files.old)) (by_hand h (F.state files.new)) result }
+    ensures { (h : Kept)
+        → Follows run plan_cause (all_removed place.now backup numbers.now) (by_hand h (F.state files.old))
+        (by_hand h (F.state files.new)) result }
 {
     for number in numbers {
         remove(alloc, run, files, place, *number, backup)?;
@@ -42,7 +44,9 @@ fn remove_safely<F: Files>(
     numbers: &[MsgNum],
     backup: bool,
 ) -> Result<(), PlanFault>
-    ensures { (h : Kept) → Follows run plan_cause (removed_safely place.now backup numbers.now) (by_hand h (F.state files.old)) (by_hand h (F.state files.new)) result }
+    ensures { (h : Kept)
+        → Follows run plan_cause (removed_safely place.now backup numbers.now) (by_hand h (F.state files.old))
+        (by_hand h (F.state files.new)) result }
 {
     let name = entry_name(alloc, &Entry::LockFile)?;
     remove_all(alloc, run, files, place, numbers, backup)?;
@@ -66,7 +70,9 @@ pub(crate) fn remove_marked<F: Files>(
     chosen: NumSet,
     backup: bool,
 ) -> Result<(), PlanFault>
-    ensures plan { Follows hand.old.run plan_cause (removed_marked hand.old.run (mail_place hand.old) backup opened.old (numbers_of chosen.runs)) (by_hand hand.old.kept (F.state files.old)) (by_hand hand.new.kept (F.state files.new)) result }
+    ensures plan { Follows hand.old.run plan_cause
+        (removed_marked hand.old.run (mail_place hand.old) backup opened.old (numbers_of chosen.runs))
+        (by_hand hand.old.kept (F.state files.old)) (by_hand hand.new.kept (F.state files.new)) result }
     ensures same { (hand.new.run ≡ hand.old.run) × (hand.new.mail ≡ hand.old.mail) }
 {
     let numbers = numbers(alloc, &chosen)?;

@@ -26,7 +26,9 @@ fn highest(to: &Destination) -> u32
 
 /// So many numbers are free above the highest one of the folder.
 fn ask_room_in(alloc: Global, to: &Destination, count: u64) -> Result<(), CommandFault>
-    ensures { (run : ℕ) (x : State) → Follows run command_cause (if_room (nat_le (highest_of to.now.highest + count) 999999) to.now.folder) x x result }
+    ensures { (run : ℕ) (x : State)
+        → Follows run command_cause
+        (if_room (nat_le (highest_of to.now.highest + count) 999999) to.now.folder) x x result }
 {
     if count > u64::from(LAST - highest(to)) {
         return Err(CommandFault::Refused(Refusal::Full(to.folder.duplicate(alloc)?)));

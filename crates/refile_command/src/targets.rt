@@ -33,7 +33,8 @@ fn names_source(job: &RefileJob) -> bool
 
 /// No folder is a destination of its own messages.
 pub(crate) fn ask_apart(alloc: Global, job: &RefileJob) -> Result<(), CommandFault>
-    ensures { (run : ℕ) (x : State) → Follows run command_cause (unless_source (source_is_named job.now) job.now.source) x x result }
+    ensures { (run : ℕ) (x : State)
+        → Follows run command_cause (unless_source (source_is_named job.now) job.now.source) x x result }
 {
     if names_source(job) {
         return Err(CommandFault::Refused(Refusal::SameFolder(job.source.duplicate(alloc)?)));

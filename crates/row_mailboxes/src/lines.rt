@@ -33,8 +33,9 @@ fn directory(given: &mut Given, words: &[Bytes]) -> Result<(), Fail> {
 }
 
 impl Given {
-    /// `mail` and the path of the mail directory; `outside`, a path and the bytes of a file; `locked`, a directory and the run that has its
-    /// lock; or a directory and its files, each a name and its bytes, `zeros:` and how many zero bytes, or `same:` and a name before.
+    /// `mail` and the path of the mail directory; `outside`, a path and the bytes of a file; `locked`, a directory and
+    /// the run that has its lock; or a directory and its files, each a name and its bytes, `zeros:` and how many zero
+    /// bytes, or `same:` and a name before.
     pub fn line(&mut self, words: &[Bytes]) -> Result<(), Fail> {
         match word(words, 0)? {
             b"mail" => self.set_mail(word(words, 1)?),

@@ -89,8 +89,9 @@ fn happening(alloc: Global, given: &Given, words: &[Bytes]) -> Result<Happening,
     }
 }
 
-/// Just before the step of this number, counted from 1: `fail before`, `fail made` or `fail torn "bytes"`; `crash` with what it keeps, and
-/// `before` or `made`; `deliver` with a path and bytes; `run` with another run's number and its step.
+/// Just before the step of this number, counted from 1: `fail before`, `fail made` or `fail torn "bytes"`; `crash` with
+/// what it keeps, and `before` or `made`; `deliver` with a path and bytes; `run` with another run's number and its
+/// step.
 pub fn prompt(alloc: Global, given: &Given, at: u64, words: &[Bytes]) -> Result<Prompt, Fail> {
     let what = happening(alloc, given, words)?;
     Ok(Prompt { at, what })

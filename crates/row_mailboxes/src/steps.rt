@@ -187,9 +187,10 @@ fn step_of(alloc: Global, kind: Kind, mail: &Bytes, words: &[Bytes]) -> Result<S
     }
 }
 
-/// `lock`, `unlock`, `sync`, `list` and `make` have a directory; `unlink` and `sync-file` a name in it, and `read` one and how many bytes at
-/// most, or all; `link` and `rename` two; and `create` a name and its bytes. `read-file` has a file outside and how many bytes at most;
-/// `read-drop` one, from where it is read and how many bytes at most; and `cut-drop` one and a length.
+/// `lock`, `unlock`, `sync`, `list` and `make` have a directory; `unlink` and `sync-file` a name in it, and `read` one
+/// and how many bytes at most, or all; `link` and `rename` two; and `create` a name and its bytes. `read-file` has a
+/// file outside and how many bytes at most; `read-drop` one, from where it is read and how many bytes at most; and
+/// `cut-drop` one and a length.
 pub fn step(alloc: Global, mail: &Bytes, words: &[Bytes]) -> Result<Step, Fail> {
     match kind_of(word(words, 0)?) {
         Some(kind) => step_of(alloc, kind, mail, words),

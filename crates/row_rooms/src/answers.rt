@@ -48,8 +48,8 @@ fn show(alloc: Global, told: &mut Bytes, answer: &Answer) -> Result<(), Fail> {
     }
 }
 
-/// A line with its word; of a listing `names` and these, of a file its bytes, of a piece its bytes and the length of the whole, and of a file
-/// that is longer than was asked for `long` and its length.
+/// A line with its word; of a listing `names` and these, of a file its bytes, of a piece its bytes and the length of
+/// the whole, and of a file that is longer than was asked for `long` and its length.
 pub fn show_answer(alloc: Global, told: &mut Bytes, answer: &Answer) -> Result<(), Fail> {
     show(alloc, told, answer)?;
     told.extend(b"\n")?;

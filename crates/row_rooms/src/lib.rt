@@ -1,4 +1,5 @@
-//! Mailboxes in memory in which runs act by the lines of rows (docs/ROWS.md): what is shown of them, and the steps of runs.
+//! Mailboxes in memory in which runs act by the lines of rows (docs/ROWS.md): what is shown of them, and the steps of
+//! runs.
 #![tactic(auto)]
 
 mod answers;

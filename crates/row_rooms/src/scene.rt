@@ -108,9 +108,10 @@ impl Scene {
         self.act(run, from(words, 2), told)
     }
 
-    /// `show` and a directory, of which it shows each name with its bytes; `drop` and a file outside, of which it shows the bytes; `lock` and a
-    /// directory, of which it tells whether a run gets its lock; `count`, which tells how many steps the run that acts asked for, and how many of
-    /// them were locks; or `run`, a run and its step, of which it tells the answer, or `end`.
+    /// `show` and a directory, of which it shows each name with its bytes; `drop` and a file outside, of which it shows
+    /// the bytes; `lock` and a directory, of which it tells whether a run gets its lock; `count`, which tells how many
+    /// steps the run that acts asked for, and how many of them were locks; or `run`, a run and its step, of which it
+    /// tells the answer, or `end`.
     pub fn line(&mut self, words: &[Bytes], told: &mut Bytes) -> Result<(), Fail> {
         match asked_by(word(words, 0)?)? {
             Asked::Show => self.show(words, told),

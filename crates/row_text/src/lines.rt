@@ -113,8 +113,8 @@ impl Cutter {
     }
 }
 
-/// The words of a line, between spaces. One in double quotes may have spaces, and for other bytes `\n`, `\r`, `\t`, `\"`, `\\` and `\x` with two
-/// digits.
+/// The words of a line, between spaces. One in double quotes may have spaces, and for other bytes `\n`, `\r`, `\t`,
+/// `\"`, `\\` and `\x` with two digits.
 pub fn words(alloc: Global, line: &[u8]) -> Result<Vec<Bytes>, Fail> {
     let mut cutter = Cutter {
         alloc,

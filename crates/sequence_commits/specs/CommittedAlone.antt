@@ -25,12 +25,15 @@ pub record IsReady (w : WorldMap) (p : Place) (run next : ℕ) : Type 0 where
 abbrev pub AreCommitted : Mailbox → Mailbox → Place → List ℕ → List ℕ → Marked → Marked → Hand → Type 0
 AreCommitted before after p path folder old new h =
     ((same_told folder old new ≡ true) × (after ≡ before))
-    ⊎ ((same_told folder old new ≡ false) × IsContextCommitted (with_sequences_text before p (text_of new)) after path (private_changes folder new.users (entries_seen h.context)) h)
+    ⊎ ((same_told folder old new ≡ false)
+    × IsContextCommitted (with_sequences_text before p (text_of new)) after path
+    (private_changes folder new.users (entries_seen h.context)) h)
 
 -- so of a call beside which nothing happened, where its hand knew the context, if anything, and the folder was ready
 abbrev pub CommitsAlone : ℕ → Place → List ℕ → List ℕ → Marked → Marked → Hand → Story → Story → Type 0
 CommitsAlone run p path folder old new h earlier later =
-    (added : List ℕ) → later.asked ≡ earlier.asked ++ added → IsStart later.start → IsPossible earlier → IsAlone run later.start later.history added →
+    (added : List ℕ) → later.asked ≡ earlier.asked ++ added → IsStart later.start → IsPossible earlier
+    → IsAlone run later.start later.history added →
     let first = first_of (length earlier.history) added in
     run < 2 ^ 128 → KnowsContext (mailbox_at later first) path h → IsReady (world_at later first) p run h.next →
     AreCommitted (mailbox_at later first) (mailbox_at later (first + length added)) p path folder old new h

@@ -23,4 +23,5 @@ unfoldable pub sequences_in : List ℕ → List NamedValue → List ℕ → Mark
 sequences_in text context folder =
     let fields = fields_of text in
     let ending = suffix folder in
-    marked_of (sequences_of (names_in fields context ending) (lists_either fields context ending) (has_field fields)) (cur_in fields)
+    marked_of (sequences_of (names_in fields context ending) (lists_either fields context ending) (has_field fields))
+    (cur_in fields)

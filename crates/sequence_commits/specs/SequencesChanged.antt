@@ -6,7 +6,8 @@ use Rattle.file_plans.specs.Mailboxes.{Folder, Mailbox}
 
 -- the folder with this text of its sequences
 abbrev pub folder_with_sequences : List ℕ → Folder → Folder
-folder_with_sequences text f = record { messages = f.messages; removed = f.removed; held = f.held; sequences = Some text }
+folder_with_sequences text f =
+    record { messages = f.messages; removed = f.removed; held = f.held; sequences = Some text }
 
 -- the mailbox with this text of the sequences of this folder, where the folder is there
 abbrev pub with_sequences_text : Mailbox → Place → List ℕ → Mailbox

@@ -61,7 +61,8 @@ fn put_gone(
     name: &Bytes,
     ending: &[u8],
 ) -> Result<(), AllocError>
-    ensures { OnOk result (changes.new ≡ changes.old ++ map gone (filter (is_left_over ending.now kept.now) (name.now ∷ []))) }
+    ensures { OnOk result
+        (changes.new ≡ changes.old ++ map gone (filter (is_left_over ending.now kept.now) (name.now ∷ []))) }
 {
     if !is_left(kept, name.as_slice(), ending)? {
         return Ok(());
@@ -80,7 +81,9 @@ fn put_gone_at(
     ending: &[u8],
 ) -> Result<(), AllocError>
     requires { index < length seen.now }
-    ensures { OnOk result ((name : List ℕ) × (slice_get (entry_names seen.now) index ≡ Some name) × (changes.new ≡ changes.old ++ map gone (filter (is_left_over ending.now kept.now) (name ∷ [])))) }
+    ensures { OnOk result
+        ((name : List ℕ) × (slice_get (entry_names seen.now) index ≡ Some name)
+        × (changes.new ≡ changes.old ++ map gone (filter (is_left_over ending.now kept.now) (name ∷ [])))) }
 {
     match seen.name_at(index) {
         Some(name) => put_gone(alloc, changes, kept, name, ending),
@@ -96,7 +99,8 @@ fn put_all_gone(
     seen: &Entries,
     ending: &[u8],
 ) -> Result<(), AllocError>
-    ensures { OnOk result (changes.new ≡ changes.old ++ map gone (filter (is_left_over ending.now kept.now) (entry_names seen.now))) }
+    ensures { OnOk result
+        (changes.new ≡ changes.old ++ map gone (filter (is_left_over ending.now kept.now) (entry_names seen.now))) }
 {
     for index in 0..seen.len() {
         put_gone_at(alloc, changes, kept, seen, index, ending)?;
@@ -130,7 +134,8 @@ pub(crate) fn changes_seen(
     folder: &FolderName,
 ) -> Result<ChangeEntryList, AllocError>
     requires { All IsEntry kept.now }
-    ensures value { IfOk result (λ changes. changes ≡ changes_to (suffix folder.now) kept.now (entries_seen hand.now.kept.context)) }
+    ensures value { IfOk result
+        (λ changes. changes ≡ changes_to (suffix folder.now) kept.now (entries_seen hand.now.kept.context)) }
     ensures valid { IfOk result (λ changes. AreChanges changes) }
 {
     match hand.context() {

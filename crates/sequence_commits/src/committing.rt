@@ -35,7 +35,8 @@ fn replace_sequences<F: Files>(
     place: &Place,
     text: &mut Bytes,
 ) -> Result<(), PlanFault>
-    ensures plan { Follows hand.old.run plan_cause (sequences_replaced hand.old.run place.now text.old) (by_hand hand.old.kept (F.state files.old)) (by_hand hand.new.kept (F.state files.new)) result }
+    ensures plan { Follows hand.old.run plan_cause (sequences_replaced hand.old.run place.now text.old)
+        (by_hand hand.old.kept (F.state files.old)) (by_hand hand.new.kept (F.state files.new)) result }
     ensures same { (hand.new.run ≡ hand.old.run) × (hand.new.mail ≡ hand.old.mail) }
 {
     let length = text.len() as u64;
@@ -55,7 +56,9 @@ fn commit_entries<F: Files>(
     entries: &[NamedValue],
 ) -> Result<(), PlanFault>
     requires { All IsEntry entries.now }
-    ensures plan { Follows hand.old.run plan_cause (entries_committed hand.old.run (mail_place hand.old) (suffix folder.now) entries.now) (by_hand hand.old.kept (F.state files.old)) (by_hand hand.new.kept (F.state files.new)) result }
+    ensures plan { Follows hand.old.run plan_cause
+        (entries_committed hand.old.run (mail_place hand.old) (suffix folder.now) entries.now)
+        (by_hand hand.old.kept (F.state files.old)) (by_hand hand.new.kept (F.state files.new)) result }
     ensures same { (hand.new.run ≡ hand.old.run) × (hand.new.mail ≡ hand.old.mail) }
 {
     let changes = changes_seen(alloc, entries, hand, folder)?;
@@ -72,7 +75,9 @@ fn commit_told<F: Files>(
     told: &mut Told,
 ) -> Result<(), PlanFault>
     requires { All IsEntry told.old.entries }
-    ensures plan { Follows hand.old.run plan_cause (told_committed hand.old.run place.now (mail_place hand.old) (suffix folder.now) told.old.text told.old.entries) (by_hand hand.old.kept (F.state files.old)) (by_hand hand.new.kept (F.state files.new)) result }
+    ensures plan { Follows hand.old.run plan_cause
+        (told_committed hand.old.run place.now (mail_place hand.old) (suffix folder.now) told.old.text told.old.entries)
+        (by_hand hand.old.kept (F.state files.old)) (by_hand hand.new.kept (F.state files.new)) result }
     ensures same { (hand.new.run ≡ hand.old.run) × (hand.new.mail ≡ hand.old.mail) }
 {
     replace_sequences(alloc, hand, files, place, &mut told.text)?;
@@ -89,7 +94,10 @@ fn commit_new<F: Files>(
     old: Told,
     new: &Sequences,
 ) -> Result<(), PlanFault>
-    ensures plan { Follows hand.old.run plan_cause (committed_unless (tells old.text old.entries folder.now new.now) hand.old.run place.now (mail_place hand.old) folder.now new.now) (by_hand hand.old.kept (F.state files.old)) (by_hand hand.new.kept (F.state files.new)) result }
+    ensures plan { Follows hand.old.run plan_cause
+        (committed_unless (tells old.text old.entries folder.now new.now) hand.old.run place.now
+        (mail_place hand.old) folder.now new.now) (by_hand hand.old.kept (F.state files.old))
+        (by_hand hand.new.kept (F.state files.new)) result }
     ensures same { (hand.new.run ≡ hand.old.run) × (hand.new.mail ≡ hand.old.mail) }
 {
     let mut new = Told::of(alloc, new, folder)?;
@@ -99,8 +107,9 @@ fn commit_new<F: Files>(
     commit_told(alloc, hand, files, place, folder, &mut new)
 }
 
-/// Does what these marks say with the sequences of a folder, and commits what they are then: the text of the folder at this place,
-/// and then the private ones in the context of the run's mail directory, under its lock. No step where the marks change nothing.
+/// Does what these marks say with the sequences of a folder, and commits what they are then: the text of the folder at
+/// this place, and then the private ones in the context of the run's mail directory, under its lock. No step where the
+/// marks change nothing.
 pub fn commit_sequences<F: Files>(
     alloc: Global,
     hand: &mut Hand,
@@ -110,9 +119,13 @@ pub fn commit_sequences<F: Files>(
     sequences: &mut Sequences,
     marks: &[Mark],
 ) -> Result<(), PlanFault>
-    ensures plan { Follows hand.old.run plan_cause (marks_committed hand.old.run place.now (mail_place hand.old) folder.now sequences.old marks.now) (by_hand hand.old.kept (F.state files.old)) (by_hand hand.new.kept (F.state files.new)) result }
+    ensures plan { Follows hand.old.run plan_cause
+        (marks_committed hand.old.run place.now (mail_place hand.old) folder.now sequences.old marks.now)
+        (by_hand hand.old.kept (F.state files.old)) (by_hand hand.new.kept (F.state files.new)) result }
     ensures marked { OnOk result (sequences.new ≡ marked_by_all marks.now sequences.old) }
-    ensures alone { result ≡ Ok tt → (path name : List ℕ) → place.now ≡ Folder path name → CommitsAloneIfTold hand.old.run place.now hand.old.mail folder.now sequences.old (marked_by_all marks.now sequences.old) hand.old.kept (F.state files.old).story (F.state files.new).story }
+    ensures alone { result ≡ Ok tt → (path name : List ℕ) → place.now ≡ Folder path name
+        → CommitsAloneIfTold hand.old.run place.now hand.old.mail folder.now sequences.old
+        (marked_by_all marks.now sequences.old) hand.old.kept (F.state files.old).story (F.state files.new).story }
     ensures same { (hand.new.run ≡ hand.old.run) × (hand.new.mail ≡ hand.old.mail) }
 {
     let old = Told::of(alloc, sequences, folder)?;
@@ -120,7 +133,8 @@ pub fn commit_sequences<F: Files>(
     commit_new(alloc, hand, files, place, folder, old, sequences)
 }
 
-/// Drops the numbers that are not listed from the sequences of a folder, and commits what they are then, as `commit_sequences` does.
+/// Drops the numbers that are not listed from the sequences of a folder, and commits what they are then, as
+/// `commit_sequences` does.
 pub fn commit_cut<F: Files>(
     alloc: Global,
     hand: &mut Hand,
@@ -130,9 +144,13 @@ pub fn commit_cut<F: Files>(
     sequences: &mut Sequences,
     listing: &NumSet,
 ) -> Result<(), PlanFault>
-    ensures plan { Follows hand.old.run plan_cause (cut_committed hand.old.run place.now (mail_place hand.old) folder.now sequences.old listing.now.runs) (by_hand hand.old.kept (F.state files.old)) (by_hand hand.new.kept (F.state files.new)) result }
+    ensures plan { Follows hand.old.run plan_cause
+        (cut_committed hand.old.run place.now (mail_place hand.old) folder.now sequences.old listing.now.runs)
+        (by_hand hand.old.kept (F.state files.old)) (by_hand hand.new.kept (F.state files.new)) result }
     ensures cut { OnOk result (sequences.new ≡ cut_to listing.now.runs sequences.old) }
-    ensures alone { result ≡ Ok tt → (path name : List ℕ) → place.now ≡ Folder path name → CommitsAloneIfTold hand.old.run place.now hand.old.mail folder.now sequences.old (cut_to listing.now.runs sequences.old) hand.old.kept (F.state files.old).story (F.state files.new).story }
+    ensures alone { result ≡ Ok tt → (path name : List ℕ) → place.now ≡ Folder path name
+        → CommitsAloneIfTold hand.old.run place.now hand.old.mail folder.now sequences.old
+        (cut_to listing.now.runs sequences.old) hand.old.kept (F.state files.old).story (F.state files.new).story }
     ensures same { (hand.new.run ≡ hand.old.run) × (hand.new.mail ≡ hand.old.mail) }
 {
     let old = Told::of(alloc, sequences, folder)?;

@@ -34,7 +34,8 @@ impl Told {
     }
 
     pub(crate) fn same(&self, other: &Told) -> bool
-        ensures { result ≡ (bytes_eq self.now.text other.now.text && same_entries_value self.now.entries other.now.entries) }
+        ensures { result
+            ≡ (bytes_eq self.now.text other.now.text && same_entries_value self.now.entries other.now.entries) }
     {
         self.text.as_slice() == other.text.as_slice()
             && same_entries(self.entries.as_slice(), other.entries.as_slice())

@@ -12,7 +12,8 @@ pub fn public_sequences_mark()
     ensures silent { (mail folder sequence : List ℕ) (n : ℕ) → (public_marks mail folder sequence).says [] n ≡ false }
 {}
 
-/// A private sequence of a folder stands in the context of the mail directory, which commits write, and an empty text marks nothing.
+/// A private sequence of a folder stands in the context of the mail directory, which commits write, and an empty text
+/// marks nothing.
 pub fn private_sequences_mark()
     ensures folder { (mail folder sequence : List ℕ) → is_folder (private_marks mail folder sequence).folder ≡ true }
     ensures committed { (mail folder sequence : List ℕ)

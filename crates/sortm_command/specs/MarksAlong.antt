@@ -21,4 +21,5 @@ then_commits c next = unless_too_long c.long c.kept next
 abbrev pub marks_along : List ℕ → List ℕ → Marked → List ℕ → List Move → (Kept → Kept) → Kept → Commits
 marks_along path folder m takes [] moved k = all_made k
 marks_along path folder m takes (x ∷ ms) moved k =
-    then_commits (sequences_kept path folder m (withdrawn takes m) k) (λ l. sequences_kept path folder (withdrawn takes m) (gone_along (x ∷ ms) (slots (x ∷ ms)) m) (moved l))
+    then_commits (sequences_kept path folder m (withdrawn takes m) k)
+    (λ l. sequences_kept path folder (withdrawn takes m) (gone_along (x ∷ ms) (slots (x ∷ ms)) m) (moved l))

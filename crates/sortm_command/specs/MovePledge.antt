@@ -31,7 +31,11 @@ MovesMarks run p takes ms own m new =
 -- the run wrote this text of the folder's sequences, gave it their name, and then made the folder safe
 abbrev pub WasCommitted : Place → List ℕ → List Deed → Type 0
 WasCommitted p text own =
-    Once (λ d older. (d ≡ did (step.SyncFolder p) Done) × Once (λ e before. (temp : List ℕ) × (e ≡ did (step.Rename p temp (entry_text Sequences)) Done) × WasDone (step.Create p temp text) before) older) own
+    Once
+    (λ d older. (d ≡ did (step.SyncFolder p) Done)
+    × Once
+    (λ e before. (temp : List ℕ) × (e ≡ did (step.Rename p temp (entry_text Sequences)) Done)
+    × WasDone (step.Create p temp text) before) older) own
 
 -- and that is the last text that it knows of there
 pub record HasCommitted (run : ℕ) (p : Place) (text : List ℕ) (own : List Deed) : Type 0 where
@@ -40,7 +44,9 @@ pub record HasCommitted (run : ℕ) (p : Place) (text : List ℕ) (own : List De
 
 -- what is told of the sequences is without these messages: it was so before, or the run committed it
 abbrev pub AreToldWithout : ℕ → List ℕ → List ℕ → Marked → List ℕ → List Deed → Type 0
-AreToldWithout run path folder m numbers own = (same_told folder m (withdrawn numbers m) ≡ true) ⊎ HasCommitted run (Folder path folder) (text_of (withdrawn numbers m)) own
+AreToldWithout run path folder m numbers own =
+    (same_told folder m (withdrawn numbers m) ≡ true)
+    ⊎ HasCommitted run (Folder path folder) (text_of (withdrawn numbers m)) own
 
 -- What numbers a command takes: by the numbers and the sequences of the folder, and by the run's deeds.
 abbrev pub Taking : Type 1
@@ -60,11 +66,14 @@ pub record WasWithdrawn (run : ℕ) (path folder : List ℕ) (Takes : Taking) (n
 -- a number is held aside only where its message is to get another one, and once no sequence has it any more
 abbrev pub TakesWithdrawn : ℕ → List ℕ → List ℕ → Taking → List Deed → Step → Type 0
 TakesWithdrawn run path folder Takes own s =
-    (number held : List ℕ) (n : ℕ) → s ≡ step.Rename (Folder path folder) number held → kind_of number ≡ Number n → is_held (kind_of held) ≡ true → WasWithdrawn run path folder Takes n own
+    (number held : List ℕ) (n : ℕ) → s ≡ step.Rename (Folder path folder) number held → kind_of number ≡ Number n
+    → is_held (kind_of held) ≡ true → WasWithdrawn run path folder Takes n own
 
 -- a held name goes only once its message was given a number, and that was made safe
 abbrev pub LetsGoGiven : List ℕ → List ℕ → List Deed → Step → Type 0
-LetsGoGiven path folder own s = (held : List ℕ) → s ≡ step.Unlink (Folder path folder) held → is_held (kind_of held) ≡ true → WasGivenAway (Folder path folder) held own
+LetsGoGiven path folder own s =
+    (held : List ℕ) → s ≡ step.Unlink (Folder path folder) held → is_held (kind_of held) ≡ true
+    → WasGivenAway (Folder path folder) held own
 
 -- no new file gets a number
 abbrev pub PutsNoFile : Step → Type 0

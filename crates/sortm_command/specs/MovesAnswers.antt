@@ -20,7 +20,8 @@ use Rattle.opened_folders.specs.Reads.{HaveSeen}
 
 -- the text of sequences that the command makes after its deeds is too long, with this length; or that of the context
 -- is, with the entries of the private ones
-pub record IsLongMade (run : ℕ) (path folder : List ℕ) (Makes : List Deed → List Run → Marked → Marked → Type 0) (l : ℕ) (own : List Deed) : Type 0 where
+pub record IsLongMade (run : ℕ) (path folder : List ℕ) (Makes : List Deed → List Run → Marked → Marked → Type 0) (l : ℕ)
+    (own : List Deed) : Type 0 where
   pub listing : List Run
   pub text : List ℕ
   pub context : List ℕ
@@ -29,14 +30,20 @@ pub record IsLongMade (run : ℕ) (path folder : List ℕ) (Makes : List Deed �
   pub made : Makes own listing (told_within listing text context folder) new
   pub long :
       ((l ≡ length (text_of new)) × (nat_lt LIMIT_BYTES l ≡ true))
-      ⊎ ((entries : List NamedValue) × IsLongText (Mail path) (changes_to (suffix folder) (private_entries (suffix folder) new.users) entries) l own)
+      ⊎ ((entries : List NamedValue)
+      × IsLongText (Mail path)
+      (changes_to (suffix folder) (private_entries (suffix folder) new.users) entries) l own)
 
 -- what shows that messages can't get other numbers, where the command makes this of the folder's sequences
-pub data ShowsMoves (run : ℕ) (path folder : List ℕ) (Makes : List Deed → List Run → Marked → Marked → Type 0) : CommandFault → List Deed → Type 0 where
+pub data ShowsMoves (run : ℕ) (path folder : List ℕ)
+    (Makes : List Deed → List Run → Marked → Marked → Type 0) : CommandFault → List Deed → Type 0 where
   -- the sequences as they are to be while messages move, or after that, are too long
-  long_marks : {l : ℕ} {own : List Deed} → IsLongMade run path folder Makes l own → ShowsMoves run path folder Makes (fault.Refused (refusal.TooLarge l LIMIT_BYTES)) own
+  long_marks : {l : ℕ} {own : List Deed} → IsLongMade run path folder Makes l own
+      → ShowsMoves run path folder Makes (fault.Refused (refusal.TooLarge l LIMIT_BYTES)) own
   -- the run listed a message at the last number
-  none_left : {listing : List Run} {text context : List ℕ} {own : List Deed} → HaveSeen run (Folder path folder) (Mail path) listing text context own → has listing 999999 ≡ true
+  none_left : {listing : List Run} {text context : List ℕ} {own : List Deed}
+      → HaveSeen run (Folder path folder) (Mail path) listing text context own → has listing 999999 ≡ true
       → ShowsMoves run path folder Makes (fault.Refused (refusal.Full folder)) own
   -- it linked one there, or met one
-  none_met : {own : List Deed} → HasMetAt (Folder path folder) 999999 own → ShowsMoves run path folder Makes (fault.Refused (refusal.Full folder)) own
+  none_met : {own : List Deed} → HasMetAt (Folder path folder) 999999 own
+      → ShowsMoves run path folder Makes (fault.Refused (refusal.Full folder)) own

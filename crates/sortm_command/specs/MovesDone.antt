@@ -16,7 +16,12 @@ use Rattle.sortm_command.specs.MovePledge.{WasCommitted}
 -- the run held the message of this number aside, gave it that one and made the folder safe; then its held name went,
 -- and the run made that safe too
 abbrev pub HasSettled : ℕ → Place → ℕ → ℕ → List Deed → Type 0
-HasSettled run p from end own = Once (λ d older. (d ≡ did (SyncFolder p) Done) × Once (λ e before. (e ≡ did (Unlink p (aside_name run from)) Done) × HasMoved run p from end before) older) own
+HasSettled run p from end own =
+    Once
+    (λ d older. (d ≡ did (SyncFolder p) Done)
+    × Once
+    (λ e before. (e ≡ did (Unlink p (aside_name run from)) Done)
+    × HasMoved run p from end before) older) own
 
 -- each of these messages went so to the number beside it
 abbrev pub AllSettled : ℕ → Place → List Move → List ℕ → List Deed → Type 0
@@ -32,4 +37,6 @@ IsReplaced folder p old new own = (same_told folder old new ≡ true) ⊎ WasCom
 -- where messages moved, the sequences were without these, and then had them again where they ended
 abbrev pub MarksWent : List ℕ → Place → Marked → List ℕ → List Move → List ℕ → List Deed → Type 0
 MarksWent folder p m takes [] ends own = Unit {0}
-MarksWent folder p m takes (x ∷ ms) ends own = IsReplaced folder p m (withdrawn takes m) own × IsReplaced folder p (withdrawn takes m) (gone_along (x ∷ ms) ends m) own
+MarksWent folder p m takes (x ∷ ms) ends own =
+    IsReplaced folder p m (withdrawn takes m) own
+    × IsReplaced folder p (withdrawn takes m) (gone_along (x ∷ ms) ends m) own

@@ -24,7 +24,8 @@ use Rattle.sortm_command.specs.declared.job.SortJob.{SortJob}
 -- by the listing and the texts alone the sequences stay, but for what the reading cuts; or the first word that chooses
 -- none refuses
 abbrev pub sort_answers : SortJob → Answering
-sort_answers job = record { makes = λ listing m new. ⊥; refuses = λ listing m r. chosen_from job listing m ≡ Err (fault.Refused r) }
+sort_answers job =
+    record { makes = λ listing m new. ⊥; refuses = λ listing m r. chosen_from job listing m ≡ Err (fault.Refused r) }
 
 -- the job's words choose this number, of the folder as the run has listed and read it, and it has read the messages
 -- that they choose before it
@@ -43,9 +44,11 @@ pub record IsNextRead (run : ℕ) (path : List ℕ) (job : SortJob) (n : ℕ) (o
 pub data ShowsOrder (run : ℕ) (path : List ℕ) (job : SortJob) : CommandFault → List Deed → Type 0 where
   -- a message that the words choose was just read, and is too long, with this length
   long_message : {n l : ℕ} {older : List Deed} → IsNextRead run path job n older
-      → ShowsOrder run path job (fault.Refused (refusal.TooLarge l LIMIT_BYTES)) (did (Read (Folder path job.folder) (entry_text (Number n)) LIMIT_BYTES) (Long l) ∷ older)
+      → ShowsOrder run path job (fault.Refused (refusal.TooLarge l LIMIT_BYTES))
+      (did (Read (Folder path job.folder) (entry_text (Number n)) LIMIT_BYTES) (Long l) ∷ older)
   -- those that are to move can't get other numbers
-  none_moved : {e : CommandFault} {own : List Deed} → ShowsMoves run path job.folder (MakesMarks run path job) e own → ShowsOrder run path job e own
+  none_moved : {e : CommandFault} {own : List Deed} → ShowsMoves run path job.folder (MakesMarks run path job) e own
+      → ShowsOrder run path job e own
 
 -- what shows each fault of `sortm`
 abbrev pub ShowsSort : ℕ → List ℕ → SortJob → CommandFault → List Deed → Type 0

@@ -25,4 +25,5 @@ pub record HasSortedChosen (run : ℕ) (path : List ℕ) (job : SortJob) (own : 
   pub read : HaveRead (Folder path job.folder) numbers texts own
   pub ends : List ℕ
   pub moved : AllSettled run (Folder path job.folder) (moves_by job.key texts numbers) ends own
-  pub marks : MarksWent job.folder (Folder path job.folder) (told_within listing text context job.folder) (slots (moves_by job.key texts numbers)) (moves_by job.key texts numbers) ends own
+  pub marks : MarksWent job.folder (Folder path job.folder) (told_within listing text context job.folder)
+      (slots (moves_by job.key texts numbers)) (moves_by job.key texts numbers) ends own

@@ -24,6 +24,8 @@ moves_by key texts numbers = moves_of (order_by key texts numbers) numbers
 -- the run read the messages of these numbers, one after another, and they had these bytes
 pub data HaveRead (p : Place) : List ℕ → List (List ℕ) → List Deed → Type 0 where
   read_none : {own : List Deed} → HaveRead p [] [] own
-  read_next : {numbers : List ℕ} {texts : List (List ℕ)} (n : ℕ) {bytes : List ℕ} {d : Deed} {own : List Deed} → IsRead p (entry_text (Number n)) bytes d → HaveRead p numbers texts own
+  read_next : {numbers : List ℕ} {texts : List (List ℕ)} (n : ℕ) {bytes : List ℕ} {d : Deed} {own : List Deed}
+      → IsRead p (entry_text (Number n)) bytes d → HaveRead p numbers texts own
       → HaveRead p (numbers ++ n ∷ []) (texts ++ bytes ∷ []) (d ∷ own)
-  read_on : {numbers : List ℕ} {texts : List (List ℕ)} {d : Deed} {own : List Deed} → HaveRead p numbers texts own → HaveRead p numbers texts (d ∷ own)
+  read_on : {numbers : List ℕ} {texts : List (List ℕ)} {d : Deed} {own : List Deed} → HaveRead p numbers texts own
+      → HaveRead p numbers texts (d ∷ own)

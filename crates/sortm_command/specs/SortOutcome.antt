@@ -53,12 +53,16 @@ with_order run p order ss k = kept_of (with_folder_changed k.mailbox p (in_order
 
 -- the messages of the order come to the slots, and their marks go along; where all stand so already nothing is changed
 abbrev pub mail_sorted : ℕ → List ℕ → List ℕ → List ℕ → List ℕ → Marked → Kept → Commits
-mail_sorted run path folder order ss m k = marks_along path folder m (slots (moves_of order ss)) (moves_of order ss) (with_order run (Folder path folder) order ss) k
+mail_sorted run path folder order ss m k =
+    marks_along path folder m (slots (moves_of order ss)) (moves_of order ss)
+    (with_order run (Folder path folder) order ss) k
 
 -- a chosen message that is too long refuses; else they come to stand at their numbers in the order that is asked for,
 -- and the folder becomes the current one
 abbrev pub read_work : ℕ → List ℕ → SortJob → Marked → Kept → List ℕ → List (List ℕ) → Option ℕ → Work CommandFault
-read_work run path job m k numbers texts None = after_commits (mail_sorted run path job.folder (order_by job.key texts numbers) numbers m k) (current_work path job.folder [])
+read_work run path job m k numbers texts None =
+    after_commits (mail_sorted run path job.folder (order_by job.key texts numbers) numbers m k)
+    (current_work path job.folder [])
 read_work run path job m k numbers texts (Some l) = refused_at k.mailbox (too_large l)
 
 -- by the bytes that the chosen messages have

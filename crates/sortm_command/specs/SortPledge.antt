@@ -26,7 +26,8 @@ use Rattle.sortm_command.specs.declared.job.SortJob.{SortJob}
 
 -- these are the moves by which the messages that the job's words choose come to stand in order, by what the run read of
 -- each of them
-pub record AreMoves (run : ℕ) (path : List ℕ) (job : SortJob) (listing : List Run) (m : Marked) (ms : List Move) (own : List Deed) : Type 0 where
+pub record AreMoves (run : ℕ) (path : List ℕ) (job : SortJob) (listing : List Run) (m : Marked) (ms : List Move)
+    (own : List Deed) : Type 0 where
   pub numbers : List ℕ
   pub chosen : chosen_from job listing m ≡ Ok numbers
   pub texts : List (List ℕ)
@@ -36,7 +37,9 @@ pub record AreMoves (run : ℕ) (path : List ℕ) (job : SortJob) (listing : Lis
 -- the sequences are without the messages that move; or, once each of these has gone to a number, their marks have gone
 -- along
 abbrev pub MakesMarks : ℕ → List ℕ → SortJob → List Deed → List Run → Marked → Marked → Type 0
-MakesMarks run path job own listing m new = (ms : List Move) × AreMoves run path job listing m ms own × MovesMarks run (Folder path job.folder) (slots ms) ms own m new
+MakesMarks run path job own listing m new =
+    (ms : List Move) × AreMoves run path job listing m ms own
+    × MovesMarks run (Folder path job.folder) (slots ms) ms own m new
 
 -- the slots are the numbers that are taken
 abbrev pub TakesSlots : ℕ → List ℕ → SortJob → Taking
@@ -56,7 +59,8 @@ pub record WasChosen (run : ℕ) (path : List ℕ) (job : SortJob) (n : ℕ) (ow
 -- a number is held aside only where the words choose it
 abbrev pub TakesChosen : ℕ → List ℕ → SortJob → List Deed → Step → Type 0
 TakesChosen run path job own s =
-    (number held : List ℕ) (n : ℕ) → s ≡ step.Rename (Folder path job.folder) number held → kind_of number ≡ Number n → is_held (kind_of held) ≡ true → WasChosen run path job n own
+    (number held : List ℕ) (n : ℕ) → s ≡ step.Rename (Folder path job.folder) number held → kind_of number ≡ Number n
+    → is_held (kind_of held) ≡ true → WasChosen run path job n own
 
 -- all that is asked of its steps besides
 abbrev pub SortsSo : ℕ → List ℕ → SortJob → List Deed → Step → Type 0
@@ -65,7 +69,9 @@ SortsSo run path job own s =
 
 -- `sortm` begins the folder and keeps its marks, and lets messages that its words choose change places; it says nothing
 abbrev pub sortm_pledge : ℕ → List ℕ → SortJob → Pledge
-sortm_pledge run path job = folder_pledge run path job.folder (MakesMarks run path job) (Sorting path job.folder every_message) (λ own piece. ⊥) (SortsSo run path job)
+sortm_pledge run path job =
+    folder_pledge run path job.folder (MakesMarks run path job) (Sorting path job.folder every_message) (λ own piece. ⊥)
+    (SortsSo run path job)
 
 -- what a call promises of its steps
 abbrev pub PromisesSteps : ℕ → List ℕ → SortJob → State → State → Type 0

@@ -11,8 +11,8 @@ pub enum SortKey {
     Text(Bytes),
 }
 
-/// What `sortm` is to do: the folder, the words that choose messages, by what these are put in order, and the prefix of negation, which is empty where
-/// there is none.
+/// What `sortm` is to do: the folder, the words that choose messages, by what these are put in order, and the prefix of
+/// negation, which is empty where there is none.
 #[derive(Drop)]
 pub struct SortJob {
     pub folder: FolderName,

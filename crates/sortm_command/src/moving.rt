@@ -66,7 +66,10 @@ fn withdraw<F: Files>(
     opened: &mut Opened,
     numbers: &[MsgNum],
 ) -> Result<(), PlanFault>
-    ensures plan { Follows hand.old.run plan_cause (changed_sequences hand.old.run opened.old.place (mail_place hand.old) opened.old.folder opened.old.sequences (withdrawn numbers.now opened.old.sequences)) (by_hand hand.old.kept (F.state files.old)) (by_hand hand.new.kept (F.state files.new)) result }
+    ensures plan { Follows hand.old.run plan_cause
+        (changed_sequences hand.old.run opened.old.place (mail_place hand.old) opened.old.folder opened.old.sequences
+        (withdrawn numbers.now opened.old.sequences)) (by_hand hand.old.kept (F.state files.old))
+        (by_hand hand.new.kept (F.state files.new)) result }
     ensures left { OnOk result (opened.new ≡ with_sequences (withdrawn numbers.now opened.old.sequences) opened.old) }
     ensures same { (hand.new.run ≡ hand.old.run) × (hand.new.mail ≡ hand.old.mail) }
 {
@@ -83,15 +86,22 @@ fn restore<F: Files>(
     mut marks: MarkList,
     pairs: PairList,
 ) -> Result<(), PlanFault>
-    ensures plan { Follows hand.old.run plan_cause (changed_sequences hand.old.run opened.old.place (mail_place hand.old) opened.old.folder opened.old.sequences (marked_by_all (map plain_mark marks ++ Mark.Move pairs ∷ []) opened.old.sequences)) (by_hand hand.old.kept (F.state files.old)) (by_hand hand.new.kept (F.state files.new)) result }
-    ensures left { OnOk result (opened.new ≡ with_sequences (marked_by_all (map plain_mark marks ++ Mark.Move pairs ∷ []) opened.old.sequences) opened.old) }
+    ensures plan { Follows hand.old.run plan_cause
+        (changed_sequences hand.old.run opened.old.place (mail_place hand.old) opened.old.folder opened.old.sequences
+        (marked_by_all (map plain_mark marks ++ Mark.Move pairs ∷ []) opened.old.sequences))
+        (by_hand hand.old.kept (F.state files.old)) (by_hand hand.new.kept (F.state files.new)) result }
+    ensures left { OnOk result
+        (opened.new
+        ≡ with_sequences
+        (marked_by_all (map plain_mark marks ++ Mark.Move pairs ∷ []) opened.old.sequences) opened.old) }
     ensures same { (hand.new.run ≡ hand.old.run) × (hand.new.mail ≡ hand.old.mail) }
 {
     marks.push(Mark::Move { pairs })?;
     commit_marks(alloc, hand, files, opened, marks.as_slice())
 }
 
-/// The messages of these moves get their numbers: no sequence has them while they move, and then each has again what it had. It answers where each ended.
+/// The messages of these moves get their numbers: no sequence has them while they move, and then each has again what it
+/// had. It answers where each ended.
 fn move_marked<F: Files>(
     alloc: Global,
     hand: &mut Hand,
@@ -100,7 +110,9 @@ fn move_marked<F: Files>(
     takes: &[MsgNum],
     moves: &[Move],
 ) -> Result<List<MsgNum>, PlanFault>
-    ensures plan { Follows hand.old.run plan_cause (marked_moved hand.old.run (mail_place hand.old) opened.old takes.now moves.now) (by_hand hand.old.kept (F.state files.old)) (by_hand hand.new.kept (F.state files.new)) result }
+    ensures plan { Follows hand.old.run plan_cause
+        (marked_moved hand.old.run (mail_place hand.old) opened.old takes.now moves.now)
+        (by_hand hand.old.kept (F.state files.old)) (by_hand hand.new.kept (F.state files.new)) result }
     ensures left { IfOk result (λ ends. opened.new.sequences ≡ gone_along moves.now ends opened.old.sequences) }
     ensures same { (hand.new.run ≡ hand.old.run) × (hand.new.mail ≡ hand.old.mail) }
 {
@@ -121,7 +133,8 @@ fn move_marked<F: Files>(
     Ok(ends)
 }
 
-/// The same, where there are moves. The first numbers are those of the messages that move, in the order in which they are taken.
+/// The same, where there are moves. The first numbers are those of the messages that move, in the order in which they
+/// are taken.
 pub fn move_all<F: Files>(
     alloc: Global,
     hand: &mut Hand,
@@ -130,7 +143,9 @@ pub fn move_all<F: Files>(
     takes: &[MsgNum],
     moves: &[Move],
 ) -> Result<List<MsgNum>, PlanFault>
-    ensures plan { Follows hand.old.run plan_cause (moved_if hand.old.run (mail_place hand.old) opened.old takes.now moves.now) (by_hand hand.old.kept (F.state files.old)) (by_hand hand.new.kept (F.state files.new)) result }
+    ensures plan { Follows hand.old.run plan_cause
+        (moved_if hand.old.run (mail_place hand.old) opened.old takes.now moves.now)
+        (by_hand hand.old.kept (F.state files.old)) (by_hand hand.new.kept (F.state files.new)) result }
     ensures left { IfOk result (λ ends. opened.new.sequences ≡ sequences_after moves.now ends opened.old.sequences) }
     ensures same { (hand.new.run ≡ hand.old.run) × (hand.new.mail ≡ hand.old.mail) }
 {
@@ -149,7 +164,9 @@ pub(crate) fn change_places<F: Files>(
     opened: &mut Opened,
     moves: &[Move],
 ) -> Result<List<MsgNum>, PlanFault>
-    ensures plan { Follows hand.old.run plan_cause (places_changed hand.old.run (mail_place hand.old) opened.old moves.now) (by_hand hand.old.kept (F.state files.old)) (by_hand hand.new.kept (F.state files.new)) result }
+    ensures plan { Follows hand.old.run plan_cause
+        (places_changed hand.old.run (mail_place hand.old) opened.old moves.now)
+        (by_hand hand.old.kept (F.state files.old)) (by_hand hand.new.kept (F.state files.new)) result }
     ensures same { (hand.new.run ≡ hand.old.run) × (hand.new.mail ≡ hand.old.mail) }
 {
     let takes = moving(alloc, moves)?;

@@ -7,7 +7,8 @@ use message_order::{filled_dates, in_order};
 use mh_base::{BytesList, List, MsgNum};
 use std::alloc::{AllocError, Global};
 
-/// The numbers of messages in the order of their keys, and of those whose keys are the same in the order of their numbers.
+/// The numbers of messages in the order of their keys, and of those whose keys are the same in the order of their
+/// numbers.
 fn ordered<K: Ord>(alloc: Global, keyed: Vec<(K, MsgNum)>) -> Result<List<MsgNum>, AllocError>
 where
     K: Drop,

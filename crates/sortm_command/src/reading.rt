@@ -50,7 +50,9 @@ fn read_message<F: Files>(
     place: &Place,
     number: MsgNum,
 ) -> Result<Bytes, CommandFault>
-    ensures { (h : Hand) → Follows run command_cause (message_read place.now number) (by_hand h (F.state files.old)) (by_hand h (F.state files.new)) result }
+    ensures { (h : Hand)
+        → Follows run command_cause (message_read place.now number) (by_hand h (F.state files.old))
+        (by_hand h (F.state files.new)) result }
 {
     let name = entry_name(alloc, &Entry::Number(number))?;
     let reading = ask_read(alloc, run, files, place, &name, LIMIT)?;
@@ -66,7 +68,9 @@ fn read_dates<F: Files>(
     field: &[u8],
     numbers: &[MsgNum],
 ) -> Result<List<Option<i64>>, CommandFault>
-    ensures { (h : Hand) → Follows run command_cause (keys_read (date_key_of field.now) place.now [] numbers.now) (by_hand h (F.state files.old)) (by_hand h (F.state files.new)) result }
+    ensures { (h : Hand)
+        → Follows run command_cause (keys_read (date_key_of field.now) place.now [] numbers.now)
+        (by_hand h (F.state files.old)) (by_hand h (F.state files.new)) result }
 {
     let mut dates = List::new(alloc);
     for number in numbers {
@@ -86,7 +90,9 @@ fn read_texts<F: Files>(
     field: &[u8],
     numbers: &[MsgNum],
 ) -> Result<BytesList, CommandFault>
-    ensures { (h : Hand) → Follows run command_cause (keys_read (text_key_of field.now) place.now [] numbers.now) (by_hand h (F.state files.old)) (by_hand h (F.state files.new)) result }
+    ensures { (h : Hand)
+        → Follows run command_cause (keys_read (text_key_of field.now) place.now [] numbers.now)
+        (by_hand h (F.state files.old)) (by_hand h (F.state files.new)) result }
 {
     let mut texts = List::new(alloc);
     for number in numbers {
@@ -105,7 +111,9 @@ fn read_date_order<F: Files>(
     field: &[u8],
     numbers: &[MsgNum],
 ) -> Result<List<MsgNum>, CommandFault>
-    ensures { (h : Hand) → Follows run command_cause (date_order_read place.now field.now numbers.now) (by_hand h (F.state files.old)) (by_hand h (F.state files.new)) result }
+    ensures { (h : Hand)
+        → Follows run command_cause (date_order_read place.now field.now numbers.now) (by_hand h (F.state files.old))
+        (by_hand h (F.state files.new)) result }
 {
     let dates = read_dates(alloc, run, files, place, field, numbers)?;
     Ok(order_by_dates(alloc, dates.as_slice(), numbers)?)
@@ -119,7 +127,9 @@ fn read_text_order<F: Files>(
     field: &[u8],
     numbers: &[MsgNum],
 ) -> Result<List<MsgNum>, CommandFault>
-    ensures { (h : Hand) → Follows run command_cause (text_order_read place.now field.now numbers.now) (by_hand h (F.state files.old)) (by_hand h (F.state files.new)) result }
+    ensures { (h : Hand)
+        → Follows run command_cause (text_order_read place.now field.now numbers.now) (by_hand h (F.state files.old))
+        (by_hand h (F.state files.new)) result }
 {
     let texts = read_texts(alloc, run, files, place, field, numbers)?;
     Ok(order_by_texts(alloc, texts, numbers)?)
@@ -134,7 +144,9 @@ pub(crate) fn read_order<F: Files>(
     key: &SortKey,
     numbers: &[MsgNum],
 ) -> Result<List<MsgNum>, CommandFault>
-    ensures { (h : Hand) → Follows run command_cause (order_read place.now key.now numbers.now) (by_hand h (F.state files.old)) (by_hand h (F.state files.new)) result }
+    ensures { (h : Hand)
+        → Follows run command_cause (order_read place.now key.now numbers.now) (by_hand h (F.state files.old))
+        (by_hand h (F.state files.new)) result }
 {
     match key {
         SortKey::Date(field) => read_date_order(

@@ -39,7 +39,8 @@ fn sort_chosen<F: Files>(
     job: &SortJob,
     opened: &mut Opened,
 ) -> Result<List<MsgNum>, CommandFault>
-    ensures plan { Follows hand.old.run command_cause (chosen_sorted hand.old.run hand.old.mail job.now opened.old) (by_hand hand.old.kept (F.state files.old)) (by_hand hand.new.kept (F.state files.new)) result }
+    ensures plan { Follows hand.old.run command_cause (chosen_sorted hand.old.run hand.old.mail job.now opened.old)
+        (by_hand hand.old.kept (F.state files.old)) (by_hand hand.new.kept (F.state files.new)) result }
     ensures run { hand.new.run ≡ hand.old.run }
     ensures mail { hand.new.mail ≡ hand.old.mail }
 {
@@ -69,7 +70,8 @@ fn sort_opened<F: Files>(
     job: &SortJob,
     mut opened: Opened,
 ) -> Result<(), CommandFault>
-    ensures plan { Follows hand.old.run command_cause (opened_sorted hand.old.run hand.old.mail job.now opened) (by_hand hand.old.kept (F.state files.old)) (by_hand hand.new.kept (F.state files.new)) result }
+    ensures plan { Follows hand.old.run command_cause (opened_sorted hand.old.run hand.old.mail job.now opened)
+        (by_hand hand.old.kept (F.state files.old)) (by_hand hand.new.kept (F.state files.new)) result }
     ensures run { hand.new.run ≡ hand.old.run }
     ensures mail { hand.new.mail ≡ hand.old.mail }
 {
@@ -77,18 +79,22 @@ fn sort_opened<F: Files>(
     make_current(alloc, hand, files, &job.folder)
 }
 
-/// Puts the messages that the words choose in order, in a folder that is begun: by the date or the text of a field, and by number where these are the same.
-/// Each gets the number of the place where it comes, of those that they had. Marks and the current message go with their messages. Where all stand in order
-/// nothing changes. Then the folder becomes the current one.
+/// Puts the messages that the words choose in order, in a folder that is begun: by the date or the text of a field, and
+/// by number where these are the same. Each gets the number of the place where it comes, of those that they had. Marks
+/// and the current message go with their messages. Where all stand in order nothing changes. Then the folder becomes
+/// the current one.
 pub fn sortm<F: Files>(
     alloc: Global,
     hand: &mut Hand,
     files: &mut F,
     job: &SortJob,
 ) -> Result<(), CommandFault>
-    ensures plan { Follows hand.old.run command_cause (sortm_plan hand.old.run hand.old.mail job.now) (by_hand hand.old.kept (F.state files.old)) (by_hand hand.new.kept (F.state files.new)) result }
-    ensures alone { SortsIfUnfaulted hand.old.run hand.old.mail job.now hand.old.kept result (F.state files.old) (F.state files.new) }
-    ensures steps { PromisesSteps hand.old.run hand.old.mail job.now (by_hand hand.old.kept (F.state files.old)) (by_hand hand.new.kept (F.state files.new)) }
+    ensures plan { Follows hand.old.run command_cause (sortm_plan hand.old.run hand.old.mail job.now)
+        (by_hand hand.old.kept (F.state files.old)) (by_hand hand.new.kept (F.state files.new)) result }
+    ensures alone { SortsIfUnfaulted hand.old.run hand.old.mail job.now hand.old.kept result (F.state files.old)
+        (F.state files.new) }
+    ensures steps { PromisesSteps hand.old.run hand.old.mail job.now (by_hand hand.old.kept (F.state files.old))
+        (by_hand hand.new.kept (F.state files.new)) }
     ensures run { hand.new.run ≡ hand.old.run }
     ensures mail { hand.new.mail ≡ hand.old.mail }
 {

@@ -32,7 +32,9 @@ pub fn has_lock(own: &[DeedRef], place: &Place) -> bool
 }
 
 fn is_replaced(deed: &DeedRef, run: u128, place: &Place, name: &Name) -> bool
-    ensures { IsTrue result ↔ ((temp : List ℕ) × (seen deed.now ≡ did (step.Rename place.now temp name.now) answer.Done) × (named.is_temp_of run (kind_of temp) ≡ true)) }
+    ensures { IsTrue result ↔
+        ((temp : List ℕ) × (seen deed.now ≡ did (step.Rename place.now temp name.now) answer.Done)
+        × (named.is_temp_of run (kind_of temp) ≡ true)) }
 {
     match deed.renames(place, name) {
         Some(temp) => is_temp_of(run, temp),
@@ -47,7 +49,8 @@ fn is_known(deed: &DeedRef, run: u128, place: &Place, name: &Name) -> bool
 }
 
 fn is_base(deed: &DeedRef, older: &[DeedRef], run: u128, place: &Place, name: &Name) -> bool
-    ensures { IsTrue result ↔ (IsKnown run place.now name.now (seen deed.now) × HasLock place.now (seen_all older.now)) }
+    ensures { IsTrue result ↔
+        (IsKnown run place.now name.now (seen deed.now) × HasLock place.now (seen_all older.now)) }
 {
     is_known(deed, run, place, name) && has_lock(older, place)
 }

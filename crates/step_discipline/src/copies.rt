@@ -23,7 +23,8 @@ pub struct PutRef<'a> {
 
 /// What the run put, where the deed is a put.
 pub fn put_of<'a>(deed: &DeedRef<'a>, run: u128) -> Option<PutRef<'a>>
-    ensures { MatchOption result ((q : Place) (temp : List ℕ) → IsPutLink run q temp (seen deed.now) → ⊥) (λ p. IsPutLink run p.place.now p.temp.now (seen deed.now)) }
+    ensures { MatchOption result ((q : Place) (temp : List ℕ) → IsPutLink run q temp (seen deed.now) → ⊥)
+        (λ p. IsPutLink run p.place.now p.temp.now (seen deed.now)) }
 {
     match (deed.step, deed.answer) {
         (Step::Link(place, temp, number), Answer::Done)
@@ -54,7 +55,9 @@ pub fn was_put_from(own: &[DeedRef], run: u128, put: &PutRef) -> bool
 }
 
 fn is_copy(deed: &DeedRef, place: &Place, temp: &Name, bytes: &[u8]) -> bool
-    ensures { IsTrue result ↔ ((copy : List ℕ) × (seen deed.now ≡ did (step.Create place.now temp.now copy) answer.Done) × Annotates bytes.now copy) }
+    ensures { IsTrue result ↔
+        ((copy : List ℕ) × (seen deed.now ≡ did (step.Create place.now temp.now copy) answer.Done)
+        × Annotates bytes.now copy) }
 {
     match deed.creates(place, temp) {
         Some(copy) => annotates(copy.as_slice(), bytes),
@@ -94,7 +97,8 @@ pub fn was_copy_put(own: &[DeedRef], run: u128, bytes: &[u8]) -> bool
 }
 
 fn is_read_as(deed: &DeedRef, place: &Place, held: &Name, copy: &[u8]) -> bool
-    ensures { IsTrue result ↔ ((bytes : List ℕ) × IsRead place.now held.now bytes (seen deed.now) × Annotates bytes copy.now) }
+    ensures { IsTrue result ↔
+        ((bytes : List ℕ) × IsRead place.now held.now bytes (seen deed.now) × Annotates bytes copy.now) }
 {
     match deed.reads(place, held) {
         Some(bytes) => annotates(copy, bytes.as_slice()),
@@ -120,7 +124,9 @@ fn is_copied_from(
     held: &Name,
     put: &PutRef,
 ) -> bool
-    ensures { IsTrue result ↔ ((copy : List ℕ) × (seen deed.now ≡ did (step.Create put.now.place.now put.now.temp.now copy) answer.Done) × WasReadAs place.now held.now copy (seen_all older.now)) }
+    ensures { IsTrue result ↔
+        ((copy : List ℕ) × (seen deed.now ≡ did (step.Create put.now.place.now put.now.temp.now copy) answer.Done)
+        × WasReadAs place.now held.now copy (seen_all older.now)) }
 {
     match deed.creates(put.place, put.temp) {
         Some(copy) => was_read_as(older, place, held, copy.as_slice()),

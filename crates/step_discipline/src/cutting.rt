@@ -19,7 +19,10 @@ use std::alloc::{AllocError, Global};
 
 /// The piece after what stands before it, where there is no gap.
 fn joined(mut before: Bytes, piece: &PieceRef) -> Result<Option<Bytes>, AllocError>
-    ensures { IfOk result (λ r. MatchOption r (count before ≢ piece.now.from) (λ bytes. (count before ≡ piece.now.from) × (bytes ≡ before ++ piece.now.bytes.now))) }
+    ensures { IfOk result
+        (λ r.
+        MatchOption r (count before ≢ piece.now.from)
+        (λ bytes. (count before ≡ piece.now.from) × (bytes ≡ before ++ piece.now.bytes.now))) }
 {
     if before.len() as u64 != piece.from {
         return Ok(None);
@@ -60,7 +63,8 @@ fn is_told(deed: &DeedRef, path: &FilePath, length: u64) -> bool
 }
 
 fn was_told(own: &[DeedRef], path: &FilePath, length: u64) -> bool
-    ensures { IsTrue result ↔ Once (λ d older. (piece : List ℕ) × IsPiece path.now 0 piece length d) (seen_all own.now) }
+    ensures { IsTrue result ↔ Once (λ d older. (piece : List ℕ) × IsPiece path.now 0 piece length d)
+        (seen_all own.now) }
 {
     match own.split_first() {
         None => false,
@@ -70,7 +74,9 @@ fn was_told(own: &[DeedRef], path: &FilePath, length: u64) -> bool
 
 /// Whether the file that was put had these bytes and was not put before.
 fn is_first_put(older: &[DeedRef], run: u128, put: &PutRef, message: &[u8]) -> bool
-    ensures { IsTrue result ↔ (WasReady put.now.place.now put.now.temp.now message.now (seen_all older.now) × (WasPutFrom run put.now.place.now put.now.temp.now (seen_all older.now) → ⊥)) }
+    ensures { IsTrue result ↔
+        (WasReady put.now.place.now put.now.temp.now message.now (seen_all older.now)
+        × (WasPutFrom run put.now.place.now put.now.temp.now (seen_all older.now) → ⊥)) }
 {
     was_ready(older, put.place, put.temp, message) && !was_put_from(older, run, put)
 }
@@ -82,7 +88,9 @@ fn is_stored(
     run: u128,
     message: &[u8],
 ) -> bool
-    ensures { IsTrue result ↔ ((q : Place) × IsFirstPut run q message.now (seen deed.now) (seen_all older.now) × WasDone (step.SyncFolder q) (seen_all newer.now)) }
+    ensures { IsTrue result ↔
+        ((q : Place) × IsFirstPut run q message.now (seen deed.now) (seen_all older.now)
+        × WasDone (step.SyncFolder q) (seen_all newer.now)) }
 {
     match put_of(deed, run) {
         Some(put) => {
@@ -94,7 +102,8 @@ fn is_stored(
 
 fn are_stored(own: &[DeedRef], at: usize, run: u128, path: &FilePath, messages: &[&[u8]]) -> bool
     requires { at ≤ count own.now }
-    ensures { IsTrue result ↔ HasStored run path.now (seen_all (take at own.now)) (reverse (map (λ m. m.now) messages.now)) (seen_all (drop at own.now)) }
+    ensures { IsTrue result ↔ HasStored run path.now (seen_all (take at own.now))
+        (reverse (map (λ m. m.now) messages.now)) (seen_all (drop at own.now)) }
 {
     let (newer, rest) = own.split_at(at);
     let Some((last, before)) = messages.split_last() else {
@@ -120,7 +129,11 @@ fn is_drop_stored(
     path: &FilePath,
     bytes: &[u8],
 ) -> Result<bool, AllocError>
-    ensures { IfOk result (λ b. IsTrue b ↔ ((is_drop bytes.now ≡ true) × HasStored run path.now [] (reverse (messages_of bytes.now)) (seen_all own.now))) }
+    ensures { IfOk result
+        (λ b.
+        IsTrue b ↔
+        ((is_drop bytes.now ≡ true)
+        × HasStored run path.now [] (reverse (messages_of bytes.now)) (seen_all own.now))) }
 {
     match MailDrop::cut(bytes) {
         Ok(mail) => {
@@ -133,7 +146,9 @@ fn is_drop_stored(
 
 /// Whether the bytes are as many as the run was told that the file has.
 fn is_whole(own: &[DeedRef], path: &FilePath, bytes: &Bytes, length: u64) -> bool
-    ensures { IsTrue result ↔ ((count bytes.now ≡ length) × Once (λ d older. (piece : List ℕ) × IsPiece path.now 0 piece length d) (seen_all own.now)) }
+    ensures { IsTrue result ↔
+        ((count bytes.now ≡ length)
+        × Once (λ d older. (piece : List ℕ) × IsPiece path.now 0 piece length d) (seen_all own.now)) }
 {
     bytes.len() as u64 == length && was_told(own, path, length)
 }

@@ -65,7 +65,9 @@ impl<'a> DeedRef<'a> {
 
     /// The bytes of the new file.
     pub fn creates(&self, place: &Place, name: &Name) -> Option<&'a Bytes>
-        ensures { MatchOption result ((bytes : List ℕ) → seen self.now ≢ did (step.Create place.now name.now bytes) answer.Done) (λ bytes. seen self.now ≡ did (step.Create place.now name.now bytes.now) answer.Done) }
+        ensures { MatchOption result
+            ((bytes : List ℕ) → seen self.now ≢ did (step.Create place.now name.now bytes) answer.Done)
+            (λ bytes. seen self.now ≡ did (step.Create place.now name.now bytes.now) answer.Done) }
     {
         match self.step {
             Step::Create(at, file, bytes) if at.same(place) && file.same(name) && self.is_done() =>
@@ -94,7 +96,8 @@ impl<'a> DeedRef<'a> {
 
     /// The second name.
     pub fn links(&self, place: &Place, from: &Name) -> Option<&'a Name>
-        ensures { MatchOption result ((to : List ℕ) → seen self.now ≢ did (step.Link place.now from.now to) answer.Done) (λ to. seen self.now ≡ did (step.Link place.now from.now to.now) answer.Done) }
+        ensures { MatchOption result ((to : List ℕ) → seen self.now ≢ did (step.Link place.now from.now to) answer.Done)
+            (λ to. seen self.now ≡ did (step.Link place.now from.now to.now) answer.Done) }
     {
         match self.step {
             Step::Link(at, old, new) if at.same(place) && old.same(from) && self.is_done() => {
@@ -106,7 +109,9 @@ impl<'a> DeedRef<'a> {
 
     /// The old name.
     pub fn renames(&self, place: &Place, to: &Name) -> Option<&'a Name>
-        ensures { MatchOption result ((from : List ℕ) → seen self.now ≢ did (step.Rename place.now from to.now) answer.Done) (λ from. seen self.now ≡ did (step.Rename place.now from.now to.now) answer.Done) }
+        ensures { MatchOption result
+            ((from : List ℕ) → seen self.now ≢ did (step.Rename place.now from to.now) answer.Done)
+            (λ from. seen self.now ≡ did (step.Rename place.now from.now to.now) answer.Done) }
     {
         match self.step {
             Step::Rename(at, old, new) if at.same(place) && new.same(to) && self.is_done() => {

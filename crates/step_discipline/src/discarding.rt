@@ -19,7 +19,9 @@ fn is_taken_and_read(
     place: &Place,
     held: &Name,
 ) -> bool
-    ensures { IsTrue result ↔ (((bytes : List ℕ) × IsRead place.now held.now bytes (seen deed.now)) × WasTaken run place.now held.now (seen_all older.now)) }
+    ensures { IsTrue result ↔
+        (((bytes : List ℕ) × IsRead place.now held.now bytes (seen deed.now))
+        × WasTaken run place.now held.now (seen_all older.now)) }
 {
     is_read(deed, place, held) && was_taken(older, run, place, held)
 }
@@ -48,7 +50,8 @@ fn is_succeeded(newer: &[DeedRef], deed: &DeedRef, run: u128, place: &Place, hel
 
 fn are_succeeded(own: &[DeedRef], at: usize, run: u128, place: &Place, held: &Name) -> bool
     requires { at ≤ length own.now }
-    ensures { IsTrue result ↔ Walks (λ newer d older. IsSucceeded run place.now held.now newer d) (seen_all (take at own.now)) (seen_all (drop at own.now)) }
+    ensures { IsTrue result ↔ Walks (λ newer d older. IsSucceeded run place.now held.now newer d)
+        (seen_all (take at own.now)) (seen_all (drop at own.now)) }
 {
     let (newer, rest) = own.split_at(at);
     match rest.split_first() {
@@ -69,7 +72,8 @@ fn is_successor_synced(
     place: &Place,
     held: &Name,
 ) -> bool
-    ensures { IsTrue result ↔ IsSuccessorSynced run place.now held.now (seen_all newer.now) (seen deed.now) (seen_all older.now) }
+    ensures { IsTrue result ↔ IsSuccessorSynced run place.now held.now (seen_all newer.now) (seen deed.now)
+        (seen_all older.now) }
 {
     match put_of(deed, run) {
         Some(put) => {
@@ -81,7 +85,8 @@ fn is_successor_synced(
 
 fn are_synced(own: &[DeedRef], at: usize, run: u128, place: &Place, held: &Name) -> bool
     requires { at ≤ length own.now }
-    ensures { IsTrue result ↔ Walks (IsSuccessorSynced run place.now held.now) (seen_all (take at own.now)) (seen_all (drop at own.now)) }
+    ensures { IsTrue result ↔ Walks (IsSuccessorSynced run place.now held.now) (seen_all (take at own.now))
+        (seen_all (drop at own.now)) }
 {
     let (newer, rest) = own.split_at(at);
     match rest.split_first() {
@@ -94,13 +99,17 @@ fn are_synced(own: &[DeedRef], at: usize, run: u128, place: &Place, held: &Name)
 }
 
 fn is_kept_back(own: &[DeedRef], run: u128, place: &Place, held: &Name) -> bool
-    ensures { IsTrue result ↔ ((WasGivenAway place.now held.now (seen_all own.now) → ⊥) × WasTakenAndRead run place.now held.now (seen_all own.now)) }
+    ensures { IsTrue result ↔
+        ((WasGivenAway place.now held.now (seen_all own.now) → ⊥)
+        × WasTakenAndRead run place.now held.now (seen_all own.now)) }
 {
     !was_given_away(own, place, held) && was_taken_and_read(own, run, place, held)
 }
 
 fn stands_elsewhere(own: &[DeedRef], run: u128, place: &Place, held: &Name) -> bool
-    ensures { IsTrue result ↔ (Walks (λ newer d older. IsSucceeded run place.now held.now newer d) [] (seen_all own.now) × Walks (IsSuccessorSynced run place.now held.now) [] (seen_all own.now)) }
+    ensures { IsTrue result ↔
+        (Walks (λ newer d older. IsSucceeded run place.now held.now newer d) [] (seen_all own.now)
+        × Walks (IsSuccessorSynced run place.now held.now) [] (seen_all own.now)) }
 {
     are_succeeded(own, 0, run, place, held) && are_synced(own, 0, run, place, held)
 }

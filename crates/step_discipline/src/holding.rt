@@ -34,7 +34,9 @@ pub fn was_renamed(own: &[DeedRef], place: &Place, from: &Name, to: &Name) -> bo
 }
 
 fn is_taken(deed: &DeedRef, run: u128, place: &Place, held: &Name) -> bool
-    ensures { IsTrue result ↔ ((number : List ℕ) × (seen deed.now ≡ did (step.Rename place.now number held.now) answer.Done) × (named.is_taking run (kind_of number) (kind_of held.now) ≡ true)) }
+    ensures { IsTrue result ↔
+        ((number : List ℕ) × (seen deed.now ≡ did (step.Rename place.now number held.now) answer.Done)
+        × (named.is_taking run (kind_of number) (kind_of held.now) ≡ true)) }
 {
     match deed.renames(place, held) {
         Some(number) => is_taking(run, number, held),
@@ -54,7 +56,9 @@ pub fn was_taken(own: &[DeedRef], run: u128, place: &Place, held: &Name) -> bool
 }
 
 fn is_given(deed: &DeedRef, place: &Place, held: &Name) -> bool
-    ensures { IsTrue result ↔ ((number : List ℕ) × (seen deed.now ≡ did (step.Link place.now held.now number) answer.Done) × (named.is_number (kind_of number) ≡ true)) }
+    ensures { IsTrue result ↔
+        ((number : List ℕ) × (seen deed.now ≡ did (step.Link place.now held.now number) answer.Done)
+        × (named.is_number (kind_of number) ≡ true)) }
 {
     match deed.links(place, held) {
         Some(number) => is_number(number),
@@ -72,7 +76,9 @@ fn was_given(own: &[DeedRef], place: &Place, held: &Name) -> bool
 }
 
 fn is_given_away(deed: &DeedRef, older: &[DeedRef], place: &Place, held: &Name) -> bool
-    ensures { IsTrue result ↔ ((seen deed.now ≡ did (step.SyncFolder place.now) answer.Done) × WasGiven place.now held.now (seen_all older.now)) }
+    ensures { IsTrue result ↔
+        ((seen deed.now ≡ did (step.SyncFolder place.now) answer.Done)
+        × WasGiven place.now held.now (seen_all older.now)) }
 {
     deed.syncs_folder(place) && was_given(older, place, held)
 }

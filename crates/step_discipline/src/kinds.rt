@@ -48,7 +48,9 @@ fn may_store(own: &[DeedRef], run: u128, place: &Place, temp: &Name, name: &Name
 }
 
 pub fn may_link(own: &[DeedRef], run: u128, place: &Place, from: &Name, to: &Name) -> bool
-    ensures { IsTrue result ↔ (MayPut run place.now from.now to.now (seen_all own.now) ⊎ (MayGive place.now from.now to.now ⊎ MayStore run place.now from.now to.now (seen_all own.now))) }
+    ensures { IsTrue result ↔
+        (MayPut run place.now from.now to.now (seen_all own.now)
+        ⊎ (MayGive place.now from.now to.now ⊎ MayStore run place.now from.now to.now (seen_all own.now))) }
 {
     may_put(own, run, place, from, to)
         || may_give(place, from, to)
@@ -80,13 +82,16 @@ fn may_set_aside(place: &Place, name: &Name, old: &Name) -> bool
 }
 
 fn may_move(own: &[DeedRef], run: u128, place: &Place, from: &Name, to: &Name) -> bool
-    ensures { IsTrue result ↔ (MayTake run place.now from.now to.now (seen_all own.now) ⊎ MayBackUp place.now from.now to.now) }
+    ensures { IsTrue result ↔
+        (MayTake run place.now from.now to.now (seen_all own.now) ⊎ MayBackUp place.now from.now to.now) }
 {
     may_take(own, run, place, from, to) || may_back_up(place, from, to)
 }
 
 fn may_replace(own: &[DeedRef], run: u128, place: &Place, from: &Name, to: &Name) -> bool
-    ensures { IsTrue result ↔ (MayCommit run place.now from.now to.now (seen_all own.now) ⊎ (MayStore run place.now from.now to.now (seen_all own.now) ⊎ MaySetAside place.now from.now to.now)) }
+    ensures { IsTrue result ↔
+        (MayCommit run place.now from.now to.now (seen_all own.now)
+        ⊎ (MayStore run place.now from.now to.now (seen_all own.now) ⊎ MaySetAside place.now from.now to.now)) }
 {
     may_commit(own, run, place, from, to)
         || may_store(own, run, place, from, to)
@@ -94,7 +99,11 @@ fn may_replace(own: &[DeedRef], run: u128, place: &Place, from: &Name, to: &Name
 }
 
 pub fn may_rename(own: &[DeedRef], run: u128, place: &Place, from: &Name, to: &Name) -> bool
-    ensures { IsTrue result ↔ ((MayTake run place.now from.now to.now (seen_all own.now) ⊎ MayBackUp place.now from.now to.now) ⊎ (MayCommit run place.now from.now to.now (seen_all own.now) ⊎ (MayStore run place.now from.now to.now (seen_all own.now) ⊎ MaySetAside place.now from.now to.now))) }
+    ensures { IsTrue result ↔
+        ((MayTake run place.now from.now to.now (seen_all own.now) ⊎ MayBackUp place.now from.now to.now)
+        ⊎ (MayCommit run place.now from.now to.now (seen_all own.now)
+        ⊎ (MayStore run place.now from.now to.now (seen_all own.now)
+        ⊎ MaySetAside place.now from.now to.now))) }
 {
     may_move(own, run, place, from, to) || may_replace(own, run, place, from, to)
 }
@@ -118,13 +127,18 @@ fn may_unhold(own: &[DeedRef], run: u128, place: &Place, held: &Name) -> bool
 }
 
 fn may_let_go(own: &[DeedRef], run: u128, place: &Place, held: &Name) -> bool
-    ensures { IsTrue result ↔ (MayDrop place.now held.now (seen_all own.now) ⊎ MayUnhold run place.now held.now (seen_all own.now)) }
+    ensures { IsTrue result ↔
+        (MayDrop place.now held.now (seen_all own.now) ⊎ MayUnhold run place.now held.now (seen_all own.now)) }
 {
     may_drop(own, place, held) || may_unhold(own, run, place, held)
 }
 
 pub fn may_unlink(own: &[DeedRef], run: u128, place: &Place, name: &Name) -> bool
-    ensures { IsTrue result ↔ ((named.is_temp (kind_of name.now) ≡ true) ⊎ (MayRemove place.now name.now ⊎ (MayDrop place.now name.now (seen_all own.now) ⊎ MayUnhold run place.now name.now (seen_all own.now)))) }
+    ensures { IsTrue result ↔
+        ((named.is_temp (kind_of name.now) ≡ true)
+        ⊎ (MayRemove place.now name.now
+        ⊎ (MayDrop place.now name.now (seen_all own.now)
+        ⊎ MayUnhold run place.now name.now (seen_all own.now)))) }
 {
     is_temp(name) || may_remove(place, name) || may_let_go(own, run, place, name)
 }

@@ -20,7 +20,8 @@ pub struct PieceRef<'a> {
 
 impl<'a> DeedRef<'a> {
     fn content(&self) -> Option<&'a Bytes>
-        ensures { MatchOption result ((bytes : List ℕ) → (seen self.now).answer ≢ answer.Content bytes) (λ bytes. (seen self.now).answer ≡ answer.Content bytes.now) }
+        ensures { MatchOption result ((bytes : List ℕ) → (seen self.now).answer ≢ answer.Content bytes)
+            (λ bytes. (seen self.now).answer ≡ answer.Content bytes.now) }
     {
         match self.answer {
             Answer::Content(bytes) => Some(bytes),
@@ -36,7 +37,8 @@ impl<'a> DeedRef<'a> {
 
     /// The bytes that the file of this name had.
     pub fn reads(&self, place: &Place, name: &Name) -> Option<&'a Bytes>
-        ensures { MatchOption result ((bytes : List ℕ) → IsRead place.now name.now bytes (seen self.now) → ⊥) (λ bytes. IsRead place.now name.now bytes.now (seen self.now)) }
+        ensures { MatchOption result ((bytes : List ℕ) → IsRead place.now name.now bytes (seen self.now) → ⊥)
+            (λ bytes. IsRead place.now name.now bytes.now (seen self.now)) }
     {
         match self.step {
             Step::Read(at, file, _) if at.same(place) && file.same(name) => self.content(),
@@ -45,7 +47,8 @@ impl<'a> DeedRef<'a> {
     }
 
     pub fn misses(&self, place: &Place, name: &Name) -> bool
-        ensures { IsTrue result ↔ ((limit : ℕ) × (seen self.now ≡ did (step.Read place.now name.now limit) answer.Gone)) }
+        ensures { IsTrue result ↔
+            ((limit : ℕ) × (seen self.now ≡ did (step.Read place.now name.now limit) answer.Gone)) }
     {
         match self.step {
             Step::Read(at, file, _) => at.same(place) && file.same(name) && self.is_gone(),
@@ -55,7 +58,8 @@ impl<'a> DeedRef<'a> {
 
     /// Whether a piece of this file was asked for.
     pub fn asks_piece(&self, path: &FilePath) -> bool
-        ensures { MatchBool result ((from : ℕ) × (most : ℕ) × ((seen self.now).step ≡ step.ReadDrop path.now from most)) (IsNoPiece path.now (seen self.now)) }
+        ensures { MatchBool result ((from : ℕ) × (most : ℕ) × ((seen self.now).step ≡ step.ReadDrop path.now from most))
+            (IsNoPiece path.now (seen self.now)) }
     {
         match self.step {
             Step::ReadDrop { path: at, .. } => at.same(path),
@@ -65,7 +69,8 @@ impl<'a> DeedRef<'a> {
 
     /// Whether a piece of this file from its front on was asked for.
     pub fn asks_first(&self, path: &FilePath) -> bool
-        ensures { MatchBool result ((most : ℕ) × ((seen self.now).step ≡ step.ReadDrop path.now 0 most)) (IsNoFirst path.now (seen self.now)) }
+        ensures { MatchBool result ((most : ℕ) × ((seen self.now).step ≡ step.ReadDrop path.now 0 most))
+            (IsNoFirst path.now (seen self.now)) }
     {
         match self.step {
             Step::ReadDrop { path: at, from, .. } => *from == 0 && at.same(path),
@@ -74,7 +79,9 @@ impl<'a> DeedRef<'a> {
     }
 
     pub fn piece(&self, path: &FilePath) -> Option<PieceRef<'a>>
-        ensures { MatchOption result ((from length_ : ℕ) (bytes : List ℕ) → IsPiece path.now from bytes length_ (seen self.now) → ⊥) (λ p. IsPiece path.now p.from p.bytes.now p.length (seen self.now)) }
+        ensures { MatchOption result
+            ((from length_ : ℕ) (bytes : List ℕ) → IsPiece path.now from bytes length_ (seen self.now) → ⊥)
+            (λ p. IsPiece path.now p.from p.bytes.now p.length (seen self.now)) }
     {
         match (self.step, self.answer) {
             (Step::ReadDrop { path: at, from, .. }, Answer::Piece { bytes, length })

@@ -20,7 +20,8 @@ pub fn has_failed(own: &[DeedRef]) -> bool
 }
 
 fn is_made(deed: &DeedRef, place: &Place, name: &Name) -> bool
-    ensures { IsTrue result ↔ ((bytes : List ℕ) × (seen deed.now ≡ did (step.Create place.now name.now bytes) answer.Done)) }
+    ensures { IsTrue result ↔
+        ((bytes : List ℕ) × (seen deed.now ≡ did (step.Create place.now name.now bytes) answer.Done)) }
 {
     match deed.creates(place, name) {
         Some(_) => true,
@@ -39,7 +40,9 @@ pub fn was_made(own: &[DeedRef], place: &Place, name: &Name) -> bool
 }
 
 fn is_synced(deed: &DeedRef, older: &[DeedRef], place: &Place, name: &Name) -> bool
-    ensures { IsTrue result ↔ ((seen deed.now ≡ did (step.SyncFile place.now name.now) answer.Done) × WasMade place.now name.now (seen_all older.now)) }
+    ensures { IsTrue result ↔
+        ((seen deed.now ≡ did (step.SyncFile place.now name.now) answer.Done)
+        × WasMade place.now name.now (seen_all older.now)) }
 {
     deed.syncs_file(place, name) && was_made(older, place, name)
 }
@@ -82,7 +85,9 @@ fn is_ready_with(
     name: &Name,
     bytes: &[u8],
 ) -> bool
-    ensures { IsTrue result ↔ ((seen deed.now ≡ did (step.SyncFile place.now name.now) answer.Done) × WasDone (step.Create place.now name.now bytes.now) (seen_all older.now)) }
+    ensures { IsTrue result ↔
+        ((seen deed.now ≡ did (step.SyncFile place.now name.now) answer.Done)
+        × WasDone (step.Create place.now name.now bytes.now) (seen_all older.now)) }
 {
     deed.syncs_file(place, name) && was_made_with(older, place, name, bytes)
 }

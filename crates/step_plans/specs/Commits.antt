@@ -30,11 +30,15 @@ text_at w p name = text_of w (now_in (w.directories p) name)
 -- the base: what the run's last reading of the name, or its later commit of it, had under the present lock; a missing
 -- file has no bytes
 pub data IsBase (run : ℕ) (p : Place) (name : List ℕ) : List ℕ → List Deed → Type 0 where
-  found : {d : Deed} {older : List Deed} {text : List ℕ} → IsRead p name text d → HasLock p older → IsBase run p name text (d ∷ older)
-  missing : {d : Deed} {older : List Deed} {limit : ℕ} → d ≡ did (Read p name limit) Gone → HasLock p older → IsBase run p name [] (d ∷ older)
-  committed : {d : Deed} {older : List Deed} {temp text : List ℕ} → d ≡ did (Rename p temp name) Done → is_temp_of run (kind_of temp) ≡ true
+  found : {d : Deed} {older : List Deed} {text : List ℕ} → IsRead p name text d → HasLock p older
+      → IsBase run p name text (d ∷ older)
+  missing : {d : Deed} {older : List Deed} {limit : ℕ} → d ≡ did (Read p name limit) Gone → HasLock p older
+      → IsBase run p name [] (d ∷ older)
+  committed : {d : Deed} {older : List Deed} {temp text : List ℕ} → d ≡ did (Rename p temp name) Done
+      → is_temp_of run (kind_of temp) ≡ true
       → WasDone (Create p temp text) older → HasLock p older → IsBase run p name text (d ∷ older)
-  on : {d : Deed} {older : List Deed} {text : List ℕ} → d.step ≢ Unlock p → (IsKnown run p name d → ⊥) → IsBase run p name text older → IsBase run p name text (d ∷ older)
+  on : {d : Deed} {older : List Deed} {text : List ℕ} → d.step ≢ Unlock p → (IsKnown run p name d → ⊥)
+      → IsBase run p name text older → IsBase run p name text (d ∷ older)
 
 -- the event is a commit of this name, tried by whatever run: a rename to it of a name that led to a file
 abbrev pub TriesCommit : World → Place → List ℕ → Event → List Event → Type 0
@@ -46,14 +50,18 @@ TriesCommit start p name (End r) past = ⊥
 
 -- a commit of this text was answered Done, and neither a crash nor another commit of the name has come since
 pub data IsCommitted (start : World) (p : Place) (name text : List ℕ) : List Event → Type 0 where
-  now : {run : ℕ} {temp : List ℕ} {m : After} {past : List Event} → is_temp_of run (kind_of temp) ≡ true → WasDone (Create p temp text) (own run past)
+  now : {run : ℕ} {temp : List ℕ} {m : After} {past : List Event} → is_temp_of run (kind_of temp) ≡ true
+      → WasDone (Create p temp text) (own run past)
       → IsCommitted start p name text (Act run (Rename p temp name) Done m ∷ past)
-  on : {e : Event} {past : List Event} → IsNoCrash e → (TriesCommit start p name e past → ⊥) → IsCommitted start p name text past → IsCommitted start p name text (e ∷ past)
+  on : {e : Event} {past : List Event} → IsNoCrash e → (TriesCommit start p name e past → ⊥)
+      → IsCommitted start p name text past → IsCommitted start p name text (e ∷ past)
 
 -- and then its directory was synced, with the answer Done; no other commit of the name has come since
 pub data IsSettled (start : World) (p : Place) (name text : List ℕ) : List Event → Type 0 where
-  now : {run : ℕ} {m : After} {past : List Event} → IsCommitted start p name text past → IsSettled start p name text (Act run (SyncFolder p) Done m ∷ past)
-  on : {e : Event} {past : List Event} → (TriesCommit start p name e past → ⊥) → IsSettled start p name text past → IsSettled start p name text (e ∷ past)
+  now : {run : ℕ} {m : After} {past : List Event} → IsCommitted start p name text past
+      → IsSettled start p name text (Act run (SyncFolder p) Done m ∷ past)
+  on : {e : Event} {past : List Event} → (TriesCommit start p name e past → ⊥) → IsSettled start p name text past
+      → IsSettled start p name text (e ∷ past)
 
 -- the file has this text in the world, and in each world that a crash may leave of it
 pub record HasTextFirmly (w : WorldMap) (p : Place) (name text : List ℕ) : Type 0 where
@@ -70,4 +78,5 @@ IsNoSync p (End r) = Unit {0}
 -- the file had this text at some moment since its directory was last synced, since the last crash, or since the start
 pub data HadText (start : World) (p : Place) (name text : List ℕ) : List Event → Type 0 where
   now : {past : List Event} → text_at (world_after start past) p name ≡ text → HadText start p name text past
-  on : {e : Event} {past : List Event} → IsNoSync p e → IsNoCrash e → HadText start p name text past → HadText start p name text (e ∷ past)
+  on : {e : Event} {past : List Event} → IsNoSync p e → IsNoCrash e → HadText start p name text past
+      → HadText start p name text (e ∷ past)

@@ -42,7 +42,9 @@ changed (c ∷ cs) es = changed cs (changed_by c.name c.value es)
 
 -- the first changes take the entries of these names away
 abbrev pub AreGoneFirst : List (List ℕ) → List ChangeEntry → Type 0
-AreGoneFirst names cs = (length names ≤ length cs) × ((es : List NamedValue) → changed cs es ≡ changed (drop (length names) cs) (without_all names es))
+AreGoneFirst names cs =
+    (length names ≤ length cs)
+    × ((es : List NamedValue) → changed cs es ≡ changed (drop (length names) cs) (without_all names es))
 
 -- a new value has a field's name and stands on one line
 abbrev pub IsChangeBy : List ℕ → Option (List ℕ) → Type 0
@@ -82,7 +84,9 @@ context_read p = do
 
 -- the text takes the context's place, where it is not too long
 unfoldable pub context_replaced : ℕ → Place → List ℕ → Planned Unit
-context_replaced run p text = if nat_lt LIMIT_BYTES (length text) then Return (Err (fault.TooLarge (length text))) else replaced run p context_name text
+context_replaced run p text =
+    if nat_lt LIMIT_BYTES (length text) then Return (Err (fault.TooLarge (length text)))
+    else replaced run p context_name text
 
 -- under its lock, a mail directory's context becomes what the changes make of it
 unfoldable pub committed : ℕ → Place → List ChangeEntry → Planned Unit

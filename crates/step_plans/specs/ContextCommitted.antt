@@ -39,7 +39,8 @@ ShowsEnd run p cs x y own (fault.TooLarge l) =
 ShowsEnd run p cs x y own fault.Memory = Unit {0}
 
 -- each answer has its cause in the answers to the call's own steps
-pub record CommitIsCaused (run : ℕ) (p : Place) (cs : List ChangeEntry) (x y : State) (result : Result Unit PlanFault) : Type 0 where
+pub record CommitIsCaused (run : ℕ) (p : Place) (cs : List ChangeEntry) (x y : State)
+    (result : Result Unit PlanFault) : Type 0 where
   pub own : List Deed
   pub made : AreMade run x.files.story y.files.story own
   pub done : result ≡ Ok tt → Made IsFailed own → ⊥
@@ -53,14 +54,18 @@ KnowsContext m path h = (es : List NamedValue) → h.context ≡ Some es → es 
 -- the mailbox changed
 abbrev pub IsContextCommitted : Mailbox → Mailbox → List ℕ → List ChangeEntry → Hand → Type 0
 IsContextCommitted before after path cs h =
-    ((settled cs h.context ≡ true) × (after ≡ before)) ⊎ ((settled cs h.context ≡ false) × (after ≡ with_context_text before (Mail path) (text_by cs (filled (before.context (Mail path))))))
+    ((settled cs h.context ≡ true) × (after ≡ before))
+    ⊎ ((settled cs h.context ≡ false)
+    × (after ≡ with_context_text before (Mail path) (text_by cs (filled (before.context (Mail path))))))
 
 -- so of a commit beside which nothing happened
 abbrev pub CommitsAlone : ℕ → List ℕ → List ChangeEntry → Hand → Story → Story → Type 0
 CommitsAlone run path cs h old new =
-    (added : List ℕ) → new.asked ≡ old.asked ++ added → IsStart new.start → IsPossible old → IsAlone run new.start new.history added →
+    (added : List ℕ) → new.asked ≡ old.asked ++ added → IsStart new.start → IsPossible old
+    → IsAlone run new.start new.history added →
     let first = first_of (length old.history) added in
-    KnowsContext (mailbox_at new first) path h → IsContextCommitted (mailbox_at new first) (mailbox_at new (first + length added)) path cs h
+    KnowsContext (mailbox_at new first) path h
+    → IsContextCommitted (mailbox_at new first) (mailbox_at new (first + length added)) path cs h
 
 -- where a story is told
 abbrev pub CommitsAloneIfTold : ℕ → List ℕ → List ChangeEntry → Hand → Option Story → Option Story → Type 0

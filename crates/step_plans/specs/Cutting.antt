@@ -25,8 +25,10 @@ IsCut start f (End r) past = ⊥
 
 -- since the run last asked for a piece of this file from place 0, no run has cut it
 pub data IsUncut (start : World) (run : ℕ) (f : FilePath) : List Event → Type 0 where
-  read : {most : ℕ} {a : Answer} {m : After} {past : List Event} → IsUncut start run f (Act run (ReadDrop f 0 most) a m ∷ past)
-  on : {e : Event} {past : List Event} → (IsCut start f e past → ⊥) → IsUncut start run f past → IsUncut start run f (e ∷ past)
+  read : {most : ℕ} {a : Answer} {m : After} {past : List Event}
+      → IsUncut start run f (Act run (ReadDrop f 0 most) a m ∷ past)
+  on : {e : Event} {past : List Event} → (IsCut start f e past → ⊥) → IsUncut start run f past
+      → IsUncut start run f (e ∷ past)
 
 -- each of these files is durable in some folder, and has the bytes of the message beside it
 abbrev pub AreStoredAs : World → List Event → List ℕ → List (List ℕ) → Type 0

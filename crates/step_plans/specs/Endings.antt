@@ -26,11 +26,15 @@ pub record IsHeld (p : Place) (tries : ℕ) (own : List Deed) : Type 0 where
 
 -- the step is one on the file of this name
 abbrev pub IsOn : Place → List ℕ → Step → Type 0
-IsOn p x s = ((limit : ℕ) × (s ≡ step.Read p x limit)) ⊎ (s ≡ step.SyncFile p x) ⊎ (s ≡ step.Unlink p x) ⊎ ((to : List ℕ) × (s ≡ step.Rename p x to))
+IsOn p x s =
+    ((limit : ℕ) × (s ≡ step.Read p x limit)) ⊎ (s ≡ step.SyncFile p x) ⊎ (s ≡ step.Unlink p x)
+    ⊎ ((to : List ℕ) × (s ≡ step.Rename p x to))
 
 -- the run made the name, or saw it in a listing
 abbrev pub IsMet : Place → List ℕ → Deed → Type 0
-IsMet p x d = ((bytes : List ℕ) × (d ≡ did (step.Create p x bytes) Done)) ⊎ ((names : List (List ℕ)) × (d ≡ did (step.List p) (Names names)) × (has_text x names ≡ true))
+IsMet p x d =
+    ((bytes : List ℕ) × (d ≡ did (step.Create p x bytes) Done))
+    ⊎ ((names : List (List ℕ)) × (d ≡ did (step.List p) (Names names)) × (has_text x names ≡ true))
 
 -- the run took the name away
 abbrev pub IsTakenAway : Place → List ℕ → Deed → Type 0
@@ -56,13 +60,18 @@ pub data IsMeddled (run : ℕ) (p : Place) (x : List ℕ) : List Deed → Type 0
   -- a name that it listed is gone as it clears temporary names
   temp_gone : {older : List Deed} → WasListed p x older → IsMeddled run p x (did (step.Unlink p x) Gone ∷ older)
   -- its fresh name, in a directory that it had locked, is taken, or the directory is gone
-  name_taken : {bytes : List ℕ} {a : Answer} {older : List Deed} → (k : ℕ) → x ≡ temp_name run k → (WasMade p x older → ⊥) → WasDone (step.Lock p) older → (a ≡ Exists) ⊎ (a ≡ Gone) → IsMeddled run p x (did (step.Create p x bytes) a ∷ older)
+  name_taken : {bytes : List ℕ} {a : Answer} {older : List Deed} → (k : ℕ) → x ≡ temp_name run k
+      → (WasMade p x older → ⊥) → WasDone (step.Lock p) older → (a ≡ Exists) ⊎ (a ≡ Gone)
+      → IsMeddled run p x (did (step.Create p x bytes) a ∷ older)
   -- the directory is gone, though the run had made it or found it made
-  lock_gone : {older : List Deed} → x ≡ lock_name → Once (λ d before. d.step ≡ step.MakeFolder p) older → IsMeddled run p x (did (step.Lock p) Gone ∷ older)
+  lock_gone : {older : List Deed} → x ≡ lock_name → Once (λ d before. d.step ≡ step.MakeFolder p) older
+      → IsMeddled run p x (did (step.Lock p) Gone ∷ older)
   -- the directory is gone, though the run had locked it
-  list_gone : {older : List Deed} → x ≡ lock_name → WasDone (step.Lock p) older → IsMeddled run p x (did (step.List p) Gone ∷ older)
+  list_gone : {older : List Deed} → x ≡ lock_name → WasDone (step.Lock p) older
+      → IsMeddled run p x (did (step.List p) Gone ∷ older)
   -- the directory is gone as the run makes safe the name that it last made there
-  sync_gone : {temp : List ℕ} {older : List Deed} → IsMeddled run p x (did (step.SyncFolder p) Gone ∷ (did (step.Rename p temp x) Done ∷ older))
+  sync_gone : {temp : List ℕ} {older : List Deed}
+      → IsMeddled run p x (did (step.SyncFolder p) Gone ∷ (did (step.Rename p temp x) Done ∷ older))
 
 -- the newest step read this name, and the answer was that the file is too long, with this length
 abbrev pub IsLongRead : Place → List ℕ → ℕ → List Deed → Type 0
@@ -70,7 +79,8 @@ IsLongRead p x l own = (older : List Deed) × (own ≡ did (step.Read p x LIMIT_
 
 -- the newest step read the context, which has these entries
 pub data HasRead (p : Place) : List NamedValue → List Deed → Type 0 where
-  entries : {bytes : List ℕ} {older : List Deed} → HasRead p (entries_in bytes) (did (step.Read p context_name LIMIT_BYTES) (Content bytes) ∷ older)
+  entries : {bytes : List ℕ} {older : List Deed}
+      → HasRead p (entries_in bytes) (did (step.Read p context_name LIMIT_BYTES) (Content bytes) ∷ older)
   none : {older : List Deed} → HasRead p [] (did (step.Read p context_name LIMIT_BYTES) Gone ∷ older)
 
 -- the text that the changes make of the context's entries, as they were just read, has this length, and it is above the

@@ -27,14 +27,16 @@ pub record HasSolidName (start : World) (p : Place) (f : ℕ) (past : List Event
 pub record HasFirmAnchor (start : World) (p : Place) (f : ℕ) (past : List Event) : Type 0 where
   pub root : List ℕ
   pub end : List ℕ
-  pub anchor : IsAnchor ((world_after start past).directories p).safe ((world_after start past).directories p).pending f root end
+  pub anchor : IsAnchor ((world_after start past).directories p).safe
+      ((world_after start past).directories p).pending f root end
   pub standing : is_standing end ≡ true
   pub unclear : IsClear start p end past → ⊥
 
 -- of folders and the mail directory
 pub record MailInvariant (start : World) (past : List Event) : Type 0 where
   -- a temporary or held name has led to one file only
-  pub one_file : (p : Place) (x : List ℕ) (f g : ℕ) → IsLockable p → is_own x ≡ true → HasLed start p x f past → HasLed start p x g past → f ≡ g
+  pub one_file : (p : Place) (x : List ℕ) (f g : ℕ) → IsLockable p → is_own x ≡ true → HasLed start p x f past
+      → HasLed start p x g past → f ≡ g
   -- and was made at most once
   pub made_once : (p : Place) (x : List ℕ) → IsLockable p → is_own x ≡ true → IsMadeOnce start p x past
   -- a file that was put since the last crash, or is durable, is safe and has its bytes
@@ -46,11 +48,14 @@ pub record MailInvariant (start : World) (past : List Event) : Type 0 where
       → (((world_after start past).files f).safe ≡ true) × (((world_after start past).files f).bytes ≡ bytes)
   -- a file that was put since the last crash, or is durable, was removed or discarded, or it has a solid name in its
   -- directory
-  pub solid : (p : Place) (f : ℕ) (bytes : List ℕ) → WasPut start p f bytes past ⊎ IsDurable start p f bytes past → HasSolidName start p f past ⊎ IsLetGo start p f past
+  pub solid : (p : Place) (f : ℕ) (bytes : List ℕ) → WasPut start p f bytes past ⊎ IsDurable start p f bytes past
+      → HasSolidName start p f past ⊎ IsLetGo start p f past
   -- a durable file was removed or discarded, or it has an anchor whose end is a number or a held name that isn't clear
-  pub anchored : (p : Place) (f : ℕ) (bytes : List ℕ) → IsDurable start p f bytes past → HasFirmAnchor start p f past ⊎ IsLetGo start p f past
+  pub anchored : (p : Place) (f : ℕ) (bytes : List ℕ) → IsDurable start p f bytes past
+      → HasFirmAnchor start p f past ⊎ IsLetGo start p f past
   -- a discarded file has a successor
   pub succeeded : (p : Place) (f : ℕ) → IsLockable p → IsDiscarded start p f past
       → (q : Place) × (g : ℕ) × (bytes : List ℕ) × (copy : List ℕ) × IsSuccessor start p f q g bytes copy past
   -- each successor of a discarded file is durable
-  pub successors : (p : Place) (f : ℕ) (q : Place) (g : ℕ) (bytes copy : List ℕ) → IsLockable p → IsSuccessor start p f q g bytes copy past → IsDurable start q g copy past
+  pub successors : (p : Place) (f : ℕ) (q : Place) (g : ℕ) (bytes copy : List ℕ) → IsLockable p
+      → IsSuccessor start p f q g bytes copy past → IsDurable start q g copy past

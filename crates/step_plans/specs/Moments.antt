@@ -23,7 +23,8 @@ pub data HasLed (start : World) (p : Place) (x : List ℕ) (f : ℕ) : List Even
 -- the step ended the run, right before that crash
 pub data IsTriedAt (start : World) (run : ℕ) : List Event → List Event → Type 0 where
   live : {past : List Event} → IsLive run (world_after start past) → IsTriedAt start run past past
-  cut : {v : World} {past : List Event} → (shown v).ended run ≡ true → IsLive run (world_after start past) → IsTriedAt start run past (Crash v ∷ past)
+  cut : {v : World} {past : List Event} → (shown v).ended run ≡ true → IsLive run (world_after start past)
+      → IsTriedAt start run past (Crash v ∷ past)
 
 -- the name led to the file at the moment at which the run tried the step that comes after these events
 abbrev pub Tries : World → ℕ → Place → List ℕ → ℕ → List Event → Type 0
@@ -38,7 +39,8 @@ WouldMake w run s p x =
 abbrev pub IsMadeOnce : World → Place → List ℕ → List Event → Type 0
 IsMadeOnce start p x [] = Unit {0}
 IsMadeOnce start p x (Act run s a m ∷ past) =
-    ((moment : List Event) → IsTriedAt start run moment past → WouldMake (world_after start moment) run s p x → (f : ℕ) → HasLed start p x f moment → ⊥)
+    ((moment : List Event) → IsTriedAt start run moment past → WouldMake (world_after start moment) run s p x → (f : ℕ)
+    → HasLed start p x f moment → ⊥)
     × IsMadeOnce start p x past
 IsMadeOnce start p x (Deliver path piece ∷ past) = IsMadeOnce start p x past
 IsMadeOnce start p x (Crash v ∷ past) = IsMadeOnce start p x past

@@ -35,10 +35,13 @@ IsTrueSuccessor start past bytes q g copy = IsDurable start q g copy past × Ann
 -- successors is a true one and meets this again. By its making, the chain of successors ends
 pub data IsKept (start : World) (past : List Event) : Place → ℕ → List ℕ → Type 0 where
   removed : {p : Place} {f : ℕ} {bytes : List ℕ} → IsRemoved start p f past → IsKept start past p f bytes
-  stands : {p : Place} {f : ℕ} {bytes : List ℕ} → StandsFirm (world_after start past) p f bytes → IsKept start past p f bytes
+  stands : {p : Place} {f : ℕ} {bytes : List ℕ} → StandsFirm (world_after start past) p f bytes
+      → IsKept start past p f bytes
   discarded : {p : Place} {f : ℕ} {bytes : List ℕ} → IsDiscarded start p f past → HasSuccessor start past p f bytes
-      → ((q : Place) (g : ℕ) (read copy : List ℕ) → IsSuccessor start p f q g read copy past → IsTrueSuccessor start past bytes q g copy)
-      → ((q : Place) (g : ℕ) (read copy : List ℕ) → IsSuccessor start p f q g read copy past → IsKept start past q g copy)
+      → ((q : Place) (g : ℕ) (read copy : List ℕ) → IsSuccessor start p f q g read copy past
+      → IsTrueSuccessor start past bytes q g copy)
+      → ((q : Place) (g : ℕ) (read copy : List ℕ) → IsSuccessor start p f q g read copy past
+      → IsKept start past q g copy)
       → IsKept start past p f bytes
 
 -- each durable file is kept

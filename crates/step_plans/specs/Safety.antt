@@ -39,7 +39,9 @@ OthersAreOrderly run past = AtSteps (λ r. r ≢ run) (λ r own s. IsOrderly own
 -- a number of a folder or a mail directory that led to a file before the event, and leads to one after it, leads to the
 -- same
 abbrev pub TakesNone : World → Event → List Event → Type 0
-TakesNone start e past = (p : Place) → IsLockable p → (number : List ℕ) (f g : ℕ) → is_number (kind_of number) ≡ true → Leads start past p number f → Leads start (e ∷ past) p number g → f ≡ g
+TakesNone start e past =
+    (p : Place) → IsLockable p → (number : List ℕ) (f g : ℕ) → is_number (kind_of number) ≡ true
+    → Leads start past p number f → Leads start (e ∷ past) p number g → f ≡ g
 
 -- no step of these events made a number that led to a file lead to another
 abbrev pub TakesNoNumber : World → List Event → Type 0
@@ -101,8 +103,10 @@ StaysSafe run (Some old) None = ⊥
 -- where this step commits a name, it writes what the command makes of the text that the file has when the step is tried
 abbrev pub ReplacesText : Pledge → World → Step → List Event → Type 0
 ReplacesText w start s past =
-    (p : Place) (temp name : List ℕ) → s ≡ Rename p temp name → is_committed p name ≡ true → (moment : List Event) → IsTriedAt start w.run moment past
-    → (new : List ℕ) × WasDone (Create p temp new) (own w.run past) × w.may_mark (own w.run past) p name (text_at (world_after start moment) p name) new
+    (p : Place) (temp name : List ℕ) → s ≡ Rename p temp name → is_committed p name ≡ true → (moment : List Event)
+    → IsTriedAt start w.run moment past
+    → (new : List ℕ) × WasDone (Create p temp new) (own w.run past)
+    × w.may_mark (own w.run past) p name (text_at (world_after start moment) p name) new
 
 -- each own step does
 abbrev pub CommitsItsMarks : Pledge → World → List Event → Type 0

@@ -15,11 +15,14 @@ use Rattle.step_plans.specs.Moments.{Leads, IsNoCrash}
 
 -- a held name is spent: since the last crash its file was given a free number
 pub data IsSpent (start : World) (p : Place) (held : List ℕ) : List Event → Type 0 where
-  now : {run f : ℕ} {number : List ℕ} {a : Answer} {past : List Event} → is_held (kind_of held) ≡ true → is_number (kind_of number) ≡ true
-      → Leads start past p held f → now_in ((world_after start past).directories p) number ≡ None → IsSpent start p held (Act run (Link p held number) a Made ∷ past)
+  now : {run f : ℕ} {number : List ℕ} {a : Answer} {past : List Event} → is_held (kind_of held) ≡ true
+      → is_number (kind_of number) ≡ true
+      → Leads start past p held f → now_in ((world_after start past).directories p) number ≡ None
+      → IsSpent start p held (Act run (Link p held number) a Made ∷ past)
   on : {e : Event} {past : List Event} → IsNoCrash e → IsSpent start p held past → IsSpent start p held (e ∷ past)
 
 -- a held name is clear: it was spent, and then its folder was synced, since the last crash
 pub data IsClear (start : World) (p : Place) (held : List ℕ) : List Event → Type 0 where
-  now : {run : ℕ} {a : Answer} {past : List Event} → IsSpent start p held past → IsClear start p held (Act run (SyncFolder p) a Made ∷ past)
+  now : {run : ℕ} {a : Answer} {past : List Event} → IsSpent start p held past
+      → IsClear start p held (Act run (SyncFolder p) a Made ∷ past)
   on : {e : Event} {past : List Event} → IsNoCrash e → IsClear start p held past → IsClear start p held (e ∷ past)

@@ -28,16 +28,23 @@ HasMadeSince p held bytes q temp copy own =
 
 -- the run put the file g into the folder q with the answer Done; it had made it of these bytes after it read the held
 -- file
-pub data WasPutSince (start : World) (run : ℕ) (p : Place) (held bytes : List ℕ) (q : Place) (g : ℕ) (copy : List ℕ) : List Event → Type 0 where
-  now : {temp number : List ℕ} {m : After} {past : List Event} → is_folder q ≡ true → is_temp_of run (kind_of temp) ≡ true → is_number (kind_of number) ≡ true
+pub data WasPutSince (start : World) (run : ℕ) (p : Place) (held bytes : List ℕ) (q : Place) (g : ℕ)
+    (copy : List ℕ) : List Event → Type 0 where
+  now : {temp number : List ℕ} {m : After} {past : List Event} → is_folder q ≡ true
+      → is_temp_of run (kind_of temp) ≡ true → is_number (kind_of number) ≡ true
       → HasMadeSince p held bytes q temp copy (own run past) → Leads start past q temp g
       → WasPutSince start run p held bytes q g copy (Act run (Link q temp number) Done m ∷ past)
-  on : {e : Event} {past : List Event} → WasPutSince start run p held bytes q g copy past → WasPutSince start run p held bytes q g copy (e ∷ past)
+  on : {e : Event} {past : List Event} → WasPutSince start run p held bytes q g copy past
+      → WasPutSince start run p held bytes q g copy (e ∷ past)
 
 -- the file f of p was discarded by a run that had read it as these bytes; g in q, of the bytes of the copy, is what
 -- that run put in its place: what it had read, or lines and then that
-pub data IsSuccessor (start : World) (p : Place) (f : ℕ) (q : Place) (g : ℕ) (bytes copy : List ℕ) : List Event → Type 0 where
-  now : {run : ℕ} {held : List ℕ} {a : Answer} {m : After} {past : List Event} → is_held_of run (kind_of held) ≡ true → Tries start run p held f past
-      → (WasGivenAway p held (own run past) → ⊥) → Annotates bytes copy → WasPutSince start run p held bytes q g copy past
+pub data IsSuccessor (start : World) (p : Place) (f : ℕ) (q : Place) (g : ℕ) (bytes copy : List ℕ) : List Event
+    → Type 0 where
+  now : {run : ℕ} {held : List ℕ} {a : Answer} {m : After} {past : List Event} → is_held_of run (kind_of held) ≡ true
+      → Tries start run p held f past
+      → (WasGivenAway p held (own run past) → ⊥) → Annotates bytes copy
+      → WasPutSince start run p held bytes q g copy past
       → IsSuccessor start p f q g bytes copy (Act run (Unlink p held) a m ∷ past)
-  on : {e : Event} {past : List Event} → IsSuccessor start p f q g bytes copy past → IsSuccessor start p f q g bytes copy (e ∷ past)
+  on : {e : Event} {past : List Event} → IsSuccessor start p f q g bytes copy past
+      → IsSuccessor start p f q g bytes copy (e ∷ past)

@@ -22,7 +22,9 @@ pub fn unlink<F: Files>(
     place: &Place,
     name: &Name,
 ) -> Result<(), PlanFault>
-    ensures { (h : Hand) → Follows run plan_cause (removed place.now name.now) (by_hand h (F.state files.old)) (by_hand h (F.state files.new)) result }
+    ensures { (h : Hand)
+        → Follows run plan_cause (removed place.now name.now) (by_hand h (F.state files.old))
+        (by_hand h (F.state files.new)) result }
 {
     let touched = ask_unlink(alloc, run, files, place, name)?;
     hold_to(alloc, place, name, touched)
@@ -45,7 +47,9 @@ fn clear_one<F: Files>(
     place: &Place,
     name: &Name,
 ) -> Result<(), PlanFault>
-    ensures { (h : Hand) → Follows run plan_cause (cleared_one place.now name.now) (by_hand h (F.state files.old)) (by_hand h (F.state files.new)) result }
+    ensures { (h : Hand)
+        → Follows run plan_cause (cleared_one place.now name.now) (by_hand h (F.state files.old))
+        (by_hand h (F.state files.new)) result }
 {
     if is_temp(name) {
         unlink(alloc, run, files, place, name)
@@ -62,7 +66,9 @@ pub fn clear<F: Files>(
     place: &Place,
     names: &[Name],
 ) -> Result<(), PlanFault>
-    ensures { (h : Hand) → Follows run plan_cause (cleared place.now names.now) (by_hand h (F.state files.old)) (by_hand h (F.state files.new)) result }
+    ensures { (h : Hand)
+        → Follows run plan_cause (cleared place.now names.now) (by_hand h (F.state files.old))
+        (by_hand h (F.state files.new)) result }
 {
     for name in names {
         clear_one(alloc, run, files, place, name)?;
@@ -77,7 +83,9 @@ fn clear_listed<F: Files>(
     place: &Place,
     listing: Listing,
 ) -> Result<(), PlanFault>
-    ensures { (h : Hand) → Follows run plan_cause (clear_listed_plan place.now listing) (by_hand h (F.state files.old)) (by_hand h (F.state files.new)) result }
+    ensures { (h : Hand)
+        → Follows run plan_cause (clear_listed_plan place.now listing) (by_hand h (F.state files.old))
+        (by_hand h (F.state files.new)) result }
 {
     match listing {
         Listing::Names(names) => clear(alloc, run, files, place, names.as_slice()),
@@ -92,7 +100,9 @@ pub fn clear_temps<F: Files>(
     files: &mut F,
     place: &Place,
 ) -> Result<(), PlanFault>
-    ensures { (h : Hand) → Follows run plan_cause (temps_cleared place.now) (by_hand h (F.state files.old)) (by_hand h (F.state files.new)) result }
+    ensures { (h : Hand)
+        → Follows run plan_cause (temps_cleared place.now) (by_hand h (F.state files.old))
+        (by_hand h (F.state files.new)) result }
 {
     let listing = ask_list(alloc, run, files, place)?;
     clear_listed(alloc, run, files, place, listing)

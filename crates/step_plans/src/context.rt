@@ -59,7 +59,9 @@ pub fn read_context<F: Files>(
     files: &mut F,
     place: &Place,
 ) -> Result<Entries, PlanFault>
-    ensures { (h : KeptValue) → Follows run plan_cause (context_read place.now) (by_hand h (F.state files.old)) (by_hand h (F.state files.new)) result }
+    ensures { (h : KeptValue)
+        → Follows run plan_cause (context_read place.now) (by_hand h (F.state files.old))
+        (by_hand h (F.state files.new)) result }
 {
     let name = context_file(alloc)?;
     let reading = ask_read(alloc, run, files, place, &name, LIMIT)?;
@@ -75,7 +77,8 @@ fn replace_context<F: Files>(
     place: &Place,
     text: &mut Bytes,
 ) -> Result<(), PlanFault>
-    ensures { Follows run plan_cause (context_replaced run place.now text.old) (by_hand kept.old (F.state files.old)) (by_hand kept.new (F.state files.new)) result }
+    ensures { Follows run plan_cause (context_replaced run place.now text.old) (by_hand kept.old (F.state files.old))
+        (by_hand kept.new (F.state files.new)) result }
 {
     let length = text.len() as u64;
     if LIMIT < length {
@@ -95,7 +98,8 @@ fn commit<F: Files>(
     changes: &[ChangeEntry],
 ) -> Result<(), PlanFault>
     requires { AreChanges changes.now }
-    ensures { Follows run plan_cause (committed run place.now changes.now) (by_hand kept.old (F.state files.old)) (by_hand kept.new (F.state files.new)) result }
+    ensures { Follows run plan_cause (committed run place.now changes.now) (by_hand kept.old (F.state files.old))
+        (by_hand kept.new (F.state files.new)) result }
 {
     let _ = ask_make_folder(alloc, run, files, place)?;
     lock(alloc, run, files, place, TRIES)?;
@@ -117,7 +121,8 @@ fn commit_at<F: Files>(
     changes: &[ChangeEntry],
 ) -> Result<(), PlanFault>
     requires { AreChanges changes.now }
-    ensures { Follows run plan_cause (commit_context_plan run place.now changes.now) (by_hand kept.old (F.state files.old)) (by_hand kept.new (F.state files.new)) result }
+    ensures { Follows run plan_cause (commit_context_plan run place.now changes.now)
+        (by_hand kept.old (F.state files.old)) (by_hand kept.new (F.state files.new)) result }
 {
     let settled = is_settled(changes, kept)?;
     if settled {
@@ -136,10 +141,15 @@ pub fn commit_context<F: Files>(
     changes: &ChangeEntryList,
 ) -> Result<(), PlanFault>
     requires { AreChanges changes.now }
-    ensures plan { Follows hand.old.run plan_cause (commit_context_plan hand.old.run (mail_place hand.old) changes.now) (by_hand hand.old.kept (F.state files.old)) (by_hand hand.new.kept (F.state files.new)) result }
-    ensures steps { Promises (context_pledge hand.old.run hand.old.mail changes.now) (by_hand hand.old.kept (F.state files.old)) (by_hand hand.new.kept (F.state files.new)) }
-    ensures caused { CommitIsCaused hand.old.run (mail_place hand.old) changes.now (by_hand hand.old.kept (F.state files.old)) (by_hand hand.new.kept (F.state files.new)) result }
-    ensures alone { result ≡ Ok tt → CommitsAloneIfTold hand.old.run hand.old.mail changes.now hand.old.kept (F.state files.old).story (F.state files.new).story }
+    ensures plan { Follows hand.old.run plan_cause (commit_context_plan hand.old.run (mail_place hand.old) changes.now)
+        (by_hand hand.old.kept (F.state files.old)) (by_hand hand.new.kept (F.state files.new)) result }
+    ensures steps { Promises (context_pledge hand.old.run hand.old.mail changes.now)
+        (by_hand hand.old.kept (F.state files.old)) (by_hand hand.new.kept (F.state files.new)) }
+    ensures caused { CommitIsCaused hand.old.run (mail_place hand.old) changes.now
+        (by_hand hand.old.kept (F.state files.old)) (by_hand hand.new.kept (F.state files.new)) result }
+    ensures alone { result ≡ Ok tt
+        → CommitsAloneIfTold hand.old.run hand.old.mail changes.now hand.old.kept (F.state files.old).story
+        (F.state files.new).story }
     ensures same { (hand.new.run ≡ hand.old.run) × (hand.new.mail ≡ hand.old.mail) }
 {
     let run = hand.run();

@@ -11,8 +11,8 @@ use folder_files::{Files, Place};
 use mh_base::{Bytes, Name};
 use std::alloc::Global;
 
-/// A new file with these bytes takes a name's place, and stays there: it is made under the run's next temporary name and made safe,
-/// then renamed, and then the directory is made safe.
+/// A new file with these bytes takes a name's place, and stays there: it is made under the run's next temporary name
+/// and made safe, then renamed, and then the directory is made safe.
 pub fn replace_file<F: Files>(
     alloc: Global,
     hand: &mut Hand,
@@ -21,7 +21,8 @@ pub fn replace_file<F: Files>(
     name: &Name,
     bytes: &mut Bytes,
 ) -> Result<(), PlanFault>
-    ensures plan { Follows hand.old.run plan_cause (replaced hand.old.run place.now name.now bytes.old) (by_hand hand.old.kept (F.state files.old)) (by_hand hand.new.kept (F.state files.new)) result }
+    ensures plan { Follows hand.old.run plan_cause (replaced hand.old.run place.now name.now bytes.old)
+        (by_hand hand.old.kept (F.state files.old)) (by_hand hand.new.kept (F.state files.new)) result }
     ensures same { (hand.new.run ≡ hand.old.run) × (hand.new.mail ≡ hand.old.mail) }
 {
     let run = hand.run();
@@ -36,7 +37,8 @@ pub fn write_file<F: Files>(
     place: &Place,
     bytes: &mut Bytes,
 ) -> Result<Name, PlanFault>
-    ensures plan { Follows hand.old.run plan_cause (written hand.old.run place.now bytes.old) (by_hand hand.old.kept (F.state files.old)) (by_hand hand.new.kept (F.state files.new)) result }
+    ensures plan { Follows hand.old.run plan_cause (written hand.old.run place.now bytes.old)
+        (by_hand hand.old.kept (F.state files.old)) (by_hand hand.new.kept (F.state files.new)) result }
     ensures same { (hand.new.run ≡ hand.old.run) × (hand.new.mail ≡ hand.old.mail) }
     ensures bytes { OnOk result (bytes.new ≡ bytes.old) }
 {

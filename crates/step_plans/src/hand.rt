@@ -53,7 +53,9 @@ impl Hand {
 
     /// The number of the next temporary name, which is then used; none after 2^64 names.
     pub fn temp(&mut self) -> Option<u64>
-        ensures { MatchOption result ((2 ^ 64 ≤ self.old.kept.next) × (self.new ≡ self.old)) (λ k. (k ≡ self.old.kept.next) × (self.old.kept.next < 2 ^ 64) × (self.new ≡ keeping self.old (used self.old.kept))) }
+        ensures { MatchOption result ((2 ^ 64 ≤ self.old.kept.next) × (self.new ≡ self.old))
+            (λ k. (k ≡ self.old.kept.next) × (self.old.kept.next < 2 ^ 64)
+            × (self.new ≡ keeping self.old (used self.old.kept))) }
     {
         self.kept.temp()
     }
@@ -67,7 +69,8 @@ impl Hand {
 
     /// The context's entries as this run last read or wrote them.
     pub fn context(&self) -> Option<&Entries>
-        ensures { MatchOption result (self.now.kept.context ≡ None) (λ entries. self.now.kept.context ≡ Some entries.now) }
+        ensures { MatchOption result (self.now.kept.context ≡ None)
+            (λ entries. self.now.kept.context ≡ Some entries.now) }
     {
         self.kept.context()
     }

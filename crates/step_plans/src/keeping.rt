@@ -41,7 +41,8 @@ impl Kept {
 
     /// The number of the next temporary name, while there is one.
     pub(crate) fn temp(&mut self) -> Option<u64>
-        ensures { MatchOption result ((2 ^ 64 ≤ self.old.next) × (self.new ≡ self.old)) (λ k. (k ≡ self.old.next) × (self.old.next < 2 ^ 64) × (self.new ≡ used self.old)) }
+        ensures { MatchOption result ((2 ^ 64 ≤ self.old.next) × (self.new ≡ self.old))
+            (λ k. (k ≡ self.old.next) × (self.old.next < 2 ^ 64) × (self.new ≡ used self.old)) }
     {
         if self.next < NAMES {
             let number = self.next as u64;
@@ -68,7 +69,8 @@ impl Kept {
 
 /// The context has these entries from here on.
 pub(crate) fn know(kept: &mut Kept, entries: Entries) -> Result<(), PlanFault>
-    ensures { (run : ℕ) (f : FilesState) → Follows run plan_cause (known entries) (by_hand kept.old f) (by_hand kept.new f) result }
+    ensures { (run : ℕ) (f : FilesState)
+        → Follows run plan_cause (known entries) (by_hand kept.old f) (by_hand kept.new f) result }
 {
     kept.saw_context(entries);
     Ok(())

@@ -20,7 +20,9 @@ pub fn lock<F: Files>(
     place: &Place,
     tries: u64,
 ) -> Result<(), PlanFault>
-    ensures { (h : Hand) → Follows run plan_cause (locked place.now tries) (by_hand h (F.state files.old)) (by_hand h (F.state files.new)) result }
+    ensures { (h : Hand)
+        → Follows run plan_cause (locked place.now tries) (by_hand h (F.state files.old))
+        (by_hand h (F.state files.new)) result }
 {
     for at in 0..tries {
         match ask_lock(alloc, run, files, place)? {
@@ -39,7 +41,9 @@ pub fn let_go<F: Files>(
     files: &mut F,
     place: &Place,
 ) -> Result<(), PlanFault>
-    ensures { (h : Hand) → Follows run plan_cause (let_go_plan place.now) (by_hand h (F.state files.old)) (by_hand h (F.state files.new)) result }
+    ensures { (h : Hand)
+        → Follows run plan_cause (let_go_plan place.now) (by_hand h (F.state files.old))
+        (by_hand h (F.state files.new)) result }
 {
     ask_unlock(alloc, run, files, place)?;
     Ok(())

@@ -11,8 +11,8 @@ use folder_files::{Files, Place};
 use mh_base::{Entry, MsgNum, entry_name};
 use std::alloc::Global;
 
-/// Whatever stands at the number leaves the folder: it gets the number's backup name, whose file it replaces, or no name at all. The
-/// number was changed meanwhile where nothing stands there.
+/// Whatever stands at the number leaves the folder: it gets the number's backup name, whose file it replaces, or no
+/// name at all. The number was changed meanwhile where nothing stands there.
 pub fn remove<F: Files>(
     alloc: Global,
     run: u128,
@@ -21,7 +21,9 @@ pub fn remove<F: Files>(
     number: MsgNum,
     backup: bool,
 ) -> Result<(), PlanFault>
-    ensures { (h : Hand) → Follows run plan_cause (message_removed place.now number backup) (by_hand h (F.state files.old)) (by_hand h (F.state files.new)) result }
+    ensures { (h : Hand)
+        → Follows run plan_cause (message_removed place.now number backup) (by_hand h (F.state files.old))
+        (by_hand h (F.state files.new)) result }
 {
     let name = entry_name(alloc, &Entry::Number(number))?;
     if backup {

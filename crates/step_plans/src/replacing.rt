@@ -22,7 +22,9 @@ pub fn sync<F: Files>(
     place: &Place,
     name: &Name,
 ) -> Result<(), PlanFault>
-    ensures { (h : Hand) → Follows run plan_cause (synced place.now name.now) (by_hand h (F.state files.old)) (by_hand h (F.state files.new)) result }
+    ensures { (h : Hand)
+        → Follows run plan_cause (synced place.now name.now) (by_hand h (F.state files.old))
+        (by_hand h (F.state files.new)) result }
 {
     let touched = ask_sync_folder(alloc, run, files, place)?;
     hold_to(alloc, place, name, touched)
@@ -36,7 +38,9 @@ pub(crate) fn rename<F: Files>(
     from: &Name,
     to: &Name,
 ) -> Result<(), PlanFault>
-    ensures { (h : Hand) → Follows run plan_cause (renamed place.now from.now to.now) (by_hand h (F.state files.old)) (by_hand h (F.state files.new)) result }
+    ensures { (h : Hand)
+        → Follows run plan_cause (renamed place.now from.now to.now) (by_hand h (F.state files.old))
+        (by_hand h (F.state files.new)) result }
 {
     let touched = ask_rename(alloc, run, files, place, from, to)?;
     hold_to(alloc, place, from, touched)
@@ -52,7 +56,8 @@ pub(crate) fn replace<F: Files>(
     name: &Name,
     bytes: &mut Bytes,
 ) -> Result<(), PlanFault>
-    ensures { Follows run plan_cause (replaced run place.now name.now bytes.old) (by_hand kept.old (F.state files.old)) (by_hand kept.new (F.state files.new)) result }
+    ensures { Follows run plan_cause (replaced run place.now name.now bytes.old) (by_hand kept.old (F.state files.old))
+        (by_hand kept.new (F.state files.new)) result }
 {
     let temp = write(alloc, run, kept, files, place, bytes)?;
     rename(alloc, run, files, place, &temp, name)?;

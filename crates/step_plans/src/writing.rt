@@ -33,7 +33,9 @@ fn create<F: Files>(
     name: &Name,
     bytes: &mut Bytes,
 ) -> Result<(), PlanFault>
-    ensures plan { (h : Hand) → Follows run plan_cause (created place.now name.now bytes.old) (by_hand h (F.state files.old)) (by_hand h (F.state files.new)) result }
+    ensures plan { (h : Hand)
+        → Follows run plan_cause (created place.now name.now bytes.old) (by_hand h (F.state files.old))
+        (by_hand h (F.state files.new)) result }
     ensures kept { OnOk result (bytes.new ≡ bytes.old) }
 {
     let entered = ask_create(alloc, run, files, place, name, bytes)?;
@@ -47,7 +49,9 @@ fn make_safe<F: Files>(
     place: &Place,
     name: &Name,
 ) -> Result<(), PlanFault>
-    ensures { (h : Hand) → Follows run plan_cause (made_safe place.now name.now) (by_hand h (F.state files.old)) (by_hand h (F.state files.new)) result }
+    ensures { (h : Hand)
+        → Follows run plan_cause (made_safe place.now name.now) (by_hand h (F.state files.old))
+        (by_hand h (F.state files.new)) result }
 {
     let touched = ask_sync_file(alloc, run, files, place, name)?;
     hold_to(alloc, place, name, touched)
@@ -62,7 +66,8 @@ pub(crate) fn write<F: Files>(
     place: &Place,
     bytes: &mut Bytes,
 ) -> Result<Name, PlanFault>
-    ensures plan { Follows run plan_cause (written run place.now bytes.old) (by_hand kept.old (F.state files.old)) (by_hand kept.new (F.state files.new)) result }
+    ensures plan { Follows run plan_cause (written run place.now bytes.old) (by_hand kept.old (F.state files.old))
+        (by_hand kept.new (F.state files.new)) result }
     ensures kept { OnOk result (bytes.new ≡ bytes.old) }
 {
     let temp = next_name(alloc, run, kept)?;

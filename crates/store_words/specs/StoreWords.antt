@@ -16,7 +16,13 @@ use Rattle.store_words.specs.declared.words.StoreWords.{StoreWords}
 
 -- what the items say beside the folder
 abbrev pub words_of : Option (List ℕ) → List Item → StoreWords
-words_of folder items = record { folder = folder; specs = names_or (codes "cur") (messages items); parts = parts_of items; clobber = clobbers items }
+words_of folder items =
+    record {
+      folder = folder;
+      specs = names_or (codes "cur") (messages items);
+      parts = parts_of items;
+      clobber = clobbers items;
+    }
 
 abbrev pub with_folder : List Item → Result (Option (List ℕ)) CommandFault → Result StoreWords Ended
 with_folder items (Ok folder) = Ok (words_of folder items)

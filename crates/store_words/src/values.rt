@@ -1,4 +1,5 @@
-// Whether files are replaced; and values that are wrong: a part that is no path, and a word behind `-clobber` that is neither of its two.
+// Whether files are replaced; and values that are wrong: a part that is no path, and a word behind `-clobber` that is
+// neither of its two.
 ghost use Rattle.std.specs.Prelude.{◌≡◌, IfOk};
 ghost use Rattle.command_words.specs.BadValues.{first_of};
 ghost use Rattle.store_words.specs.Values.{

@@ -18,8 +18,8 @@ use mh_words::ItemList;
 use mime_tree::PartPath;
 use std::alloc::{AllocError, Global};
 
-/// The words of `mhstore`: the folder, where they name one; the messages' names; the parts that are wanted, where they name some; and whether files
-/// that stand are replaced.
+/// The words of `mhstore`: the folder, where they name one; the messages' names; the parts that are wanted, where they
+/// name some; and whether files that stand are replaced.
 #[derive(Drop)]
 pub struct StoreWords {
     pub folder: Option<FolderName>,

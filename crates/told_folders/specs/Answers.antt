@@ -40,7 +40,8 @@ pub record HasChanged (run : ℕ) (path : List ℕ) (t : Task) (said : List ℕ)
 
 -- of one that only looks: the run listed the folder and then read its sequences; by these, and by the entries of the
 -- context that were read before, this text is the task's lines
-pub record TellsFolder (path : List ℕ) (t : Task) (entries : List NamedValue) (said : List ℕ) (own : List Deed) : Type 0 where
+pub record TellsFolder (path : List ℕ) (t : Task) (entries : List NamedValue) (said : List ℕ)
+    (own : List Deed) : Type 0 where
   pub names : List (List ℕ)
   pub text : List ℕ
   pub reading : Deed
@@ -54,7 +55,8 @@ pub record TellsFolder (path : List ℕ) (t : Task) (entries : List NamedValue) 
 
 -- the newest two steps listed the folder and read its sequences; by these, and by the entries of the context that were
 -- read before, a task that only looks refuses its words so
-pub record IsRefusedByListing (path : List ℕ) (t : Task) (entries : List NamedValue) (r : Refusal) (own : List Deed) : Type 0 where
+pub record IsRefusedByListing (path : List ℕ) (t : Task) (entries : List NamedValue) (r : Refusal)
+    (own : List Deed) : Type 0 where
   pub names : List (List ℕ)
   pub text : List ℕ
   pub reading : Deed

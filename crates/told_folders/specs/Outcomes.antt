@@ -25,7 +25,8 @@ told_work path t listing m k = current_work path t.folder (joined (t.lines listi
 
 abbrev pub chosen_work : List ℕ → Task → List Run → Marked → Kept → Result (List ℕ) CommandFault → Work CommandFault
 chosen_work path t listing m k (Ok numbers) =
-    after_commits (sequences_kept path t.folder m (t.becomes listing numbers m) k) (told_work path t listing (t.becomes listing numbers m))
+    after_commits (sequences_kept path t.folder m (t.becomes listing numbers m) k)
+    (told_work path t listing (t.becomes listing numbers m))
 chosen_work path t listing m k (Err e) = refused_at k.mailbox e
 
 -- the sequences are changed by the messages that the words choose of a folder with these numbers and sequences

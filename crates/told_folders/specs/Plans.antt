@@ -26,7 +26,8 @@ lines_said (line ∷ lines) = do
 unfoldable pub chosen_changed : ℕ → List ℕ → Task → Opened → Commanded Opened
 chosen_changed run path t o = do
   numbers ← Return (chosen_from t o.listing o.sequences)
-  done ← lifted (of_plan t.folder) (changed_sequences run o.place (Mail path) o.folder o.sequences (t.becomes o.listing numbers o.sequences))
+  done ← lifted (of_plan t.folder)
+      (changed_sequences run o.place (Mail path) o.folder o.sequences (t.becomes o.listing numbers o.sequences))
   Return (Ok (with_sequences (t.becomes o.listing numbers o.sequences) o))
 
 -- and then the lines are said, and the folder becomes the current one

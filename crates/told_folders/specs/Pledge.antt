@@ -18,14 +18,17 @@ Changes t listing m new =
 
 -- it changes what marks a folder of this mail directory, and may say anything
 abbrev pub change_pledge : ℕ → List ℕ → Task → Pledge
-change_pledge run path t = folder_pledge run path t.folder (λ own. Changes t) (Marking path t.folder) (λ own piece. Unit {0}) (λ own s. Unit {0})
+change_pledge run path t =
+    folder_pledge run path t.folder (λ own. Changes t) (Marking path t.folder) (λ own piece. Unit {0})
+    (λ own s. Unit {0})
 
 -- one that only looks changes nothing but the current folder, which becomes the one that it listed
 abbrev pub look_pledge : ℕ → List ℕ → Task → Pledge
 look_pledge run path t = record {
   run = run;
   manner = Noting path;
-  may_mark = λ own p name old text. HasListed (Folder path t.folder) own × MarksContext path (current_change t.folder) p name old text;
+  may_mark = λ own p name old text. HasListed (Folder path t.folder) own
+      × MarksContext path (current_change t.folder) p name old text;
   may_tell = λ own piece. Unit {0};
   may_step = λ own s. Unit {0};
 }

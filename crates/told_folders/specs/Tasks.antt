@@ -39,11 +39,13 @@ AreMsgNums numbers = (n : ℕ) → list_any (λ m. m == n) numbers ≡ true → 
 -- Of sequences in order it makes such; of sequences of listed messages, by listed ones that were chosen, it makes such,
 -- and their current message has a message's number; and each line says something.
 pub record IsOrderly (t : Task) : Type 0 where
-  pub valid : (listing : List Run) (numbers : List ℕ) (m : Marked) → AreSequences m.users → AreSequences (t.becomes listing numbers m).users
+  pub valid : (listing : List Run) (numbers : List ℕ) (m : Marked) → AreSequences m.users
+      → AreSequences (t.becomes listing numbers m).users
   pub within : (listing : List Run) (numbers : List ℕ) (m : Marked) → IsListed listing (set_among numbers)
       → ((name : List ℕ) (n : ℕ) → member m.users name n ≡ true → has listing n ≡ true)
       → (name : List ℕ) (n : ℕ) → member (t.becomes listing numbers m).users name n ≡ true → has listing n ≡ true
-  pub current : (listing : List Run) (numbers : List ℕ) (m : Marked) → AreMsgNums numbers → IfSome m.cur IsMsgNum → IfSome (t.becomes listing numbers m).cur IsMsgNum
+  pub current : (listing : List Run) (numbers : List ℕ) (m : Marked) → AreMsgNums numbers → IfSome m.cur IsMsgNum
+      → IfSome (t.becomes listing numbers m).cur IsMsgNum
   pub lines : (listing : List Run) (m : Marked) → AreSome (t.lines listing m)
 
 -- the messages that the task's words choose of a folder with these numbers and sequences, or the refusal of the first

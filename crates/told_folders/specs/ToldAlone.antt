@@ -30,18 +30,22 @@ ComesTo w after x y result =
 
 -- the run has read the context of this mailbox, which is not too long to be read
 abbrev pub HasReadContext : Mailbox → List ℕ → Hand → Type 0
-HasReadContext m path h = (h.context ≡ Some (entries_in (filled (m.context (Mail path))))) × (nat_lt LIMIT_BYTES (length (filled (m.context (Mail path)))) ≡ false)
+HasReadContext m path h =
+    (h.context ≡ Some (entries_in (filled (m.context (Mail path)))))
+    × (nat_lt LIMIT_BYTES (length (filled (m.context (Mail path)))) ≡ false)
 
 -- Where nothing else happened between the call's first step and its last, and no other run had a lock at the first: the
 -- call comes to its work on the mailbox at its first step, for what is held aside in the folder there.
 abbrev pub TellsAlone : ℕ → List ℕ → List ℕ → Hand → WorkOf → Result Unit CommandFault → SinkState → SinkState → Story
     → Story → Type 0
 TellsAlone run path folder h work result x y earlier later =
-    (added : List ℕ) → later.asked ≡ earlier.asked ++ added → IsStart later.start → IsPossible earlier → IsAlone run later.start later.history added →
+    (added : List ℕ) → later.asked ≡ earlier.asked ++ added → IsStart later.start → IsPossible earlier
+    → IsAlone run later.start later.history added →
     let first = first_of (length earlier.history) added in
     run < 2 ^ 128 → HasReadContext (mailbox_at later first) path h → is_folder_name folder ≡ true →
     (held : Homes) → AreHomesAt run ((mailbox_at later first).folders (Folder path folder)) held →
-    ComesTo (work (entries_in (filled ((mailbox_at later first).context (Mail path)))) held (mailbox_at later first)) (mailbox_at later (first + length added)) x y result
+    ComesTo (work (entries_in (filled ((mailbox_at later first).context (Mail path)))) held (mailbox_at later first))
+    (mailbox_at later (first + length added)) x y result
 
 -- where a story is told
 abbrev pub TellsInStory : ℕ → List ℕ → List ℕ → Hand → WorkOf → Result Unit CommandFault → SinkState → SinkState
@@ -55,4 +59,6 @@ TellsInStory run path folder h work result x y (Some earlier) None = ⊥
 -- and no count rose
 abbrev pub TellsIfUnfaulted : ℕ → List ℕ → List ℕ → Hand → WorkOf → Result Unit CommandFault → FilesState → FilesState
     → SinkState → SinkState → Type 0
-TellsIfUnfaulted run path folder h work result f g x y = (Rose f.faults g.faults → ⊥) → (Rose x.faults y.faults → ⊥) → TellsInStory run path folder h work result x y f.story g.story
+TellsIfUnfaulted run path folder h work result f g x y =
+    (Rose f.faults g.faults → ⊥) → (Rose x.faults y.faults → ⊥)
+    → TellsInStory run path folder h work result x y f.story g.story

@@ -43,7 +43,9 @@ pub fn sequences_listed(
     text: &[u8],
     listing: &NumSet,
 ) -> Result<Sequences, AllocError>
-    ensures { IfOk result (λ s. s ≡ cut_to listing.now.runs (sequences_in_text text.now (entries_seen hand.now.kept.context) folder.now)) }
+    ensures { IfOk result
+        (λ s.
+        s ≡ cut_to listing.now.runs (sequences_in_text text.now (entries_seen hand.now.kept.context) folder.now)) }
 {
     let mut sequences = sequences_in(alloc, hand, folder, text)?;
     cut_sequences(&mut sequences, listing)?;

@@ -12,7 +12,9 @@ use step_plans::CommandFault;
 
 /// Writes these lines, one after another.
 pub fn say_lines<O: Sink>(out: &mut O, lines: &[Bytes]) -> Result<(), CommandFault>
-    ensures { (run : ℕ) (h : Hand) (f : FilesState) → Follows run command_cause (lines_said lines.now) (by_out h f (O.state out.old)) (by_out h f (O.state out.new)) result }
+    ensures { (run : ℕ) (h : Hand) (f : FilesState)
+        → Follows run command_cause (lines_said lines.now) (by_out h f (O.state out.old))
+        (by_out h f (O.state out.new)) result }
 {
     for line in lines {
         say(out, line.as_slice())?;

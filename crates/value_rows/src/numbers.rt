@@ -97,8 +97,8 @@ pub(crate) fn reserve(set: &mut NumSet, more: u64) -> Result<(), Fail> {
     Ok(set.reserve(more)?)
 }
 
-/// What is asked with a number: `at:3` is the number at a place, `has:3` whether a number is there, `place:3` how many runs end before a number,
-/// `before:3` how many numbers the runs before a place have. `reserve:3` makes room for runs.
+/// What is asked with a number: `at:3` is the number at a place, `has:3` whether a number is there, `place:3` how many
+/// runs end before a number, `before:3` how many numbers the runs before a place have. `reserve:3` makes room for runs.
 fn ask(alloc: Global, set: &mut NumSet, what: &str, n: &str, told: &mut Bytes) -> Result<(), Fail> {
     let n = n.as_bytes();
     match what {
