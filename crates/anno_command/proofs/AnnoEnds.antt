@@ -1,13 +1,11 @@
 -- How `anno` ends, and what shows it.
-use Rattle.std.proofs.lemmas.Bool.Decides.{Decides-eqb}
-use Rattle.std.proofs.Common.{◌≡◌, inl, inr, ◌==◌, ◌||◌, Bool, false, ◌<◌, ◌-◌, ◌^◌, ◌∷◌, [], ℕ, zero, suc, true, List, Result, Ok, Err, length, get_or, refl, sym, ◌∙◌, ap, subst, arith}
-use Rattle.std.proofs.lemmas.Option.{unwrap_or-slice_get}
+use Rattle.std.proofs.Common.{◌≡◌, inl, inr, ◌<◌, ◌-◌, ◌^◌, ℕ, true, List, Result, Ok, Err, refl, sym, ◌∙◌, ap}
 use Rattle.mh_base.specs.Numbers.{IsMsgNum}
-use Rattle.mh_sequences.specs.Runs.{has, numbers_of}
+use Rattle.mh_sequences.specs.Runs.{has, numbers_of, last_in}
 use Rattle.mh_sequences.specs.Sequences.{Marked}
 use Rattle.mh_sequences.specs.declared.run.Run.{Run}
 use Rattle.msg_ranges.specs.Selection.{marks_of}
-use Rattle.msg_ranges.proofs.Rising.{lists, lists_numbers}
+use Rattle.msg_ranges.proofs.Rising.{lists}
 use Rattle.folder_files.specs.Commands.{Annotating}
 use Rattle.folder_files.specs.Deeds.{Deed}
 use Rattle.folder_files.specs.declared.place.Place.{Place}
@@ -40,33 +38,14 @@ use Rattle.opened_folders.proofs.WorkEnds.{EndsBeside, EndsWith, current_comes, 
 use Rattle.refile_command.specs.RmmPledge.{every_message}
 use Rattle.refile_command.proofs.RmmPledged.{listed_runs}
 use Rattle.refile_command.proofs.Selected.{chosen_listed, chosen_rise, in_runs}
-use Rattle.anno_command.specs.Anno.{anno, chosen_from, last_in, opened_noted, said_noted}
+use Rattle.anno_command.specs.Anno.{anno, chosen_from, opened_noted, said_noted}
 use Rattle.anno_command.specs.AnnoAnswers.{ShowsAnno, anno_answers}
 use Rattle.anno_command.specs.AnnoPledge.{NotesSo}
 use Rattle.anno_command.specs.declared.job.AnnoJob.{AnnoJob}
 use Rattle.anno_command.proofs.AnnoPledged.{lets}
-use Rattle.anno_command.proofs.Listed.{last_small, like}
+use Rattle.anno_command.proofs.Listed.{like}
 use Rattle.anno_command.proofs.NotedEnds.{All, Moving, Plainly, noted_comes}
-
-pub first_listed : (n : ℕ) (ns : List ℕ) → lists (n ∷ ns) n ≡ true
-first_listed n ns = ap (λ b. b || lists ns n) ((Decides-eqb n n).1 refl)
-
-other_listed : (m n : ℕ) (ns : List ℕ) → lists ns n ≡ true → lists (m ∷ ns) n ≡ true
-other_listed m n ns e = go (m == n)
-  where
-    go : (b : Bool) → b || lists ns n ≡ true
-    go true = refl
-    go false = e
-
--- a number of a list that is not 0 stands there
-stands_at : (ns : List ℕ) (i : ℕ) → get_or ns i 0 ≡ 999999 → lists ns 999999 ≡ true
-stands_at [] i e = absurd (omega (arith, e))
-stands_at (n ∷ ns) zero e = subst (λ k. lists (n ∷ ns) k ≡ true) e (first_listed n ns)
-stands_at (n ∷ ns) (suc i) e = other_listed n 999999 ns (stands_at ns i e)
-
--- where the last of a listing is the last number, a message has that
-last_listed : (listing : List Run) → last_in listing ≡ 999999 → has listing 999999 ≡ true
-last_listed listing e = sym (lists_numbers listing 999999) ∙ stands_at (numbers_of listing) (length (numbers_of listing) - 1) (sym (unwrap_or-slice_get (numbers_of listing) (length (numbers_of listing) - 1) 0) ∙ e)
+use Rattle.refile_command.proofs.Lasts.{last_listed, last_small}
 
 module _ (run : ℕ) (few : run < 2 ^ 128) (path : List ℕ) (job : AnnoJob) where
   abbrev p : Place

@@ -1,21 +1,19 @@
 -- What `anno` gives alone: what it comes to on the mailbox that it finds.
-use Rattle.std.proofs.Common.{◌≡◌, inl, inr, ◌<◌, ◌^◌, ℕ, Bool, true, false, List, [], Some, None, Result, Ok, Err, refl, sym, ◌∙◌, ap, subst}
-use Rattle.std.specs.Prelude.{decimal, is_some, Option, if◌then◌else◌}
+use Rattle.std.proofs.Common.{◌≡◌, inl, inr, ◌<◌, ◌^◌, ℕ, true, List, [], Some, None, Result, Ok, Err, refl, sym, ◌∙◌, ap, subst}
+use Rattle.std.specs.Prelude.{decimal, is_some, Option}
 use Rattle.std.specs.List.{list_all}
 use Rattle.mail_headers.specs.Lines.{is_name_byte}
-use Rattle.mh_base.specs.Entries.{entry_text}
 use Rattle.mh_base.specs.Folders.{is_folder_name}
 use Rattle.mh_profile.specs.Reading.{entries_in}
 use Rattle.mh_profile.specs.declared.named_value.NamedValue.{NamedValue}
 use Rattle.mh_sequences.specs.Reading.{suffix}
-use Rattle.mh_sequences.specs.Runs.{numbers_of}
+use Rattle.mh_sequences.specs.Runs.{numbers_of, last_in}
 use Rattle.msg_ranges.specs.Selection.{marks_of}
 use Rattle.msg_ranges.proofs.Rising.{Rise, lists}
 use Rattle.folder_files.specs.declared.place.Place.{Place}
 use Rattle.folder_files.specs.declared.place.Place.TheVariants.{Folder, Mail}
-use Rattle.file_plans.specs.Contents.{Contents, filled, folder_at, mailbox_in}
+use Rattle.file_plans.specs.Contents.{Contents, filled, mailbox_in}
 use Rattle.file_plans.specs.Giving.{Gives}
-use Rattle.file_plans.specs.Mailboxes.{is_message_number}
 use Rattle.file_plans.specs.Plan.{Hand, Return, bind, converted, lifted, ◌>>=◌}
 use Rattle.file_plans.specs.Views.{View, by_view}
 use Rattle.file_plans.proofs.Giving.{gives_more}
@@ -36,31 +34,19 @@ use Rattle.opened_folders.specs.Kept.{Commits, Kept}
 use Rattle.opened_folders.specs.Opening.{Opened}
 use Rattle.opened_folders.proofs.FolderGiven.{IsUntouched}
 use Rattle.opened_folders.proofs.KeptGiven.{Holds}
-use Rattle.opened_folders.proofs.KeptMessages.{message_at, message_of}
+use Rattle.opened_folders.proofs.KeptMessages.{message_at}
 use Rattle.opened_folders.proofs.WorkGiven.{IsOpen, WorkEnds, changes_give, lifted_gives}
 use Rattle.message_notes.specs.Noting.{messages_noted}
 use Rattle.refile_command.proofs.RefiledOpened.{Leads, after_all, after_long, context_unheld, leads_on}
 use Rattle.refile_command.proofs.Selected.{chosen_listed, chosen_numbers, chosen_rise}
-use Rattle.refile_command.proofs.Shown.{AreNumbers}
-use Rattle.anno_command.specs.Anno.{anno, chosen_from, last_in, opened_noted, said_noted}
+use Rattle.anno_command.specs.Anno.{anno, chosen_from, opened_noted, said_noted}
 use Rattle.anno_command.specs.AnnoOutcome.{anno_work, chosen_work, mail_noted, opened_work}
 use Rattle.anno_command.specs.declared.job.AnnoJob.{AnnoJob}
 use Rattle.anno_command.proofs.AnnoEntries.{noted_entries}
 use Rattle.anno_command.proofs.Listed.{like}
 use Rattle.anno_command.proofs.NotedMail.{Went, all_noted}
-
--- a message that is there by the mailbox is there
-stands_in : (c : Contents) (path folder : List ℕ) (n : ℕ) → is_some (message_at (mailbox_in c) (Folder path folder) n) ≡ true → is_some (c.texts (Folder path folder) (decimal n)) ≡ true
-unfolding mailbox_in entry_text
-stands_in c path folder n e = go (c.there (Folder path folder)) (is_message_number n) e
-  where
-    within : (b : Bool) (o : Option (List ℕ)) → is_some (if b then o else None) ≡ true → is_some o ≡ true
-    within true o e = e
-    within false o e = cc (e)
-
-    go : (b v : Bool) → is_some (message_of (if b then Some (folder_at c (Folder path folder)) else None) n) ≡ true → is_some (c.texts (Folder path folder) (decimal n)) ≡ true
-    go true v e = within (is_message_number n) (c.texts (Folder path folder) (decimal n)) e
-    go false v e = cc (e)
+use Rattle.refile_command.proofs.RmmGiven.{stands_in}
+use Rattle.mh_base.proofs.NumberTests.{AreNumbers}
 
 -- the end of work that says nothing
 long_silent : (o : Option ℕ) (k : Kept) (next : Kept → Work CommandFault) → (next k).text ≡ [] → (unless_long o k next).text ≡ []

@@ -1,10 +1,6 @@
 -- Each step of `anno` minds the marks of all sequences, where no message is held aside in its folder when it takes one.
-use Rattle.std.proofs.Common.{◌≡◌, inl, inr, ◌<◌, ◌≤◌, ◌+◌, ◌-◌, ◌^◌, ◌∷◌, [], ℕ, zero, suc, Bool, true, false, List, Result, Ok, Err, length, get_or, refl, ◌∙◌, arith}
-use Rattle.std.proofs.lemmas.Option.{unwrap_or-slice_get}
-use Rattle.mh_sequences.specs.Runs.{AreRuns, has, numbers_of}
+use Rattle.std.proofs.Common.{◌≡◌, ◌<◌, ◌-◌, ◌^◌, ℕ, true, List, Result, Ok, Err, refl}
 use Rattle.mh_sequences.specs.Sequences.{Marked}
-use Rattle.mh_sequences.specs.declared.run.Run.{Run}
-use Rattle.msg_ranges.proofs.Rising.{Rise, lists, lists_numbers, rise_runs}
 use Rattle.folder_files.specs.Annotations.{are_annotations}
 use Rattle.folder_files.specs.Commands.{Annotating}
 use Rattle.folder_files.specs.Deeds.{Deed}
@@ -32,46 +28,20 @@ use Rattle.opened_folders.proofs.Meeting.{Meets, meets_lifted, meets_more, meets
 use Rattle.opened_folders.proofs.WorkMinds.{Anyhow, current_meets}
 use Rattle.opened_folders.proofs.WorkMinds as work_minds
 use Rattle.opened_folders.proofs.WorkPledged as work
-use Rattle.opened_folders.proofs.Listed.{some_there}
 use Rattle.refile_command.specs.RefileHeld.{TakesUnheld}
 use Rattle.refile_command.specs.RmmPledge.{every_message}
 use Rattle.refile_command.proofs.FoldersMinded.{HasMinded}
-use Rattle.refile_command.proofs.Selected.{chosen_numbers, chosen_rise, first_or}
+use Rattle.refile_command.proofs.Selected.{chosen_numbers, chosen_rise}
 use Rattle.refile_command.proofs.UnmarkedNumbers.{unmarked_of}
 use Rattle.refile_command.specs.RefilePledge.{MakesNothing}
-use Rattle.anno_command.specs.Anno.{anno, chosen_from, last_in, opened_noted, said_noted}
+use Rattle.anno_command.specs.Anno.{anno, chosen_from, opened_noted, said_noted}
+use Rattle.mh_sequences.specs.Runs.{last_in}
 use Rattle.anno_command.specs.AnnoPledge.{NotesSo, anno_pledge}
 use Rattle.anno_command.specs.declared.job.AnnoJob.{AnnoJob}
-use Rattle.anno_command.proofs.AnnoEnds.{first_listed}
 use Rattle.anno_command.proofs.AnnoPledged.{lets}
-use Rattle.anno_command.proofs.Listed.{last_small, like}
+use Rattle.anno_command.proofs.Listed.{like}
 use Rattle.anno_command.proofs.NotedMinds as noted
-
--- the last of rising numbers is the greatest
-top_at : (low : ℕ) (ns : List ℕ) (i : ℕ) → i + 1 ≡ length ns → Rise low ns → (k : ℕ) → lists ns k ≡ true → k ≤ get_or ns i 0
-top_at low [] i e rise k l = cc (l)
-top_at low (n ∷ []) zero e rise k l = elim (first_or n k [] l) [ inl same ↦ omega (arith, same) | inr there ↦ cc (there) ]
-top_at low (n ∷ []) (suc i) e rise k l = absurd (omega (arith, e))
-top_at low (n ∷ (m ∷ ms)) zero e rise k l = absurd (omega (arith, e))
-top_at low (n ∷ (m ∷ ms)) (suc i) e rise k l = elim (first_or n k (m ∷ ms) l) [
-  | inl same ↦ (let next = rise.1.0 in let top = top_at (n + 1) (m ∷ ms) i (omega (arith, e)) rise.1 m (first_listed m ms) in omega (arith, same, next, top))
-  | inr there ↦ top_at (n + 1) (m ∷ ms) i (omega (arith, e)) rise.1 k there
-]
-
--- no message above the last of a listing was listed
-none_above : (listing : List Run) → AreRuns listing → (j : ℕ) → last_in listing < j → has listing j ≡ false
-none_above listing runs j lt = go (has listing j) refl
-  where
-    ns : List ℕ
-    ns = numbers_of listing
-
-    go : (b : Bool) → has listing j ≡ b → b ≡ false
-    go false e = refl
-    go true e =
-        let there : lists ns j ≡ true = lists_numbers listing j ∙ e in
-        let top : j ≤ get_or ns (length ns - 1) 0 = top_at 1 ns (length ns - 1) (some_there ns j there) (rise_runs 1 listing runs) j there in
-        let last : last_in listing ≡ get_or ns (length ns - 1) 0 = unwrap_or-slice_get ns (length ns - 1) 0 in
-        absurd (omega (arith, lt, top, last))
+use Rattle.refile_command.proofs.Lasts.{none_above, last_small}
 
 module _ (run : ℕ) (few : run < 2 ^ 128) (path : List ℕ) (job : AnnoJob) (notes : are_annotations job.lines ≡ true) (ok : AreChanges (current_change job.folder)) where
   abbrev w : Pledge

@@ -6,7 +6,7 @@ use Rattle.mh_base.specs.declared.entry.Entry.TheVariants.{Held, Number}
 use Rattle.mh_base.proofs.EntryKinds.{kind_of-entry_text}
 use Rattle.mh_sequences.specs.Sequences.{Marked}
 use Rattle.mh_sequences.specs.declared.run.Run.{Run}
-use Rattle.msg_ranges.proofs.Rising.{lists}
+use Rattle.msg_ranges.proofs.Rising.{lists, first_of, first_or, rest_of}
 use Rattle.folder_files.specs.Annotations.{are_annotations}
 use Rattle.folder_files.specs.Careful.{WasGivenAway, WasReady, WasTaken}
 use Rattle.folder_files.specs.Commands.{Annotating, HasReadHeld, IsChosen}
@@ -55,15 +55,16 @@ use Rattle.refile_command.specs.RmmPledge.{every_message}
 use Rattle.refile_command.proofs.BeginsAsks.{asks_begun}
 use Rattle.refile_command.proofs.RefileMoved.{HasHeldNone}
 use Rattle.refile_command.proofs.RmmPledged.{in_up, listed_runs}
-use Rattle.refile_command.proofs.Selected.{first_of, first_or, rest_of}
 use Rattle.refile_command.proofs.RefileLets.{committed_unheld, temp_unheld}
 use Rattle.refile_command.specs.RefilePledge.{MakesNothing}
-use Rattle.anno_command.specs.Anno.{anno, chosen_from, last_in, opened_noted, said_noted}
+use Rattle.anno_command.specs.Anno.{anno, chosen_from, opened_noted, said_noted}
+use Rattle.mh_sequences.specs.Runs.{last_in}
 use Rattle.anno_command.specs.AnnoDone.{HasNotedChosen}
 use Rattle.anno_command.specs.AnnoPledge.{NotesSo, WasChosen, WasTakenAndNoted, anno_pledge}
 use Rattle.anno_command.specs.declared.job.AnnoJob.{AnnoJob}
 use Rattle.anno_command.proofs.HeldNone.{Spares, begins_sparing, none_kept, spared_of}
-use Rattle.anno_command.proofs.Listed.{chosen_messages, last_small}
+use Rattle.anno_command.proofs.Listed.{chosen_messages}
+use Rattle.refile_command.proofs.Lasts.{last_small}
 
 module _ (run : ℕ) (few : run < 2 ^ 128) (path : List ℕ) (job : AnnoJob) where
   abbrev w : Pledge

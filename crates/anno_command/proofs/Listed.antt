@@ -1,17 +1,16 @@
 -- What words choose of a listing are messages, each once; and the last of a listing is one too.
-use Rattle.std.proofs.Common.{◌≡◌, inl, inr, ◌≤◌, ◌+◌, ◌-◌, ℕ, zero, suc, true, false, List, [], ◌∷◌, Ok, length, get_or, sym, ◌∙◌, subst, arith}
-use Rattle.std.proofs.lemmas.Option.{unwrap_or-slice_get}
-use Rattle.mh_sequences.specs.Runs.{AreRuns, numbers_of}
+use Rattle.std.proofs.Common.{◌≡◌, inl, inr, ◌≤◌, ◌+◌, ◌-◌, ℕ, true, false, List, [], ◌∷◌, Ok, arith}
+use Rattle.mh_sequences.specs.Runs.{AreRuns}
 use Rattle.mh_sequences.specs.Sequences.{Marked}
 use Rattle.mh_sequences.specs.declared.run.Run.{Run}
-use Rattle.msg_ranges.proofs.Rising.{Rise, lists, lists_numbers}
+use Rattle.msg_ranges.proofs.Rising.{Rise, lists, first_or}
 use Rattle.message_moves.proofs.RefilePledged.{AreMessages}
-use Rattle.refile_command.proofs.Selected.{chosen_numbers, chosen_rise, first_of, first_or, in_runs, rest_of}
-use Rattle.refile_command.proofs.Shown.{AreNumbers}
+use Rattle.refile_command.proofs.Selected.{chosen_numbers, chosen_rise}
 use Rattle.refile_command.specs.declared.job.RmmJob.{RmmJob}
 use Rattle.refile_command.proofs.RefileMoved.{apart_from}
-use Rattle.anno_command.specs.Anno.{chosen_from, last_in}
+use Rattle.anno_command.specs.Anno.{chosen_from}
 use Rattle.anno_command.specs.declared.job.AnnoJob.{AnnoJob}
+use Rattle.mh_base.proofs.NumberTests.{AreNumbers}
 
 from_on : (low : ℕ) (ns : List ℕ) → Rise low ns → (k : ℕ) → lists ns k ≡ true → low ≤ k
 from_on low [] rise k e = absurd (cc (e))
@@ -30,13 +29,3 @@ like job = record { folder = job.folder; specs = job.specs; unlink = false; nega
 
 pub chosen_messages : (job : AnnoJob) (listing : List Run) (m : Marked) (numbers : List ℕ) → chosen_from job listing m ≡ Ok numbers → AreRuns listing → AreMessages numbers
 chosen_messages job listing m numbers is runs = rising 1 numbers (chosen_rise (like job) listing m numbers is) (chosen_numbers (like job) listing m numbers is runs)
-
-small_at : (ns : List ℕ) (i : ℕ) → ((k : ℕ) → lists ns k ≡ true → k ≤ 999999) → get_or ns i 0 ≤ 999999
-small_at [] i f = omega (arith)
-small_at (n ∷ ns) zero f = first_of {F = λ k. k ≤ 999999} n ns f
-small_at (n ∷ ns) (suc i) f = small_at ns i (rest_of {F = λ k. k ≤ 999999} n ns f)
-
-pub last_small : (listing : List Run) → AreRuns listing → last_in listing ≤ 999999
-last_small listing runs =
-    subst (λ k. k ≤ 999999) (sym (unwrap_or-slice_get (numbers_of listing) (length (numbers_of listing) - 1) 0))
-    (small_at (numbers_of listing) (length (numbers_of listing) - 1) (λ k e. (in_runs listing runs k (sym (lists_numbers listing k) ∙ e)).1))

@@ -8,7 +8,7 @@ use Rattle.mh_base.proofs.EntryKinds.{kind_of-entry_text}
 use Rattle.mh_base.proofs.NumberTests.{greater_is}
 use Rattle.mh_sequences.specs.Runs.{has}
 use Rattle.mh_sequences.specs.declared.run.Run.{Run}
-use Rattle.msg_ranges.proofs.Rising.{Rise, lists}
+use Rattle.msg_ranges.proofs.Rising.{Rise, lists, first_of, rest_of}
 use Rattle.folder_files.specs.Deeds.{Deed, WasDone, did, last, on, still}
 use Rattle.folder_files.specs.Named.{is_temp}
 use Rattle.folder_files.specs.declared.place.Place.{Place}
@@ -46,7 +46,6 @@ use Rattle.opened_folders.proofs.NamesKept.{other_renamed, other_unlinked, takin
 use Rattle.opened_folders.proofs.WorkEnds.{folder_shows}
 use Rattle.refile_command.specs.RmmOutcome.{is_among}
 use Rattle.refile_command.proofs.RmmEnds.{later_ones, number_names}
-use Rattle.refile_command.proofs.Selected.{first_of, rest_of}
 use Rattle.anno_command.specs.Anno.{chosen_from}
 use Rattle.anno_command.specs.AnnoAnswers.{ShowsAnno, anno_answers, let_go_gone, long_lines, long_message, none_left, none_met}
 use Rattle.anno_command.specs.AnnoPledge.{WasChosen}

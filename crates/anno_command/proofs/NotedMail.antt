@@ -4,7 +4,7 @@ use Rattle.std.specs.Prelude.{decimal, is_some, if◌then◌else◌}
 use Rattle.mh_base.specs.Entries.{entry_text}
 use Rattle.mh_base.specs.Numbers.{IsMsgNum}
 use Rattle.mh_base.specs.declared.entry.Entry.TheVariants.{Held, Number}
-use Rattle.msg_ranges.proofs.Rising.{Rise, lists}
+use Rattle.msg_ranges.proofs.Rising.{Rise, lists, first_of, rest_of}
 use Rattle.folder_files.specs.Places.{same_place}
 use Rattle.folder_files.specs.declared.place.Place.{Place}
 use Rattle.folder_files.specs.declared.place.Place.TheVariants.{Folder}
@@ -36,10 +36,9 @@ use Rattle.refile_command.specs.MailMoved.{message_of, where_message, with_aside
 use Rattle.refile_command.proofs.MovedGiven.{AreQuiet, not_below, number_among, some_of}
 use Rattle.refile_command.proofs.MovedShown.{held_number, held_other, message_shown, shows_aside}
 use Rattle.refile_command.proofs.Roomy.{not_same}
-use Rattle.refile_command.proofs.Selected.{first_of, rest_of}
-use Rattle.refile_command.proofs.Shown.{AreNumbers}
 use Rattle.anno_command.specs.AnnoOutcome.{held_long, mail_noted, with_noted}
 use Rattle.anno_command.proofs.AnnoEntries.{by_length}
+use Rattle.mh_base.proofs.NumberTests.{AreNumbers}
 
 -- a reading that is too long
 read_long : (l : List ℕ) (e : PlanFault) → readable l ≡ Err e → (nat_lt LIMIT_BYTES (length l) ≡ true) × (e ≡ fault.TooLarge (length l))

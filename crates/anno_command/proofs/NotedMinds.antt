@@ -47,9 +47,9 @@ use Rattle.opened_folders.proofs.CommitSeen.{NoCommit, Synced, synced_kept}
 use Rattle.opened_folders.proofs.FolderSeen.{Quiet, WasListed, created_temp, quiet_lock, quiet_seen, quiet_sees, quiet_unlinked}
 use Rattle.opened_folders.proofs.Meeting.{Meets, meets_create, meets_end, meets_link, meets_on, meets_quietly, meets_read, meets_rename, meets_return, meets_stop, meets_sync_file, meets_sync_folder, meets_then, meets_unlink}
 use Rattle.refile_command.specs.RefileHeld.{TakesUnheld}
-use Rattle.refile_command.proofs.Shown.{AreNumbers}
 use Rattle.refile_command.proofs.UnmarkedNumbers.{IsUnmarkedIn, put_minds, take_minds, unmarked_kept}
 use Rattle.sequence_commits.proofs.SequencesPledged.{sequences_name}
+use Rattle.mh_base.proofs.NumberTests.{AreNumbers}
 
 -- the greater of two numbers is one of them, and not less than both
 two_tops : (a b : ℕ) → (a ≤ max a b) × (a ≤ 999999 → b ≤ 999999 → max a b ≤ 999999)

@@ -1,7 +1,7 @@
 -- The plan of `anno`.
-use Rattle.std.specs.Prelude.{ℕ, ◌-◌, List, length, slice_get, unwrap_or, Result}
+use Rattle.std.specs.Prelude.{ℕ, List, Result}
 use Rattle.mh_sequences.specs.declared.run.Run.{Run}
-use Rattle.mh_sequences.specs.Runs.{numbers_of}
+use Rattle.mh_sequences.specs.Runs.{last_in, numbers_of}
 use Rattle.mh_sequences.specs.Sequences.{Marked}
 use Rattle.msg_ranges.specs.Selection.{marks_of}
 use Rattle.folder_files.specs.declared.place.Place.TheVariants.{Folder, Mail}
@@ -20,10 +20,6 @@ use Rattle.anno_command.specs.declared.job.AnnoJob.{AnnoJob}
 -- word that is refused
 abbrev pub chosen_from : AnnoJob → List Run → Marked → Result (List ℕ) CommandFault
 chosen_from job listing m = chosen_in (folder_with job.negation (numbers_of listing) (marks_of m)) job.specs
-
--- the last of these numbers, or 0 where there is none
-abbrev pub last_in : List Run → ℕ
-last_in listing = unwrap_or (slice_get (numbers_of listing) (length (numbers_of listing) - 1)) 0
 
 -- the messages that the words choose get the lines
 unfoldable pub said_noted : ℕ → AnnoJob → Opened → Commanded Unit

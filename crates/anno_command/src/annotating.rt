@@ -1,9 +1,9 @@
 // `anno`: messages get lines in front.
-ghost use Rattle.std.specs.Prelude.{◌≡◌, ◌≤◌};
+ghost use Rattle.std.specs.Prelude.{◌≡◌};
 ghost use Rattle.file_plans.specs.Follows.{Follows, by_hand};
 ghost use Rattle.step_plans.specs.CommandFaults.{command_cause};
 ghost use Rattle.command_stages.specs.Chosen.{IsValue};
-ghost use Rattle.anno_command.specs.Anno.{anno as anno_plan, chosen_from, last_in, opened_noted, said_noted};
+ghost use Rattle.anno_command.specs.Anno.{anno as anno_plan, chosen_from, opened_noted, said_noted};
 ghost use Rattle.anno_command.specs.AnnoAlone.{NotesIfUnfaulted};
 ghost use Rattle.anno_command.specs.AnnoPledge.{PromisesSteps};
 
@@ -30,17 +30,6 @@ fn chosen(alloc: Global, job: &AnnoJob, opened: &Opened) -> Result<NumSet, Comma
     )
 }
 
-/// The last number of a listing, or 0.
-fn last(listing: &NumSet) -> u32
-    ensures value { result ≡ last_in listing.now.runs }
-    ensures range { result ≤ 999999 }
-{
-    match listing.at(listing.len().saturating_sub(1)) {
-        Some(number) => number.get(),
-        None => 0,
-    }
-}
-
 /// The messages that the words choose get the lines.
 fn note_chosen<F: Files>(
     alloc: Global,
@@ -57,7 +46,7 @@ fn note_chosen<F: Files>(
     let chosen = chosen(alloc, job, opened)?;
     let numbers = numbers(alloc, &chosen)?;
     let folder = job.folder.duplicate(alloc)?;
-    let top = last(opened.listing());
+    let top = opened.highest();
     match note_messages(
         alloc,
         hand,

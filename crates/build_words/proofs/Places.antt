@@ -1,9 +1,9 @@
 -- The places of words of a sort, one word after another.
 use Rattle.std.proofs.Common.{◌≡◌, ◌++◌, ◌∷◌, [], ℕ, ◌+◌, ◌<◌, ◌≤◌, List, refl, sym, ◌∙◌, ap, drop, get_or, length, append_assoc, append-nil}
 use Rattle.std.proofs.lemmas.List.{drop_all}
-use Rattle.command_stages.proofs.Listing.{next}
 use Rattle.build_words.specs.Sorts.{is_of, place_if, places}
 use Rattle.build_words.specs.declared.sort.Sort.{Sort}
+use Rattle.step_plans.proofs.Rounds.{next}
 
 first_place : (sort : Sort) (i : ℕ) (word : List ℕ) (words : List (List ℕ)) → places sort i (word ∷ words) ≡ place_if (is_of sort word) i ++ places sort (i + 1) words
 unfolding places

@@ -16,11 +16,7 @@ use Rattle.build_words.specs.BuildWords.{build_said, by_name, draft_named, extra
 use Rattle.build_words.specs.Sorts.{places}
 use Rattle.build_words.specs.declared.sort.Sort.TheVariants.{Switch, Name}
 use Rattle.build_words.specs.declared.words.BuildWords.{BuildWords}
-
--- a draft's name, where there is a name
-abbrev pub IsValid : Option (List ℕ) → Type 0
-IsValid None = Unit {0}
-IsValid (Some name) = is_draft_name name ≡ true
+use Rattle.command_words.proofs.SaidFolder.{IsValid}
 
 abbrev IsSound : Result BuildWords Ended → Type 0
 IsSound (Ok words) = IsValid words.draft

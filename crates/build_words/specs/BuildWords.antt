@@ -1,7 +1,7 @@
 -- What the words of `mhbuild` say.
 use Rattle.std.specs.Prelude.{◌++◌, codes, ℕ, Bool, bytes_eq, List, length, Option, Some, None, Result, Ok, Err, if◌then◌else◌}
 use Rattle.std.specs.Str.{encode_utf8_all}
-use Rattle.mh_base.specs.declared.word.WordWhy.TheVariants.{BadValue, Extra, Missing, Unknown}
+use Rattle.mh_base.specs.declared.word.WordWhy.TheVariants.{BadValue, Missing, Unknown}
 use Rattle.mh_words.specs.Whole.{Wrong}
 use Rattle.mh_profile.specs.declared.named_value.NamedValue.{NamedValue}
 use Rattle.command_stages.specs.Chosen.{word_at}
@@ -14,6 +14,7 @@ use Rattle.draft_files.specs.DraftNames.{is_draft_name}
 use Rattle.build_words.specs.Sorts.{least, places}
 use Rattle.build_words.specs.declared.sort.Sort.TheVariants.{Switch, Folder, Name}
 use Rattle.build_words.specs.declared.words.BuildWords.{BuildWords}
+use Rattle.command_words.specs.IncWords.{extra}
 
 -- the lone dash, which is the input
 abbrev pub is_input : List ℕ → Bool
@@ -26,9 +27,6 @@ by_name word = if is_draft_name word then Some (record { draft = Some word }) el
 abbrev pub draft_named : List ℕ → Option BuildWords
 draft_named word =
     if is_input (encode_utf8_all word) then Some (record { draft = None }) else by_name (encode_utf8_all word)
-
-abbrev pub extra : ℕ → Wrong
-extra place = record { place = place; why = Extra }
 
 -- the earliest word that is too many: a folder, or a second name
 abbrev pub extra_in : List (List ℕ) → Option ℕ

@@ -3,7 +3,7 @@ use Rattle.std.proofs.Common.{◌≡◌, ◌≢◌, ◌⊎◌, ◌<◌, inl, inr
 use Rattle.std.specs.Prelude.{map}
 use Rattle.std.specs.Str.{chars}
 use Rattle.mh_profile.specs.declared.named_value.NamedValue.{NamedValue}
-use Rattle.mh_profile.specs.Reading.{entries_in}
+use Rattle.mh_profile.specs.Reading.{entries_in, entries_seen}
 use Rattle.folder_files.specs.Annotations.{are_annotations}
 use Rattle.folder_files.specs.Careful.{WasMade}
 use Rattle.folder_files.specs.Deeds.{Deed, Once}
@@ -27,7 +27,6 @@ use Rattle.step_plans.proofs.Going.{Outcome}
 use Rattle.step_plans.proofs.Ruling.{rules_of}
 use Rattle.step_plans.proofs.Refusals.{IsRefusal}
 use Rattle.command_stages.specs.Texts.{Commanded, text_read}
-use Rattle.mh_looks.specs.Scan.{entries_seen}
 use Rattle.mh_looks.proofs.Ending.{ScanEnds, ScanShows}
 use Rattle.opened_folders.specs.Endings.{IsEndedBy, IsToldBy, PutsNone, at_once}
 use Rattle.opened_folders.proofs.CleanRuns.{Clean, comes_both}

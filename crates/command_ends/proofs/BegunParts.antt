@@ -4,7 +4,7 @@ use Rattle.std.specs.Prelude.{if◌then◌else◌}
 use Rattle.mh_base.specs.Folders.{is_folder_name, without_plus}
 use Rattle.mh_base.specs.Entries.{kind_of}
 use Rattle.mh_profile.specs.declared.named_value.NamedValue.{NamedValue}
-use Rattle.mh_profile.specs.Reading.{entries_in}
+use Rattle.mh_profile.specs.Reading.{entries_in, entries_seen}
 use Rattle.folder_files.specs.Careful.{WasMade}
 use Rattle.folder_files.specs.Deeds.{Deed, Once, did, now, on}
 use Rattle.folder_files.specs.Named.{is_number}
@@ -34,7 +34,6 @@ use Rattle.step_plans.proofs.Going.{Outcome}
 use Rattle.step_plans.proofs.Lasting.{KeptBy}
 use Rattle.step_plans.proofs.Past.{did_step}
 use Rattle.command_stages.specs.Texts.{Commanded, text_by, text_read, too_large}
-use Rattle.mh_looks.specs.Scan.{entries_seen}
 use Rattle.opened_folders.specs.Endings.{IsEndedBy, IsShownBy, IsToldBy, PutsNone, at_once, let_go}
 use Rattle.opened_folders.proofs.CleanRuns.{Clean, unfailed_by}
 use Rattle.opened_folders.proofs.EndedKept.{keeps_more}

@@ -1,7 +1,7 @@
 -- How a `mhbuild` ends, what shows it, and what it says.
 use Rattle.std.proofs.Common.{◌≡◌, ◌≢◌, inl, inr, ◌<◌, ◌^◌, ◌∷◌, [], ℕ, List, Option, None, Some, Result, Ok, Err, refl, sym, ap, subst, map}
 use Rattle.std.specs.Str.{chars}
-use Rattle.mh_profile.specs.Reading.{entries_in}
+use Rattle.mh_profile.specs.Reading.{entries_in, entries_seen}
 use Rattle.mh_profile.specs.declared.named_value.NamedValue.{NamedValue}
 use Rattle.folder_files.specs.Careful.{WasMade}
 use Rattle.folder_files.specs.Deeds.{Deed, HasFailed, did}
@@ -25,7 +25,6 @@ use Rattle.step_plans.proofs.Coming.{Comes, NoneFailed, OfActs, anything, comes_
 use Rattle.step_plans.proofs.Going.{Outcome}
 use Rattle.step_plans.proofs.Ruling.{rules_of}
 use Rattle.command_stages.specs.Texts.{Commanded, text_read, too_large}
-use Rattle.mh_looks.specs.Scan.{entries_seen}
 use Rattle.opened_folders.specs.Endings.{IsToldBy}
 use Rattle.opened_folders.proofs.CleanRuns.{Clean}
 use Rattle.opened_folders.proofs.EndedKept.{keeps_more}
@@ -40,7 +39,7 @@ use Rattle.mhbuild_command.proofs.BuildSays.{SaysSo, Tells, build_says}
 use Rattle.mhbuild_command.proofs.Unlocked.{IsUnlocked, not_locked, refused_unlocked}
 use Rattle.build_words.specs.BuildWords.{build_said}
 use Rattle.build_words.specs.declared.words.BuildWords.{BuildWords}
-use Rattle.build_words.proofs.Said.{IsValid as IsDraft, build_refuses, build_valid}
+use Rattle.build_words.proofs.Said.{build_refuses, build_valid}
 use Rattle.command_words.specs.Ended.{plain}
 use Rattle.command_words.specs.declared.ended.Ended.{Ended}
 use Rattle.command_ends.specs.BuildCauses.{BuildsBy, IsBuildJob, SaysBuilt, ShowsBuildFault, ShowsBuilt, ShowsLongEntries, TellsBuilt, long_context_read, long_profile_read}
@@ -52,6 +51,7 @@ use Rattle.command_line.specs.declared.name.CommandName.TheVariants.{Mhbuild}
 use Rattle.command_line.specs.declared.caller.Caller.{Caller}
 use Rattle.command_ends.proofs.BegunParts.{Behind, Tells as TellsText, after_context, after_profile, behind_kept, clean_there, entered_silent, in_silence, none_made, profile_silent, told_comes}
 use Rattle.command_ends.proofs.WordEnding.{refusal_of, refused_by}
+use Rattle.command_words.proofs.SaidFolder.{IsValid as IsDraft}
 
 -- the profile, or it is too long
 abbrev Profile : Outcome (Result (List ℕ) Ended)

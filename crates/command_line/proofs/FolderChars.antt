@@ -1,13 +1,13 @@
 -- The folder that words, profile and context name is a text of characters.
 use Rattle.std.proofs.Common.{◌≡◌, ◌≤◌, ◌+◌, ℕ, zero, suc, Bool, true, false, ◌&&◌, List, [], ◌∷◌, ◌++◌, Option, None, Some, Result, Ok, Err, length, take, drop, map, refl, ap, subst, arith, length-drop, ℤ}
 use Rattle.std.specs.Prelude.{◌==◌, codes, unwrap_or, if◌then◌else◌}
-use Rattle.std.specs.Str.{IsUtf8, chars, is_utf8}
+use Rattle.std.specs.Str.{IsUtf8, chars}
 use Rattle.std.specs.Str.Lossy.{utf8_valid_len, valid_len_up_to}
 use Rattle.std.proofs.Math.Utf8.{scalar, scalars}
 use Rattle.std.proofs.lemmas.Bool.{and_from, and_parts}
 use Rattle.std.proofs.lemmas.Bool.Decides.{Decides-eqb}
 use Rattle.std.proofs.lemmas.List.{take_all}
-use Rattle.std.proofs.lemmas.Str.{IsUtf8-from_is_utf8, IsUtf8-nil, chars-nil, is_utf8-from_IsUtf8, scalars-chars}
+use Rattle.std.proofs.lemmas.Str.{IsUtf8-from_is_utf8, chars-nil, scalars-chars}
 use Rattle.mh_base.specs.Folders.{is_folder_name, without_plus}
 use Rattle.mh_base.specs.declared.word.WordWhy.TheVariants.{Missing}
 use Rattle.mh_profile.specs.declared.named_value.NamedValue.{NamedValue}
@@ -42,7 +42,7 @@ use Rattle.command_words.specs.RmmWords.{folder_said as rmm_words_said, items_sa
 use Rattle.command_words.specs.Switches.{values}
 use Rattle.command_words.specs.TellWords.{folder_and_message, folder_said as tell_words_said, items_said as tell_items, said_folder as tell_said_folder, is_packed, tell_said, too_many, with_folder as tell_folder}
 use Rattle.command_words.specs.Tables.{folder_table, inc_table, mark_table, pick_table, refile_table, rmm_table}
-use Rattle.command_words.specs.Words.{profile_words, words_in}
+use Rattle.command_words.specs.Words.{profile_words}
 use Rattle.command_words.specs.declared.ended.Ended.{Ended}
 use Rattle.command_words.specs.declared.folder.FolderWords.{FolderWords}
 use Rattle.command_words.specs.declared.inc.IncWords.{IncWords}
@@ -70,15 +70,8 @@ use Rattle.store_words.specs.Values.{wrong_values as wrong_stored_values}
 use Rattle.store_words.specs.Table.{store_table}
 use Rattle.store_words.specs.declared.words.StoreWords.{StoreWords}
 use Rattle.command_line.specs.Profile.{folder_of, inbox_of, stored_of, value_or}
-
--- bytes as they are shown are characters
-front_by : (t : Bool) (bytes : List ℕ) (n k : ℕ) → is_utf8 (take (suc n) bytes) ≡ t → is_utf8 (take k bytes) ≡ true → is_utf8 (take (if t then suc n else k) bytes) ≡ true
-front_by true bytes n k e front = e
-front_by false bytes n k e front = front
-
-front_valid : (bytes : List ℕ) (n : ℕ) → is_utf8 (take (valid_len_up_to bytes n) bytes) ≡ true
-front_valid bytes zero = is_utf8-from_IsUtf8 [] IsUtf8-nil
-front_valid bytes (suc n) = front_by (is_utf8 (take (suc n) bytes)) bytes n (valid_len_up_to bytes n) refl (front_valid bytes n)
+use Rattle.mh_base.specs.Characters.{words_in}
+use Rattle.mail_text.proofs.Showing.{front_valid}
 
 valid_front : (bytes : List ℕ) → IsUtf8 (take (utf8_valid_len bytes) bytes)
 unfolding utf8_valid_len

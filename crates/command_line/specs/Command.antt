@@ -3,7 +3,7 @@ use Rattle.std.specs.Prelude.{ℕ, Bool, true, false, List, [], ◌∷◌, Optio
 use Rattle.std.specs.Str.{chars}
 use Rattle.mh_base.specs.declared.word.WordWhy.TheVariants.{NoCommand}
 use Rattle.mh_profile.specs.declared.named_value.NamedValue.{NamedValue}
-use Rattle.mh_profile.specs.Reading.{entries_in}
+use Rattle.mh_profile.specs.Reading.{entries_in, entries_seen}
 use Rattle.folder_files.specs.declared.place.Place.{Place}
 use Rattle.folder_files.specs.declared.place.Place.TheVariants.{Home, Mail}
 use Rattle.file_plans.specs.Plan.{Return, Recall, Note, lifted, ◌>>=◌}
@@ -12,7 +12,7 @@ use Rattle.step_plans.specs.Hands.{knowing}
 use Rattle.command_stages.specs.Texts.{Commanded, text_read}
 use Rattle.message_lines.specs.MessageText.{Writing}
 use Rattle.message_lines.specs.declared.standing.Standing.{Standing}
-use Rattle.mh_looks.specs.Scan.{entries_seen, scan}
+use Rattle.mh_looks.specs.Scan.{scan}
 use Rattle.mh_looks.specs.ScanJob.{ScanJob}
 use Rattle.mark_command.specs.Mark.{mark}
 use Rattle.pick_command.specs.Pick.{pick}

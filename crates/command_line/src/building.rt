@@ -5,11 +5,11 @@ ghost use Rattle.std.specs.String.{string_bytes};
 ghost use Rattle.file_plans.specs.Plan.{Hand as Kept, fresh};
 ghost use Rattle.file_plans.specs.Follows.{Follows, all};
 ghost use Rattle.step_plans.specs.CommandFaults.{command_cause};
-ghost use Rattle.mh_looks.specs.Scan.{entries_seen};
 ghost use Rattle.command_words.specs.Ended.{ended_cause};
 ghost use Rattle.build_words.specs.BuildWords.{build_said};
 ghost use Rattle.command_line.specs.Command.{build_begun, build_by, build_job as build_job_of};
 ghost use Rattle.command_line.specs.Profile.{path_of};
+ghost use Rattle.mh_profile.specs.Reading.{entries_seen};
 
 use crate::current::{enter_context, stored_folder};
 use crate::profile::{negation, path};

@@ -3,11 +3,11 @@ ghost use Rattle.std.specs.Prelude.{◌≡◌, IfOk, option_map, codes};
 ghost use Rattle.mh_profile.specs.Changes.{value_of};
 ghost use Rattle.file_plans.specs.Follows.{Follows, by_hand};
 ghost use Rattle.step_plans.specs.CommandFaults.{command_cause};
-ghost use Rattle.mh_looks.specs.Scan.{entries_seen};
 ghost use Rattle.command_stages.specs.Texts.{text_read};
 ghost use Rattle.command_words.specs.Results.{IsNamed};
 ghost use Rattle.command_line.specs.Command.{context_entered, folder_found};
 ghost use Rattle.command_line.specs.Profile.{folder_of, path_of, stored_of};
+ghost use Rattle.mh_profile.specs.Reading.{entries_seen};
 
 use crate::profile::inbox;
 use command_stages::read_text;

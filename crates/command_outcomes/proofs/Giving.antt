@@ -5,7 +5,7 @@ use Rattle.std.specs.Str.{chars}
 use Rattle.mh_base.specs.Entries.{entry_text}
 use Rattle.mh_base.specs.Folders.{is_folder_name}
 use Rattle.mh_base.specs.declared.entry.Entry.TheVariants.{Sequences}
-use Rattle.mh_profile.specs.Reading.{entries_in}
+use Rattle.mh_profile.specs.Reading.{entries_in, entries_seen}
 use Rattle.mh_profile.specs.declared.named_value.NamedValue.{NamedValue}
 use Rattle.mh_sequences.proofs.Suffixes.{suffix_clean}
 use Rattle.folder_files.specs.declared.place.FilePath.{FilePath}
@@ -30,7 +30,7 @@ use Rattle.command_stages.specs.Works.{Work, refused_at, readable}
 use Rattle.message_lines.specs.MessageText.{Writing}
 use Rattle.message_lines.specs.declared.standing.Standing.{Standing}
 use Rattle.mh_looks.specs.Outcomes.{scan_work}
-use Rattle.mh_looks.specs.Scan.{entries_seen, scan}
+use Rattle.mh_looks.specs.Scan.{scan}
 use Rattle.mh_looks.proofs.Folders.{IsFresh}
 use Rattle.mh_looks.proofs.Reading.{after_read, TextRead, text_gives}
 use Rattle.mh_looks.proofs.Scanning.{IsLate, Decides, ScanEnds, scan_gives}
@@ -39,8 +39,8 @@ use Rattle.opened_folders.specs.HomesOf.{homes_at}
 use Rattle.opened_folders.specs.Making.{IsBare}
 use Rattle.opened_folders.proofs.HomesFound.{homes_there}
 use Rattle.inc_command.specs.Inc.{inc}
-use Rattle.inc_command.specs.IncOutcome.{inc_work, with_folder_made}
-use Rattle.inc_command.proofs.IncGiven.{inc_gives, shows_folder_made}
+use Rattle.inc_command.specs.IncOutcome.{inc_work}
+use Rattle.inc_command.proofs.IncGiven.{inc_gives}
 use Rattle.mark_command.specs.Mark.{mark}
 use Rattle.opened_folders.proofs.WorkGiven.{WorkEnds}
 use Rattle.mark_command.proofs.MarkAlone.{mark_gives}
@@ -71,7 +71,7 @@ use Rattle.command_words.specs.declared.refile.RefileWords.{RefileWords}
 use Rattle.command_words.specs.declared.rmm.RmmWords.{RmmWords}
 use Rattle.sort_words.specs.SortWords.{sort_said}
 use Rattle.command_line.specs.Looking.{ScanAsked, look_found, scan_asked}
-use Rattle.command_words.proofs.SaidFolder.{IsValid}
+use Rattle.command_words.proofs.SaidFolder.{IsValid, IsValid as IsDraft}
 use Rattle.anno_command.specs.Anno.{anno}
 use Rattle.sortm_command.specs.Sort.{sortm}
 use Rattle.anno_command.proofs.AnnoGiven.{anno_gives}
@@ -90,7 +90,7 @@ use Rattle.mhstore_command.specs.Storing.{mhstore}
 use Rattle.mhstore_command.proofs.WholeGiven.{store_gives}
 use Rattle.build_words.specs.BuildWords.{build_said}
 use Rattle.build_words.specs.declared.words.BuildWords.{BuildWords}
-use Rattle.build_words.proofs.Said.{IsValid as IsDraft, build_refuses, build_valid}
+use Rattle.build_words.proofs.Said.{build_refuses, build_valid}
 use Rattle.mhbuild_command.specs.Heard.{Heard}
 use Rattle.mhbuild_command.proofs.HeardBuild.{mhbuild_given}
 use Rattle.mhbuild_command.proofs.HeardGiven.{given_gives}
@@ -111,6 +111,8 @@ use Rattle.command_outcomes.proofs.LookGives.{fresh_alike, look_gives}
 use Rattle.command_line.proofs.SaidInc.{job_valid}
 use Rattle.command_line.proofs.SaidFolder.{acted_valid, mark_valid, refile_words_valid, rmm_words_valid, tell_words_valid}
 use Rattle.command_line.proofs.SaidPick.{pick_refuses, pick_valid}
+use Rattle.opened_folders.specs.MadeFolder.{with_folder_made}
+use Rattle.opened_folders.proofs.FolderMade.{shows_folder_made}
 
 -- an end that the last commit alone decides
 abbrev pub IsLateEnd : Result Unit Ended → Type 0
@@ -558,7 +560,7 @@ module _ (run : ℕ) (c : Contents) (few : run < 2 ^ 128) (bare : IsBare c) (pro
       look_gives true c (after_read v inc_mail context_name) (knowing (entries_in text) h) same (λ beside path. begun.files path) (taken_writing text) inc_act WorkEnds (mark_refused c)
       (λ spoken z alike.
       inc_gives run few inc_path (job_writing asked spoken) valid (suffix_clean asked.folder) c bare (entries_in text) (ap entries_in short.1) short.0 inc_homes
-      (subst (λ m. AreHomesAt run ((mailbox_in (with_folder c into)).folders into) (homes_at run (m.folders into))) (shows_folder_made c into bare) (homes_there run (with_folder c into) into)) z.numbers
+      (subst (λ m. AreHomesAt run ((mailbox_in (with_folder c into)).folders into) (homes_at run (m.folders into))) (shows_folder_made c into (λ q is no. bare q no)) (homes_there run (with_folder c into) into)) z.numbers
       z (knowing (entries_in text) h)
       (record {
         has = (alike.contents ∙ same, refl);

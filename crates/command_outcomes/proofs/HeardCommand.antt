@@ -1,7 +1,7 @@
 -- A command, where this was heard of its input.
 use Rattle.std.proofs.Common.{◌≡◌, ◌≢◌, ℕ, List, [], ◌∷◌, Option, None, Some, Result, Ok, Err, inl, inr, refl, sym, ◌∙◌, subst, map}
 use Rattle.std.specs.Str.{chars}
-use Rattle.mh_profile.specs.Reading.{entries_in}
+use Rattle.mh_profile.specs.Reading.{entries_in, entries_seen}
 use Rattle.mh_profile.specs.declared.named_value.NamedValue.{NamedValue}
 use Rattle.folder_files.specs.declared.place.Place.{Place}
 use Rattle.folder_files.specs.declared.place.Place.TheVariants.{Home, Mail}
@@ -10,7 +10,6 @@ use Rattle.file_plans.specs.Runs.{Deed, Exit, Returned, Runs}
 use Rattle.step_plans.specs.ContextCommit.{context_name}
 use Rattle.step_plans.specs.declared.command_fault.CommandFault.{CommandFault}
 use Rattle.command_stages.specs.Texts.{Commanded, text_read}
-use Rattle.mh_looks.specs.Scan.{entries_seen}
 use Rattle.sequence_commits.proofs.NeverFailed.{IsPlain, plain_lifted, plain_return, plain_then}
 use Rattle.command_words.specs.Ended.{Ending, plain}
 use Rattle.command_words.specs.declared.ended.Ended.{Ended}

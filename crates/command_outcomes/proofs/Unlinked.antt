@@ -4,7 +4,7 @@ use Rattle.std.specs.Prelude.{map, not}
 use Rattle.std.specs.Str.{chars}
 use Rattle.mh_base.specs.Entries.{entry_text}
 use Rattle.mh_base.specs.declared.entry.Entry.TheVariants.{Number, Sequences}
-use Rattle.mh_profile.specs.Reading.{entries_in}
+use Rattle.mh_profile.specs.Reading.{entries_in, entries_seen}
 use Rattle.mh_profile.specs.declared.named_value.NamedValue.{NamedValue}
 use Rattle.folder_files.specs.Deeds as deeds
 use Rattle.folder_files.specs.Deeds.{did}
@@ -37,7 +37,7 @@ use Rattle.format_compiler.specs.Grammar.{Format}
 use Rattle.step_plans.specs.declared.command_fault.CommandFault.{CommandFault}
 use Rattle.message_lines.specs.Finding.{file_read, format_by}
 use Rattle.message_lines.specs.MessageText.{Writing, formed}
-use Rattle.mh_looks.specs.Scan.{shown_by, one_shown, all_shown, ordered, entries_seen, chosen_by, lined_by, scan}
+use Rattle.mh_looks.specs.Scan.{shown_by, one_shown, all_shown, ordered, chosen_by, lined_by, scan}
 use Rattle.mh_looks.specs.ScanJob.{ScanJob}
 use Rattle.command_line.specs.Command.{command, command_by, context_entered, context_seen, folder_found, job_of, no_command, scan_begun, scan_by, word_by}
 use Rattle.command_line.specs.CommandNames.{begins_folders, command_of, named}

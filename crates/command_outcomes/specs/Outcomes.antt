@@ -27,8 +27,8 @@ use Rattle.mhlist_command.specs.ListOutcome.{mhlist_work}
 use Rattle.mhbuild_command.specs.BuildOutcome.{build_work, text_found}
 use Rattle.mhbuild_command.specs.Heard.{Heard}
 use Rattle.mhstore_command.specs.StoreOutcome.{mhstore_work}
-use Rattle.inc_command.specs.IncOutcome.{inc_work, with_folder_made}
-use Rattle.refile_command.specs.MadeFolder.{or_empty}
+use Rattle.inc_command.specs.IncOutcome.{inc_work}
+use Rattle.opened_folders.specs.MadeFolder.{or_empty, with_folder_made}
 use Rattle.refile_command.specs.RefileOutcome.{refile_work}
 use Rattle.refile_command.specs.RmmOutcome.{rmm_work}
 use Rattle.command_words.specs.Ended.{plain}

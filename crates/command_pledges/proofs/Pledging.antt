@@ -2,7 +2,7 @@
 use Rattle.std.proofs.Common.{◌≡◌, ◌⊎◌, inl, inr, ◌<◌, ◌^◌, ℕ, Bool, true, false, List, [], ◌∷◌, Option, None, Some, Result, Ok, Err, refl, sym, subst, map}
 use Rattle.std.specs.Str.{chars}
 use Rattle.mh_profile.specs.declared.named_value.NamedValue.{NamedValue}
-use Rattle.mh_profile.specs.Reading.{entries_in}
+use Rattle.mh_profile.specs.Reading.{entries_in, entries_seen}
 use Rattle.folder_files.specs.Annotations.{are_annotations}
 use Rattle.folder_files.specs.Deeds.{Deed, HasFailed}
 use Rattle.folder_files.specs.declared.place.Place.TheVariants.{Folder, Home, Mail}
@@ -29,7 +29,7 @@ use Rattle.step_plans.proofs.Pledged.{Of}
 use Rattle.step_plans.proofs.Promising.{keeps_pledge}
 use Rattle.step_plans.proofs.Ruling.{rules_of}
 use Rattle.command_stages.specs.Texts.{Commanded, text_by, text_read, too_large}
-use Rattle.mh_looks.specs.Scan.{entries_seen, scan}
+use Rattle.mh_looks.specs.Scan.{scan}
 use Rattle.mh_looks.specs.ScanPledge.{scan_pledge}
 use Rattle.mh_looks.proofs.Pledging.{Noted, scan_goes}
 use Rattle.opened_folders.proofs.EndedKept.{Still, keeps_more}
@@ -79,7 +79,7 @@ use Rattle.command_words.specs.declared.refile.RefileWords.{RefileWords}
 use Rattle.command_words.specs.declared.rmm.RmmWords.{RmmWords}
 use Rattle.sort_words.specs.SortWords.{sort_said}
 use Rattle.command_line.specs.Looking.{ScanAsked, WritesAs, look_found, scan_asked, written_by}
-use Rattle.command_words.proofs.SaidFolder.{IsValid}
+use Rattle.command_words.proofs.SaidFolder.{IsValid, IsValid as IsDraft}
 use Rattle.refile_command.specs.Refile.{refile}
 use Rattle.refile_command.specs.Rmm.{rmm}
 use Rattle.refile_command.specs.declared.job.RefileJob.{RefileJob}
@@ -91,7 +91,7 @@ use Rattle.command_line.specs.CommandNames.{command_of, named}
 use Rattle.command_pledges.specs.CommandPledge.{IsDone, KeepsPledge, TellsAsked, anno_on_named, annos_pledge, asked_pledge, builds_pledge, command_pledge, incs_pledge, list_on_named, lists_pledge, marks_pledge, on_named, pick_on_named, picks_pledge, refile_on_named, refiles_pledge, rmm_on_named, rmms_pledge, sort_on_named, sorts_pledge, store_on_named, stores_pledge, task_pledge, tell_on_named, tells_pledge, word_pledge}
 use Rattle.build_words.specs.BuildWords.{build_said}
 use Rattle.build_words.specs.declared.words.BuildWords.{BuildWords}
-use Rattle.build_words.proofs.Said.{IsValid as IsDraft, build_valid}
+use Rattle.build_words.proofs.Said.{build_valid}
 use Rattle.mhbuild_command.specs.BuildDone.{HasBuilt}
 use Rattle.mhbuild_command.specs.BuildPledge.{build_pledge}
 use Rattle.mhbuild_command.specs.Building.{mhbuild}

@@ -1,19 +1,16 @@
 -- Message numbers among names.
-use Rattle.std.proofs.Common.{◌≡◌, ℕ, suc, ◌+◌, ◌<◌, ◌≤◌, ◌||◌, ◌==◌, ◌&&◌, Bool, true, false, Some, List, ◌∷◌, length, drop, get_or, refl, sym, ◌∙◌, ap, arith, add-one}
+use Rattle.std.proofs.Common.{◌≡◌, ℕ, ◌+◌, ◌<◌, ◌≤◌, ◌||◌, ◌==◌, ◌&&◌, Bool, true, false, Some, List, length, drop, get_or, refl, sym, ◌∙◌, ap, arith}
 use Rattle.std.specs.Prelude.{nat_le}
-use Rattle.std.proofs.Math.Seq.{drop-cons}
 use Rattle.std.proofs.lemmas.List.{drop_all}
 use Rattle.std.proofs.lemmas.Bool.Decides.{nat_tests}
 use Rattle.mh_base.specs.Numbers.{number_of}
 use Rattle.mh_sequences.specs.declared.run.Run.{Run}
 use Rattle.mh_sequences.specs.Runs.{has, inside}
 use Rattle.file_plans.specs.Sightings.{has_number, is_this}
+use Rattle.step_plans.proofs.Rounds.{next}
 
 pub inside_one : (k n : ℕ) → inside (record { from = k; to = k }) n ≡ is_this n (Some k)
 inside_one k n = let e : (nat_le k n && nat_le n k) ≡ (k == n) = grind (arith, nat_tests) in e
-
-pub next : (l : List (List ℕ)) (i : ℕ) (x : List ℕ) → i < length l → x ≡ get_or l i x → drop i l ≡ x ∷ drop (i + 1) l
-next l i x h is = rw (add-one, drop-cons l i x) (ap (λ y. y ∷ drop (suc i) l) (sym is))
 
 pub swap : (a b c : Bool) → (a || b) || c ≡ b || (a || c)
 swap true true c = refl

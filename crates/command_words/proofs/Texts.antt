@@ -7,7 +7,7 @@ use Rattle.std.proofs.lemmas.List.{map-append}
 use Rattle.std.proofs.lemmas.List.Elements.{filter-append}
 use Rattle.mail_text.specs.ShownBytes.{shown}
 use Rattle.command_words.specs.MessageWords.{names_or}
-use Rattle.command_words.specs.Words.{is_some_text}
+use Rattle.mh_base.specs.Characters.{is_some_text}
 
 pub chars_all : chars (codes "all") ≡ codes "all"
 unfolding chars

@@ -7,7 +7,8 @@ use Rattle.std.specs.Str.Parse.{AllDigits, IsNumeral, digits_value, without_lead
 use Rattle.std.proofs.lemmas.Bool.{and_parts, leb-true}
 use Rattle.std.proofs.lemmas.Bool.Decides.{Decides-eqb}
 use Rattle.std.proofs.lemmas.Str.{digit_value_digit}
-use Rattle.command_words.specs.Columns.{columns_in, is_digit, within_columns}
+use Rattle.command_words.specs.Columns.{columns_in, within_columns}
+use Rattle.mh_base.specs.Characters.{is_digit}
 
 digit_below : (c : ℕ) → is_digit c ≡ true → digit_value c < 10
 digit_below c e =

@@ -1,10 +1,8 @@
 -- Widths of lines, as words say them. 48 to 57 are the digits.
-use Rattle.std.specs.Prelude.{ℕ, ◌&&◌, Bool, nat_le, List, Option, None, Some, if◌then◌else◌}
+use Rattle.std.specs.Prelude.{ℕ, ◌&&◌, nat_le, List, Option, None, Some, if◌then◌else◌}
 use Rattle.std.specs.List.{list_all}
 use Rattle.std.specs.Str.Parse.{digits_value}
-
-abbrev pub is_digit : ℕ → Bool
-is_digit c = nat_le 48 c && nat_le c 57
+use Rattle.mh_base.specs.Characters.{is_digit}
 
 -- so many columns, if they are 1 to 10,000
 abbrev pub within_columns : ℕ → Option ℕ

@@ -3,8 +3,9 @@ ghost use Rattle.std.specs.Prelude.{◌≡◌, IfOk};
 ghost use Rattle.std.specs.List.{list_all};
 ghost use Rattle.std.specs.Str.{encode_utf8_all};
 ghost use Rattle.command_words.specs.BadValues.{first_of};
-ghost use Rattle.command_words.specs.Columns.{columns_in, is_digit as is_digit_of, within_columns};
+ghost use Rattle.command_words.specs.Columns.{columns_in, within_columns};
 ghost use Rattle.command_words.specs.LookWords.{format_in, last_behind, look_of, width_in, wrong_width_in, wrong_widths};
+ghost use Rattle.mh_base.specs.Characters.{is_digit as is_digit_of};
 
 use crate::tables::{FORM, FORMAT, WIDTH};
 use mh_base::{Duplicate, Text};

@@ -2,9 +2,9 @@
 ghost use Rattle.std.specs.Prelude.{◌≡◌, ◌++◌, ◌∷◌, [], IfOk, OnOk, filter, map};
 ghost use Rattle.std.specs.Str.{chars};
 ghost use Rattle.std.specs.String.{string_bytes};
-ghost use Rattle.mail_headers.specs.Lines.{is_blank as is_blank_value};
 ghost use Rattle.mail_text.specs.ShownBytes.{shown};
-ghost use Rattle.command_words.specs.Words.{is_some_text, words_in as words_of, profile_words as profile_words_of};
+ghost use Rattle.command_words.specs.Words.{profile_words as profile_words_of};
+ghost use Rattle.mh_base.specs.Characters.{is_blank as is_blank_value, is_some_text, words_in as words_of};
 
 use mail_text::show_bytes;
 use mh_base::{List, Text, TextList};

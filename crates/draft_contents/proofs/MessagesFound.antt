@@ -33,7 +33,6 @@ use Rattle.command_stages.specs.Chosen.{chosen_in, folder_with}
 use Rattle.command_stages.specs.Listed.{folder_listed}
 use Rattle.command_stages.specs.Texts.{Commanded, text_read}
 use Rattle.command_stages.specs.Works.{readable}
-use Rattle.mh_looks.specs.Scan.{entries_seen}
 use Rattle.mh_looks.proofs.Folders.{FolderListed, IsAbsent, IsListed, Tells, folder_gives, messages_listed}
 use Rattle.mh_looks.proofs.Reading.{TextRead, text_gives}
 use Rattle.mh_looks.proofs.Scanning.{refuses, unreadable}
@@ -46,6 +45,7 @@ use Rattle.draft_contents.specs.Messages.{message_by, message_read, messages_giv
 use Rattle.draft_contents.specs.declared.forwarding.Forwarding.{Forwarding}
 use Rattle.draft_files.specs.Limits.{within_limit}
 use Rattle.draft_contents.proofs.Finding.{Finds, IsRefusing, content_found, finds_then, found_so, long_found}
+use Rattle.mh_profile.specs.Reading.{entries_seen}
 
 never_gone : (text : List ℕ) → answer.Gone ≡ read_file_answer LIMIT_BYTES (Some text) → ⊥
 never_gone text e = go (nat_lt LIMIT_BYTES (length text)) e

@@ -1,16 +1,14 @@
 -- How reading what a draft wants ends, and what shows it.
 use Rattle.std.proofs.Common.{◌≡◌, inl, inr, ◌∷◌, ◌++◌, [], ℕ, true, List, Result, Ok, Err, refl, sym, ◌∙◌, ap, subst, append_assoc, append-nil}
-use Rattle.std.specs.Prelude.{decimal}
 use Rattle.mh_base.specs.Entries.{entry_text}
 use Rattle.mh_base.specs.declared.entry.Entry.TheVariants.{Sequences}
 use Rattle.mh_profile.specs.declared.named_value.NamedValue.{NamedValue}
 use Rattle.mh_sequences.specs.Runs.{numbers_of}
 use Rattle.mh_sequences.specs.Sequences.{Marked}
 use Rattle.msg_ranges.specs.Selection.{marks_of}
-use Rattle.msg_ranges.proofs.Rising.{lists}
+use Rattle.msg_ranges.proofs.Rising.{lists, first_listed, other_listed}
 use Rattle.folder_files.specs.Careful.{WasMade}
 use Rattle.folder_files.specs.Deeds.{Deed, did, last, now}
-use Rattle.folder_files.specs.Steps.{has_text}
 use Rattle.folder_files.specs.declared.place.FilePath.{FilePath}
 use Rattle.folder_files.specs.declared.place.Place.{Place}
 use Rattle.folder_files.specs.declared.place.Place.TheVariants.{Folder}
@@ -20,12 +18,9 @@ use Rattle.folder_files.specs.declared.step.Answer.{Answer}
 use Rattle.folder_files.specs.declared.step.Answer.TheVariants as answer
 use Rattle.folder_files.specs.declared.step.Step.{Step}
 use Rattle.folder_files.specs.declared.step.Step.TheVariants as step
-use Rattle.folder_files.proofs.Names.{both}
 use Rattle.file_plans.specs.Asking.{read_file, reading_of}
-use Rattle.file_plans.specs.Mailboxes.{is_message_number}
 use Rattle.file_plans.specs.Plan.{Hand, Recall, Return, ask, bind, lifted, ◌>>=◌}
 use Rattle.file_plans.specs.Sightings.{has_number}
-use Rattle.file_plans.proofs.NumberTexts.{has_number_text}
 use Rattle.step_plans.specs.CommandFaults.{of_stop}
 use Rattle.step_plans.specs.ContextCommit.{LIMIT_BYTES}
 use Rattle.step_plans.specs.Endings.{HasMet}
@@ -39,12 +34,10 @@ use Rattle.step_plans.proofs.Stepping.{on_read}
 use Rattle.command_stages.specs.Chosen.{folder_with}
 use Rattle.command_stages.specs.Listed.{folder_listed, names_by}
 use Rattle.command_stages.specs.Texts.{text_by, text_read, too_large}
-use Rattle.mh_looks.specs.Scan.{entries_seen}
-use Rattle.mh_looks.proofs.Ending.{by_choice, comes_at, comes_recall, name_of}
+use Rattle.mh_looks.proofs.Ending.{by_choice, comes_at, comes_recall, name_of, listed_text}
 use Rattle.opened_folders.specs.Reads.{TellsText}
 use Rattle.opened_folders.proofs.ChosenListed.{has_tested, words_listed}
 use Rattle.opened_folders.proofs.NamesKept.{met_kept}
-use Rattle.told_folders.proofs.MessagesStand.{first_listed, other_listed}
 use Rattle.told_folders.specs.Tasks.{listed_runs, sequences_listed}
 use Rattle.mh_drafts.specs.declared.want.Want.{Want}
 use Rattle.mh_drafts.specs.declared.want.Want.TheVariants as want
@@ -58,10 +51,7 @@ use Rattle.draft_contents.specs.Shown.{HasReadFile, HasReadMessages, WasGiven}
 use Rattle.draft_contents.specs.Wants.{all_given, file_given, forward_given, want_given}
 use Rattle.draft_contents.specs.declared.forwarding.Forwarding.{Forwarding}
 use Rattle.draft_contents.proofs.Shown.{Gave, Onto, Reads, once_onto, onto_more, onto_none, onto_one, was_onto}
-
-listed_text : (n : ℕ) (names : List (List ℕ)) → has_number n names ≡ true → has_text (name_of n) names ≡ true
-unfolding entry_text
-listed_text n names e = (both (is_message_number n) (has_text (decimal n) names) (sym (has_number_text n names) ∙ e)).1
+use Rattle.mh_profile.specs.Reading.{entries_seen}
 
 -- these deeds, and after them others that only look
 pub record Looked (own later : List Deed) : Type 0 where

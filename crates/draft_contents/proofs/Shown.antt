@@ -24,7 +24,6 @@ use Rattle.step_plans.proofs.Going.{Goes, Outcome, goes_more, goes_then, okay, o
 use Rattle.step_plans.proofs.Stepping.{goes_end, goes_list, goes_read, goes_return, on_read}
 use Rattle.command_stages.specs.Listed.{folder_listed, names_by}
 use Rattle.command_stages.specs.Texts.{text_by, text_read, too_large}
-use Rattle.mh_looks.specs.Scan.{entries_seen}
 use Rattle.mh_looks.proofs.LooksLeave.{goes_chosen}
 use Rattle.mh_drafts.specs.declared.want.Want.{Want}
 use Rattle.mh_drafts.specs.declared.want.Want.TheVariants as want
@@ -36,6 +35,7 @@ use Rattle.draft_contents.specs.Messages.{message_by, message_read, messages_giv
 use Rattle.draft_contents.specs.Shown.{AreGiven, HasReadFile, HasReadMessage, HasReadMessages, WasGiven}
 use Rattle.draft_contents.specs.Wants.{all_given, file_given, forward_given, want_given}
 use Rattle.draft_contents.specs.declared.forwarding.Forwarding.{Forwarding}
+use Rattle.mh_profile.specs.Reading.{entries_seen}
 
 -- these deeds, and others after them that leave no commit without its sync
 pub record Onto (own later : List Deed) : Type 0 where

@@ -13,9 +13,9 @@ use Rattle.step_plans.specs.ContextCommit.{LIMIT_BYTES}
 use Rattle.step_plans.specs.declared.command_fault.CommandFault.TheVariants as fault
 use Rattle.command_stages.specs.Listed.{folder_listed}
 use Rattle.command_stages.specs.Texts.{Commanded, text_read, too_large}
-use Rattle.mh_looks.specs.Scan.{entries_seen}
 use Rattle.draft_contents.specs.Forwards.{chosen_seen}
 use Rattle.draft_contents.specs.declared.forwarding.Forwarding.{Forwarding}
+use Rattle.mh_profile.specs.Reading.{entries_seen}
 
 -- by what reading it gave
 abbrev pub message_by : Place → ℕ → Reading → Commanded (List ℕ)

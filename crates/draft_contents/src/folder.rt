@@ -1,9 +1,9 @@
 // The folder and the messages that a directive forwards.
 ghost use Rattle.std.specs.Prelude.{◌≡◌, [], IfOk};
 ghost use Rattle.std.specs.Str.{chars};
-ghost use Rattle.mh_looks.specs.Scan.{entries_seen};
 ghost use Rattle.draft_contents.specs.Forwards.{chosen_seen, folder_named, folder_word as folder_word_of, specs_or_current as specs_or_current_of};
 ghost use Rattle.draft_contents.specs.Values.{AreValue, IsValueOf};
+ghost use Rattle.mh_profile.specs.Reading.{entries_seen};
 
 use crate::Forwarding;
 use command_stages::{choose, numbers};

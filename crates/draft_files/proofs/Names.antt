@@ -1,6 +1,6 @@
 -- Names of drafts are names of directory entries, and so are those of their originals.
-use Rattle.std.proofs.Common.{◌≡◌, ℕ, ◌≤◌, ◌&&◌, true, List, length, refl, ◌∙◌, ap, arith}
-use Rattle.std.specs.Prelude.{nat_le, codes, Option, None, Some, MatchOption, IsSome}
+use Rattle.std.proofs.Common.{◌≡◌, ℕ, ◌≤◌, ◌&&◌, true, List, length, ◌∙◌, ap, arith}
+use Rattle.std.specs.Prelude.{nat_le, codes}
 use Rattle.std.specs.List.{list_all}
 use Rattle.std.proofs.lemmas.Bool.{and_parts, leb-true}
 use Rattle.std.proofs.lemmas.List.{length-append}
@@ -36,8 +36,3 @@ original_named name e =
     let s = p.short in
     let size = length-append name (codes ".orig") in
     record { some = omega (arith, size); short = omega (arith, size, s); clean = list_all-append is_name_byte name (codes ".orig") ∙ ap (λ b. b && true) p.clean }
-
--- what has the form of a name is one
-pub is_made : (bytes : List ℕ) (o : Option (List ℕ)) → MatchOption o (IsName bytes → ⊥) (λ n. IsName bytes × (n ≡ bytes)) → IsName bytes → IsSome o
-is_made bytes None m is = absurd (m is)
-is_made bytes (Some n) m is = refl

@@ -735,3 +735,14 @@ pub end_off : {A B E F : Type 0} {run : ℕ} (cause : E → Cause) {other : F �
     Stops (exit_of cause r) (exit_of other s) → Follows run cause p x y r → Follows run other (bind p k) x y s
 end_off {run = run} cause {other = other} {p = p} k {x = x} {y = y} r {s = s} stops f =
     record { went = went_off run p k x y (exit_of cause r) (exit_of other s) stops f.went }
+
+-- two plans and a third, in either order of joining
+pub bind_both : {A B C : Type 0} (p : Plan A) (k : A → Plan B) (l : B → Plan C) → bind (bind p k) l ≡ bind p (λ a. bind (k a) l)
+unfolding bind
+bind_both (Return r) k l = refl
+bind_both (Ask step next) k l = λ i. Ask step (λ a. bind_both (next a) k l i)
+bind_both (Try step next) k l = λ i. Try step (λ a. bind_both (next a) k l i)
+bind_both (Say piece next) k l = λ i. Say piece (bind_both next k l i)
+bind_both (Hear most next) k l = λ i. Hear most (λ p. bind_both (next p) k l i)
+bind_both (Recall next) k l = λ i. Recall (λ h. bind_both (next h) k l i)
+bind_both (Note hand next) k l = λ i. Note hand (bind_both next k l i)

@@ -17,7 +17,7 @@ use Rattle.folder_room.specs.Closing.{filled_file, kept_set}
 use Rattle.folder_room.specs.Crashing.{asked_at, IsCutDirectory, IsCrashBy, filled}
 use Rattle.folder_room.specs.declared.script.Keep.{Keep}
 use Rattle.folder_room.proofs.Closed.{least_set}
-use Rattle.folder_room.proofs.Placing.{place_same}
+use Rattle.folder_files.proofs.Sameness.{place_same}
 
 -- a directory that isn't there
 pub nothing_cut : (asked : ℕ → Bool) → IsCutDirectory asked no_directory no_directory

@@ -10,7 +10,7 @@ use Rattle.folder_files.specs.declared.step.Step.TheVariants as step
 use Rattle.folder_files.specs.declared.world.Directory.{Directory}
 use Rattle.folder_files.specs.declared.world.World.{World}
 use Rattle.folder_room.specs.Parents.{is_among, with_all_made}
-use Rattle.folder_room.proofs.Placing.{place_same}
+use Rattle.folder_files.proofs.Sameness.{place_same}
 
 -- a directory that is there stays as it is
 there_stays : (d : DirectoryMap) → d.there ≡ true → with_made d ≡ d

@@ -11,7 +11,7 @@ use Rattle.folder_files.specs.declared.place.Place.{Place}
 use Rattle.folder_files.specs.declared.step.Step.TheVariants as step
 use Rattle.folder_files.specs.declared.world.Held.{Held}
 use Rattle.folder_files.specs.declared.world.World.{World}
-use Rattle.folder_room.proofs.Placing.{place_same, place_is}
+use Rattle.folder_files.proofs.Sameness.{both, place_same, place_is}
 
 abbrev pub is_lock : Held → Place → ℕ → Bool
 is_lock h p r = same_place h.place p && h.run == r
@@ -61,11 +61,6 @@ keeps_none t p r = go (t p r)
     go true = refl
     go false = refl
 
-both_of : (a b : Bool) → a && b ≡ true → (a ≡ true) × (b ≡ true)
-both_of true true e = (refl, refl)
-both_of true false e = absurd (cc (e))
-both_of false b e = absurd (cc (e))
-
 -- the locks but one run's of one directory
 abbrev pub no_lock_of : Place → ℕ → Place → ℕ → Bool
 no_lock_of q run p r = not (same_place q p && run == r)
@@ -76,8 +71,8 @@ lock_passes q run h n p r e = go (same_place q p && run == r) refl
     go : (b : Bool) → (same_place q p && run == r) ≡ b → not b ≡ true
     go false t = refl
     go true t =
-        let mine = both_of (same_place h.place p) (h.run == r) e in
-        let theirs = both_of (same_place q p) (run == r) t in
+        let mine = both (same_place h.place p) (h.run == r) e in
+        let theirs = both (same_place q p) (run == r) t in
         absurd (n ((Decides-eqb h.run r).0 mine.1 ∙ sym ((Decides-eqb run r).0 theirs.1)) (place_same h.place p mine.0 ∙ sym (place_same q p theirs.0)))
 
 pub lock_falls : (q : Place) (run : ℕ) (h : Held) → h.run ≡ run → h.place ≡ q → (p : Place) (r : ℕ) → is_lock h p r ≡ true → no_lock_of q run p r ≡ false
@@ -92,10 +87,10 @@ run_passes run h n p r e = go (run == r) ((Decides-eqb run r).0)
   where
     go : (b : Bool) → (b ≡ true → run ≡ r) → not b ≡ true
     go false t = refl
-    go true t = absurd (n ((Decides-eqb h.run r).0 ((both_of (same_place h.place p) (h.run == r) e).1) ∙ sym (t refl)))
+    go true t = absurd (n ((Decides-eqb h.run r).0 ((both (same_place h.place p) (h.run == r) e).1) ∙ sym (t refl)))
 
 pub run_falls : (run : ℕ) (h : Held) → h.run ≡ run → (p : Place) (r : ℕ) → is_lock h p r ≡ true → no_lock_by run p r ≡ false
-run_falls run h a p r e = (λ i. not ((sym a i) == r)) ∙ ap not ((both_of (same_place h.place p) (h.run == r) e).1)
+run_falls run h a p r e = (λ i. not ((sym a i) == r)) ∙ ap not ((both (same_place h.place p) (h.run == r) e).1)
 
 pub not_by : (kept locks : List Held) (run : ℕ) → Keeps (no_lock_by run) kept locks → (p : Place) (r : ℕ) → holds_of kept p r ≡ (if run == r then false else holds_of locks p r)
 not_by kept locks run k p r = k p r ∙ go (run == r)
@@ -203,7 +198,7 @@ busy_here true locks rest h p run t e n s =
 
 pub busy_there : (b : Bool) (locks rest : List Held) (h : Held) (p : Place) (run : ℕ) → locks ≡ h ∷ rest → ((h.run ≢ run) → (h.place ≡ p) → ⊥) → Others b rest p run → Others b locks p run
 busy_there true locks rest h p run e n o = (o.0, o.1, ap (λ l. holds_of l p o.0) e ∙ or_right (is_lock h p o.0) (holds_of rest p o.0) o.2)
-busy_there false locks rest h p run e n o = λ other d. ap (λ l. holds_of l p other) e ∙ go (is_lock h p other) other d (both_of (same_place h.place p) (h.run == other)) ∙ o other d
+busy_there false locks rest h p run e n o = λ other d. ap (λ l. holds_of l p other) e ∙ go (is_lock h p other) other d (both (same_place h.place p) (h.run == other)) ∙ o other d
   where
     go : (v : Bool) (other : ℕ) → other ≢ run → (is_lock h p other ≡ true → (same_place h.place p ≡ true) × (h.run == other ≡ true)) → (is_lock h p other || holds_of rest p other) ≡ holds_of rest p other
     go v other d f = by (is_lock h p other) (λ t. n (λ q. d (sym ((Decides-eqb h.run other).0 ((f t).1)) ∙ q)) (place_same h.place p ((f t).0)))

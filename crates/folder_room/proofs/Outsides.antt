@@ -13,21 +13,11 @@ use Rattle.folder_files.specs.declared.place.FilePath.{FilePath}
 use Rattle.folder_files.specs.declared.step.Step.TheVariants as step
 use Rattle.folder_files.specs.declared.world.Outside.{Outside}
 use Rattle.folder_files.specs.declared.world.World.{World}
-use Rattle.folder_files.proofs.Sameness.{flag_same}
-
-both_of : (a b : Bool) → a && b ≡ true → (a ≡ true) × (b ≡ true)
-both_of true true e = (refl, refl)
-both_of true false e = absurd (cc (e))
-both_of false b e = absurd (cc (e))
+use Rattle.folder_files.proofs.Sameness.{path_same}
 
 flag_is : (a : Bool) → same_flag a a ≡ true
 flag_is true = refl
 flag_is false = refl
-
-pub path_same : (a b : FilePath) → same_path a b ≡ true → a ≡ b
-path_same a b e =
-    let parts = both_of (same_flag a.home b.home) (bytes_eq a.text b.text) e in
-    λ i. record { home = flag_same a.home b.home parts.0 i; text = (bytes_eq-Decides a.text b.text).0 parts.1 i }
 
 pub path_is : (a : FilePath) → same_path a a ≡ true
 path_is a = rw (flag_is a.home, (bytes_eq-Decides a.text a.text).1 refl) refl

@@ -1,6 +1,5 @@
 -- Directories by their places.
-use Rattle.std.proofs.Common.{◌≡◌, ◌≢◌, ◌+◌, ◌<◌, ◌≤◌, ℕ, zero, suc, Bool, true, false, List, [], ◌∷◌, length, get_or, set, bytes_eq, refl, sym, ◌∙◌, ap, subst, arith, add-one}
-use Rattle.std.proofs.lemmas.Slice.Eq.{bytes_eq-Decides}
+use Rattle.std.proofs.Common.{◌≡◌, ◌≢◌, ◌+◌, ◌<◌, ◌≤◌, ℕ, zero, suc, Bool, true, false, List, [], ◌∷◌, length, get_or, set, refl, sym, ◌∙◌, subst, arith, add-one}
 use Rattle.std.specs.Prelude.{if◌then◌else◌}
 use Rattle.folder_files.specs.Directory.{DirectoryMap}
 use Rattle.folder_files.specs.Places.{same_place}
@@ -8,34 +7,8 @@ use Rattle.folder_room.specs.Positions.{Skips, IsOf, changed_at}
 use Rattle.folder_files.specs.Worlds.{shown, shown_directory, directory_of, no_directory}
 use Rattle.folder_files.specs.declared.world.World.{World}
 use Rattle.folder_files.specs.declared.place.Place.{Place}
-use Rattle.folder_files.specs.declared.place.Place.TheVariants.{Home, Work, Mail, Folder}
 use Rattle.folder_files.specs.declared.world.Directory.{Directory}
-use Rattle.folder_files.proofs.Sameness.{both, bytes_same}
-
--- the test tells
-pub place_same : (p q : Place) → same_place p q ≡ true → p ≡ q
-place_same Home Home e = refl
-place_same Home Work e = absurd (cc (e))
-place_same Home (Mail a) e = absurd (cc (e))
-place_same Home (Folder a n) e = absurd (cc (e))
-place_same Work Home e = absurd (cc (e))
-place_same Work Work e = refl
-place_same Work (Mail a) e = absurd (cc (e))
-place_same Work (Folder a n) e = absurd (cc (e))
-place_same (Mail a) Home e = absurd (cc (e))
-place_same (Mail a) Work e = absurd (cc (e))
-place_same (Mail a) (Mail b) e = ap Mail ((bytes_eq-Decides a b).0 e)
-place_same (Mail a) (Folder b n) e = absurd (cc (e))
-place_same (Folder a n) Home e = absurd (cc (e))
-place_same (Folder a n) Work e = absurd (cc (e))
-place_same (Folder a n) (Mail b) e = absurd (cc (e))
-place_same (Folder a n) (Folder b m) e = λ i. Folder ((bytes_eq-Decides a b).0 ((both (bytes_eq a b) (bytes_eq n m) e).0) i) ((bytes_eq-Decides n m).0 ((both (bytes_eq a b) (bytes_eq n m) e).1) i)
-
-pub place_is : (p : Place) → same_place p p ≡ true
-place_is Home = refl
-place_is Work = refl
-place_is (Mail a) = bytes_same a
-place_is (Folder a n) = rw (bytes_same a, bytes_same n) refl
+use Rattle.folder_files.proofs.Sameness.{place_same, place_is}
 
 pub place_apart : (p q : Place) → p ≢ q → same_place p q ≡ false
 place_apart p q n = go (same_place p q) (place_same p q)

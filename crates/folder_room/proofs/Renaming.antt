@@ -13,7 +13,7 @@ use Rattle.folder_files.specs.declared.world.Change.{Change}
 use Rattle.folder_files.specs.declared.world.Change.TheVariants as change
 use Rattle.folder_files.specs.declared.world.Directory.{Directory}
 use Rattle.folder_files.specs.declared.world.World.{World}
-use Rattle.folder_room.proofs.Placing.{place_same}
+use Rattle.folder_files.proofs.Sameness.{place_same}
 
 -- a directory that isn't there has no name
 abbrev pub Bare : DirectoryMap → Type 0

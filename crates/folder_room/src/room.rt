@@ -7,7 +7,8 @@ ghost use Rattle.folder_files.specs.Worlds.{shown};
 ghost use Rattle.folder_files.specs.declared.event.Event.TheVariants as event;
 ghost use Rattle.folder_files.specs.declared.world.World.{World};
 ghost use Rattle.folder_room.specs.Played.{IsPlayed, turn_of};
-ghost use Rattle.folder_room.specs.Seen.{Seen, IsNow, story_of, one_more, faults_after};
+ghost use Rattle.folder_room.specs.Seen.{Seen, IsNow, story_of, faults_after};
+ghost use Rattle.mh_base.specs.Counts.{one_more};
 
 use crate::course::Course;
 use crate::playing::{fail_of, turn_at};

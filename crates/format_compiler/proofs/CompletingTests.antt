@@ -13,12 +13,13 @@ use Rattle.format_compiler.specs.Calls.{call_in}
 use Rattle.format_compiler.specs.Components.{component_in}
 use Rattle.format_compiler.specs.Reading.{Read}
 use Rattle.format_compiler.specs.Unfinished.{CallEndsInNone, printed, WordEndsInNone}
-use Rattle.format_compiler.specs.Widths.{begins_width, columns_by, digit_value, is_digit, width_of}
+use Rattle.format_compiler.specs.Widths.{begins_width, columns_by, digit_value, width_of}
 use Rattle.format_compiler.specs.Words.{call_test_in, component_test_in, printed_by, printed_call_in, printed_component_in, printed_in, sized_by, test_in}
 use Rattle.format_compiler.proofs.Completing.{at_once, equal, made, Mends, Passes, Seen, seen_at, seen_behind}
 use Rattle.format_compiler.proofs.CompletingCalls.{BadCall, call_seen}
 use Rattle.format_compiler.proofs.CompletingComponents.{component_seen}
 use Rattle.format_compiler.proofs.PartLemmas.{all, by_parts, EachIs, each_more, far, StopsHere}
+use Rattle.mh_base.specs.Characters.{is_digit}
 
 abbrev pub test_read : ℕ → List ℕ → List ℕ → Read Test
 test_read room whole text = test_in room text

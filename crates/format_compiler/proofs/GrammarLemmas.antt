@@ -11,8 +11,9 @@ use Rattle.format_compiler.specs.Components.{component_in}
 use Rattle.format_compiler.specs.Formats.{Stand}
 use Rattle.format_compiler.specs.Grammar.{AreItems, AreOthers, Choice, Done, Format, IsFormat, Then, over, nothing, print, choice, end, otherwise, otherwise_if}
 use Rattle.format_compiler.specs.Reading.{Read, ◌>>=◌}
-use Rattle.format_compiler.specs.Widths.{begins_width, is_digit, width_of}
+use Rattle.format_compiler.specs.Widths.{begins_width, width_of}
 use Rattle.format_compiler.specs.Words.{behind_word, else_if_in, escape_in, escaped, if_in, is_inside, mark_in, may_choose, Open, percent_in, printed_by, printed_component_in, printed_call_in, printed_in, room_in, sized_by, test_in, word_in}
+use Rattle.mh_base.specs.Characters.{is_digit}
 
 -- where a word may stand
 abbrev pub MayStand : Word → Open → Type 0

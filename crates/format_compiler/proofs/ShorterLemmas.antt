@@ -20,8 +20,9 @@ use Rattle.format_compiler.specs.Calls.{argument_in, Around, behind_spaces, call
 use Rattle.format_compiler.specs.Components.{braced, component_in, is_name_character}
 use Rattle.format_compiler.specs.Functions.{function_named, has_result, kind_of}
 use Rattle.format_compiler.specs.Reading.{Read, ◌>>=◌, then_character}
-use Rattle.format_compiler.specs.Widths.{begins_width, is_digit, width_of}
+use Rattle.format_compiler.specs.Widths.{begins_width, width_of}
 use Rattle.format_compiler.specs.Words.{behind_line, call_test_in, component_test_in, else_if_in, escape_in, if_in, is_in_line, is_inside, mark_in, may_choose, Open, percent_in, printed_by, printed_call_in, printed_component_in, printed_in, room_in, sized_by, test_in, word_in}
+use Rattle.mh_base.specs.Characters.{is_digit}
 
 -- what is read leaves no more than so many characters
 abbrev pub Leaves : {A : Type 0} → ℕ → Read A → Type 0

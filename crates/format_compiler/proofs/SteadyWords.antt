@@ -17,10 +17,11 @@ use Rattle.format_compiler.specs.Components.{component_in}
 use Rattle.format_compiler.specs.Formats.{AreWrongAt, Denote, IsStuck, Stand}
 use Rattle.format_compiler.specs.Grammar.{Format}
 use Rattle.format_compiler.specs.Reading.{Read, ◌>>=◌}
-use Rattle.format_compiler.specs.Widths.{begins_width, is_digit, width_of}
+use Rattle.format_compiler.specs.Widths.{begins_width, width_of}
 use Rattle.format_compiler.specs.Words.{behind_line, behind_word, call_test_in, component_test_in, else_if_in, escape_in, if_in, is_in_line, is_inside, mark_in, may_choose, Open, percent_in, printed_by, printed_call_in, printed_component_in, printed_in, room_in, sized_by, test_in, word_in}
 use Rattle.format_compiler.proofs.StandLemmas.{nothing_stands, wrong_none}
 use Rattle.format_compiler.proofs.SteadyLemmas.{call_keeps, component_keeps, either_keeps, front_keeps, Keeps, same, then_keeps, wrong_keeps}
+use Rattle.mh_base.specs.Characters.{is_digit}
 
 -- a reading and then something made of it
 made_keeps : {A B : Type 0} (more : List ℕ) (make : A → B) (read longer : Read A) → Keeps more read longer → Keeps more (read >>= λ x behind. Ok (make x, behind)) (longer >>= λ x behind. Ok (make x, behind))

@@ -2,7 +2,8 @@
 use Rattle.std.specs.Prelude.{ℕ, ◌+◌, ◌*◌, ◌==◌, ◌&&◌, not, Bool, nat_le, List, [], ◌∷◌, take, drop, Option, Some, None, Ok, Err, ℤ, pos, neg_ℤ, if◌then◌else◌}
 use Rattle.std.specs.List.{prefix_len}
 use Rattle.format_compiler.specs.Reading.{Read, ◌>>=◌, then_character}
-use Rattle.format_compiler.specs.Widths.{is_digit, digit_value}
+use Rattle.format_compiler.specs.Widths.{digit_value}
+use Rattle.mh_base.specs.Characters.{is_digit}
 
 abbrev pub is_literal : ℕ → Bool
 is_literal c = not (c == 41)

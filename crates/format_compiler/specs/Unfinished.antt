@@ -7,7 +7,7 @@ use Rattle.format_compiler.specs.declared.function.Function.{Function}
 use Rattle.format_compiler.specs.Arguments.{is_literal, number_of}
 use Rattle.format_compiler.specs.Calls.{Around, front_in, function_in, is_in_name}
 use Rattle.format_compiler.specs.Functions.{every_function, has_result, kind_of, name_of}
-use Rattle.format_compiler.specs.Widths.{is_digit}
+use Rattle.mh_base.specs.Characters.{is_digit}
 
 -- all of a text are such characters
 abbrev pub IsAll : (ℕ → Bool) → List ℕ → Type 0

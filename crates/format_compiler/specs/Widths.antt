@@ -1,9 +1,7 @@
 -- Widths, as they are written. 48 to 57 are the digits.
-use Rattle.std.specs.Prelude.{ℕ, ◌+◌, ◌-◌, ◌*◌, ◌==◌, ◌&&◌, ◌||◌, Bool, nat_le, nat_lt, List, [], ◌∷◌, length, Option, Some, None, is_some, if◌then◌else◌}
+use Rattle.std.specs.Prelude.{ℕ, ◌+◌, ◌-◌, ◌*◌, ◌==◌, ◌||◌, Bool, nat_lt, List, [], ◌∷◌, length, Option, Some, None, is_some, if◌then◌else◌}
 use Rattle.format_compiler.specs.declared.width.Width.{Width}
-
-abbrev pub is_digit : ℕ → Bool
-is_digit c = nat_le 48 c && nat_le c 57
+use Rattle.mh_base.specs.Characters.{is_digit}
 
 abbrev pub digit_value : ℕ → ℕ
 digit_value c = if is_digit c then c - 48 else 0

@@ -10,7 +10,8 @@ use Rattle.format_compiler.specs.declared.word.Word.TheVariants.{Nothing, Print,
 use Rattle.format_compiler.specs.Reading.{Read, ◌>>=◌}
 use Rattle.format_compiler.specs.Components.{component_in}
 use Rattle.format_compiler.specs.Calls.{call_in}
-use Rattle.format_compiler.specs.Widths.{begins_width, is_digit, width_of}
+use Rattle.format_compiler.specs.Widths.{begins_width, width_of}
+use Rattle.mh_base.specs.Characters.{is_digit}
 
 -- the conditionals that are open, the innermost first: whether its `%|` was passed
 abbrev pub Open : Type 0

@@ -2,7 +2,7 @@
 ghost use Rattle.std.specs.Prelude.{◌≡◌, ◌≤◌, ◌<◌, [], ◌∷◌, length, IfOk, IfSome};
 ghost use Rattle.format_compiler.specs.Arguments.{decimal_within, number_of, some_decimal_within, spaced_number_in};
 ghost use Rattle.format_compiler.specs.Outcomes.{Gives};
-ghost use Rattle.format_compiler.specs.Widths.{is_digit as is_a_digit};
+ghost use Rattle.mh_base.specs.Characters.{is_digit as is_a_digit};
 
 use crate::literals::spaced_literal;
 use crate::stop::Stop;

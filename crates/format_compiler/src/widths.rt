@@ -1,7 +1,8 @@
 // Widths, as they are written.
 ghost use Rattle.std.specs.Prelude.{◌≡◌, ◌≤◌, length};
 ghost use Rattle.std.specs.List.{prefix_len};
-ghost use Rattle.format_compiler.specs.Widths.{begins_width as begins_a_width, columns_by, digit_value, is_digit as is_a_digit, width_of};
+ghost use Rattle.format_compiler.specs.Widths.{begins_width as begins_a_width, columns_by, digit_value, width_of};
+ghost use Rattle.mh_base.specs.Characters.{is_digit as is_a_digit};
 
 use crate::Width;
 

@@ -1,22 +1,10 @@
 -- What functions make of texts.
 use Rattle.std.proofs.Common.{◌≡◌, ◌≤◌, ◌<◌, ◌+◌, ◌*◌, ◌-◌, ℕ, Bool, true, false, eqb, List, [], ◌∷◌, length, take, drop, get_or, drop-cons, add-one, refl, sym, ap, ◌∙◌, arith}
 use Rattle.std.specs.Prelude.{min, nat_le, suc}
-use Rattle.std.specs.Str.{encode_utf8_all}
 use Rattle.std.proofs.lemmas.Bool.Decides.{nat_tests}
 use Rattle.std.proofs.lemmas.List.{take_min, drop_all}
-use Rattle.std.proofs.lemmas.Str.{length-le-encodes}
-use Rattle.format_run.specs.Texts.{is_digit, number_behind, unquoted}
-
-not_zero : (n : ℕ) → 1 ≤ n → eqb n 0 ≡ false
-not_zero n le = grind (arith, nat_tests)
-
--- a text without characters has no bytes
-pub emptiness : (cs bytes : List ℕ) (r : Bool) → bytes ≡ encode_utf8_all cs → r ≡ eqb (length bytes) 0 → r ≡ eqb (length cs) 0
-emptiness [] bytes r e is = is ∙ ap (λ b. eqb (length b) 0) e
-emptiness (c ∷ cs) bytes r e is =
-    let more = length-le-encodes (c ∷ cs) in
-    let some : 1 ≤ length bytes = omega (arith, more, ap length e) in
-    is ∙ not_zero (length bytes) some ∙ sym (not_zero (length (c ∷ cs)) (omega arith))
+use Rattle.format_run.specs.Texts.{number_behind, unquoted}
+use Rattle.mh_base.specs.Characters.{is_digit}
 
 pub unquoted_nothing : unquoted [] ≡ []
 unfolding unquoted

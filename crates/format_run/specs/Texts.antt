@@ -1,6 +1,7 @@
 -- What functions make of texts. 34 is a quote mark, 92 a backslash, and 48 to 57 are the digits.
-use Rattle.std.specs.Prelude.{ℕ, ◌+◌, ◌-◌, ◌*◌, ◌==◌, ◌&&◌, ◌||◌, Bool, nat_le, min, List, [], ◌∷◌, length, take, bytes_eq, ℤ, pos, if◌then◌else◌}
+use Rattle.std.specs.Prelude.{ℕ, ◌+◌, ◌-◌, ◌*◌, ◌==◌, ◌||◌, Bool, min, List, [], ◌∷◌, length, take, bytes_eq, ℤ, pos, if◌then◌else◌}
 use Rattle.std.specs.List.{suffix_len}
+use Rattle.mh_base.specs.Characters.{is_digit}
 
 -- a text begins with this one
 abbrev pub begins : List ℕ → List ℕ → Bool
@@ -25,9 +26,6 @@ unquoted [] = []
 unquoted (c ∷ []) = if c == 34 then [] else c ∷ []
 unquoted (c ∷ (d ∷ text)) =
     if c == 34 then unquoted (d ∷ text) else (if c == 92 then d ∷ unquoted text else c ∷ unquoted (d ∷ text))
-
-abbrev pub is_digit : ℕ → Bool
-is_digit c = nat_le 48 c && nat_le c 57
 
 -- the number that the digits at a text's front write behind those of this one
 unfoldable pub number_behind : ℕ → List ℕ → ℕ

@@ -1,7 +1,8 @@
 // What functions make of texts.
 ghost use Rattle.std.specs.Prelude.{◌≡◌, ◌≤◌, ◌<◌, ◌+◌, ◌-◌, ◌*◌, ◌++◌, [], length, min, MatchOption, IfOk, OnOk, option_to_list};
 ghost use Rattle.std.specs.List.{suffix_len};
-ghost use Rattle.format_run.specs.Texts.{begins as begins_with, is_digit as is_a_digit, is_space, leading_number as leading_number_of, stands_in, trimmed, unquoted};
+ghost use Rattle.format_run.specs.Texts.{begins as begins_with, is_space, leading_number as leading_number_of, stands_in, trimmed, unquoted};
+ghost use Rattle.mh_base.specs.Characters.{is_digit as is_a_digit};
 
 use crate::characters::{characters, text_of};
 use memchr::memmem;

@@ -38,7 +38,7 @@ use Rattle.step_plans.proofs.Stepping.{on_piece}
 use Rattle.message_puts.proofs.PutPledged.{AsksPut}
 use Rattle.message_puts.proofs.StoredPledged.{stored_keeps, was_stored}
 use Rattle.message_puts.specs.Stored.{HasMetAt, HasStoredAt}
-use Rattle.command_stages.specs.Endings.{of_plan}
+use Rattle.command_stages.specs.Endings.{of_plan, if_room}
 use Rattle.message_lines.specs.MessageText.{line_of}
 use Rattle.step_plans.specs.CommandFaults.{of_sink}
 use Rattle.opened_folders.specs.Reads.{HaveSeen}
@@ -50,7 +50,7 @@ use Rattle.opened_folders.proofs.WorkEnds.{EndsWith, folder_shows}
 use Rattle.inc_command.specs.Counting.{LIMIT, LONGEST, PIECE, counted_by, drop_counted, drop_read, empty_if, head_by, head_if, head_read, long_if, piece_by, piece_read, rest_read, size_if, whole_if}
 use Rattle.inc_command.specs.Cutting.{changed, given_by, if_drop, last_by, last_in, new_in, short_last, short_only, unless_lost}
 use Rattle.inc_command.specs.DropTaken.{Read, Where, as_counted, drop_taken, ended_taken, into, listed, piece_taken, rest_taken, where_of}
-use Rattle.inc_command.specs.Inc.{if_room, room_counted, top_of}
+use Rattle.inc_command.specs.Inc.{room_counted, top_of}
 use Rattle.inc_command.specs.IncAnswers.{ShowsInc, ShowsIntake, WasCounted, WasTold, empty_file, gone_piece, inc_answers, long_file, long_message, no_drop, no_file, no_room, none_left, odd_first, odd_piece, other_bytes}
 use Rattle.inc_command.specs.IncPledge.{HasTakenIn}
 use Rattle.inc_command.specs.Intake.{all_taken, with_number}

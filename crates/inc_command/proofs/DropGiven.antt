@@ -20,10 +20,11 @@ use Rattle.step_plans.specs.CommandFaults.{of_stop}
 use Rattle.step_plans.specs.declared.command_fault.CommandFault.{CommandFault}
 use Rattle.step_plans.specs.declared.command_fault.CommandFault.TheVariants as fault
 use Rattle.inc_command.specs.Counting.{LONGEST, PIECE, counted_by, drop_counted, drop_read, empty_if, head_by, head_if, head_read, long_if, piece_by, piece_read, rest_read, whole_if}
-use Rattle.inc_command.specs.Inc.{if_room, room_counted}
+use Rattle.inc_command.specs.Inc.{room_counted}
 use Rattle.inc_command.specs.declared.counting.DropSize.{DropSize}
 use Rattle.inc_command.specs.declared.head.Head.{Head}
 use Rattle.inc_command.proofs.Tests.{alike}
+use Rattle.command_stages.specs.Endings.{if_room}
 
 -- the contents and the hand are as they were, and nothing was said
 pub record Stays (ns : List ℕ) (c : Contents) (h : Hand) (text : List ℕ) (z : View) (j : Hand) (left : List ℕ) : Type 0 where

@@ -20,14 +20,14 @@ use Rattle.step_plans.specs.declared.command_fault.CommandFault.{CommandFault}
 use Rattle.step_plans.specs.declared.command_fault.CommandFault.TheVariants as fault
 use Rattle.step_plans.proofs.Going.{Outcome, okay}
 use Rattle.sequence_marks.specs.SequenceMarks.{says_public}
-use Rattle.command_stages.specs.Endings.{of_plan}
+use Rattle.command_stages.specs.Endings.{of_plan, if_room}
 use Rattle.opened_folders.proofs.AllMarks.{look_minds}
 use Rattle.opened_folders.proofs.CommitMinds.{IsTold}
 use Rattle.opened_folders.proofs.Meeting.{Meets, meets_end, meets_lifted, meets_on, meets_return, meets_say, meets_stop, meets_then}
 use Rattle.inc_command.specs.Counting.{PIECE, counted_by, drop_counted, drop_read, empty_if, head_by, head_if, head_read, long_if, piece_by, piece_read, rest_read, whole_if}
 use Rattle.inc_command.specs.Cutting.{changed, given_by, last_by}
 use Rattle.inc_command.specs.DropTaken.{Read, Where, as_counted, drop_taken, ended_taken, into, listed, piece_taken, rest_taken, where_of}
-use Rattle.inc_command.specs.Inc.{heading, heading_told, if_room, room_counted, top_of}
+use Rattle.inc_command.specs.Inc.{heading, heading_told, room_counted, top_of}
 use Rattle.inc_command.specs.IncPledge.{inc_pledge}
 use Rattle.inc_command.specs.Intake.{all_taken, with_number}
 use Rattle.message_puts.specs.Putting.{message_stored}
@@ -35,8 +35,9 @@ use Rattle.inc_command.specs.Taking.{message_taken, message_told, Telling, told_
 use Rattle.inc_command.specs.declared.counting.DropSize.{DropSize}
 use Rattle.inc_command.specs.declared.intake.Taken.{Taken}
 use Rattle.inc_command.specs.IncJob.{IncJob}
-use Rattle.inc_command.proofs.NewWithin.{AreNumbers, numbers_more}
+use Rattle.inc_command.proofs.NewWithin.{numbers_more}
 use Rattle.inc_command.proofs.PutMinds.{A as Minding, Known as KnownOf, Numbered, known_kept, stored_meets}
+use Rattle.mh_base.proofs.NumberTests.{AreNumbers}
 
 module _ (run : ℕ) (path : List ℕ) (job : IncJob) (names : List (List ℕ)) (listing : List Run) (old : List ℕ) (marks : (sequence : List ℕ) (n : ℕ) → says_public sequence old n ≡ true → has listing n ≡ true) where
   abbrev w : Pledge

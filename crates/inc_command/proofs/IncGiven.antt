@@ -6,7 +6,6 @@ use Rattle.std.proofs.lemmas.Bool.Decides.{nat_tests}
 use Rattle.mail_headers.specs.Lines.{is_name_byte}
 use Rattle.mh_base.specs.Entries.{entry_text}
 use Rattle.mh_base.specs.Folders.{is_folder_name}
-use Rattle.mh_base.specs.declared.entry.Entry.TheVariants.{Backup, Held, Number, Sequences}
 use Rattle.mh_base.proofs.NumberTests.{over_max, under_max}
 use Rattle.mbox_drop.specs.Drops.{is_drop, messages}
 use Rattle.mbox_drop.specs.Long.{first_long}
@@ -18,7 +17,7 @@ use Rattle.mh_sequences.specs.Reading.{suffix}
 use Rattle.mh_sequences.specs.Runs.{has}
 use Rattle.mh_sequences.specs.Sequences.{AreSequences, Marked}
 use Rattle.mh_sequences.specs.declared.run.Run.{Run}
-use Rattle.folder_files.specs.Places.{is_folder, is_parent, same_path, same_place}
+use Rattle.folder_files.specs.Places.{same_path}
 use Rattle.folder_files.specs.Steps.{cut_answer, cut_at}
 use Rattle.folder_files.specs.declared.place.FilePath.{FilePath}
 use Rattle.folder_files.specs.declared.place.Place.{Place}
@@ -31,15 +30,14 @@ use Rattle.folder_files.proofs.Sameness.{path_same}
 use Rattle.file_plans.specs.Asking.{cut_drop, drop_cut_of}
 use Rattle.file_plans.specs.Contents.{Contents, filled, folder_at, mailbox_in, with_cut, with_folder}
 use Rattle.file_plans.specs.Giving.{Gives}
-use Rattle.file_plans.specs.Mailboxes.{Mailbox, is_message_number, numbered, where_folder, where_mail}
-use Rattle.file_plans.specs.Plan.{Ask, Hand, Hear, Note, Plan, Recall, Return, Say, Try, after, ask, bind, lifted, ◌>>=◌}
+use Rattle.file_plans.specs.Mailboxes.{Mailbox, is_message_number, where_folder, where_mail}
+use Rattle.file_plans.specs.Plan.{Hand, Plan, Return, after, ask, bind, lifted, ◌>>=◌}
 use Rattle.file_plans.specs.Views.{View, by_view, view_after}
 use Rattle.file_plans.proofs.Framing.{say_view}
 use Rattle.file_plans.proofs.Giving.{gives_more, gives_on}
 use Rattle.file_plans.specs.MailboxChanges.{with_context_text}
 use Rattle.file_plans.proofs.Showing.{is_number_of}
 use Rattle.file_plans.proofs.Onward.{Is, IsShort, fits_at, onward}
-use Rattle.file_plans.proofs.EmptyFolders.{numbered_none}
 use Rattle.step_plans.specs.CommandFaults.{of_sink}
 use Rattle.step_plans.specs.ContextCommit.{LIMIT_BYTES, changed, commit_context, context_name, says}
 use Rattle.step_plans.specs.declared.change.ChangeEntry.{ChangeEntry}
@@ -52,9 +50,7 @@ use Rattle.sequence_commits.specs.Marking.{marked_by_all}
 use Rattle.sequence_commits.specs.PrivateChanges.{private_changes}
 use Rattle.sequence_commits.specs.SequencesChanged.{with_sequences_text}
 use Rattle.sequence_commits.specs.Telling.{same_told}
-use Rattle.sequence_commits.specs.Marking.{marked_by}
-use Rattle.sequence_commits.proofs.MarkedOnce.{marked_valid}
-use Rattle.mh_sequences.specs.declared.mark.Mark.{Mark}
+use Rattle.sequence_commits.proofs.MarkedOnce.{all_valid}
 use Rattle.command_stages.specs.Current.{current_change, made_current}
 use Rattle.command_stages.specs.Endings.{of_plan}
 use Rattle.command_stages.specs.Works.{Work, refused_at}
@@ -74,7 +70,7 @@ use Rattle.inc_command.specs.Inc.{cut_by, cut_if, drop_ended, heading, heading_t
 use Rattle.inc_command.specs.Counting.{LIMIT, LONGEST, size_if}
 use Rattle.inc_command.specs.DropTaken.{drop_taken, where_of}
 use Rattle.inc_command.specs.Taking.{Telling}
-use Rattle.inc_command.specs.IncOutcome.{cut_work, drop_work, emptied, empty_folder, file_work, inc_work, or_empty, room_work, short_work, lines_from, marked_work, numbers_up, opened_work, stored_in, taken_work, text_unless, with_drop_cut, with_folder_made, with_messages}
+use Rattle.inc_command.specs.IncOutcome.{cut_work, drop_work, emptied, file_work, inc_work, room_work, short_work, lines_from, marked_work, opened_work, stored_in, taken_work, text_unless, with_drop_cut, with_messages}
 use Rattle.inc_command.specs.declared.counting.DropSize.{DropSize}
 use Rattle.inc_command.specs.declared.intake.Taken.{Taken}
 use Rattle.inc_command.specs.IncJob.{IncJob}
@@ -82,17 +78,9 @@ use Rattle.inc_command.proofs.DropGiven.{comes_on, counted_of, empty_read, long_
 use Rattle.inc_command.proofs.PassGiven.{TakesDrop, drop_gives}
 use Rattle.inc_command.proofs.TakenGiven.{IsRoomy, all_context, all_outside, all_put, all_roomy, all_show, told}
 use Rattle.inc_command.proofs.Tests.{alike}
-
--- one plan after another, whichever two are taken together
-bind_both : {A B C : Type 0} (p : Plan A) (k : A → Plan B) (l : B → Plan C) → bind (bind p k) l ≡ bind p (λ a. bind (k a) l)
-unfolding bind
-bind_both (Return r) k l = refl
-bind_both (Ask step next) k l = λ i. Ask step (λ a. bind_both (next a) k l i)
-bind_both (Try step next) k l = λ i. Try step (λ a. bind_both (next a) k l i)
-bind_both (Say piece next) k l = ap (Say piece) (bind_both next k l)
-bind_both (Hear most next) k l = λ i. Hear most (λ p. bind_both (next p) k l i)
-bind_both (Recall next) k l = λ i. Recall (λ h. bind_both (next h) k l i)
-bind_both (Note hand next) k l = ap (Note hand) (bind_both next k l)
+use Rattle.mh_base.specs.Numbers.{numbers_up}
+use Rattle.opened_folders.proofs.FolderMade.{shows_folder_made}
+use Rattle.file_plans.proofs.Following.{bind_both}
 
 then_both : {A B C E : Type 0} (p : Plan (Result A E)) (f : A → Plan (Result B E)) (g : B → Plan (Result C E)) → (p >>= f) >>= g ≡ p >>= (λ a. f a >>= g)
 unfolding ◌>>=◌ bind
@@ -101,12 +89,6 @@ then_both {A = A} {E = E} p f g = bind_both p (after f) (after g) ∙ (λ i. bin
     each : (r : Result A E) → bind (after f r) (after g) ≡ after (λ a. bind (f a) (after g)) r
     each (Ok a) = refl
     each (Err e) = refl
-
--- all marks leave sequences in order
-all_valid : (marks : List Mark) (m : Marked) → AreSequences m.users → AreSequences (marked_by_all marks m).users
-unfolding marked_by_all
-all_valid [] m f = f
-all_valid (mark ∷ marks) m f = all_valid marks (marked_by mark m) (marked_valid mark m)
 
 listed_low : (runs : List Run) (n : ℕ) → has runs n ≡ true → n ≤ top_of runs
 listed_low [] n e = cc (e)
@@ -167,38 +149,6 @@ outside_sequences path folder old new k = go (same_told folder old new) (nat_lt 
 outside_shown : (c : Contents) (m : Mailbox) → mailbox_in c ≡ m → c.outside ≡ m.outside
 unfolding mailbox_in
 outside_shown c m e = ap (λ x. x.outside) e
-
-held_none : (b : Bool) (n : ℕ) (o : Option (List ℕ)) → o ≡ None → (if b then numbered n o else None) ≡ None
-held_none true n o e = numbered_none n o e
-held_none false n o e = refl
-
-is_empty : (c : Contents) (q : Place) → ((x : List ℕ) → c.texts q x ≡ None) → folder_at c q ≡ empty_folder
-is_empty c q none = λ i. record {
-  messages = λ n. numbered_none n (c.texts q (entry_text (Number n))) (none (entry_text (Number n))) i;
-  removed = λ n. numbered_none n (c.texts q (entry_text (Backup n))) (none (entry_text (Backup n))) i;
-  held = λ run n. held_none (nat_lt run (2 ^ 128)) n (c.texts q (entry_text (Held run n))) (none (entry_text (Held run n))) i;
-  sequences = none (entry_text Sequences) i;
-}
-
--- a folder that is made shows as an empty one
-pub shows_folder_made : (c : Contents) (p : Place) → IsBare c → mailbox_in (with_folder c p) ≡ with_folder_made (mailbox_in c) p
-unfolding mailbox_in
-shows_folder_made c p bare = λ i. record {
-  folders = λ q. each q (is_folder q) (same_place p q || is_parent q p) (c.there q) refl i;
-  home = λ x. c.texts Home x;
-  work = λ x. c.texts WorkPlace x;
-  context = λ q. where_mail q (c.texts q (codes "context"));
-  outside = c.outside;
-}
-  where
-    each : (q : Place) (f s t : Bool) → c.there q ≡ t
-        → (if f then (if s || t then Some (folder_at c q) else None) else None)
-        ≡ (if s then (if f then or_empty (if f then (if t then Some (folder_at c q) else None) else None) else None) else (if f then (if t then Some (folder_at c q) else None) else None))
-    each q true true true e = refl
-    each q true true false e = ap Some (is_empty c q (bare q e))
-    each q true false t e = refl
-    each q false true t e = refl
-    each q false false t e = refl
 
 module _ (run : ℕ) (few : run < 2 ^ 128) (path : List ℕ) (job : IncJob) (valid : is_folder_name job.folder ≡ true) (clean : list_all is_name_byte (suffix job.folder) ≡ true) where
   abbrev p : Place
@@ -491,5 +441,5 @@ module _ (run : ℕ) (few : run < 2 ^ 128) (path : List ℕ) (job : IncJob) (val
     inc_gives h are ns v hand untouched =
         subst (λ m. Gives (by_view true) v hand (begun_work path job.folder entries h m (opened_work path job)).text
         (lifted (of_plan job.folder) (made_begun run p mail job.folder) >>= (λ o. bind (opened_incorporated run path job o) (ended p))) (WorkEnds (begun_work path job.folder entries h m (opened_work path job))))
-        (shows_folder_made c p bare)
+        (shows_folder_made c p (λ q is no. bare q no))
         (made_give run few path job.folder clean c entries entries_are short h are ns v hand untouched (opened_work path job) (opened_incorporated run path job) opened_at)

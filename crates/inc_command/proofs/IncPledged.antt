@@ -49,7 +49,7 @@ use Rattle.sequence_commits.proofs.AsksSequences.{asks_sequences}
 use Rattle.message_puts.proofs.FirstPuts.{AreOnce, none_once, once_asked}
 use Rattle.message_puts.proofs.PutPledged.{MayReach, PutsMessages}
 use Rattle.command_stages.specs.Current.{current_change, made_current}
-use Rattle.command_stages.specs.Endings.{of_plan}
+use Rattle.command_stages.specs.Endings.{of_plan, if_room}
 use Rattle.opened_folders.specs.FolderPledge.{told_within}
 use Rattle.opened_folders.specs.Opening.{Opened}
 use Rattle.opened_folders.specs.Reads.{HaveSeen}
@@ -59,7 +59,7 @@ use Rattle.opened_folders.proofs.WorkPledged.{LetsBegin, begins, committed_goes,
 use Rattle.opened_folders.proofs.Listed.{settled_runs}
 use Rattle.inc_command.specs.Counting.{drop_counted}
 use Rattle.inc_command.specs.DropTaken.{drop_taken, where_of}
-use Rattle.inc_command.specs.Inc.{are_some, cut_by, cut_if, drop_ended, heading, heading_told, if_room, inc, new_marked, new_marks, opened_incorporated, room_counted, telling_of, told_taken, top_of}
+use Rattle.inc_command.specs.Inc.{are_some, cut_by, cut_if, drop_ended, heading, heading_told, inc, new_marked, new_marks, opened_incorporated, room_counted, telling_of, told_taken, top_of}
 use Rattle.inc_command.specs.IncPledge.{HasSeenNumber, HasTakenIn, HoldsOne, MakesSo, MarksNew, TellsNew, inc_pledge}
 use Rattle.inc_command.specs.Stored.{IsLineOfStored}
 use Rattle.inc_command.specs.Taking.{standing_for}

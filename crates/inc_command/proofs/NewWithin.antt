@@ -12,11 +12,7 @@ use Rattle.sequence_commits.specs.Marking.{marked_by, marked_by_all}
 use Rattle.sequence_commits.proofs.MarkedOnce.{marked_valid}
 use Rattle.opened_folders.proofs.ChosenListed.{marked_cur_is, marked_member}
 use Rattle.inc_command.specs.Inc.{add_mark, add_marks, cur_marks}
-
--- message numbers
-abbrev pub AreNumbers : List ℕ → Type 0
-AreNumbers [] = Unit {0}
-AreNumbers (n ∷ ns) = IsMsgNum n × AreNumbers ns
+use Rattle.mh_base.proofs.NumberTests.{AreNumbers}
 
 pub numbers_more : (ns : List ℕ) (n : ℕ) → AreNumbers ns → IsMsgNum n → AreNumbers (ns ++ n ∷ [])
 numbers_more [] n f one = (one, tt)

@@ -19,7 +19,7 @@ use Rattle.step_plans.specs.declared.command_fault.CommandFault.TheVariants as f
 use Rattle.inc_command.specs.Counting.{PIECE, piece_read}
 use Rattle.inc_command.specs.Cutting.{given_by, last_by, new_in}
 use Rattle.inc_command.specs.DropTaken.{Read, Where, as_counted, drop_taken, ended_taken, into, listed, piece_taken, rest_taken, where_of}
-use Rattle.inc_command.specs.IncOutcome.{lines_from, numbers_up}
+use Rattle.inc_command.specs.IncOutcome.{lines_from}
 use Rattle.message_lines.specs.MessageText.{Writing}
 use Rattle.inc_command.specs.Taking.{Telling}
 use Rattle.inc_command.specs.declared.intake.Taken.{Taken}
@@ -28,6 +28,7 @@ use Rattle.inc_command.proofs.Finishing.{IsFound, finished_all, finished_on, fin
 use Rattle.inc_command.proofs.Fronts.{end_gives, front_found, piece_gives}
 use Rattle.inc_command.proofs.TakenGiven.{IsRoomy, TakesAll, all_give, all_outside, all_put, all_roomy, highest_on, length_up, lines_both, numbers_on, on_both, put_both, taken_on, told, told_both, first_on}
 use Rattle.inc_command.proofs.Tests.{alike}
+use Rattle.mh_base.specs.Numbers.{numbers_up}
 
 -- what follows the same beginning is the same
 same_rest : (xs ys zs : List (List ℕ)) → xs ++ ys ≡ xs ++ zs → ys ≡ zs

@@ -1,9 +1,9 @@
 -- What messages that are taken in make of contents alone: they stand one behind the other above the highest number, and their lines were written.
-use Rattle.std.proofs.Common.{◌≡◌, ◌≤◌, ◌<◌, ◌^◌, ◌+◌, ◌++◌, ◌∷◌, ◌==◌, ◌&&◌, [], ℕ, zero, suc, Bool, true, false, List, Option, Some, None, Result, Ok, Err, length, refl, sym, ◌∙◌, ap, subst, arith, append_assoc, append-nil}
-use Rattle.std.specs.Prelude.{bytes_eq, decimal, option_map, if◌then◌else◌}
+use Rattle.std.proofs.Common.{◌≡◌, ◌≤◌, ◌<◌, ◌^◌, ◌+◌, ◌++◌, ◌∷◌, ◌==◌, ◌&&◌, [], ℕ, zero, suc, Bool, true, false, List, Some, None, Result, Ok, Err, length, refl, sym, ◌∙◌, ap, subst, arith, append_assoc, append-nil}
+use Rattle.std.specs.Prelude.{bytes_eq, decimal, if◌then◌else◌}
 use Rattle.std.proofs.lemmas.Bool.Decides.{Decides-eqb}
 use Rattle.mh_base.specs.Entries.{kind_of}
-use Rattle.mh_base.specs.Numbers.{IsMsgNum}
+use Rattle.mh_base.specs.Numbers.{IsMsgNum, numbers_up}
 use Rattle.folder_files.specs.Named.{is_temp}
 use Rattle.folder_files.specs.Places.{same_place}
 use Rattle.folder_files.specs.declared.place.Place.{Place}
@@ -13,7 +13,6 @@ use Rattle.folder_files.proofs.Sameness.{place_is}
 use Rattle.file_plans.specs.Contents.{Contents, mailbox_in, with_text}
 use Rattle.file_plans.specs.Giving.{Gives}
 use Rattle.file_plans.specs.MailboxChanges.{folder_with}
-use Rattle.file_plans.specs.Mailboxes.{Folder as FolderValue, Mailbox}
 use Rattle.file_plans.specs.Plan.{Hand, Return, bind, converted, lifted, ◌>>=◌}
 use Rattle.file_plans.specs.Views.{View, by_view}
 use Rattle.file_plans.proofs.Framing.{say_view}
@@ -34,11 +33,12 @@ use Rattle.message_lines.specs.MessageText.{line_of, Writing}
 use Rattle.mh_looks.proofs.Apart.{names_apart}
 use Rattle.mh_looks.proofs.AllShown.{line_some}
 use Rattle.opened_folders.proofs.WorkGiven.{lifted_gives}
-use Rattle.inc_command.specs.IncOutcome.{lines_from, numbers_up, with_messages}
+use Rattle.inc_command.specs.IncOutcome.{lines_from, with_messages}
 use Rattle.inc_command.specs.Intake.{all_taken, with_number}
 use Rattle.message_puts.specs.Putting.{message_stored}
 use Rattle.inc_command.specs.Taking.{first_of, message_taken, message_told, Telling, told_if}
 use Rattle.inc_command.specs.declared.intake.Taken.{Taken}
+use Rattle.held_messages.proofs.Shown.{unchanged, changed_twice}
 
 -- the contents with these messages one behind the other from this number on
 unfoldable pub all_put : Contents → Place → ℕ → List (List ℕ) → Contents
@@ -150,23 +150,6 @@ all_context [] c p q n one few = refl
 all_context (m ∷ ms) c p q n one few =
     all_context ms (with_text c p (decimal n) (Some m)) p q (n + 1) (omega arith) (omega (arith, few))
     ∙ any_place c p q n m context_name (foreign n (message_number n one (omega (arith, few))) context_name context_no_number)
-
--- a folder that is changed twice
-changed_twice : (m : Mailbox) (p : Place) (f g : FolderValue → FolderValue) → with_folder_changed (with_folder_changed m p f) p g ≡ with_folder_changed m p (λ x. g (f x))
-changed_twice m p f g = λ i. record { folders = λ q. each (same_place p q) (m.folders q) i; home = m.home; work = m.work; context = m.context; outside = m.outside }
-  where
-    each : (b : Bool) (o : Option FolderValue) → (if b then option_map g (if b then option_map f o else o) else (if b then option_map f o else o)) ≡ (if b then option_map (λ x. g (f x)) o else o)
-    each true None = refl
-    each true (Some x) = refl
-    each false o = refl
-
-unchanged : (m : Mailbox) (p : Place) → m ≡ with_folder_changed m p (λ f. f)
-unchanged m p = λ i. record { folders = λ q. each (same_place p q) (m.folders q) i; home = m.home; work = m.work; context = m.context; outside = m.outside }
-  where
-    each : (b : Bool) (o : Option FolderValue) → o ≡ (if b then option_map (λ x. x) o else o)
-    each true None = refl
-    each true (Some x) = refl
-    each false o = refl
 
 pub all_show : (ms : List (List ℕ)) (c : Contents) (path folder : List ℕ) (n : ℕ) → 1 ≤ n → n + length ms ≤ 1000000 → mailbox_in (all_put c (Folder path folder) n ms) ≡ with_folder_changed (mailbox_in c) (Folder path folder) (with_messages n ms)
 unfolding all_put with_messages

@@ -19,7 +19,7 @@ use Rattle.sequence_commits.specs.Committing.{changed_sequences}
 use Rattle.sequence_commits.specs.Marking.{marked_by_all}
 use Rattle.sequence_commits.specs.RunsOfAll.{set_among}
 use Rattle.command_stages.specs.Current.{made_current}
-use Rattle.command_stages.specs.Endings.{of_plan}
+use Rattle.command_stages.specs.Endings.{of_plan, if_room}
 use Rattle.command_stages.specs.Texts.{Commanded}
 use Rattle.opened_folders.specs.Ending.{ended}
 use Rattle.opened_folders.specs.Making.{made_begun}
@@ -47,11 +47,6 @@ telling_of job cur = record {
   silent = job.silent;
   line = λ first n bytes. job.spoken (standing_for job.change_cur (are_some job.unseen) cur first n) n bytes;
 }
-
--- so many numbers are free above the highest
-abbrev pub if_room : Bool → List ℕ → Commanded Unit
-if_room true folder = Return (Ok tt)
-if_room false folder = Return (Err (fault.Refused (refusal.Full folder)))
 
 -- what is written first
 unfoldable pub heading : List ℕ → List ℕ

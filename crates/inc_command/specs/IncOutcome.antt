@@ -1,17 +1,16 @@
 -- What `inc` comes to, by the mailbox. Nothing here knows of steps.
-use Rattle.std.specs.Prelude.{◌==◌, ◌+◌, ◌++◌, ◌||◌, ◌∷◌, [], ℕ, zero, suc, Bool, true, false, List, length, nat_le, nat_lt, Option, None, Some, Ok, if◌then◌else◌}
+use Rattle.std.specs.Prelude.{◌==◌, ◌+◌, ◌++◌, ◌∷◌, [], ℕ, Bool, true, false, List, length, nat_le, nat_lt, Option, None, Some, Ok, if◌then◌else◌}
 use Rattle.mbox_drop.specs.Drops.{is_drop, messages}
 use Rattle.mbox_drop.specs.Long.{first_long}
 use Rattle.mh_profile.specs.declared.named_value.NamedValue.{NamedValue}
 use Rattle.mh_sequences.specs.Sequences.{Marked}
 use Rattle.mh_sequences.specs.declared.run.Run.{Run}
-use Rattle.folder_files.specs.Places.{is_parent, same_path, same_place}
+use Rattle.folder_files.specs.Places.{same_path}
 use Rattle.folder_files.specs.declared.place.FilePath.{FilePath}
-use Rattle.folder_files.specs.declared.place.Place.{Place}
 use Rattle.folder_files.specs.declared.place.Place.TheVariants.{Folder}
 use Rattle.folder_files.specs.declared.refusal.Refusal.TheVariants as refusal
 use Rattle.file_plans.specs.MailboxChanges.{folder_with}
-use Rattle.file_plans.specs.Mailboxes.{Folder as FolderValue, Mailbox, where_folder}
+use Rattle.file_plans.specs.Mailboxes.{Folder as FolderValue, Mailbox}
 use Rattle.step_plans.specs.declared.command_fault.CommandFault.{CommandFault}
 use Rattle.step_plans.specs.declared.command_fault.CommandFault.TheVariants as fault
 use Rattle.held_messages.specs.HeldPairs.{with_folder_changed}
@@ -24,29 +23,8 @@ use Rattle.opened_folders.specs.Kept.{Kept, context_kept, kept_of, sequences_kep
 use Rattle.inc_command.specs.Counting.{LIMIT, LONGEST}
 use Rattle.inc_command.specs.Inc.{heading, new_marks, telling_of, top_of}
 use Rattle.inc_command.specs.IncJob.{IncJob}
-
--- a folder in which nothing stands
-abbrev pub empty_folder : FolderValue
-empty_folder = record { messages = λ n. None; removed = λ n. None; held = λ run n. None; sequences = None }
-
-abbrev pub or_empty : Option FolderValue → Option FolderValue
-or_empty None = Some empty_folder
-or_empty (Some f) = Some f
-
--- the folder of this place is there, and the folders that it lies in; one that was missing is empty
-abbrev pub with_folder_made : Mailbox → Place → Mailbox
-with_folder_made m p = record {
-  folders = λ q. if same_place p q || is_parent q p then where_folder q (or_empty (m.folders q)) else m.folders q;
-  home = m.home;
-  work = m.work;
-  context = m.context;
-  outside = m.outside;
-}
-
--- so many numbers from this one on
-unfoldable pub numbers_up : ℕ → ℕ → List ℕ
-numbers_up n zero = []
-numbers_up n (suc count) = n ∷ numbers_up (n + 1) count
+use Rattle.mh_base.specs.Numbers.{numbers_up}
+use Rattle.opened_folders.specs.MadeFolder.{with_folder_made}
 
 -- the folder with these messages too, one behind the other from this number on
 unfoldable pub with_messages : ℕ → List (List ℕ) → FolderValue → FolderValue

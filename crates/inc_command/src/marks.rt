@@ -1,28 +1,14 @@
 // The marks on new messages.
 ghost use Rattle.std.specs.Prelude.{◌≡◌, ◌++◌, map, IfOk, OnOk};
 ghost use Rattle.sequence_commits.specs.PlainMarks.{plain_mark};
-ghost use Rattle.sequence_commits.specs.RunsOfAll.{set_among};
 ghost use Rattle.inc_command.specs.Asked.{asked};
 ghost use Rattle.inc_command.specs.Inc.{add_mark, add_marks, cur_marks, new_marks as new_marks_of};
 
 use crate::IncJob;
 use mh_base::{List, MsgNum};
-use mh_sequences::{Mark, MarkList, NumSet, Pile, Run, SeqName};
+use mh_sequences::{Mark, MarkList, NumSet, SeqName};
+use opened_folders::number_set;
 use std::alloc::{AllocError, Global};
-
-/// These numbers as a set.
-fn number_set(alloc: Global, numbers: &[MsgNum]) -> Result<NumSet, AllocError>
-    ensures { IfOk result (λ s. s.runs ≡ set_among numbers.now) }
-{
-    let mut pile = Pile::new(alloc);
-    for number in numbers {
-        pile.add_run(Run {
-            from: *number,
-            to: *number,
-        })?;
-    }
-    pile.into_set()
-}
 
 /// The first of them becomes the current message, where one does.
 fn push_cur(marks: &mut MarkList, change_cur: bool, numbers: &[MsgNum]) -> Result<(), AllocError>

@@ -2,7 +2,7 @@
 ghost use Rattle.std.specs.Prelude.{◌+◌, ◌≤◌, ℕ, nat_le};
 ghost use Rattle.file_plans.specs.Follows.{State, Follows};
 ghost use Rattle.step_plans.specs.CommandFaults.{command_cause};
-ghost use Rattle.inc_command.specs.Inc.{if_room};
+ghost use Rattle.command_stages.specs.Endings.{if_room};
 
 use folder_files::Refusal;
 use mh_base::{Duplicate, FolderName};

@@ -5,8 +5,8 @@ use Rattle.std.specs.List.{list_all}
 use Rattle.std.proofs.lemmas.List.{take_at, length-take-le}
 use Rattle.mail_dates.specs.Names.{is_letter}
 use Rattle.mail_dates.specs.Seen.{WordView}
-use Rattle.mail_dates.specs.Words.{words, ends_word, longer}
 use Rattle.mail_dates.specs.WordView.{view_of, pushed}
+use Rattle.mh_base.specs.Characters.{words, ends_word, longer}
 
 -- a full view keeps its front
 pub full_kept : (bytes : List ℕ) (len b : ℕ) (letters t : Bool) (view : WordView) → length bytes ≡ 13 → len ≤ 13 → 13 ≤ len → t ≡ is_letter b → record { front = take len bytes; letters = letters } ≡ view →

@@ -4,8 +4,8 @@ use Rattle.std.specs.Prelude.{not}
 use Rattle.std.specs.List.{prefix_len}
 use Rattle.std.proofs.lemmas.List.{take-append-drop}
 use Rattle.mh_base.proofs.Prefixes.{prefix_more, prefix_none}
-use Rattle.mail_dates.specs.Words.{words, ends_word}
 use Rattle.mail_dates.proofs.Cutting.{IsToken, separator_passed, no_words, word_cut}
+use Rattle.mh_base.specs.Characters.{words, ends_word}
 
 skipped_by : (p : ℕ → Bool) (t : Bool) (b : ℕ) (rest : List ℕ) → p b ≡ t → words p rest ≡ words p (drop (prefix_len p rest) rest) → words p (b ∷ rest) ≡ words p (drop (prefix_len p (b ∷ rest)) (b ∷ rest))
 skipped_by p true b rest e more = rw (prefix_more p b rest e) (separator_passed p b rest e ∙ more)

@@ -7,8 +7,8 @@ use Rattle.mail_dates.specs.declared.names.Case.TheVariants.{Any}
 use Rattle.mail_dates.specs.Numbers.{decimal, short_number}
 use Rattle.mail_dates.specs.Names.{month_in}
 use Rattle.mail_dates.specs.Reading.{dated, first_by}
-use Rattle.mail_dates.specs.Words.{words}
-use Rattle.mail_dates.specs.Picking.{is_blank, is_trimmed, written_date, midnight, long_year, numeric_date, clock_in, dated_at, written_by}
+use Rattle.mail_dates.specs.Picking.{is_trimmed, written_date, midnight, long_year, numeric_date, clock_in, dated_at, written_by}
+use Rattle.mh_base.specs.Characters.{is_blank, words}
 
 pub numeric_read : (text : List ℕ) (offset : ℤ) (year month day : Option ℕ) (r : Option MailDate) (k : ℕ) → length text ≡ 10 → get_or text 4 0 ≡ 45 → get_or text 7 0 ≡ 45 → year ≡ long_year (take 4 text) →
     month ≡ decimal (take 2 (drop 5 text)) → day ≡ decimal (take k (drop 8 text)) → k ≡ length text - 8 → r ≡ dated year month day (Some midnight) offset → r ≡ numeric_date text offset

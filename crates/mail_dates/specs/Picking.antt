@@ -1,5 +1,5 @@
 -- Dates by which messages are chosen.
-use Rattle.std.specs.Prelude.{◌≡◌, ℕ, ◌+◌, ◌-◌, ◌%◌, ◌==◌, ◌&&◌, ◌||◌, not, nat_le, Bool, List, [], ◌∷◌, length, take, drop, slice_index, Option, Some, None, if◌then◌else◌, ℤ, pos, ◌+ℤ◌, ◌-ℤ◌, ◌*ℤ◌, ◌≤ℤ◌, ◌<ℤ◌, codes}
+use Rattle.std.specs.Prelude.{◌≡◌, ℕ, ◌+◌, ◌-◌, ◌%◌, ◌==◌, ◌&&◌, not, nat_le, Bool, List, [], ◌∷◌, length, take, drop, slice_index, Option, Some, None, if◌then◌else◌, ℤ, pos, ◌+ℤ◌, ◌-ℤ◌, ◌*ℤ◌, ◌≤ℤ◌, ◌<ℤ◌, codes}
 use Rattle.mail_dates.specs.declared.mail_date.MailDate.{MailDate}
 use Rattle.mail_dates.specs.declared.time.Time.{Time}
 use Rattle.mail_dates.specs.declared.names.Case.TheVariants.{Any}
@@ -9,7 +9,7 @@ use Rattle.mail_dates.specs.Numbers.{IsTime, decimal, short_number, time_in, yea
 use Rattle.mail_dates.specs.Names.{same, month_in, weekday_named}
 use Rattle.mail_dates.specs.declared.written.Clock.{Clock}
 use Rattle.mail_dates.specs.Reading.{dated, first_by, zone_in}
-use Rattle.mail_dates.specs.Words.{words}
+use Rattle.mh_base.specs.Characters.{is_blank, words}
 
 -- this is the day on which the moment falls, by a clock that is so many minutes ahead
 pub record IsToday (moment offset today : ℤ) : Type 0 where
@@ -62,10 +62,6 @@ numeric_date text offset =
     if length text == 10 && (slice_index text 4 == 45) && (slice_index text 7 == 45)
     then dated (long_year (take 4 text)) (decimal (take 2 (drop 5 text))) (decimal (drop 8 text)) (Some midnight) offset
     else None
-
--- a space or a tab
-abbrev pub is_blank : ℕ → Bool
-is_blank b = b == 32 || b == 9
 
 -- blanks stand at neither end
 abbrev pub is_trimmed : List ℕ → Bool

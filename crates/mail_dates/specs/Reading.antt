@@ -6,7 +6,8 @@ use Rattle.mail_dates.specs.declared.time.Time.{Time}
 use Rattle.mail_dates.specs.Clocks.{day_exists}
 use Rattle.mail_dates.specs.Numbers.{short_number, year_in, time_in, numeric_zone}
 use Rattle.mail_dates.specs.Names.{is_weekday, month_in, named_zone}
-use Rattle.mail_dates.specs.Words.{outside, is_separator, words}
+use Rattle.mail_dates.specs.Words.{outside, is_separator}
+use Rattle.mh_base.specs.Characters.{words}
 
 -- a zone, or another one
 abbrev pub zone_or : Option ℤ → Option ℤ → Option ℤ

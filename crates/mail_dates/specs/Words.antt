@@ -1,5 +1,5 @@
 -- The words of a header's date.
-use Rattle.std.specs.Prelude.{ℕ, zero, suc, ◌==◌, ◌||◌, Bool, true, List, [], ◌∷◌, if◌then◌else◌}
+use Rattle.std.specs.Prelude.{ℕ, zero, suc, ◌==◌, ◌||◌, Bool, List, [], ◌∷◌, if◌then◌else◌}
 
 -- a text without its comments, which begins inside so many: parentheses, which may nest, and a backslash in them
 -- protects the byte behind it (RFC 5322, section 3.2.2); a comment without its end runs to the end of the text
@@ -15,20 +15,3 @@ outside (suc n) (b ∷ c ∷ rest) =
 -- a space, a tab or a comma
 abbrev pub is_separator : ℕ → Bool
 is_separator b = b == 32 || b == 9 || b == 44
-
--- a word ends before these bytes
-abbrev pub ends_word : (ℕ → Bool) → List ℕ → Bool
-ends_word separates [] = true
-ends_word separates (b ∷ rest) = separates b
-
--- one byte more at the front of the first word
-abbrev pub longer : ℕ → List (List ℕ) → List (List ℕ)
-longer b [] = (b ∷ []) ∷ []
-longer b (word ∷ words) = (b ∷ word) ∷ words
-
--- what stands between separators
-unfoldable pub words : (ℕ → Bool) → List ℕ → List (List ℕ)
-words separates [] = []
-words separates (b ∷ rest) =
-    if separates b then words separates rest
-    else (if ends_word separates rest then (b ∷ []) ∷ words separates rest else longer b (words separates rest))

@@ -1,8 +1,8 @@
 // Words of a date word, between blanks.
 ghost use Rattle.std.specs.Prelude.{◌≡◌, ◌≤◌, ◌∷◌, [], not, length, MatchOption};
 ghost use Rattle.std.specs.List.{prefix_len};
-ghost use Rattle.mail_dates.specs.Picking.{is_blank as is_a_blank, is_trimmed as is_trimmed_text};
-ghost use Rattle.mail_dates.specs.Words.{words};
+ghost use Rattle.mail_dates.specs.Picking.{is_trimmed as is_trimmed_text};
+ghost use Rattle.mh_base.specs.Characters.{is_blank as is_a_blank, words};
 
 fn is_blank(byte: u8) -> bool
     ensures { result ≡ is_a_blank byte }

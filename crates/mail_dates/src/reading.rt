@@ -6,9 +6,10 @@ ghost use Rattle.mail_dates.specs.Left.{left};
 ghost use Rattle.mail_dates.specs.Names.{month_in};
 ghost use Rattle.mail_dates.specs.Numbers.{short_number as day_in, year_in, time_in, IsTime, IsYear};
 ghost use Rattle.mail_dates.specs.Reading.{behind_weekday, date_in, first_by, or_utc, zone_in};
-ghost use Rattle.mail_dates.specs.Words.{is_separator, words};
+ghost use Rattle.mail_dates.specs.Words.{is_separator};
 ghost use Rattle.mail_dates.specs.WordView.{TakesWord};
 ghost use Rattle.mail_dates.specs.declared.names.Case.TheVariants.{AsWritten};
+ghost use Rattle.mh_base.specs.Characters.{words};
 
 use crate::MailDate;
 use crate::mail_date::dated_if;

@@ -1,9 +1,10 @@
 // One word of a header's date.
 ghost use Rattle.std.specs.Prelude.{◌≡◌, ◌∷◌, [], take, MatchOption, false, ◌&&◌};
-ghost use Rattle.mail_dates.specs.Words.{is_separator as separates, words};
+ghost use Rattle.mail_dates.specs.Words.{is_separator as separates};
 ghost use Rattle.mail_dates.specs.Left.{left};
 ghost use Rattle.mail_dates.specs.WordView.{view_of, pushed, TakesWord};
 ghost use Rattle.mail_dates.specs.Names.{begins_weekday as begins_a_weekday};
+ghost use Rattle.mh_base.specs.Characters.{words};
 
 use crate::names::{begins_weekday, is_letter};
 use crate::outside::Outside;

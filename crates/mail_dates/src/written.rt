@@ -3,11 +3,11 @@ ghost use Rattle.std.specs.Prelude.{◌≡◌, ◌<◌, drop, IfSome};
 ghost use Rattle.jiff.specs.Words.{IsWithin};
 ghost use Rattle.mail_dates.specs.Clocks.{IsMailDate};
 ghost use Rattle.mail_dates.specs.Numbers.{IsTime, IsYear, short_number as day_in};
-ghost use Rattle.mail_dates.specs.Picking.{long_year as long_year_of, is_blank as is_a_blank, with_offset as with_offset_of, clock_behind as clock_behind_of, clock_in as clock_in_of, dated_at as dated_at_of, written_date as written_date_of, IsClock};
+ghost use Rattle.mail_dates.specs.Picking.{long_year as long_year_of, with_offset as with_offset_of, clock_behind as clock_behind_of, clock_in as clock_in_of, dated_at as dated_at_of, written_date as written_date_of, IsClock};
 ghost use Rattle.mail_dates.specs.Names.{month_in};
 ghost use Rattle.mail_dates.specs.Reading.{first_by};
-ghost use Rattle.mail_dates.specs.Words.{words};
 ghost use Rattle.mail_dates.specs.declared.names.Case.TheVariants.{Any};
+ghost use Rattle.mh_base.specs.Characters.{is_blank as is_a_blank, words};
 
 use crate::MailDate;
 use crate::blanks::{is_trimmed, next_word};

@@ -38,7 +38,7 @@ rest_enough (suc n) zero (b ∷ bs) p q = absurd (omega arith)
 rest_enough (suc n) (suc m) bytes p q =
     ap (behind_first (first_field bytes) bytes) (rest_enough n m (drop (folded_len bytes) bytes) (shorter bytes n p) (shorter bytes m q))
 
-one_more : (n : ℕ) → n ≤ suc n
+pub one_more : (n : ℕ) → n ≤ suc n
 one_more n = omega arith
 
 pub same_len : (n : ℕ) → n ≤ n

@@ -3,7 +3,8 @@ use Rattle.std.specs.Prelude.{ℕ, zero, suc, ◌==◌, Bool, List, [], ◌∷�
 use Rattle.std.specs.List.{prefix_len}
 use Rattle.std.specs.Char.{to_ascii_lowercase}
 use Rattle.std.specs.Prelude.{bytes_eq}
-use Rattle.mail_headers.specs.Lines.{is_name_byte, is_blank, folded_len, without_end}
+use Rattle.mail_headers.specs.Lines.{is_name_byte, folded_len, without_end}
+use Rattle.mh_base.specs.Characters.{is_blank}
 
 -- a field's name and its value as they stand
 pub record FieldText : Type 0 where

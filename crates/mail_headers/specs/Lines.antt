@@ -1,13 +1,10 @@
 -- Lines of a header, and the bytes of names and blanks.
-use Rattle.std.specs.Prelude.{ℕ, ◌+◌, ◌==◌, ◌&&◌, ◌||◌, Bool, false, not, nat_le, List, [], ◌∷◌, ◌-◌, length, take, slice_index, if◌then◌else◌}
+use Rattle.std.specs.Prelude.{ℕ, ◌+◌, ◌==◌, ◌&&◌, Bool, false, not, nat_le, List, [], ◌∷◌, ◌-◌, length, take, slice_index, if◌then◌else◌}
+use Rattle.mh_base.specs.Characters.{is_blank}
 
 -- a byte of a field's name: printable and no colon
 abbrev pub is_name_byte : ℕ → Bool
 is_name_byte b = nat_le 33 b && nat_le b 126 && not (b == 58)
-
--- a space or a tab
-abbrev pub is_blank : ℕ → Bool
-is_blank b = b == 32 || b == 9
 
 -- these bytes begin with a blank, and so would continue a field
 abbrev pub continues : List ℕ → Bool

@@ -1,7 +1,7 @@
 -- A field's value on one line.
 use Rattle.std.specs.Prelude.{ℕ, ◌==◌, ◌&&◌, ◌||◌, Bool, List, [], ◌∷◌, ◌-◌, length, take, drop, slice_index, if◌then◌else◌}
 use Rattle.std.specs.List.{prefix_len, suffix_len}
-use Rattle.mail_headers.specs.Lines.{is_blank}
+use Rattle.mh_base.specs.Characters.{is_blank}
 
 -- this byte, before those, ends a line or belongs to a line's end
 abbrev pub ends_line : ℕ → List ℕ → Bool

@@ -1,7 +1,8 @@
 // Spans of a header.
 ghost use Rattle.std.specs.Prelude.{◌≡◌, ◌==◌, ◌&&◌, not, ◌≤◌, ◌<◌, length};
 ghost use Rattle.std.specs.List.{prefix_len};
-ghost use Rattle.mail_headers.specs.Lines.{is_name_byte, is_blank, continues as continues_field, folded_len, without_end, without_feed, empty_line_len};
+ghost use Rattle.mail_headers.specs.Lines.{is_name_byte, continues as continues_field, folded_len, without_end, without_feed, empty_line_len};
+ghost use Rattle.mh_base.specs.Characters.{is_blank};
 
 use memchr::memchr;
 

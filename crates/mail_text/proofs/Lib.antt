@@ -1,4 +1,4 @@
-mod Emptiness
+pub mod Emptiness
 mod Fronts
 pub mod Lining
 mod Marking
@@ -7,7 +7,7 @@ mod PartReading
 mod PartShowing
 mod PartsWorked
 mod Quoted
-mod Showing
+pub mod Showing
 mod Spelling
 pub mod StrippedTwice
 mod Wording

@@ -3,8 +3,9 @@ use Rattle.std.proofs.Common.{◌≡◌, ℕ, Bool, true, false, List, [], ◌�
 use Rattle.std.specs.Prelude.{if◌then◌else◌}
 use Rattle.mail_text.specs.declared.stripping.Spot.{Spot}
 use Rattle.mail_text.specs.declared.stripping.Spot.TheVariants.{Front, Word, Gap}
-use Rattle.mail_text.specs.Stripping.{is_gap, ends_word, longer, words, spaced, joined, stripped}
+use Rattle.mail_text.specs.Stripping.{is_gap, spaced, joined, stripped}
 use Rattle.mail_text.specs.OneLine.{has_space, line_from, spot_from, spot_behind, written}
+use Rattle.mh_base.specs.Characters.{ends_word, longer, words}
 
 pub line_none : (spot : Spot) → line_from spot [] ≡ []
 unfolding line_from

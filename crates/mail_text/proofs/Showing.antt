@@ -61,7 +61,7 @@ pub front_by : (t : Bool) (bytes : List ℕ) (n k : ℕ) → is_utf8 (take (suc 
 front_by true bytes n k e front = e
 front_by false bytes n k e front = front
 
-front_valid : (bytes : List ℕ) (n : ℕ) → is_utf8 (take (valid_len_up_to bytes n) bytes) ≡ true
+pub front_valid : (bytes : List ℕ) (n : ℕ) → is_utf8 (take (valid_len_up_to bytes n) bytes) ≡ true
 front_valid bytes zero = is_utf8-from_IsUtf8 [] IsUtf8-nil
 front_valid bytes (suc n) = front_by (is_utf8 (take (suc n) bytes)) bytes n (valid_len_up_to bytes n) refl (front_valid bytes n)
 

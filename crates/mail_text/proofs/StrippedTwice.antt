@@ -3,7 +3,8 @@ use Rattle.std.proofs.Common.{◌≡◌, ℕ, Bool, true, false, List, [], ◌�
 use Rattle.std.specs.Prelude.{◌==◌, not}
 use Rattle.std.specs.List.{list_any}
 use Rattle.mail_text.proofs.Emptiness.{not_zero}
-use Rattle.mail_text.specs.Stripping.{is_gap, ends_word, longer, words, spaced, joined, stripped}
+use Rattle.mail_text.specs.Stripping.{is_gap, spaced, joined, stripped}
+use Rattle.mh_base.specs.Characters.{ends_word, longer, words}
 
 -- what a separator's test says of a word's characters, and of words
 abbrev AreInside : (ℕ → Bool) → List ℕ → Type 0

@@ -2,10 +2,10 @@
 use Rattle.std.proofs.Common.{◌≡◌, ℕ, zero, suc, ◌<◌, ◌≤◌, Bool, true, false, Option, Some, None, List, [], ◌∷◌, ◌++◌, length, take, drop, refl, sym, ap, ◌∙◌, arith, length-drop, append_assoc, append-nil}
 use Rattle.std.specs.Prelude.{option_and_then, is_some, ◌==◌, if◌then◌else◌}
 use Rattle.std.specs.List.{prefix_len}
-use Rattle.mail_text.specs.Addresses.{is_blank}
 use Rattle.mail_text.specs.declared.charset.Charset.{Charset}
 use Rattle.mail_text.specs.declared.encoding.Encoding.{Encoding}
 use Rattle.mail_text.specs.EncodedWords.{WordText, after, is_inner, is_text, charset_named, encoding_first, closed, word_of, lettered, named, first_word, characters_of, without_gap, decoded_by, decoded_within, decoded}
+use Rattle.mh_base.specs.Characters.{is_blank}
 
 pub then_some : {A B : Type 0} (f : A → Option B) (o : Option A) (b : B) → option_and_then f o ≡ Some b → (a : A) × (o ≡ Some a) × (f a ≡ Some b)
 then_some f None b e = cc e

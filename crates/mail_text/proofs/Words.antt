@@ -4,12 +4,12 @@ use Rattle.std.specs.Prelude.{is_some, if◌then◌else◌}
 use Rattle.std.specs.List.{prefix_len, flat_map}
 use Rattle.std.proofs.Math.Seq.{drop-append_seam}
 use Rattle.std.proofs.lemmas.List.{take-append-drop}
-use Rattle.mail_text.specs.Addresses.{is_blank}
 use Rattle.mail_text.specs.EncodedWords.{WordText, first_word, characters_of, without_gap, decoded_by, decoded}
 use Rattle.mail_text.specs.WordPieces.{BeginsWithNone, IsGapBefore, GoesOnAt, Piece, shown_of, ArePieces, IsDecodedAs, AsNoOther}
 use Rattle.mail_text.specs.WordPieces.Piece.{Plain, Word}
 use Rattle.mail_text.proofs.Spelling.{word_first, first_begins, prefix_exact, prefix_passes}
 use Rattle.mail_text.proofs.Wording.{step, none_left, first_len, gap_len}
+use Rattle.mh_base.specs.Characters.{is_blank}
 
 none_by : (o : Option WordText) (text : List ℕ) → first_word text ≡ o → BeginsWithNone text → o ≡ None
 none_by None text e none = refl

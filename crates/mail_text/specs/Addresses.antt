@@ -3,6 +3,7 @@ use Rattle.std.specs.Prelude.{ℕ, ◌-◌, ◌==◌, ◌&&◌, ◌||◌, not, B
 use Rattle.std.specs.List.{prefix_len, suffix_len, before_first, after_first, before_last, after_last, list_any}
 use Rattle.mail_text.specs.declared.marks.Mark.{Mark}
 use Rattle.mail_text.specs.Marks.{marks, is_outside, is_in_quotes, is_in_comment, is_in_one_comment}
+use Rattle.mh_base.specs.Characters.{is_blank}
 
 -- a comma that ends an address
 abbrev pub is_comma : Mark → Bool
@@ -27,10 +28,6 @@ is_of_comment m = is_in_comment m.place || opens_comment m
 -- a quote mark
 abbrev pub is_quote : Mark → Bool
 is_quote m = (is_outside m.place || is_in_quotes m.place) && m.c == 34
-
--- a space or a tab
-abbrev pub is_blank : ℕ → Bool
-is_blank c = c == 32 || c == 9
 
 -- without the blanks at its ends
 abbrev pub trimmed : List ℕ → List ℕ

@@ -2,13 +2,13 @@
 use Rattle.std.specs.Prelude.{ℕ, zero, suc, ◌==◌, ◌||◌, not, Bool, List, [], ◌∷◌, ◌++◌, length, take, drop, map, codes, bytes_eq, is_some, Option, Some, None, option_and_then, if◌then◌else◌}
 use Rattle.std.specs.List.{prefix_len}
 use Rattle.std.specs.Char.{to_ascii_uppercase}
-use Rattle.mail_text.specs.Addresses.{is_blank}
 use Rattle.mail_text.specs.Charsets.{characters_by}
 use Rattle.mail_text.specs.Encodings.{bytes_by}
 use Rattle.mail_text.specs.declared.charset.Charset.{Charset}
 use Rattle.mail_text.specs.declared.charset.Charset.TheVariants.{UsAscii, Utf8, Latin1}
 use Rattle.mail_text.specs.declared.encoding.Encoding.{Encoding}
 use Rattle.mail_text.specs.declared.encoding.Encoding.TheVariants.{B, Q}
+use Rattle.mh_base.specs.Characters.{is_blank}
 
 -- an encoded word at the front of a text: what it is made of, and what stands behind it
 pub record WordText : Type 0 where

@@ -1,26 +1,10 @@
 -- Text on one line, with single spaces.
-use Rattle.std.specs.Prelude.{ℕ, ◌&&◌, ◌||◌, nat_le, Bool, true, List, [], ◌∷◌, ◌++◌, if◌then◌else◌}
+use Rattle.std.specs.Prelude.{ℕ, ◌&&◌, ◌||◌, nat_le, Bool, List, [], ◌∷◌, ◌++◌}
+use Rattle.mh_base.specs.Characters.{words}
 
 -- a space or a control character: up to 32, or from 127 to 159
 abbrev pub is_gap : ℕ → Bool
 is_gap c = nat_le c 32 || (nat_le 127 c && nat_le c 159)
-
--- a word ends before these characters
-abbrev pub ends_word : (ℕ → Bool) → List ℕ → Bool
-ends_word separates [] = true
-ends_word separates (c ∷ rest) = separates c
-
--- one character more at the front of the first word
-abbrev pub longer : ℕ → List (List ℕ) → List (List ℕ)
-longer c [] = (c ∷ []) ∷ []
-longer c (word ∷ words) = (c ∷ word) ∷ words
-
--- what stands between separators
-unfoldable pub words : (ℕ → Bool) → List ℕ → List (List ℕ)
-words separates [] = []
-words separates (c ∷ rest) =
-    if separates c then words separates rest
-    else (if ends_word separates rest then (c ∷ []) ∷ words separates rest else longer c (words separates rest))
 
 -- words behind another, each with a space before it
 abbrev pub spaced : List (List ℕ) → List ℕ

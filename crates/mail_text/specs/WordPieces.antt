@@ -1,8 +1,8 @@
 -- A text with encoded words, piece by piece (RFC 2047, sections 2 and 6.2).
 use Rattle.std.specs.Prelude.{◌≡◌, ◌⊎◌, ℕ, true, List, [], ◌∷◌, ◌++◌, Some, codes}
 use Rattle.std.specs.List.{list_all, flat_map}
-use Rattle.mail_text.specs.Addresses.{is_blank}
 use Rattle.mail_text.specs.EncodedWords.{WordText, is_inner, is_text, charset_named, encoding_of, characters_of}
+use Rattle.mh_base.specs.Characters.{is_blank}
 
 -- a text begins with this word: =?charset?encoding?text?=, and then stands what is behind it
 pub record BeginsWith (w : WordText) (text : List ℕ) : Type 0 where

@@ -2,7 +2,7 @@
 ghost use Rattle.std.specs.Prelude.{◌≡◌, ◌≤◌, ◌==◌, ◌++◌, length, IfOk, OnOk};
 ghost use Rattle.std.specs.List.{prefix_len};
 ghost use Rattle.std.specs.Str.{chars};
-ghost use Rattle.mail_text.specs.Addresses.{is_blank as is_a_blank};
+ghost use Rattle.mh_base.specs.Characters.{is_blank as is_a_blank};
 
 use mh_base::Text;
 use std::alloc::{AllocError, Global};

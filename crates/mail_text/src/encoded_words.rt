@@ -1,9 +1,9 @@
 // Text with encoded words.
 ghost use Rattle.std.specs.Prelude.{◌≡◌, ◌≤◌, length, IfOk};
 ghost use Rattle.std.specs.List.{prefix_len};
-ghost use Rattle.mail_text.specs.Addresses.{is_blank as is_a_blank};
 ghost use Rattle.mail_text.specs.EncodedWords.{without_gap as without_gap_of, decoded};
 ghost use Rattle.mail_text.specs.WordPieces.{IsDecodedAs, AsNoOther};
+ghost use Rattle.mh_base.specs.Characters.{is_blank as is_a_blank};
 
 use crate::characters::{blank_len, characters};
 use crate::encoded_word::EncodedWord;

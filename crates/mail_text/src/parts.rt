@@ -1,7 +1,8 @@
 // The parts of an address.
 ghost use Rattle.std.specs.Prelude.{◌≡◌, ◌≤◌, not, length, drop, filter, IfOk};
 ghost use Rattle.std.specs.List.{suffix_len, position_or_len, before_first, list_any};
-ghost use Rattle.mail_text.specs.Addresses.{is_comma, is_bracket, opens_comment, closes_comment, is_blank as is_a_blank, trimmed, is_of_name, is_plain, closes_bracket, characters_in, in_brackets, comment_in, note_of, pers_of, addr_of, is_at, mbox_in, host_in};
+ghost use Rattle.mail_text.specs.Addresses.{is_comma, is_bracket, opens_comment, closes_comment, trimmed, is_of_name, is_plain, closes_bracket, characters_in, in_brackets, comment_in, note_of, pers_of, addr_of, is_at, mbox_in, host_in};
+ghost use Rattle.mh_base.specs.Characters.{is_blank as is_a_blank};
 
 use crate::characters::{blank_len, is_blank, text_of};
 use crate::marks::Mark;

@@ -5,13 +5,12 @@ use Rattle.mh_base.specs.Numbers.{IsMsgNum}
 use Rattle.mh_sequences.specs.Marks.{marked, marked_cur}
 use Rattle.mh_sequences.specs.Printing.{list_text}
 use Rattle.mh_sequences.specs.Runs.{has}
-use Rattle.mh_sequences.specs.Sequences.{AreSequences, Marked, Sequence, member}
-use Rattle.mh_sequences.specs.declared.mark.Mark.{Mark}
+use Rattle.mh_sequences.specs.Sequences.{Marked, Sequence, member}
 use Rattle.mh_sequences.specs.declared.run.Run.{Run}
 use Rattle.folder_files.proofs.Names.{both, or_case}
 use Rattle.sequence_commits.specs.Marking.{marked_by, marked_by_all}
 use Rattle.sequence_commits.specs.RunsOfAll.{set_among}
-use Rattle.sequence_commits.proofs.MarkedOnce.{marked_valid}
+use Rattle.sequence_commits.proofs.MarkedOnce.{all_valid}
 use Rattle.opened_folders.proofs.ChosenListed.{has_tested, marked_cur_is, marked_member}
 use Rattle.told_folders.specs.Tasks.{AreSome, IsListed, IsOrderly}
 use Rattle.mark_command.specs.Lines.{cur_line, cur_lines, is_beside_cur, line_of, lines_beside, lines_for, privacy, sequence_of, spaced}
@@ -58,12 +57,6 @@ some_for (name ∷ names) m = some_named m (name ∷ names)
 some_if : (list : Bool) (lines : List (List ℕ)) → AreSome lines → AreSome (lines_if list lines)
 some_if true lines f = f
 some_if false lines f = tt
-
--- all marks leave sequences in order
-all_valid : (marks : List Mark) (m : Marked) → AreSequences m.users → AreSequences (marked_by_all marks m).users
-unfolding marked_by_all
-all_valid [] m f = f
-all_valid (mark ∷ marks) m f = all_valid marks (marked_by mark m) (marked_valid mark m)
 
 -- and the current message as it was
 module _ (a : MarkAct) (public : Option Bool) (runs : List Run) where

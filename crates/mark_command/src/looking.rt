@@ -2,11 +2,11 @@
 ghost use Rattle.std.specs.Prelude.{◌≡◌};
 ghost use Rattle.file_plans.specs.Follows.{Follows, by_out};
 ghost use Rattle.step_plans.specs.CommandFaults.{command_cause};
-ghost use Rattle.mh_looks.specs.Scan.{entries_seen};
 ghost use Rattle.told_folders.specs.Plans.{folder_looked};
 ghost use Rattle.told_folders.specs.Tasks.{checked, sequences_seen};
 ghost use Rattle.mark_command.specs.Mark.{look_task};
 ghost use Rattle.mark_command.specs.Values.{AreValue};
+ghost use Rattle.mh_profile.specs.Reading.{entries_seen};
 
 use crate::MarkJob;
 use crate::saying::say_sequences;

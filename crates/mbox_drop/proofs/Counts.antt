@@ -9,7 +9,7 @@ use Rattle.mbox_drop.specs.declared.place.Stage.TheVariants.{Unread, NoDrop, Beg
 use Rattle.mbox_drop.specs.Readings.{Reading, at, took, read, unread, reading}
 use Rattle.std.specs.Option.{option_or}
 use Rattle.mbox_drop.specs.Long.{first_long, long_of}
-use Rattle.mbox_drop.specs.Counting.{one_more, counted, Counts, HasCounted}
+use Rattle.mbox_drop.specs.Counting.{counted, Counts, HasCounted}
 use Rattle.mbox_drop.proofs.ReadingLemmas.{is_begun_at, Staged, staged, messages-none, read-push, Knows, IsBegun, knows}
 use Rattle.mbox_drop.specs.declared.counter.DropCounter.{DropCounter}
 use Rattle.mbox_drop.specs.declared.place.Match.TheVariants.{Nothing, F, Fr, Fro, From}
@@ -17,6 +17,7 @@ use Rattle.mbox_drop.specs.declared.place.DropState.{DropState}
 use Rattle.mbox_drop.specs.declared.place.DropState.TheVariants.{First, Lost, Separator, Start, Return, Middle, Blank}
 use Rattle.mbox_drop.specs.declared.place.Turn.{Turn}
 use Rattle.mbox_drop.specs.declared.place.Turn.TheVariants.{Joins, Empties, Begins, Passes}
+use Rattle.mh_base.specs.Counts.{one_more}
 
 option_or-none : (o : Option ℕ) → option_or o None ≡ o
 option_or-none None = refl

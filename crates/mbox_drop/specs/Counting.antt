@@ -7,10 +7,7 @@ use Rattle.mbox_drop.specs.declared.counter.DropCounter.{DropCounter}
 use Rattle.mbox_drop.specs.declared.place.DropState.TheVariants.{Separator}
 use Rattle.mbox_drop.specs.declared.place.Turn.{Turn}
 use Rattle.mbox_drop.specs.declared.place.Turn.TheVariants.{Joins, Empties, Begins, Passes}
-
--- one more, up to the greatest 64-bit number
-abbrev pub one_more : ℕ → ℕ
-one_more n = min (n + 1) (2 ^ 64 - 1)
+use Rattle.mh_base.specs.Counts.{one_more}
 
 abbrev pub counted : DropCounter → Turn → DropCounter
 counted c (Joins place) = record c { place = place; size = one_more c.size }

@@ -97,7 +97,7 @@ pub held_apart : (run : ℕ) → run < 2 ^ 128 → (n m : ℕ) → IsMsgNum n �
 held_apart run few n m ok other apart e = apart (let same : Held run n ≡ Held run m = sym (kind_of-entry_text (Held run n) (few, ok)) ∙ (ap kind_of e ∙ kind_of-entry_text (Held run m) (few, other)) in cc (same))
 
 -- a step that names the held name of this message names that of none of these
-names_none : (run : ℕ) → run < 2 ^ 128 → (p : Place) (n : ℕ) → IsMsgNum n → (ns : List ℕ) → AreMessages ns → IsNone n ns → (s : Step) → ((held : List ℕ) → (entry_text (Held run n) ≡ held → ⊥) → SparesHeld p held s) → SparesAll run p ns s
+pub names_none : (run : ℕ) → run < 2 ^ 128 → (p : Place) (n : ℕ) → IsMsgNum n → (ns : List ℕ) → AreMessages ns → IsNone n ns → (s : Step) → ((held : List ℕ) → (entry_text (Held run n) ≡ held → ⊥) → SparesHeld p held s) → SparesAll run p ns s
 names_none run few p n ok [] are apart s f = tt
 names_none run few p n ok (m ∷ ms) are apart s f = (f (entry_text (Held run m)) (held_apart run few n m ok are.0 apart.0), names_none run few p n ok ms are.2 apart.1 s f)
 

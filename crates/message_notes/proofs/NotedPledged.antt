@@ -33,7 +33,7 @@ use Rattle.message_puts.proofs.PutPledged.{HasPut, IsPutBy, PutsMessages, Tries,
 use Rattle.message_moves.specs.Moving.{content_read, held_discarded, number_taken, readable}
 use Rattle.message_moves.proofs.MoveCopied.{Anything, AreSpared, HasCopy, IsOpen, SparesHeld, may_discard, never_taken, open_less, opened, put_opens}
 use Rattle.message_moves.proofs.MovePledged.{HasContent, HasDiscarded, HasTaken, LetsDiscard, LetsTake, after_content, after_discard, after_take, content_goes, discard_goes, is_held_so, take_goes, taking}
-use Rattle.message_moves.proofs.RefilePledged.{AllSpared, AreMessages, IsNone, SparesAll, held_apart}
+use Rattle.message_moves.proofs.RefilePledged.{AllSpared, AreMessages, IsNone, SparesAll, names_none}
 use Rattle.message_notes.specs.Noted.{HasNoted, HasPutAnew}
 use Rattle.message_notes.specs.Noting.{message_noted, messages_noted, stored_at}
 
@@ -56,11 +56,6 @@ module _ (P : Step → Type 0) (F : List Deed → Type 0) (keeps : KeptBy P F) (
       (subst F (sym b.link.deeds) (keeps b.link.older (step.Link p b.temp (decimal m)) answer.Done (asks.link b.temp (decimal m) b.is_own)
       (tries_kept b.temp b.is_own (made_ready p b.temp bytes own) b.link.older b.link.tries
       (keeps (did (step.Create p b.temp bytes) answer.Done ∷ own) (step.SyncFile p b.temp) answer.Done (asks.sync b.temp) (keeps own (step.Create p b.temp bytes) answer.Done (asks.create b.temp bytes) f))))))
-
--- a step that names the held name of this message names that of none of these
-names_none : (run : ℕ) → run < 2 ^ 128 → (p : Place) (n : ℕ) → IsMsgNum n → (ns : List ℕ) → AreMessages ns → IsNone n ns → (s : Step) → ((held : List ℕ) → (entry_text (Held run n) ≡ held → ⊥) → SparesHeld p held s) → SparesAll run p ns s
-names_none run few p n ok [] are apart s f = tt
-names_none run few p n ok (m ∷ ms) are apart s f = (f (entry_text (Held run m)) (held_apart run few n m ok are.0 apart.0), names_none run few p n ok ms are.2 apart.1 s f)
 
 -- the greater of two known numbers is known
 greater : (Known : ℕ → List Deed → Type 0) (a b : ℕ) (own : List Deed) → Known a own → Known b own → Known (max a b) own

@@ -1,8 +1,9 @@
 -- Texts of fields, as they are compared. 9 is a tab and 32 a space.
-use Rattle.std.specs.Prelude.{◌≡◌, ◌==◌, ◌||◌, ℕ, Bool, true, false, List, take, drop, map, codes}
+use Rattle.std.specs.Prelude.{◌≡◌, ℕ, Bool, true, false, List, take, drop, map, codes}
 use Rattle.std.specs.Char.{is_ascii_alphanumeric, to_ascii_lowercase}
 use Rattle.std.specs.List.{filter, prefix_len}
 use Rattle.mail_headers.specs.Fields.{same_name}
+use Rattle.mh_base.specs.Characters.{is_blank}
 
 -- an ASCII letter or digit
 abbrev pub counts : ℕ → Bool
@@ -11,9 +12,6 @@ counts b = is_ascii_alphanumeric b
 -- a text's letters, in lower case, and digits
 abbrev pub key_of : List ℕ → List ℕ
 key_of text = map to_ascii_lowercase (filter counts text)
-
-abbrev pub is_blank : ℕ → Bool
-is_blank b = b == 32 || b == 9
 
 -- a reply's mark stands at the front, in whatever case
 abbrev pub begins_reply : List ℕ → Bool

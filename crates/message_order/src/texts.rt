@@ -1,7 +1,8 @@
 // Texts of fields, as they are compared.
 ghost use Rattle.std.specs.Prelude.{◌≡◌, IfOk, List, ℕ, length, drop, ◌≤◌};
 ghost use Rattle.std.specs.List.{prefix_len};
-ghost use Rattle.message_order.specs.Texts.{begins_reply as begins_a_reply, is_blank as is_a_blank, IsBehindReplies, key_of};
+ghost use Rattle.message_order.specs.Texts.{begins_reply as begins_a_reply, IsBehindReplies, key_of};
+ghost use Rattle.mh_base.specs.Characters.{is_blank as is_a_blank};
 
 use std::alloc::{AllocError, Global};
 

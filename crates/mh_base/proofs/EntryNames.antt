@@ -38,7 +38,7 @@ clean-append : (a b : List ℕ) → list_all is_name_byte a ≡ true → list_al
 clean-append [] b p q = q
 clean-append (x ∷ a) b p q = both (is_name_byte x) (list_all is_name_byte a) (list_all is_name_byte (a ++ b)) p (λ r. clean-append a b r q)
 
-clean_decimal : (n : ℕ) → n < 2 ^ 64 → list_all is_name_byte (decimal n) ≡ true
+pub clean_decimal : (n : ℕ) → n < 2 ^ 64 → list_all is_name_byte (decimal n) ≡ true
 clean_decimal n lt = digits_clean 10 (decimal n) (omega arith) (decimal_is_IsNumeral n lt).0.1
 
 clean_run : (run n : ℕ) → n < 2 ^ 64 → list_all is_name_byte (hex 32 run ++ 95 ∷ decimal n) ≡ true

@@ -1,4 +1,4 @@
-mod EntryNames
+pub mod EntryNames
 mod RunDigits
 mod TextLemmas
 pub mod Decimals

@@ -45,3 +45,8 @@ over_max k a b le = omega (arith, le)
 pub or_right : (a b : Bool) → b ≡ true → a || b ≡ true
 or_right true b e = refl
 or_right false b e = e
+
+-- message numbers, all of them
+abbrev pub AreNumbers : List ℕ → Type 0
+AreNumbers [] = Unit {0}
+AreNumbers (n ∷ ns) = IsMsgNum n × AreNumbers ns

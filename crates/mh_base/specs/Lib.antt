@@ -1,3 +1,4 @@
+pub mod Characters
 pub mod Counts
 pub mod Entries
 pub mod Folders

@@ -1,5 +1,5 @@
 -- Numbers as text: decimal, and the 32 hexadecimal digits of a run.
-use Rattle.std.specs.Prelude.{ℕ, zero, suc, ◌≤◌, ◌^◌, ◌/◌, ◌%◌, false, ◌&&◌, nat_lt, bytes_eq, Option, Some, None, List, [], ◌∷◌, ◌++◌, decimal, if◌then◌else◌}
+use Rattle.std.specs.Prelude.{ℕ, zero, suc, ◌≤◌, ◌+◌, ◌^◌, ◌/◌, ◌%◌, false, ◌&&◌, nat_lt, bytes_eq, Option, Some, None, List, [], ◌∷◌, ◌++◌, decimal, if◌then◌else◌}
 use Rattle.std.specs.Fmt.{digit_glyph}
 use Rattle.std.specs.Str.Parse.{digits_value}
 
@@ -31,3 +31,8 @@ in_range (Some n) = if nat_lt 0 n && nat_lt n 1000000 then Some n else None
 -- the message number whose decimal text this is
 abbrev pub number_of : List ℕ → Option ℕ
 number_of bytes = in_range (decimal_of bytes)
+
+-- so many numbers from this one on
+unfoldable pub numbers_up : ℕ → ℕ → List ℕ
+numbers_up n zero = []
+numbers_up n (suc count) = n ∷ numbers_up (n + 1) count

@@ -2,12 +2,12 @@
 use Rattle.std.proofs.Common.{◌≡◌, ℕ, zero, suc, ◌<◌, ◌≤◌, Bool, true, false, Option, Some, None, List, [], ◌∷◌, ◌++◌, length, refl, sym, ◌∙◌, ap, arith, length-drop, append_assoc, append-nil}
 use Rattle.std.specs.Prelude.{◌==◌, ◌||◌, option_map, option_and_then, if◌then◌else◌}
 use Rattle.std.specs.List.{prefix_len}
-use Rattle.mail_headers.specs.Lines.{is_blank}
 use Rattle.mime_tree.specs.Tokens.{Taken, token_in, worth_in}
 use Rattle.mime_tree.proofs.Shortening.{map_is, then_is, token_le, worth_le}
 use Rattle.mh_drafts.specs.declared.label.Attribute.{Attribute}
 use Rattle.mh_drafts.specs.Attributes.{TakenAttribute, TakenAttributes, attribute_with, valued_in, named_in, attribute_in, led, with_attribute, attributes_up_to, attributes_in}
 use Rattle.mh_drafts.specs.Blanks.{behind_blanks, behind_byte, behind_word, is_led}
+use Rattle.mh_base.specs.Characters.{is_blank}
 
 blanks_le : (text : List ℕ) → length (behind_blanks text) ≤ length text
 blanks_le text = omega (arith, length-drop (prefix_len is_blank text) text)

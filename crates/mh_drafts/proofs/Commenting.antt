@@ -4,6 +4,7 @@ use Rattle.std.specs.Prelude.{option_map}
 use Rattle.std.proofs.lemmas.List.{drop_all}
 use Rattle.mail_headers.proofs.Folding.{cut_at}
 use Rattle.mh_drafts.specs.Comments.{closes, comment_end, depth_behind, protects}
+use Rattle.mime_tree.proofs.Quoting.{moved}
 
 ends_here : (depth : ℕ) (protected : Bool) (c : ℕ) (rest : List ℕ) → closes depth protected c ≡ true → comment_end depth protected (c ∷ rest) ≡ Some 0
 unfolding comment_end
@@ -13,10 +14,6 @@ goes_on : (depth : ℕ) (protected : Bool) (c : ℕ) (rest : List ℕ) → close
     comment_end depth protected (c ∷ rest) ≡ option_map (λ n. n + 1) (comment_end (depth_behind depth protected c) (protects protected c) rest)
 unfolding comment_end
 goes_on depth protected c rest e = rw e refl
-
-moved : (i : ℕ) (o : Option ℕ) → option_map (λ n. n + i) (option_map (λ n. n + 1) o) ≡ option_map (λ n. n + (i + 1)) o
-moved i None = refl
-moved i (Some n) = let e : n + 1 + i ≡ n + (i + 1) = omega arith in ap Some e
 
 pub comment_ends : (text : List ℕ) (depth : ℕ) (protected : Bool) (i c : ℕ) (r : Option ℕ) → i < length text → c ≡ get_or text i 0 → closes depth protected c ≡ true →
     option_map (λ n. n + i) (comment_end depth protected (drop i text)) ≡ r → Some i ≡ r

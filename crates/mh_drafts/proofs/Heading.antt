@@ -3,7 +3,7 @@ use Rattle.std.proofs.Common.{◌≡◌, ℕ, zero, suc, ◌≤◌, true, false,
 use Rattle.mail_headers.specs.Lines.{folded_len}
 use Rattle.mail_headers.specs.Fields.{FieldText, first_field, with_first, fields_of}
 use Rattle.mail_headers.specs.Message.{rest_of}
-use Rattle.mail_headers.proofs.Walking.{none_in, shorter, same_len, fields_of-step, fields_none, rest_taken, rest_none}
+use Rattle.mail_headers.proofs.Walking.{none_in, shorter, same_len, fields_of-step, fields_none, rest_taken, rest_none, one_more}
 use Rattle.mh_drafts.specs.Headers.{is_reserved, reserved_with, reserved_up_to, reserved_in}
 
 -- more than enough fields are no other fields
@@ -15,9 +15,6 @@ enough (suc n) zero [] p q = rw none_in refl
 enough (suc n) zero (b ∷ bs) p q = absurd (omega arith)
 enough (suc n) (suc m) bytes p q =
     ap (reserved_with (first_field bytes) bytes) (enough n m (drop (folded_len bytes) bytes) (shorter bytes n p) (shorter bytes m q))
-
-one_more : (n : ℕ) → n ≤ suc n
-one_more n = omega arith
 
 step : (bytes : List ℕ) → reserved_in bytes ≡ reserved_with (first_field bytes) bytes (reserved_in (drop (folded_len bytes) bytes))
 unfolding reserved_in

@@ -5,7 +5,7 @@ use Rattle.std.specs.Borrow.{Bor}
 use Rattle.std.proofs.lemmas.List.{map-append}
 use Rattle.std.proofs.lemmas.List.Elements.{filter-append}
 use Rattle.mail_text.specs.ShownBytes.{shown}
-use Rattle.mh_drafts.specs.Blanks.{is_some_text}
+use Rattle.mh_base.specs.Characters.{is_some_text}
 
 pub shown_more : (words : List (Bor (List ℕ))) (word : Bor (List ℕ)) (old new : List (List ℕ)) → new ≡ old ++ map shown (filter is_some_text (word.now ∷ [])) → old ≡ map shown (filter is_some_text (map (λ i. i.now) words)) → new ≡ map shown (filter is_some_text (map (λ i. i.now) (words ++ word ∷ [])))
 shown_more words word old new put e =

@@ -1,7 +1,7 @@
 -- Words and the blanks between them.
-use Rattle.std.specs.Prelude.{ℕ, ◌==◌, ◌||◌, Bool, false, not, List, [], ◌∷◌, drop, filter, length, Option, Some, None, if◌then◌else◌}
-use Rattle.std.specs.List.{prefix_len, slice_split}
-use Rattle.mail_headers.specs.Lines.{is_blank}
+use Rattle.std.specs.Prelude.{ℕ, ◌==◌, ◌||◌, Bool, false, not, List, [], ◌∷◌, drop, Option, Some, None, if◌then◌else◌}
+use Rattle.std.specs.List.{prefix_len}
+use Rattle.mh_base.specs.Characters.{is_blank}
 
 abbrev pub behind_blanks : List ℕ → List ℕ
 behind_blanks text = drop (prefix_len is_blank text) text
@@ -9,13 +9,6 @@ behind_blanks text = drop (prefix_len is_blank text) text
 -- how many bytes stand before the first blank
 abbrev pub word_len : List ℕ → ℕ
 word_len text = prefix_len (λ b. not (is_blank b)) text
-
-abbrev pub is_some_text : List ℕ → Bool
-is_some_text text = not (length text == 0)
-
--- what stands between blanks
-abbrev pub words_in : List ℕ → List (List ℕ)
-words_in text = filter is_some_text (slice_split is_blank text)
 
 -- the text begins with this byte
 abbrev pub is_led : ℕ → List ℕ → Bool

@@ -5,7 +5,8 @@ use Rattle.mh_drafts.specs.declared.directive.Directive.{Directive}
 use Rattle.mh_drafts.specs.declared.directive.Directive.TheVariants.{Part}
 use Rattle.mh_drafts.specs.declared.item.Leaf.TheVariants.{Messages as message_leaf}
 use Rattle.mh_drafts.specs.declared.want.Want.TheVariants.{Messages as message_want}
-use Rattle.mh_drafts.specs.Blanks.{behind_blanks, is_led, word_len, words_in}
+use Rattle.mh_drafts.specs.Blanks.{behind_blanks, is_led, word_len}
+use Rattle.mh_base.specs.Characters.{words_in}
 
 -- the messages that these words name, of this folder
 abbrev pub forwarded : Option (List ℕ) → List ℕ → Directive

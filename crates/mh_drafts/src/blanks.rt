@@ -1,8 +1,8 @@
 // Spaces and tabs.
 ghost use Rattle.std.specs.Prelude.{◌≡◌, ◌≤◌, ◌==◌, length};
 ghost use Rattle.std.specs.List.{prefix_len};
-ghost use Rattle.mail_headers.specs.Lines.{is_blank as is_blank_byte};
 ghost use Rattle.mh_drafts.specs.Blanks.{behind_blanks as rest_behind_blanks, word_len as first_word_len, is_led};
+ghost use Rattle.mh_base.specs.Characters.{is_blank as is_blank_byte};
 
 pub(crate) fn is_blank(byte: u8) -> bool
     ensures { result ≡ is_blank_byte byte }

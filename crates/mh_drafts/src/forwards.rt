@@ -1,8 +1,8 @@
 // The directive that makes messages parts.
 ghost use Rattle.std.specs.Prelude.{◌≡◌, ◌++◌, ◌∷◌, [], map, filter, IfOk, OnOk, Some};
 ghost use Rattle.mail_text.specs.ShownBytes.{shown};
-ghost use Rattle.mh_drafts.specs.Blanks.{is_some_text, words_in as words_of};
 ghost use Rattle.mh_drafts.specs.Forwards.{forwarded, messages_in, named_messages};
+ghost use Rattle.mh_base.specs.Characters.{is_some_text, words_in as words_of};
 
 use crate::blanks::{behind_blanks, is_blank, is_led_by, word_len};
 use crate::directive::Directive;

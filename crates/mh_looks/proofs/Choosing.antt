@@ -12,9 +12,10 @@ use Rattle.command_stages.specs.Chosen.{IsValue}
 use Rattle.folder_files.specs.declared.place.Place.{Place}
 use Rattle.msg_ranges.specs.Selection.{Marks}
 use Rattle.command_stages.specs.Chosen.{marks_in}
-use Rattle.mh_looks.specs.Scan.{all_shown, chosen_by, chosen_with, entries_seen, lined_by, written_by}
+use Rattle.mh_looks.specs.Scan.{all_shown, chosen_by, chosen_with, lined_by, written_by}
 use Rattle.mh_looks.specs.ScanJob.{ScanJob}
 use Rattle.mh_looks.specs.Values.{IsListed}
+use Rattle.mh_profile.specs.Reading.{entries_seen}
 
 pub refused_value : (value : Result (List ℕ) CommandFault) (e : CommandFault) → IsValue value (Err e) → IsListed value (Err e)
 refused_value value (fault.Refused r) is = is

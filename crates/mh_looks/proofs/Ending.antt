@@ -47,9 +47,10 @@ use Rattle.command_stages.specs.Listed.{names_by, folder_listed, numbers_listed}
 use Rattle.command_stages.specs.Texts.{too_large, text_by, text_read}
 use Rattle.command_stages.specs.Current.{current_change, made_current}
 use Rattle.message_lines.specs.MessageText.{line_of, Writing}
-use Rattle.mh_looks.specs.Scan.{shown_by, one_shown, all_shown, ordered, entries_seen, chosen_by, scan, lined_by}
+use Rattle.mh_looks.specs.Scan.{shown_by, one_shown, all_shown, ordered, chosen_by, scan, lined_by}
 use Rattle.mh_looks.specs.ScanJob.{ScanJob}
 use Rattle.mh_looks.proofs.Apart.{lists_ordered}
+use Rattle.mh_profile.specs.Reading.{entries_seen}
 
 -- the newest deeds listed the folder, which is there, and then read its sequences
 abbrev pub AfterSequences : Place → List (List ℕ) → Answer → List Deed → List Deed
@@ -110,7 +111,7 @@ chosen_listed names neg marks specs numbers is n e =
 abbrev pub name_of : ℕ → List ℕ
 name_of n = entry_text (Number n)
 
-listed_text : (n : ℕ) (names : List (List ℕ)) → has_number n names ≡ true → has_text (name_of n) names ≡ true
+pub listed_text : (n : ℕ) (names : List (List ℕ)) → has_number n names ≡ true → has_text (name_of n) names ≡ true
 unfolding entry_text
 listed_text n names e = both (is_message_number n) (has_text (decimal n) names) (sym (has_number_text n names) ∙ e)
 

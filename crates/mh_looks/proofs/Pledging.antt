@@ -21,10 +21,11 @@ use Rattle.command_stages.specs.Endings.{of_plan}
 use Rattle.command_stages.specs.Listed.{folder_listed}
 use Rattle.command_stages.specs.Texts.{text_read}
 use Rattle.command_stages.specs.Current.{current_change, made_current}
-use Rattle.mh_looks.specs.Scan.{all_shown, chosen_by, entries_seen, lined_by, ordered, scan}
+use Rattle.mh_looks.specs.Scan.{all_shown, chosen_by, lined_by, ordered, scan}
 use Rattle.mh_looks.specs.ScanPledge.{HasListed, scan_pledge}
 use Rattle.mh_looks.specs.ScanJob.{ScanJob}
 use Rattle.mh_looks.proofs.LooksLeave.{Looked, Looks, Lists, more_looked, goes_chosen, goes_recall, listed_goes, text_goes, all_goes}
+use Rattle.mh_profile.specs.Reading.{entries_seen}
 
 -- after a command that keeps the context: what was settled is, and the context was committed or nothing was changed
 pub record Noted (mail : List ℕ) (own later : List Deed) : Type 0 where

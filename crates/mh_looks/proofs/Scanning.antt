@@ -54,13 +54,14 @@ use Rattle.command_stages.specs.Works.{Work, refused_at, readable}
 use Rattle.command_stages.specs.Current.{current_change, made_current as made_current_plan}
 use Rattle.mh_looks.specs.Outcomes.{current_text, written_current, made_current, lines_of, too_long_of, lines_written, numbers_shown, chosen_shown, sequences_read, scan_work}
 use Rattle.message_lines.specs.MessageText.{Writing}
-use Rattle.mh_looks.specs.Scan.{all_shown, ordered, entries_seen, chosen_by, lined_by, scan}
+use Rattle.mh_looks.specs.Scan.{all_shown, ordered, chosen_by, lined_by, scan}
 use Rattle.mh_looks.specs.ScanJob.{ScanJob}
 use Rattle.mh_looks.proofs.Apart.{AreApart, apart_ordered, lists_ordered, selected_apart}
 use Rattle.mh_looks.proofs.Folders.{IsFresh, Tells, IsListed, IsAbsent, FolderListed, folder_gives, messages_listed}
 use Rattle.mh_looks.proofs.Numbers.{folder_numbers}
 use Rattle.mh_looks.proofs.Reading.{after_read, TextRead, text_gives}
 use Rattle.mh_looks.proofs.AllShown.{IsMessage, AreMessages, AllShown, all_gives}
+use Rattle.mh_profile.specs.Reading.{entries_seen}
 
 -- an end that the last commit alone decides
 abbrev pub IsLate : Result Unit CommandFault → Type 0

@@ -1,5 +1,5 @@
 -- The plan of `scan`.
-use Rattle.std.specs.Prelude.{ℕ, Bool, true, false, List, [], ◌∷◌, reverse, Option, None, Some, Result, Ok, Err}
+use Rattle.std.specs.Prelude.{ℕ, Bool, true, false, List, [], ◌∷◌, reverse, Result, Ok, Err}
 use Rattle.mh_base.specs.Entries.{entry_text}
 use Rattle.mh_base.specs.declared.entry.Entry.TheVariants.{Number, Sequences}
 use Rattle.mh_profile.specs.declared.named_value.NamedValue.{NamedValue}
@@ -22,6 +22,7 @@ use Rattle.message_lines.specs.MessageText.{line_of, Writing}
 use Rattle.message_lines.specs.Standings.{is_at, is_marked_in}
 use Rattle.message_lines.specs.declared.standing.Standing.{Standing}
 use Rattle.mh_looks.specs.ScanJob.{ScanJob}
+use Rattle.mh_profile.specs.Reading.{entries_seen}
 
 -- a message is the current one by the folder's marks, and unseen where one of these sequences has it
 abbrev pub standing_by : Marks → List (List ℕ) → ℕ → Standing
@@ -56,11 +57,6 @@ all_shown lined place (n ∷ ns) = do
 abbrev pub ordered : Bool → List ℕ → List ℕ
 ordered true numbers = reverse numbers
 ordered false numbers = numbers
-
--- the context's entries as the run last saw them
-abbrev pub entries_seen : Option (List NamedValue) → List NamedValue
-entries_seen None = []
-entries_seen (Some es) = es
 
 -- the messages that the job's words choose, by the folder's names and its marks
 abbrev pub chosen_with : ScanJob → List (List ℕ) → Marks → Result (List ℕ) CommandFault

@@ -2,7 +2,7 @@
 ghost use Rattle.std.specs.Prelude.{◌≡◌, IfOk};
 ghost use Rattle.msg_ranges.specs.Selection.{marks_of};
 ghost use Rattle.command_stages.specs.Chosen.{marks_in};
-ghost use Rattle.mh_looks.specs.Scan.{entries_seen};
+ghost use Rattle.mh_profile.specs.Reading.{entries_seen};
 
 use mh_base::FolderName;
 use mh_profile::Entries;

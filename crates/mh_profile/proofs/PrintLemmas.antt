@@ -5,7 +5,7 @@ use Rattle.std.specs.List.{list_all, onto_first, prefix_len}
 use Rattle.std.proofs.lemmas.Bool.{and_parts, and_from, and_left, not-true, leb-true, ne_eqb}
 use Rattle.std.proofs.lemmas.List.{take_at, drop_at}
 use Rattle.mail_headers.specs.Fields.{field_in, field_by, name_in, after_name, from_colon, after_colon}
-use Rattle.mail_headers.specs.Lines.{is_name_byte, is_blank, continues, without_end}
+use Rattle.mail_headers.specs.Lines.{is_name_byte, continues, without_end}
 use Rattle.mh_profile.specs.declared.named_value.NamedValue.{NamedValue}
 use Rattle.mh_profile.specs.Lines.{folded_lines}
 use Rattle.mh_profile.specs.Names.{IsFieldName}
@@ -16,6 +16,7 @@ use Rattle.mh_profile.specs.Reading.{entry_of, listed, first_of_each, entries_in
 use Rattle.mh_profile.proofs.LineLemmas.{lines_end, lines_inside, no_lines}
 use Rattle.mh_profile.proofs.UnfoldingLemmas.{value_clean, value_read}
 use Rattle.mh_profile.proofs.EntryLemmas.{first_of_each-same}
+use Rattle.mh_base.specs.Characters.{is_blank}
 
 is_printable : (b : ℕ) → is_name_byte b ≡ true → 33 ≤ b
 is_printable b h = leb-true 33 b (and_parts (nat_le 33 b) (nat_le b 126) (and_parts (nat_le 33 b && nat_le b 126) (not (b == 58)) h).0).0

@@ -5,9 +5,10 @@ use Rattle.std.specs.List.{prefix_len, suffix_len, list_all}
 use Rattle.std.proofs.lemmas.List.{length-take, length-reverse, get_or-reverse, get_or-take, get_or-drop, get_or_at, take_at, take_all, length-take-le}
 use Rattle.std.proofs.lemmas.List.Sums.{prefix_len_is, prefix_len_stops, suffix_len_is}
 use Rattle.std.proofs.lemmas.Bool.{and_parts, and_from, and_right, eq-eqb, eqb-true, false≢true, not-true, both_ways, cases_Bool}
-use Rattle.mail_headers.specs.Lines.{is_blank, without_end, without_feed}
+use Rattle.mail_headers.specs.Lines.{without_end, without_feed}
 use Rattle.mail_headers.specs.Unfolding.{ends_line, joined, is_edge, trimmed, unfolded}
 use Rattle.mh_profile.specs.Values.{IsUnfolded, is_no_feed}
+use Rattle.mh_base.specs.Characters.{is_blank}
 
 or_right : (x y : Bool) → y ≡ true → x || y ≡ true
 or_right true y e = refl

@@ -28,3 +28,8 @@ entries_in bytes = first_of_each (listed (folded_lines bytes))
 abbrev pub IsEntryOf : List ℕ → Option NamedValue → Type 0
 IsEntryOf bytes None = first_field bytes ≡ None
 IsEntryOf bytes (Some e) = (f : FieldText) × (first_field bytes ≡ Some f) × (e ≡ entry_of f)
+
+-- the entries of a context that was seen; none where it was not
+abbrev pub entries_seen : Option (List NamedValue) → List NamedValue
+entries_seen None = []
+entries_seen (Some entries) = entries

@@ -11,7 +11,6 @@ use Rattle.std.proofs.lemmas.Str.Parse.{digit_from_value}
 use Rattle.std.proofs.lemmas.List.{take_at, drop_at}
 use Rattle.std.proofs.lemmas.List.Splits.{slice_split_at, slice_split_none}
 use Rattle.std.proofs.lemmas.List.Sums.{suffix_len_is}
-use Rattle.mail_headers.specs.Lines.{is_blank}
 use Rattle.mail_headers.specs.Unfolding.{is_edge}
 use Rattle.mh_base.specs.Numbers.{IsMsgNum, number_of, in_range}
 use Rattle.mh_base.proofs.Decimals.{decimal_of_some, decimal_of_none}
@@ -23,9 +22,7 @@ use Rattle.mh_sequences.specs.Runs.{AreRuns, AreRunsFrom, has}
 use Rattle.mh_sequences.specs.Lists.{items, between, up_to, alone_or, is_no_dash, run_in, run_has, lists}
 use Rattle.mh_sequences.specs.Printing.{run_text, list_text}
 use Rattle.mh_sequences.proofs.Bools.{choose}
-
-abbrev is_digit : ℕ → Bool
-is_digit b = nat_le 48 b && nat_le b 57
+use Rattle.mh_base.specs.Characters.{is_digit, is_blank}
 
 digits_all : (ds : List ℕ) → AllDigits 10 ds → list_all is_digit ds ≡ true
 digits_all [] h = refl

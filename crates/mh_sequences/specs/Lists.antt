@@ -1,10 +1,10 @@
 -- Lists of numbers as text.
 use Rattle.std.specs.Prelude.{ℕ, ◌==◌, Bool, false, not, nat_le, Option, None, Some, is_some, List, [], ◌∷◌, take, drop, if◌then◌else◌}
 use Rattle.std.specs.List.{list_any, prefix_len, slice_split}
-use Rattle.mail_headers.specs.Lines.{is_blank}
 use Rattle.mh_base.specs.Numbers.{number_of}
 use Rattle.mh_sequences.specs.declared.run.Run.{Run}
 use Rattle.mh_sequences.specs.Runs.{inside}
+use Rattle.mh_base.specs.Characters.{is_blank}
 
 -- what stands between spaces and tabs
 abbrev pub items : List ℕ → List (List ℕ)

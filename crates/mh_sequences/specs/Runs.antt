@@ -1,5 +1,5 @@
 -- Sets of message numbers, as runs of consecutive numbers.
-use Rattle.std.specs.Prelude.{ℕ, ◌+◌, ◌-◌, ◌≤◌, ◌&&◌, ◌||◌, Bool, false, nat_le, List, [], ◌∷◌, ◌++◌}
+use Rattle.std.specs.Prelude.{ℕ, ◌+◌, ◌-◌, ◌≤◌, ◌&&◌, ◌||◌, Bool, false, nat_le, List, [], ◌∷◌, ◌++◌, length, slice_get, unwrap_or}
 use Rattle.std.specs.List.{range_with_len}
 use Rattle.mh_sequences.specs.declared.run.Run.{Run}
 
@@ -29,6 +29,10 @@ AreRuns runs = AreRunsFrom 1 runs
 abbrev pub numbers_of : List Run → List ℕ
 numbers_of [] = []
 numbers_of (r ∷ rs) = range_with_len r.from (r.to + 1 - r.from) ++ numbers_of rs
+
+-- the last number, or 0 where there is none
+abbrev pub last_in : List Run → ℕ
+last_in runs = unwrap_or (slice_get (numbers_of runs) (length (numbers_of runs) - 1)) 0
 
 -- a set, and for how many more runs it has room
 pub record Numbers : Type 0 where

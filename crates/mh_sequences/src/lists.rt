@@ -1,11 +1,11 @@
 // Lists of numbers as text.
 ghost use Rattle.std.specs.Prelude.{◌≡◌, ℕ, List, ◌≤◌, ◌||◌, length, take, drop, IfOk, IfSome, OnOk, map};
-ghost use Rattle.mail_headers.specs.Lines.{is_blank as is_blank_byte};
 ghost use Rattle.std.specs.Option.{option_map};
 ghost use Rattle.std.specs.List.{prefix_len, find};
 ghost use Rattle.mh_base.specs.Numbers.{number_of};
 ghost use Rattle.mh_sequences.specs.Lists.{between as run_between, items, is_listed as is_listed_item, is_no_dash, lists, run_has, run_in, up_to as run_up_to};
 ghost use Rattle.mh_sequences.specs.Runs.{has};
+ghost use Rattle.mh_base.specs.Characters.{is_blank as is_blank_byte};
 
 use crate::{NumSet, Pile, Run};
 use mh_base::MsgNum;

@@ -1,5 +1,5 @@
 // Sets of message numbers.
-ghost use Rattle.std.specs.Prelude.{◌≡◌, ◌≤◌, ◌+◌, ◌==◌, ◌&&◌, ◌||◌, not, nat_lt, ℕ, [], length, take, IfOk, OnOk, OnErr, IsOk, MatchOption, slice_get, None, Some, if◌then◌else◌};
+ghost use Rattle.std.specs.Prelude.{◌≡◌, ◌≤◌, ◌+◌, ◌-◌, ◌==◌, ◌&&◌, ◌||◌, not, nat_lt, ℕ, [], length, take, IfOk, OnOk, OnErr, IsOk, MatchOption, slice_get, None, Some, if◌then◌else◌};
 ghost use Rattle.std.specs.List.{prefix_len};
 ghost use Rattle.mh_sequences.specs.Joins.{joins};
 ghost use Rattle.mh_sequences.specs.Runs.{AreRuns, has, inside, numbers_of};
@@ -179,6 +179,13 @@ impl NumSet {
         ensures { result ≡ slice_get (numbers_of self.now.runs) index }
     {
         self.counts.number_at(self.runs.as_slice(), index)
+    }
+
+    /// The last number, if there is one.
+    pub fn last(&self) -> Option<MsgNum>
+        ensures { result ≡ slice_get (numbers_of self.now.runs) (length (numbers_of self.now.runs) - 1) }
+    {
+        self.at(self.len().saturating_sub(1))
     }
 
     pub(crate) fn as_slice(&self) -> &[Run]

@@ -22,7 +22,6 @@ use Rattle.step_plans.proofs.Coming.{Comes, comes_lifted, comes_on, comes_read, 
 use Rattle.step_plans.proofs.Ending.{unmade_more}
 use Rattle.step_plans.proofs.Going.{Outcome}
 use Rattle.command_stages.specs.Texts.{too_large}
-use Rattle.mh_looks.specs.Scan.{entries_seen}
 use Rattle.mh_looks.proofs.Ending.{comes_at}
 use Rattle.mh_drafts.specs.Drafted.{Drafted}
 use Rattle.mh_drafts.specs.Drafts.{first_wrong_line}
@@ -42,6 +41,7 @@ use Rattle.mhbuild_command.specs.Composed.{composed}
 use Rattle.mhbuild_command.specs.Parsed.{drafted, parsed, unless_wrong}
 use Rattle.mhbuild_command.specs.declared.job.BuildJob.{BuildJob}
 use Rattle.mhbuild_command.proofs.PlacedEnds.{ShowsPlaced, set_comes}
+use Rattle.mh_profile.specs.Reading.{entries_seen}
 
 text_onto : (d : Option (List ℕ)) (text : List ℕ) (own later : List Deed) → Onto own later → HasText d text own → HasText d text later
 text_onto None text own later o f = tt

@@ -17,7 +17,6 @@ use Rattle.step_plans.specs.CommandFaults.{of_stop}
 use Rattle.step_plans.specs.ContextCommit.{LIMIT_BYTES}
 use Rattle.command_stages.specs.Listed.{folder_listed, names_by}
 use Rattle.command_stages.specs.Texts.{text_by, text_read}
-use Rattle.mh_looks.specs.Scan.{entries_seen}
 use Rattle.sequence_commits.proofs.NeverFailed.{IsPlain, plain_ask, plain_lifted, plain_renamed, plain_return, plain_synced, plain_then, plain_written}
 use Rattle.mh_drafts.specs.declared.want.Want.{Want}
 use Rattle.mh_drafts.specs.declared.want.Want.TheVariants as want
@@ -34,6 +33,7 @@ use Rattle.mhbuild_command.specs.Building.{text_built}
 use Rattle.mhbuild_command.specs.Composed.{composed}
 use Rattle.mhbuild_command.specs.Parsed.{parsed}
 use Rattle.mhbuild_command.specs.declared.job.BuildJob.{BuildJob}
+use Rattle.mh_profile.specs.Reading.{entries_seen}
 
 -- a text
 plain_text : (r : Reading) → IsPlain (text_by r)

@@ -27,7 +27,6 @@ use Rattle.command_stages.specs.Current.{made_current}
 use Rattle.command_stages.specs.Listed.{folder_listed}
 use Rattle.command_stages.specs.Texts.{text_read, too_large}
 use Rattle.opened_folders.proofs.EndedKept.{Still, keeps_more}
-use Rattle.mh_looks.specs.Scan.{entries_seen}
 use Rattle.mh_looks.specs.ScanPledge.{HasListed}
 use Rattle.mh_looks.proofs.LooksLeave.{Lists, Looked, Looks, goes_chosen, listed_goes, more_looked, none_looked, one_looked, text_goes}
 use Rattle.told_folders.proofs.ChangesPledged.{lines_go, noted_goes, sound_first}
@@ -37,6 +36,7 @@ use Rattle.part_rows.specs.Rows.{header, rows_of}
 use Rattle.mhlist_command.specs.Listing.{all_listed, chosen_seen, header_said, listed_by, mhlist, no_part, one_listed, rows_said, said_unless}
 use Rattle.mhlist_command.specs.ListPledge.{list_pledge, task_of}
 use Rattle.mhlist_command.specs.declared.job.ListJob.{ListJob}
+use Rattle.mh_profile.specs.Reading.{entries_seen}
 
 module _ (w : Pledge) (tells : (own : List Deed) (piece : List ℕ) → w.may_tell own piece) where
   abbrev Stays : List Deed → Outcome Unit

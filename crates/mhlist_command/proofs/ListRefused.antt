@@ -27,7 +27,6 @@ use Rattle.step_plans.proofs.Going.{Outcome}
 use Rattle.command_stages.specs.Chosen.{folder_with}
 use Rattle.command_stages.specs.Current.{made_current}
 use Rattle.command_stages.specs.Endings.{of_plan}
-use Rattle.mh_looks.specs.Scan.{entries_seen}
 use Rattle.mh_looks.proofs.Ending.{by_choice, comes_at, name_of}
 use Rattle.opened_folders.specs.Reads.{TellsText}
 use Rattle.told_folders.proofs.ChangesEnd.{lines_come}
@@ -38,6 +37,7 @@ use Rattle.mhlist_command.specs.ListAnswers.{IsRefusedByListing, ShowsListing, a
 use Rattle.mhlist_command.specs.Listing.{all_listed, chosen_seen, header_said, mhlist}
 use Rattle.mhlist_command.specs.declared.job.ListJob.{ListJob}
 use Rattle.mhlist_command.proofs.MessagesRead.{All, AreRead, Stopped, all_comes, is_gone, lacks, reading_kept, too_long}
+use Rattle.mh_profile.specs.Reading.{entries_seen}
 
 module _ (run : ℕ) (mail : List ℕ) (job : ListJob) (h : Hand) where
   abbrev place : Place

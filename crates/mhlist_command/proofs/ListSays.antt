@@ -27,7 +27,6 @@ use Rattle.step_plans.proofs.Ruling.{AreNumbered}
 use Rattle.step_plans.proofs.Stepping.{on_read}
 use Rattle.command_stages.specs.Current.{made_current}
 use Rattle.command_stages.specs.Texts.{too_large}
-use Rattle.mh_looks.specs.Scan.{entries_seen}
 use Rattle.mh_looks.specs.ScanPledge.{HasListed}
 use Rattle.mh_looks.proofs.Ending.{name_of}
 use Rattle.opened_folders.specs.Endings.{IsToldBy}
@@ -48,6 +47,7 @@ use Rattle.mhlist_command.specs.Listing.{all_listed, chosen_seen, header_said, l
 use Rattle.mhlist_command.specs.declared.job.ListJob.{ListJob}
 use Rattle.mhlist_command.proofs.MessagesRead.{just_more, reading_kept, told_more}
 use Rattle.mhlist_command.proofs.RowsGiven.{header_some, some_rows}
+use Rattle.mh_profile.specs.Reading.{entries_seen}
 
 module _ (run : ℕ) (few : run < 2 ^ 128) (path : List ℕ) (job : ListJob) (h : Hand) where
   abbrev place : Place

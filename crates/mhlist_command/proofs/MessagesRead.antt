@@ -2,11 +2,10 @@
 use Rattle.std.proofs.Common.{◌≡◌, ◌++◌, ◌∷◌, [], ℕ, true, List, Option, Some, None, Result, Ok, Err, refl, sym, ◌∙◌, ap, append_assoc, append-nil}
 use Rattle.std.specs.List.{flat_map}
 use Rattle.mh_profile.specs.declared.named_value.NamedValue.{NamedValue}
-use Rattle.msg_ranges.proofs.Rising.{lists}
+use Rattle.msg_ranges.proofs.Rising.{lists, first_listed, other_listed}
 use Rattle.folder_files.specs.Deeds.{Deed, did}
 use Rattle.folder_files.specs.declared.place.Place.{Place}
 use Rattle.folder_files.specs.declared.place.Place.TheVariants.{Folder}
-use Rattle.folder_files.specs.declared.step.Answer.{Answer}
 use Rattle.folder_files.specs.declared.step.Answer.TheVariants as answer
 use Rattle.folder_files.specs.declared.step.Step.TheVariants as step
 use Rattle.file_plans.specs.Plan.{Hand}
@@ -19,7 +18,6 @@ use Rattle.step_plans.proofs.Going.{Outcome}
 use Rattle.command_stages.specs.Texts.{too_large}
 use Rattle.mh_looks.proofs.Ending.{comes_at, name_of}
 use Rattle.told_folders.proofs.ChangesEnd.{lines_come}
-use Rattle.told_folders.proofs.MessagesStand.{first_listed, other_listed}
 use Rattle.told_folders.specs.Outcomes.{joined}
 use Rattle.part_rows.specs.Choices.{first_missing}
 use Rattle.part_rows.specs.PartViews.{parts_of}
@@ -27,9 +25,7 @@ use Rattle.part_rows.specs.Rows.{header, rows_of}
 use Rattle.mhlist_command.specs.ListAnswers.{AreWhole, HasJustRead, IsWhole, ReadMessage, after_reading, numbers_in, reading_of, told_of}
 use Rattle.mhlist_command.specs.Listing.{all_listed, listed_by, no_part, one_listed, said_unless}
 use Rattle.mhlist_command.specs.declared.job.ListJob.{ListJob}
-
-abbrev pub reading : Place → ℕ → Answer → Deed
-reading place n a = did (step.Read place (name_of n) LIMIT_BYTES) a
+use Rattle.told_folders.proofs.MessagesStand.{reading}
 
 -- what each reading keeps, all of them keep
 pub reading_kept : (place : Place) (F : List Deed → Type 0) → ((own : List Deed) (n : ℕ) (text : List ℕ) → F own → F (reading place n (answer.Content text) ∷ own)) → (ms : List ReadMessage) (own : List Deed) → F own → F (after_reading place ms own)

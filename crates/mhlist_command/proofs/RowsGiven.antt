@@ -1,6 +1,6 @@
 -- What it gives alone that the rows of messages are said, one message after another.
-use Rattle.std.proofs.Common.{◌≡◌, ◌++◌, ◌∷◌, [], ℕ, Bool, true, false, List, Option, Some, None, Result, Ok, Err, length, map, refl, sym, ◌∙◌, ap, subst, append_assoc}
-use Rattle.std.specs.Prelude.{nat_lt, decimal, option_map, if◌then◌else◌}
+use Rattle.std.proofs.Common.{◌≡◌, ◌++◌, ◌∷◌, [], ℕ, true, false, List, Option, Some, None, Result, Ok, Err, length, map, refl, sym, ◌∙◌, ap, subst, append_assoc}
+use Rattle.std.specs.Prelude.{nat_lt, decimal, option_map}
 use Rattle.mh_base.specs.Entries.{entry_text}
 use Rattle.mh_base.specs.declared.entry.Entry.TheVariants.{Number}
 use Rattle.folder_files.specs.Steps.{read_file_answer}
@@ -23,7 +23,7 @@ use Rattle.step_plans.specs.declared.command_fault.CommandFault.{CommandFault}
 use Rattle.step_plans.proofs.Refusals.{IsRefusal}
 use Rattle.command_stages.specs.Texts.{too_large}
 use Rattle.mh_looks.proofs.Reading.{after_read}
-use Rattle.told_folders.proofs.MessagesStand.{AllStand, Stands}
+use Rattle.told_folders.proofs.MessagesStand.{AllStand, Stands, Says, says_it}
 use Rattle.told_folders.specs.Outcomes.{joined}
 use Rattle.told_folders.specs.Plans.{lines_said}
 use Rattle.told_folders.specs.Tasks.{AreSome}
@@ -32,7 +32,8 @@ use Rattle.part_rows.specs.PartViews.{PartView, parts_of}
 use Rattle.part_rows.specs.Rows.{columns_of_part, header, part_row, row_of, rows_of, without_spaces_behind}
 use Rattle.std.specs.Str.{encode_utf8_all}
 use Rattle.mhlist_command.specs.Listing.{all_listed, listed_by, no_part, one_listed, rows_said, said_unless}
-use Rattle.mhlist_command.specs.ListOutcome.{first_of, first_refused, refused_text, rows_among, text_of, unless_refused}
+use Rattle.mhlist_command.specs.ListOutcome.{first_of, first_refused, refused_text, rows_among, unless_refused}
+use Rattle.mh_looks.specs.Outcomes.{text_of}
 
 -- a line that ends in a line feed says something
 pub ends_some : (a : List ℕ) → (a ++ 10 ∷ []) ≡ [] → ⊥
@@ -56,26 +57,6 @@ pub lines_then : (v : View) (h : Hand) (lines : List (List ℕ)) (rest : List �
 unfolding Gives lines_said say lifted bind ◌>>=◌
 lines_then v h [] rest f = (refl, refl, refl, refl)
 lines_then v h (l ∷ ls) rest f = (f.0, (joined ls ++ rest, append_assoc l (joined ls) rest, lines_then v h ls rest f.1))
-
--- what an answer says of a message that is there
-abbrev pub Says : List ℕ → Answer → Type 0
-Says b (answer.Content bytes) = (bytes ≡ b) × (nat_lt LIMIT_BYTES (length b) ≡ false)
-Says b (answer.Long l) = (l ≡ length b) × (nat_lt LIMIT_BYTES (length b) ≡ true)
-Says b answer.Gone = ⊥
-Says b answer.Done = Unit {0}
-Says b (answer.Names names) = Unit {0}
-Says b (answer.Piece bytes l) = Unit {0}
-Says b answer.Exists = Unit {0}
-Says b answer.Busy = Unit {0}
-Says b answer.Grown = Unit {0}
-Says b answer.Failed = Unit {0}
-
-pub says_it : (b : List ℕ) (a : Answer) → a ≡ read_file_answer LIMIT_BYTES (Some b) → Says b a
-says_it b a e = go (nat_lt LIMIT_BYTES (length b)) refl e
-  where
-    go : (v : Bool) → nat_lt LIMIT_BYTES (length b) ≡ v → a ≡ (if v then answer.Long (length b) else answer.Content b) → Says b a
-    go true long is = rw is (refl, long)
-    go false short is = rw is (refl, short)
 
 module _ (place : Place) (wanted : List (List ℕ)) (c : Contents) (ns : List ℕ) where
   abbrev pub messages : ℕ → Option (List ℕ)

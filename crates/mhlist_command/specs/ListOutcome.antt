@@ -1,5 +1,5 @@
 -- What `mhlist` comes to, by the mailbox. Nothing here knows of steps.
-use Rattle.std.specs.Prelude.{ℕ, ◌++◌, List, [], ◌∷◌, length, nat_lt, unwrap_or, option_map, Option, None, Some, Result, Ok, Err, if◌then◌else◌}
+use Rattle.std.specs.Prelude.{ℕ, ◌++◌, List, [], ◌∷◌, length, nat_lt, option_map, Option, None, Some, Result, Ok, Err, if◌then◌else◌}
 use Rattle.mh_profile.specs.declared.named_value.NamedValue.{NamedValue}
 use Rattle.mh_sequences.specs.declared.run.Run.{Run}
 use Rattle.mh_sequences.specs.Runs.{numbers_of}
@@ -24,9 +24,7 @@ use Rattle.part_rows.specs.PartViews.{parts_of}
 use Rattle.part_rows.specs.Rows.{header, rows_of}
 use Rattle.mhlist_command.specs.Listing.{no_part}
 use Rattle.mhlist_command.specs.declared.job.ListJob.{ListJob}
-
-abbrev pub text_of : (ℕ → Option (List ℕ)) → ℕ → List ℕ
-text_of messages n = unwrap_or (messages n) []
+use Rattle.mh_looks.specs.Outcomes.{text_of}
 
 -- why a message with this text isn't listed: it is too long, or lacks a part that is wanted; of these the first counts
 abbrev pub refused_text : List (List ℕ) → List ℕ → Option CommandFault

@@ -20,7 +20,6 @@ use Rattle.command_stages.specs.Chosen.{chosen_in, folder_with}
 use Rattle.command_stages.specs.Current.{made_current}
 use Rattle.command_stages.specs.Listed.{folder_listed}
 use Rattle.command_stages.specs.Texts.{Commanded, text_read, too_large}
-use Rattle.mh_looks.specs.Scan.{entries_seen}
 use Rattle.told_folders.specs.Plans.{lines_said}
 use Rattle.told_folders.specs.Tasks.{listed_runs, sequences_listed}
 use Rattle.part_rows.specs.Choices.{first_missing}
@@ -28,6 +27,7 @@ use Rattle.part_rows.specs.PartViews.{parts_of}
 use Rattle.part_rows.specs.PathTexts.{path_text}
 use Rattle.part_rows.specs.Rows.{header, rows_of}
 use Rattle.mhlist_command.specs.declared.job.ListJob.{ListJob}
+use Rattle.mh_profile.specs.Reading.{entries_seen}
 
 -- the line above the rows is said
 abbrev pub header_said : Commanded Unit

@@ -6,7 +6,7 @@ use Rattle.mh_profile.specs.declared.named_value.NamedValue.{NamedValue}
 use Rattle.mh_sequences.specs.Runs.{numbers_of}
 use Rattle.mh_sequences.specs.Sequences.{Marked}
 use Rattle.msg_ranges.specs.Selection.{marks_of}
-use Rattle.msg_ranges.proofs.Rising.{lists}
+use Rattle.msg_ranges.proofs.Rising.{lists, first_listed, other_listed}
 use Rattle.folder_files.specs.Deeds.{Deed, did, last}
 use Rattle.folder_files.specs.declared.place.Place.{Place}
 use Rattle.folder_files.specs.declared.place.Place.TheVariants.{Folder, Mail}
@@ -31,8 +31,7 @@ use Rattle.command_stages.specs.Chosen.{folder_with}
 use Rattle.command_stages.specs.Current.{current_change, made_current}
 use Rattle.command_stages.specs.Endings.{of_plan}
 use Rattle.command_stages.specs.Texts.{too_large}
-use Rattle.mh_looks.specs.Scan.{entries_seen}
-use Rattle.mh_looks.proofs.Ending.{ScanShows, absent, bad_spec, by_choice, empty_range, empty_sequence, held, long_file, long_text, meddled, name_of, no_folder}
+use Rattle.mh_looks.proofs.Ending.{ScanShows, absent, bad_spec, by_choice, empty_range, empty_sequence, held, long_file, long_text, meddled, name_of, no_folder, listed_text}
 use Rattle.opened_folders.specs.Reads.{TellsText}
 use Rattle.opened_folders.proofs.ChosenListed.{has_tested, words_listed}
 use Rattle.opened_folders.proofs.CleanRuns.{Clean, clean_more, never_made}
@@ -44,16 +43,15 @@ use Rattle.part_rows.specs.PartViews.{parts_of}
 use Rattle.part_rows.specs.PathTexts.{path_text}
 use Rattle.mhlist_command.specs.ListAnswers.{IsRefusedByListing, ReadMessage}
 use Rattle.mhlist_command.specs.Listing.{no_part}
-use Rattle.mhlist_command.proofs.ListEnds.{listed_text}
 use Rattle.told_folders.proofs.ChangesEnd.{lines_come}
 use Rattle.told_folders.proofs.FrontComes.{after_both, after_list, front_comes, reading as reading_at}
-use Rattle.told_folders.proofs.MessagesStand.{first_listed, other_listed}
 use Rattle.mhstore_command.specs.Files.{file_stored}
 use Rattle.mhstore_command.specs.StoreAnswers.{HasStored, IsNoStoring, MeetsFile, ShowsRefused, ShowsStoring, files_in, listing_of}
 use Rattle.mhstore_command.specs.Storing.{all_filed, all_stored, chosen_seen, filed_unless, mhstore, one_filed, one_stored, stored_by, told_by}
 use Rattle.mhstore_command.specs.declared.job.StoreJob.{StoreJob}
 use Rattle.mhstore_command.proofs.FileEnds.{ShowsHere, So, Stores, stores_come}
 use Rattle.mhstore_command.proofs.StoreStands.{Stored, all_files, file_more, further, message_more}
+use Rattle.mh_profile.specs.Reading.{entries_seen}
 
 module _ (run : ℕ) (few : run < 2 ^ 128) (mail : List ℕ) (job : StoreJob) (entries : List NamedValue) where
   abbrev place : Place

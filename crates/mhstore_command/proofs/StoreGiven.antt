@@ -43,15 +43,15 @@ use Rattle.part_rows.specs.Choices.{first_missing, stored}
 use Rattle.part_rows.specs.FileNames.{StoredFile, file_of, files_of, line_for}
 use Rattle.part_rows.specs.PartViews.{PartView, parts_of}
 use Rattle.part_rows.specs.PathTexts.{path_text}
-use Rattle.told_folders.proofs.MessagesStand.{AllStand, Stands}
-use Rattle.mhlist_command.proofs.RowsGiven.{Says, says_it}
+use Rattle.told_folders.proofs.MessagesStand.{AllStand, Stands, Says, says_it}
 use Rattle.mhstore_command.specs.Files.{file_stored}
-use Rattle.mhstore_command.specs.StoreOutcome.{file_work, files_work, message_work, messages_work, parts_work, stored_work, text_of, unless_there, with_file}
+use Rattle.mhstore_command.specs.StoreOutcome.{file_work, files_work, message_work, messages_work, parts_work, stored_work, unless_there, with_file}
 use Rattle.mhstore_command.specs.Storing.{all_filed, all_stored, filed_unless, one_filed, one_stored, parts_filed, stored_by, told_by}
 use Rattle.mhstore_command.specs.declared.job.StoreJob.{StoreJob}
 use Rattle.mhstore_command.proofs.FileGiven.{Stores, stores_give}
 use Rattle.mhstore_command.proofs.NameKinds.{file_lasting, file_other, file_unnumbered}
 use Rattle.mhstore_command.proofs.PartsGiven.{At, PartEnds, PartGives, text_then, then_gives}
+use Rattle.mh_looks.specs.Outcomes.{text_of}
 
 -- a new file in the current directory is one in the mailbox
 shows_file : (d : Contents) (name b : List ℕ) → mailbox_in (with_text d place.Work name (Some b)) ≡ with_file name b (mailbox_in d)

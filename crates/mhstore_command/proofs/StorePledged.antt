@@ -4,7 +4,7 @@ use Rattle.mh_base.specs.Entries.{entry_text, kind_of}
 use Rattle.mh_base.specs.Numbers.{IsMsgNum}
 use Rattle.mh_base.specs.declared.entry.Entry.TheVariants.{Number, Sequences}
 use Rattle.mh_profile.specs.declared.named_value.NamedValue.{NamedValue}
-use Rattle.msg_ranges.proofs.Rising.{lists}
+use Rattle.msg_ranges.proofs.Rising.{lists, first_listed, other_listed}
 use Rattle.sequence_commits.specs.RunsOfAll.{runs_of_all}
 use Rattle.sequence_commits.proofs.RunTests.{all_runs}
 use Rattle.folder_files.specs.Careful.{IsRead}
@@ -42,7 +42,6 @@ use Rattle.command_stages.specs.Current.{current_change, made_current}
 use Rattle.command_stages.specs.Endings.{of_plan}
 use Rattle.command_stages.specs.Listed.{folder_listed, names_by}
 use Rattle.command_stages.specs.Texts.{text_by, text_read, too_large}
-use Rattle.mh_looks.specs.Scan.{entries_seen}
 use Rattle.mh_looks.specs.ScanPledge.{HasListed}
 use Rattle.mh_looks.proofs.LooksLeave.{goes_chosen}
 use Rattle.opened_folders.proofs.ChosenListed.{has_ranged, words_listed}
@@ -54,13 +53,13 @@ use Rattle.part_rows.specs.Choices.{first_missing, stored}
 use Rattle.part_rows.specs.FileNames.{StoredFile, files_of}
 use Rattle.part_rows.specs.PartViews.{parts_of}
 use Rattle.mhlist_command.specs.Listing.{no_part}
-use Rattle.told_folders.proofs.MessagesStand.{first_listed, other_listed}
 use Rattle.mhstore_command.specs.Files.{file_stored}
 use Rattle.mhstore_command.specs.StorePledge.{HasStoredAs, IsPartRead, TellsStored, store_pledge}
 use Rattle.mhstore_command.specs.Storing.{all_filed, all_stored, chosen_seen, filed_unless, mhstore, one_filed, one_stored, stored_by, told_by}
 use Rattle.mhstore_command.specs.declared.job.StoreJob.{StoreJob}
 use Rattle.mhstore_command.proofs.FilePledged.{After, Stored, more_after, none_after, once_after, part_after, serves_context, stored_goes}
 use Rattle.mhstore_command.proofs.StoreGiven.{AreFine, fine_parts}
+use Rattle.mh_profile.specs.Reading.{entries_seen}
 
 -- a step that looks
 look_after : (own : List Deed) (s : Step) (a : Answer) → (AreSettled own → AreSettled (did s a ∷ own)) → After own (did s a ∷ own)

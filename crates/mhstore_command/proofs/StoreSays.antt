@@ -4,7 +4,7 @@ use Rattle.mh_base.specs.Entries.{entry_text}
 use Rattle.mh_base.specs.Numbers.{IsMsgNum}
 use Rattle.mh_base.specs.declared.entry.Entry.TheVariants.{Number, Sequences}
 use Rattle.mh_profile.specs.declared.named_value.NamedValue.{NamedValue}
-use Rattle.msg_ranges.proofs.Rising.{lists}
+use Rattle.msg_ranges.proofs.Rising.{lists, first_listed, other_listed}
 use Rattle.sequence_commits.specs.RunsOfAll.{runs_of_all}
 use Rattle.sequence_commits.proofs.RunTests.{all_runs}
 use Rattle.folder_files.specs.Careful.{IsRead}
@@ -37,7 +37,6 @@ use Rattle.step_plans.proofs.Stepping.{on_read}
 use Rattle.command_stages.specs.Current.{made_current}
 use Rattle.command_stages.specs.Endings.{of_plan}
 use Rattle.command_stages.specs.Texts.{too_large}
-use Rattle.mh_looks.specs.Scan.{entries_seen}
 use Rattle.mh_looks.specs.ScanPledge.{HasListed}
 use Rattle.mh_looks.proofs.Ending.{name_of}
 use Rattle.opened_folders.specs.Endings.{IsToldBy}
@@ -58,7 +57,6 @@ use Rattle.part_rows.specs.PartViews.{parts_of}
 use Rattle.mhlist_command.specs.ListAnswers.{ReadMessage}
 use Rattle.mhlist_command.specs.ListPledge.{task_of}
 use Rattle.mhlist_command.specs.Listing.{no_part}
-use Rattle.told_folders.proofs.MessagesStand.{first_listed, other_listed}
 use Rattle.mhstore_command.specs.Files.{file_stored}
 use Rattle.mhstore_command.specs.StoreAnswers.{TellsFiles, TellsFirstFiles, files_in, lines_of, listing_of}
 use Rattle.mhstore_command.specs.StorePledge.{IsPartRead}
@@ -69,6 +67,7 @@ use Rattle.mhstore_command.proofs.FilePledged.{Stored as GoesStored, stored_goes
 use Rattle.mhstore_command.proofs.StoreEnds.{clean_both}
 use Rattle.mhstore_command.proofs.StoreGiven.{AreFine, IsFine, fine_parts}
 use Rattle.mhstore_command.proofs.StoreStands.{Stored, file_more, kept, lines_more, message_more}
+use Rattle.mh_profile.specs.Reading.{entries_seen}
 
 module _ (run : ℕ) (few : run < 2 ^ 128) (path : List ℕ) (job : StoreJob) (entries : List NamedValue) where
   abbrev place : Place

@@ -1,5 +1,5 @@
 -- What `mhstore` comes to, by the mailbox. Nothing here knows of steps.
-use Rattle.std.specs.Prelude.{ℕ, ◌++◌, Bool, true, false, bytes_eq, List, [], ◌∷◌, length, nat_lt, unwrap_or, Option, None, Some, Result, Ok, Err, if◌then◌else◌}
+use Rattle.std.specs.Prelude.{ℕ, ◌++◌, Bool, true, false, bytes_eq, List, [], ◌∷◌, length, nat_lt, Option, None, Some, Result, Ok, Err, if◌then◌else◌}
 use Rattle.mh_profile.specs.declared.named_value.NamedValue.{NamedValue}
 use Rattle.mh_sequences.specs.declared.run.Run.{Run}
 use Rattle.mh_sequences.specs.Runs.{numbers_of}
@@ -23,6 +23,7 @@ use Rattle.part_rows.specs.FileNames.{StoredFile, files_of}
 use Rattle.part_rows.specs.PartViews.{parts_of}
 use Rattle.mhlist_command.specs.Listing.{no_part}
 use Rattle.mhstore_command.specs.declared.job.StoreJob.{StoreJob}
+use Rattle.mh_looks.specs.Outcomes.{text_of}
 
 -- the mailbox with a file of this name and text in the current directory
 abbrev pub with_file : List ℕ → List ℕ → Mailbox → Mailbox
@@ -76,9 +77,6 @@ abbrev pub message_work : StoreJob → ℕ → List ℕ → Mailbox → Work Com
 message_work job n text m =
     if nat_lt LIMIT_BYTES (length text) then refused_at m (too_large (length text))
     else parts_work job n text m (first_missing job.parts (parts_of text))
-
-abbrev pub text_of : (ℕ → Option (List ℕ)) → ℕ → List ℕ
-text_of messages n = unwrap_or (messages n) []
 
 -- these messages, one after another
 unfoldable pub messages_work : StoreJob → (ℕ → Option (List ℕ)) → List ℕ → Mailbox → Work CommandFault

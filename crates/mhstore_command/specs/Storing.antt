@@ -18,7 +18,6 @@ use Rattle.command_stages.specs.Current.{made_current}
 use Rattle.command_stages.specs.Endings.{of_plan}
 use Rattle.command_stages.specs.Listed.{folder_listed}
 use Rattle.command_stages.specs.Texts.{Commanded, text_read, too_large}
-use Rattle.mh_looks.specs.Scan.{entries_seen}
 use Rattle.told_folders.specs.Plans.{lines_said}
 use Rattle.part_rows.specs.Choices.{first_missing}
 use Rattle.part_rows.specs.FileNames.{StoredFile, files_of}
@@ -26,6 +25,7 @@ use Rattle.part_rows.specs.PartViews.{parts_of}
 use Rattle.mhlist_command.specs.Listing.{chosen_by, no_part}
 use Rattle.mhstore_command.specs.Files.{file_stored}
 use Rattle.mhstore_command.specs.declared.job.StoreJob.{StoreJob}
+use Rattle.mh_profile.specs.Reading.{entries_seen}
 
 -- the line of a file that was stored is said; where a file stands there that is not replaced, that is refused
 abbrev pub told_by : List ℕ → List ℕ → Bool → Commanded Unit

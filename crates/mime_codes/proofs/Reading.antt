@@ -3,9 +3,10 @@ use Rattle.std.proofs.Common.{◌≡◌, ℕ, zero, suc, ◌+◌, ◌≤◌, Boo
 use Rattle.std.specs.Prelude.{◌==◌, not}
 use Rattle.std.proofs.lemmas.Bool.Decides.{nat_tests}
 use Rattle.mime_codes.specs.Hexadecimal.{escaped_byte}
-use Rattle.mime_codes.specs.QuotedPrintable.{is_blank, line_end_len, blank_len, ends_line, ending_len, decoded_behind, qp_decoded}
+use Rattle.mime_codes.specs.QuotedPrintable.{line_end_len, blank_len, ends_line, ending_len, decoded_behind, qp_decoded}
 use Rattle.mime_codes.specs.Pieces.{BeginsWith}
 use Rattle.mime_codes.specs.declared.piece.Piece.TheVariants.{Byte, Blanks, Nothing}
+use Rattle.mh_base.specs.Characters.{is_blank}
 
 -- passing bytes is dropping them
 pub passed : (n : ℕ) (text : List ℕ) → decoded_behind n text ≡ qp_decoded (drop n text)

@@ -2,9 +2,10 @@
 use Rattle.std.proofs.Common.{◌≡◌, ℕ, suc, ◌+◌, ◌*◌, ◌/◌, ◌%◌, ◌<◌, Bool, true, false, eqb, Some, List, [], ◌∷◌, ◌++◌, length, get_or, refl, ◌∙◌, ap, arith}
 use Rattle.std.proofs.lemmas.Bool.Decides.{nat_tests}
 use Rattle.mime_codes.specs.Hexadecimal.{hex_digit, hex_value, byte_by}
-use Rattle.mime_codes.specs.QuotedPrintable.{is_blank, ends_line, is_line_over, is_plain, item, has_room, placed, encoded_from, decoded_behind, qp_decoded}
+use Rattle.mime_codes.specs.QuotedPrintable.{ends_line, is_line_over, is_plain, item, has_room, placed, encoded_from, decoded_behind, qp_decoded}
 use Rattle.mime_codes.proofs.Encoding.{line_feed, no_feed, plain_item, other_item}
 use Rattle.mime_codes.proofs.Reading.{blanks_more, blank_kept, other_kept}
+use Rattle.mh_base.specs.Characters.{is_blank}
 
 -- a byte that ends no line and is no blank
 lead_other : (b : ℕ) (more : List ℕ) → is_blank b ≡ false → eqb b 10 ≡ false → eqb b 13 ≡ false → ends_line (b ∷ more) ≡ false

@@ -1,6 +1,7 @@
 -- Base64 text (RFC 2045, section 6.8).
 use Rattle.std.specs.Prelude.{ℕ, zero, suc, ◌+◌, ◌-◌, ◌*◌, ◌/◌, ◌%◌, ◌==◌, ◌&&◌, ◌||◌, not, nat_le, Bool, true, List, [], ◌∷◌, ◌++◌, length, take, drop, map, filter, take_while, codes, if◌then◌else◌}
 use Rattle.base64.specs.Rfc4648.{encode}
+use Rattle.mh_base.specs.Characters.{is_digit}
 
 -- the symbols of the numbers from 0 to 63
 abbrev pub alphabet : List ℕ
@@ -13,10 +14,6 @@ is_capital c = nat_le 65 c && nat_le c 90
 -- a to z
 abbrev pub is_small : ℕ → Bool
 is_small c = nat_le 97 c && nat_le c 122
-
--- 0 to 9
-abbrev pub is_digit : ℕ → Bool
-is_digit c = nat_le 48 c && nat_le c 57
 
 -- a character of the alphabet
 abbrev pub is_symbol : ℕ → Bool

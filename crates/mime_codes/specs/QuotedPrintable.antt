@@ -2,10 +2,7 @@
 use Rattle.std.specs.Prelude.{ℕ, zero, suc, ◌+◌, ◌==◌, ◌&&◌, ◌||◌, not, nat_le, Bool, true, List, [], ◌∷◌, ◌++◌, length, drop, slice_index, Option, Some, None, if◌then◌else◌}
 use Rattle.std.specs.List.{prefix_len}
 use Rattle.mime_codes.specs.Hexadecimal.{escaped_byte, escape}
-
--- a space or a tab
-abbrev pub is_blank : ℕ → Bool
-is_blank b = b == 32 || b == 9
+use Rattle.mh_base.specs.Characters.{is_blank}
 
 -- the length of a line end at the front, a line feed with or without a carriage return before it; 0 where there is none
 abbrev pub line_end_len : List ℕ → ℕ

@@ -1,7 +1,8 @@
 // The pieces of a quoted-printable text.
 ghost use Rattle.std.specs.Prelude.{◌≡◌, ◌≤◌, ◌∷◌, length, MatchOption, []};
-ghost use Rattle.mime_codes.specs.QuotedPrintable.{is_blank as is_blank_byte, blank_len as blanks_of, line_end_len as line_end_of};
+ghost use Rattle.mime_codes.specs.QuotedPrintable.{blank_len as blanks_of, line_end_len as line_end_of};
 ghost use Rattle.mime_codes.specs.Pieces.{BeginsWith};
+ghost use Rattle.mh_base.specs.Characters.{is_blank as is_blank_byte};
 
 use crate::hex::escaped;
 

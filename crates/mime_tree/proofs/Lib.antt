@@ -6,7 +6,7 @@ mod Growing
 pub mod Lining
 mod Marking
 mod Naming
-mod Quoting
+pub mod Quoting
 mod Sections
 pub mod Shortening
 mod Stepping

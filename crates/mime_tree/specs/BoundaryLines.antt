@@ -1,9 +1,10 @@
 -- Lines of a multipart's body, and those that bound its parts (RFC 2046, section 5.1.1).
 use Rattle.std.specs.Prelude.{ℕ, ◌+◌, ◌==◌, Bool, false, bytes_eq, List, [], ◌∷◌, length, take, drop, Option, Some, None, option_and_then, if◌then◌else◌}
 use Rattle.std.specs.List.{list_all}
-use Rattle.mail_headers.specs.Lines.{is_blank, without_end}
+use Rattle.mail_headers.specs.Lines.{without_end}
 use Rattle.mime_tree.specs.declared.mark.Mark.{Mark}
 use Rattle.mime_tree.specs.declared.mark.Mark.TheVariants.{Boundary, Closing, Other}
+use Rattle.mh_base.specs.Characters.{is_blank}
 
 abbrev pub led_by : ℕ → List (List ℕ) → List (List ℕ)
 led_by b [] = (b ∷ []) ∷ []

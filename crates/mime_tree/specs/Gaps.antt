@@ -1,8 +1,8 @@
 -- Blanks and comments between the words of a field (RFC 5322, section 3.2.2), which stand for nothing.
 use Rattle.std.specs.Prelude.{ℕ, ◌+◌, ◌-◌, ◌==◌, List, [], ◌∷◌, Option, Some, None, if◌then◌else◌}
-use Rattle.mail_headers.specs.Lines.{is_blank}
 use Rattle.mime_tree.specs.declared.gap.Nesting.{Nesting}
 use Rattle.mime_tree.specs.declared.gap.Nesting.TheVariants.{Between, Inside, Protected}
+use Rattle.mh_base.specs.Characters.{is_blank}
 
 -- behind a parenthesis that closes one of so many comments
 abbrev pub closed_of : ℕ → Nesting

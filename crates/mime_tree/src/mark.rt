@@ -1,8 +1,9 @@
 // Boundary lines.
 ghost use Rattle.std.specs.Prelude.{◌≡◌, ◌≤◌, length, MatchOption, Some, None, option_and_then};
 ghost use Rattle.std.specs.List.{list_all};
-ghost use Rattle.mail_headers.specs.Lines.{is_blank, without_end as line_text};
+ghost use Rattle.mail_headers.specs.Lines.{without_end as line_text};
 ghost use Rattle.mime_tree.specs.BoundaryLines.{behind_front, hyphens, is_over, mark_of, mark_behind, line_len as first_line_len};
+ghost use Rattle.mh_base.specs.Characters.{is_blank};
 
 use mail_headers::without_line_end;
 

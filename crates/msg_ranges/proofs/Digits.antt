@@ -17,9 +17,7 @@ use Rattle.std.specs.Str.{chars, encode_utf8_all, IsUtf8}
 use Rattle.std.proofs.lemmas.Str.{encodes-chars}
 use Rattle.mh_sequences.proofs.PlaceLemmas.{same_is}
 use Rattle.msg_ranges.proofs.Cutting.{stands}
-
-abbrev pub is_digit : ℕ → Bool
-is_digit b = nat_le 48 b && nat_le b 57
+use Rattle.mh_base.specs.Characters.{is_digit}
 
 digits_all : (ds : List ℕ) → AllDigits 10 ds → list_all is_digit ds ≡ true
 digits_all [] h = refl

@@ -18,7 +18,8 @@ use Rattle.msg_ranges.specs.declared.spec.Spot.TheVariants.{First as FirstSpot, 
 use Rattle.msg_ranges.specs.Forms.{name_in, number_name, count_in, signed, spot_in}
 use Rattle.msg_ranges.specs.Words.{name_text, count_text, spot_text, IsName}
 use Rattle.msg_ranges.proofs.Cutting.{stands}
-use Rattle.msg_ranges.proofs.Digits.{is_digit, digits, some_digit, digit_range, number_dash, number_colon, no_word, number_is, no_name}
+use Rattle.msg_ranges.proofs.Digits.{digits, some_digit, digit_range, number_dash, number_colon, no_word, number_is, no_name}
+use Rattle.mh_base.specs.Characters.{is_digit}
 
 -- a name, written and read
 pub name_read : (a : Base) → IsName a → name_in (name_text a) ≡ Some a

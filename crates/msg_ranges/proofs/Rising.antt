@@ -1,9 +1,9 @@
 -- Ascending numbers.
-use Rattle.std.proofs.Common.{◌≡◌, ℕ, zero, suc, ◌+◌, ◌-◌, ◌<◌, ◌≤◌, Bool, true, false, Some, None, List, [], ◌∷◌, ◌++◌, refl, sym, ◌∙◌, ap, subst, arith, ⊎_elim}
+use Rattle.std.proofs.Common.{◌≡◌, ◌⊎◌, inl, inr, ℕ, zero, suc, ◌+◌, ◌-◌, ◌<◌, ◌≤◌, Bool, true, false, Some, None, List, [], ◌∷◌, ◌++◌, refl, sym, ◌∙◌, ap, subst, arith, ⊎_elim}
 use Rattle.std.specs.Prelude.{◌&&◌, ◌||◌, ◌==◌, nat_le, nat_lt, filter, find}
 use Rattle.std.specs.List.{list_any, range_with_len}
 use Rattle.std.proofs.lemmas.Bool.{cases_lt, cases_Bool, cases_order, or_from, or_left, and_right, and_from, eqb-true, ne_eqb, eq-eqb, both_ways}
-use Rattle.std.proofs.lemmas.Bool.Decides.{nat_tests}
+use Rattle.std.proofs.lemmas.Bool.Decides.{Decides-eqb, nat_tests}
 use Rattle.std.proofs.lemmas.List.Folds.{list_any-append}
 use Rattle.mh_sequences.specs.declared.run.Run.{Run}
 use Rattle.mh_sequences.specs.Runs.{AreRuns, AreRunsFrom, inside, has, numbers_of}
@@ -121,3 +121,27 @@ not_found (x ∷ xs) n h =
     choose (λ o. o ≡ None) (x == n) (Some x) (find (λ x. x == n) xs)
     (λ e. absurd (both_ways (lists (x ∷ xs) n) h (or_left (x == n) (lists xs n) e)))
     (λ e. not_found xs n (sym (ap (λ b. b || lists xs n) e) ∙ h))
+
+pub first_listed : (n : ℕ) (ns : List ℕ) → lists (n ∷ ns) n ≡ true
+first_listed n ns = ap (λ b. b || lists ns n) ((Decides-eqb n n).1 refl)
+
+pub other_listed : (m n : ℕ) (ns : List ℕ) → lists ns n ≡ true → lists (m ∷ ns) n ≡ true
+other_listed m n ns e = go (m == n)
+  where
+    go : (b : Bool) → b || lists ns n ≡ true
+    go true = refl
+    go false = e
+
+-- what holds of each number of a list holds of its first and of each of the others
+pub rest_of : {F : ℕ → Type 0} (n : ℕ) (ns : List ℕ) → ((k : ℕ) → lists (n ∷ ns) k ≡ true → F k) → (k : ℕ) → lists ns k ≡ true → F k
+rest_of n ns f k e = f k (other_listed n k ns e)
+
+pub first_of : {F : ℕ → Type 0} (n : ℕ) (ns : List ℕ) → ((k : ℕ) → lists (n ∷ ns) k ≡ true → F k) → F n
+first_of n ns f = f n (first_listed n ns)
+
+pub first_or : (n k : ℕ) (ns : List ℕ) → lists (n ∷ ns) k ≡ true → (n ≡ k) ⊎ (lists ns k ≡ true)
+first_or n k ns e = go (n == k) refl
+  where
+    go : (b : Bool) → (n == k) ≡ b → (n ≡ k) ⊎ (lists ns k ≡ true)
+    go true same = inl (eqb-true n k same)
+    go false other = inr (ap (λ b. b || lists ns k) (sym other) ∙ e)

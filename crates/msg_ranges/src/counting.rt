@@ -39,7 +39,7 @@ pub(crate) fn above(set: &NumSet, n: u32) -> Option<MsgNum>
 pub(crate) fn greatest(set: &NumSet) -> Option<MsgNum>
     ensures { result ≡ greatest_of (numbers_of set.now.runs) }
 {
-    set.at(set.len().saturating_sub(1))
+    set.last()
 }
 
 /// The greatest number below this.

@@ -4,7 +4,7 @@ use Rattle.std.specs.Prelude.{IfSome, if◌then◌else◌}
 use Rattle.mh_base.specs.Numbers.{IsMsgNum}
 use Rattle.mail_headers.specs.Fields.{fields_of}
 use Rattle.mh_profile.specs.declared.named_value.NamedValue.{NamedValue}
-use Rattle.mh_profile.specs.Reading.{entries_in}
+use Rattle.mh_profile.specs.Reading.{entries_in, entries_seen}
 use Rattle.mh_sequences.specs.Names.{is_seq_name}
 use Rattle.mh_sequences.specs.Printing.{private_entries, text_of}
 use Rattle.mh_sequences.specs.Reading.{lists_private, lists_public, suffix}
@@ -31,7 +31,7 @@ use Rattle.step_plans.proofs.Going.{Outcome, okay}
 use Rattle.sequence_marks.specs.SequenceMarks.{says_private}
 use Rattle.sequence_marks.proofs.OtherEntries.{by_bool}
 use Rattle.sequence_commits.specs.Committing.{changed_sequences, committed_unless, entries_committed, sequences_replaced, told_committed}
-use Rattle.sequence_commits.specs.PrivateChanges.{changes_to, entries_seen}
+use Rattle.sequence_commits.specs.PrivateChanges.{changes_to}
 use Rattle.sequence_commits.specs.Reading.{sequences_in}
 use Rattle.sequence_commits.specs.Telling.{same_told}
 use Rattle.sequence_commits.proofs.ReadOnce.{read_is, read_valid}

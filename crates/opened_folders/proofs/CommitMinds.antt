@@ -8,7 +8,7 @@ use Rattle.mh_base.proofs.EntryKinds.{kind_of-entry_text}
 use Rattle.mh_profile.specs.declared.named_value.NamedValue.{NamedValue}
 use Rattle.mh_profile.specs.Names.{is_attribute}
 use Rattle.mh_profile.specs.Printing.{printed}
-use Rattle.mh_profile.specs.Reading.{entries_in}
+use Rattle.mh_profile.specs.Reading.{entries_in, entries_seen}
 use Rattle.mh_sequences.specs.Printing.{private_entries, text_of}
 use Rattle.mh_sequences.specs.Reading.{attribute, suffix}
 use Rattle.mh_sequences.specs.Sequences.{AreSequences, Marked, member}
@@ -38,7 +38,7 @@ use Rattle.marks_law.specs.Bearers.{Marking}
 use Rattle.marks_law.specs.Minding.{KeepsMarks, Knowing, Minds, Sees, by_base, commits, keeps, replaces}
 use Rattle.sequence_marks.specs.SequenceMarks.{private_marks, public_marks, says_private}
 use Rattle.sequence_commits.specs.Committing.{changed_sequences, committed_unless, entries_committed, sequences_replaced, told_committed}
-use Rattle.sequence_commits.specs.PrivateChanges.{changes_to, entries_seen}
+use Rattle.sequence_commits.specs.PrivateChanges.{changes_to}
 use Rattle.sequence_commits.specs.Telling.{same_told}
 use Rattle.sequence_commits.proofs.ChangesTo.{are_changes}
 use Rattle.sequence_commits.proofs.SequencesPledged.{sequences_name}

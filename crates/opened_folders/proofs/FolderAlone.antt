@@ -1,7 +1,7 @@
 -- Beginning a folder alone.
 use Rattle.std.proofs.Common.{◌≡◌, inl, inr, ◌<◌, ◌^◌, ◌+◌, ℕ, true, false, List, [], length, Option, None, Some, Result, Ok, Err, refl, sym, ◌∙◌, ap, subst}
 use Rattle.std.specs.Prelude.{IfOk}
-use Rattle.mh_profile.specs.Reading.{entries_in}
+use Rattle.mh_profile.specs.Reading.{entries_in, entries_seen}
 use Rattle.mh_sequences.specs.Printing.{text_of}
 use Rattle.mh_sequences.specs.Sequences.{Marked}
 use Rattle.folder_files.specs.Histories.{own, past_of}
@@ -31,7 +31,7 @@ use Rattle.held_messages.specs.Highest.{highest}
 use Rattle.held_messages.specs.Settle.{Settled}
 use Rattle.sequence_commits.specs.CommittedAlone.{AreCommitted}
 use Rattle.sequence_commits.specs.Cutting.{cut_to}
-use Rattle.sequence_commits.specs.PrivateChanges.{entries_seen, private_changes}
+use Rattle.sequence_commits.specs.PrivateChanges.{private_changes}
 use Rattle.sequence_commits.specs.Reading.{sequences_in}
 use Rattle.sequence_commits.proofs.AloneCommitted.{shown}
 use Rattle.sequence_commits.proofs.SequencesPledged.{sequences_name}

@@ -52,7 +52,8 @@ use Rattle.sequence_commits.proofs.SequencesPledged.{sequences_name}
 use Rattle.opened_folders.specs.Existing.{numbers_settled}
 use Rattle.opened_folders.specs.Opening.{Opened, begun, folder_locked, locked_begun, locked_by, mail_made, marks_cut, marks_read, opened_of, sequences_read, settled_read, text_by}
 use Rattle.mh_sequences.specs.declared.run.Run.{Run}
-use Rattle.sequence_commits.specs.PrivateChanges.{private_changes, changes_to, entries_seen}
+use Rattle.sequence_commits.specs.PrivateChanges.{private_changes, changes_to}
+use Rattle.mh_profile.specs.Reading.{entries_seen}
 
 -- a part of it ends early alone only where the run has no number left for a name; that the folder isn't there, and that a text is too long, is
 -- said below

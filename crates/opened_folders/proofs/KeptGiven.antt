@@ -26,7 +26,8 @@ use Rattle.step_plans.specs.declared.fault.PlanFault.TheVariants as fault
 use Rattle.step_plans.proofs.Committed.{IsTooLong, Makes, committed_in, entries_at, knows_after, new_text, old_text, shows_committed, shows_refused, text_after}
 use Rattle.step_plans.proofs.Named.{temp_is}
 use Rattle.sequence_commits.specs.Committing.{changed_sequences}
-use Rattle.sequence_commits.specs.PrivateChanges.{changes_to, entries_seen, private_changes}
+use Rattle.sequence_commits.specs.PrivateChanges.{changes_to, private_changes}
+use Rattle.mh_profile.specs.Reading.{entries_seen}
 use Rattle.sequence_commits.specs.SequencesChanged.{with_sequences_text}
 use Rattle.sequence_commits.specs.Telling.{same_told}
 use Rattle.sequence_commits.proofs.SequencesGiven.{EntriesEnd, TextFails, ToldEnds, Unchanged, changed_gives, changes_by, context_kept as context_stays, needed_gives, with_sequences}

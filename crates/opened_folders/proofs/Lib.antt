@@ -18,6 +18,7 @@ pub mod ExistingNumbers
 pub mod FolderAlone
 pub mod FolderEndings
 pub mod FolderGiven
+pub mod FolderMade
 pub mod FolderPledged
 pub mod FolderSeen
 pub mod FreeMarks

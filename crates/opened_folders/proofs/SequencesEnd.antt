@@ -34,7 +34,8 @@ use Rattle.step_plans.proofs.Going.{Outcome, all_numbered}
 use Rattle.step_plans.proofs.Lasting.{KeptBy}
 use Rattle.step_plans.proofs.Pledged.{after_written}
 use Rattle.sequence_commits.specs.Committing.{changed_sequences, committed_unless, entries_committed, sequences_replaced, told_committed}
-use Rattle.sequence_commits.specs.PrivateChanges.{changes_to, entries_seen}
+use Rattle.sequence_commits.specs.PrivateChanges.{changes_to}
+use Rattle.mh_profile.specs.Reading.{entries_seen}
 use Rattle.sequence_commits.specs.Telling.{same_told}
 use Rattle.opened_folders.specs.Endings.{Answering, IsMeddledIn, PutsBackups, ShowsInFolder, plainly}
 use Rattle.opened_folders.specs.FolderPledge.{told_within}

@@ -194,7 +194,7 @@ one_top f s t a b = same s t (below s t a.attained b.above) (below t s b.attaine
     same s t f g = omega (arith, f, g)
 
 -- a folder's held messages go to one place each
-one_home : (run : ℕ) (f : FolderValue) (h g : Homes) → AreHomes run f h → AreHomes run f g → h ≡ g
+pub one_home : (run : ℕ) (f : FolderValue) (h g : Homes) → AreHomes run f h → AreHomes run f g → h ≡ g
 one_home run f h g a b =
     let pairs : h.pairs ≡ g.pairs = held_once run f h.pairs g.pairs a.held b.held in
     let ends : h.ends ≡ g.ends = a.ends ∙ ((λ i. homes (λ k. is_some (f.messages k)) (one_top f a.highest b.highest a.top b.top i) (pairs i)) ∙ sym b.ends) in

@@ -6,6 +6,7 @@ pub mod Existing
 pub mod FolderPledge
 pub mod HomesOf
 pub mod Kept
+pub mod MadeFolder
 pub mod Making
 pub mod Opening
 pub mod Reads

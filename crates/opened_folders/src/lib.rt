@@ -6,10 +6,12 @@ mod beginning;
 mod ending;
 mod existing;
 mod making;
+mod numbers;
 mod opened;
 mod reading;
 
 pub use beginning::{begin, open};
 pub use ending::end;
 pub use making::open_made;
+pub use numbers::number_set;
 pub use opened::{Opened, commit_marks};

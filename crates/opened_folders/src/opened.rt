@@ -1,9 +1,9 @@
 // A folder that is begun.
-ghost use Rattle.std.specs.Prelude.{◌≡◌, OnOk};
+ghost use Rattle.std.specs.Prelude.{◌≡◌, ◌≤◌, OnOk};
 ghost use Rattle.file_plans.specs.Follows.{Follows, by_hand};
 ghost use Rattle.step_plans.specs.Hands.{mail_place};
 ghost use Rattle.step_plans.specs.PlanFaults.{plan_cause};
-ghost use Rattle.mh_sequences.specs.Runs.{AreRuns};
+ghost use Rattle.mh_sequences.specs.Runs.{AreRuns, last_in};
 ghost use Rattle.sequence_commits.specs.Committing.{marks_committed};
 ghost use Rattle.sequence_commits.specs.Marking.{marked_by_all};
 ghost use Rattle.opened_folders.specs.Opening.{with_sequences};
@@ -54,6 +54,17 @@ impl Opened {
         ensures { result.now.runs ≡ self.now.listing }
     {
         &self.listing
+    }
+
+    /// The number of its last message, or 0 where it has none.
+    pub fn highest(&self) -> u32
+        ensures value { result ≡ last_in self.now.listing }
+        ensures range { result ≤ 999999 }
+    {
+        match self.listing.last() {
+            Some(number) => number.get(),
+            None => 0,
+        }
     }
 
     /// Its sequences as this run last read or committed them, without absent numbers, and its current message.

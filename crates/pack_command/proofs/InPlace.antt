@@ -1,5 +1,5 @@
 -- Messages that are numbered anew stand at the numbers from 1 on.
-use Rattle.std.proofs.Common.{◌≡◌, ◌||◌, ◌==◌, ◌++◌, ℕ, suc, Bool, true, false, List, [], ◌∷◌, length, refl, sym, ◌∙◌, ap}
+use Rattle.std.proofs.Common.{◌≡◌, ◌||◌, ◌==◌, ◌++◌, ℕ, Bool, true, false, List, [], ◌∷◌, length, refl, sym, ◌∙◌, ap}
 use Rattle.std.specs.Prelude.{is_some, if◌then◌else◌}
 use Rattle.std.specs.List.{list_any}
 use Rattle.std.proofs.lemmas.List.Folds.{list_any-append}
@@ -10,20 +10,13 @@ use Rattle.mh_sequences.specs.declared.run.Run.{Run}
 use Rattle.msg_ranges.proofs.Rising.{lists, lists_numbers, rise_runs, same_list}
 use Rattle.message_places.specs.Order.{StandInOrder, moves_of}
 use Rattle.message_places.specs.Places.{is_in, slots}
-use Rattle.message_places.specs.declared.moves.Move.{Move}
-use Rattle.message_places.proofs.InOrder.{slots_alone, stand_in_order}
+use Rattle.message_places.proofs.InOrder.{slots_alone, stand_in_order, with_pair, suc_same}
 use Rattle.message_places.proofs.NumberLists.{in_good}
 use Rattle.sequence_commits.proofs.RunTests.{all_runs}
 use Rattle.opened_folders.proofs.ChosenListed.{has_tested, tested_has}
 use Rattle.pack_command.specs.PackOutcome.{moved_at}
 use Rattle.pack_command.specs.Places.{listing_moves, packed_listing, places_of, staying}
 use Rattle.pack_command.proofs.PackMoves.{numbers_distinct, places_distinct, places_good, places_many, places_rise}
-
-suc_same : (a b : ℕ) → suc a ≡ suc b → a ≡ b
-suc_same a b e = cc
-
-abbrev with_pair : Bool → ℕ → ℕ → List Move → List Move
-with_pair b n s ms = if b then ms else record { from = n; slot = s } ∷ ms
 
 -- a place has a message that stays there, or one that comes there
 stays_or_comes : (ns ss : List ℕ) → length ns ≡ length ss → (k : ℕ) → is_in k ss ≡ is_in k (staying ns ss) || is_in k (slots (moves_of ns ss))

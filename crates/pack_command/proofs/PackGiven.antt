@@ -27,13 +27,12 @@ use Rattle.step_plans.specs.declared.fault.PlanFault.TheVariants as plan
 use Rattle.step_plans.proofs.Committed.{entries_at}
 use Rattle.command_stages.specs.Current.{made_current}
 use Rattle.command_stages.specs.Endings.{of_plan}
-use Rattle.command_stages.specs.Texts.{too_large}
-use Rattle.command_stages.specs.Works.{Work, refused_at}
+use Rattle.command_stages.specs.Works.{Work}
 use Rattle.message_places.specs.Places.{AreMsgNums, froms, is_in, slots}
 use Rattle.message_places.specs.declared.moves.Move.{Move}
 use Rattle.message_places.proofs.InOrder.{slot_unlisted}
 use Rattle.message_places.proofs.NumberLists.{in_good}
-use Rattle.opened_folders.specs.BegunWork.{AreHomesAt, Homes, after_commits, current_work}
+use Rattle.opened_folders.specs.BegunWork.{AreHomesAt, Homes, current_work}
 use Rattle.opened_folders.specs.Kept.{Commits, Kept, sequences_kept}
 use Rattle.opened_folders.specs.Opening.{Opened, opened_of}
 use Rattle.opened_folders.proofs.FolderGiven.{IsUntouched}
@@ -44,7 +43,6 @@ use Rattle.told_folders.specs.Plans.{lines_said}
 use Rattle.folder_command.proofs.Orderly.{summary_some}
 use Rattle.refile_command.specs.MailMoved as mail_moved
 use Rattle.refile_command.proofs.MovedShown.{message_shown}
-use Rattle.sortm_command.specs.Marking.{withdrawn}
 use Rattle.sortm_command.specs.Moving.{sequences_after}
 use Rattle.sortm_command.proofs.MarkedGiven as stage
 use Rattle.sortm_command.proofs.MarkedGiven.{EndsAt}
@@ -53,6 +51,9 @@ use Rattle.pack_command.specs.PackOutcome.{mail_packed, moved_at, opened_work, p
 use Rattle.pack_command.specs.Places.{listing_moves, packed_listing, places_of}
 use Rattle.pack_command.specs.declared.job.PackJob.{PackJob}
 use Rattle.pack_command.proofs.PackMoves.{meant_distinct, meant_good, moving_distinct, moving_good, moving_listed, places_distinct, places_many}
+use Rattle.refile_command.specs.Rmm.{withdrawn}
+use Rattle.refile_command.proofs.RefiledOpened.{after_all, after_long}
+use Rattle.told_folders.proofs.FoldersGiven.{Told}
 
 -- one message, as two layers have it
 same_message : (o : Option FolderValue) (n : ℕ) → message_of o n ≡ mail_moved.message_of o n
@@ -62,17 +63,6 @@ same_message (Some f) n = refl
 is_none : {A : Type 0} (o : Option A) → is_some o ≡ false → o ≡ None
 is_none None e = refl
 is_none (Some a) e = cc (e)
-
--- what the definitions come to
-after_all : (c : Commits) (next : Kept → Work CommandFault) → c.long ≡ None → after_commits c next ≡ next c.kept
-after_all c next none = rw none refl
-
-after_long : (c : Commits) (next : Kept → Work CommandFault) (l : ℕ) → c.long ≡ Some l → after_commits c next ≡ refused_at c.kept.mailbox (too_large l)
-after_long c next l some = rw some refl
-
--- one line is said
-abbrev Told : View → Hand → View → Hand → List ℕ → Result Unit CommandFault → Type 0
-Told v h z j left r = (r ≡ Ok tt) × (z ≡ v) × (j ≡ h) × (left ≡ [])
 
 line_gives : (v : View) (h : Hand) (line : List ℕ) → (line ≡ [] → ⊥) → Gives (by_view true) v h line (lines_said (line ∷ [])) (Told v h)
 unfolding Gives lines_said say lifted bind ◌>>=◌

@@ -6,16 +6,13 @@ use Rattle.mh_base.specs.Numbers.{IsMsgNum}
 use Rattle.mh_sequences.specs.Runs.{AreRuns, has, numbers_of}
 use Rattle.mh_sequences.specs.declared.run.Run.{Run}
 use Rattle.mh_sequences.proofs.Counting as counting
-use Rattle.msg_ranges.proofs.Rising.{Rise, lists, lists_numbers, none_below, rise_runs}
+use Rattle.msg_ranges.proofs.Rising.{Rise, lists, lists_numbers, rise_runs, first_of, rest_of}
 use Rattle.message_places.specs.Places.{AreDistinct, AreMsgNums, froms, is_in, slots}
 use Rattle.message_places.specs.declared.moves.Move.{Move}
 use Rattle.message_places.proofs.InOrder.{from_in, froms_distinct, froms_good, slots_distinct, slots_good}
-use Rattle.refile_command.proofs.Selected.{first_of, in_runs, rest_of}
+use Rattle.refile_command.proofs.Selected.{in_runs}
 use Rattle.pack_command.specs.Places.{listing_moves, places_of}
-
-rise_distinct : (low : ℕ) (ns : List ℕ) → Rise low ns → AreDistinct ns
-rise_distinct low [] rise = tt
-rise_distinct low (n ∷ ns) rise = (none_below (n + 1) ns rise.1 n (omega arith), rise_distinct (n + 1) ns rise.1)
+use Rattle.sortm_command.proofs.Listed.{rise_distinct}
 
 all_good : (ns : List ℕ) → ((n : ℕ) → lists ns n ≡ true → IsMsgNum n) → AreMsgNums ns
 all_good [] f = tt

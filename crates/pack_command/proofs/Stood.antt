@@ -1,16 +1,14 @@
 -- Which messages stand at their places, one after another.
-use Rattle.std.proofs.Common.{◌≡◌, ◌≢◌, ◌<◌, ◌≤◌, ◌+◌, ◌==◌, ℕ, Bool, true, false, List, [], ◌∷◌, ◌++◌, length, drop, get_or, min, refl, sym, ap, ◌∙◌, arith, add-one, append_assoc, append-nil, drop-cons, ⊎_elim}
+use Rattle.std.proofs.Common.{◌≡◌, ◌≢◌, ◌<◌, ◌≤◌, ◌+◌, ◌==◌, ℕ, Bool, true, false, List, [], ◌∷◌, ◌++◌, length, drop, get_or, min, refl, sym, ap, ◌∙◌, arith, append_assoc, append-nil, ⊎_elim}
 use Rattle.std.specs.Prelude.{if◌then◌else◌}
 use Rattle.std.proofs.lemmas.Bool.{cases_lt}
 use Rattle.std.proofs.lemmas.Bool.Decides.{nat_tests}
 use Rattle.std.proofs.lemmas.List.{drop_all}
 use Rattle.pack_command.specs.Places.{staying}
+use Rattle.step_plans.proofs.Rounds.{next}
 
 abbrev with_one : Bool → ℕ → List ℕ → List ℕ
 with_one b n l = if b then n ∷ l else l
-
-next : (l : List ℕ) (i x : ℕ) → i < length l → x ≡ get_or l i x → drop i l ≡ x ∷ drop (i + 1) l
-next l i x h is = drop-cons l i x h ∙ (λ j. sym is j ∷ drop (sym (add-one i) j) l)
 
 both : (ns ss : List ℕ) (i n s : ℕ) → i < min (length ns) (length ss) → n ≡ get_or ns i n → s ≡ get_or ss i s → staying (drop i ns) (drop i ss) ≡ with_one (n == s) n (staying (drop (i + 1) ns) (drop (i + 1) ss))
 both ns ss i n s h en es = λ j. staying (next ns i n (omega (arith, h)) en j) (next ss i s (omega (arith, h)) es j)

@@ -7,7 +7,7 @@ ghost use Rattle.pack_command.specs.Places.{listing_after as listing_after_of, s
 
 use mh_base::{List, MsgNum};
 use mh_sequences::NumSet;
-use sortm_command::number_set;
+use opened_folders::number_set;
 use std::alloc::{AllocError, Global};
 
 /// How many messages there are.

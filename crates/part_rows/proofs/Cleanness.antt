@@ -1,22 +1,18 @@
 -- Names of files are names.
-use Rattle.std.proofs.Common.{◌≡◌, ◌≤◌, ◌<◌, ◌^◌, ◌&&◌, ℕ, zero, suc, Bool, true, false, List, [], ◌∷◌, ◌++◌, length, take, map, refl, ap, ◌∙◌, arith, rules, min, length-append, length-take}
-use Rattle.std.specs.Prelude.{not, nat_eq, decimal, Option, Some, None, IsSome, MatchOption, if◌then◌else◌}
+use Rattle.std.proofs.Common.{◌≡◌, ◌≤◌, ◌<◌, ◌^◌, ◌&&◌, ℕ, zero, suc, Bool, true, false, List, [], ◌∷◌, ◌++◌, length, take, map, refl, ap, ◌∙◌, arith, min, length-append, length-take}
+use Rattle.std.specs.Prelude.{not, nat_eq, decimal, if◌then◌else◌}
 use Rattle.std.specs.Char.{digit_value}
 use Rattle.std.specs.List.{All, list_all}
 use Rattle.std.specs.Str.Parse.{AllDigits}
 use Rattle.std.specs.Str.{encode_utf8_all}
 use Rattle.std.proofs.lemmas.Bool.Decides.{Decides-eqb}
-use Rattle.std.proofs.lemmas.Fmt.{decimal_is_IsNumeral}
 use Rattle.std.proofs.lemmas.List.{take_min}
 use Rattle.std.proofs.lemmas.List.Folds.{list_all-append}
 use Rattle.std.proofs.lemmas.List.Concat.{flat_map-cons}
 use Rattle.mh_base.specs.Names.{IsName, is_name_byte}
 use Rattle.part_rows.specs.FileNames.{name_byte, stays, whole_name}
 use Rattle.part_rows.specs.PathTexts.{dotted}
-
-differs : (b : Bool) (c d : ℕ) → (b ≡ true → c ≡ d) → (c ≡ d → ⊥) → not b ≡ true
-differs true c d p q = absurd (q (p refl))
-differs false c d p q = refl
+use Rattle.mh_base.proofs.EntryNames.{differs, clean_decimal}
 
 clean_by : (c : ℕ) → (c ≡ 0 → ⊥) → (c ≡ 47 → ⊥) → is_name_byte c ≡ true
 clean_by c zero_ slash =
@@ -31,9 +27,6 @@ digits_clean (c ∷ cs) all =
     clean_by c (λ e. let h : digit_value 0 < 10 = rw e at all.0 in omega arith) (λ e. let h : digit_value 47 < 10 = rw e at all.0 in omega arith) in
     let rest : list_all is_name_byte cs ≡ true = digits_clean cs all.1 in
     rw (here, rest) refl
-
-clean_decimal : (n : ℕ) → n < 2 ^ 64 → list_all is_name_byte (decimal n) ≡ true
-clean_decimal n lt = digits_clean (decimal n) (decimal_is_IsNumeral n lt).0.1
 
 both : (s t : List ℕ) → list_all is_name_byte s ≡ true → list_all is_name_byte t ≡ true → list_all is_name_byte (s ++ t) ≡ true
 both s t p q = list_all-append is_name_byte s t ∙ rw (p, q) refl
@@ -82,10 +75,6 @@ is_name number path subtype name e clean =
       short = omega (arith, length-take 255 name);
       clean = clean_take 255 name clean;
     }
-
-pub is_made : (bytes : List ℕ) (o : Option (List ℕ)) → MatchOption o (IsName bytes → ⊥) (λ n. IsName bytes × (n ≡ bytes)) → IsName bytes → IsSome o
-is_made bytes None m is = absurd (m is)
-is_made bytes (Some n) m is = search rules
 
 -- the first 255 bytes
 pub cut : (whole text front : List ℕ) (n long : ℕ) → text ≡ whole → long ≡ length whole → n ≡ min 255 long → front ≡ take n text → front ≡ take 255 whole

@@ -1,25 +1,13 @@
 -- Texts in UTF-8.
-use Rattle.std.proofs.Common.{◌≡◌, ◌≤◌, ◌-◌, ℕ, zero, suc, Bool, false, eqb, List, [], ◌∷◌, ◌++◌, length, refl, ap, sym, ◌∙◌, arith, append_assoc}
+use Rattle.std.proofs.Common.{◌≡◌, ◌-◌, ℕ, zero, suc, List, [], ◌∷◌, ◌++◌, length, refl, ap, sym, ◌∙◌, append_assoc}
 use Rattle.std.specs.Prelude.{replicate}
 use Rattle.std.specs.Str.{encode_utf8_all}
-use Rattle.std.proofs.lemmas.Bool.Decides.{nat_tests}
-use Rattle.std.proofs.lemmas.Str.{encodes-append, length-le-encodes}
+use Rattle.std.proofs.lemmas.Str.{encodes-append}
 use Rattle.line_rows.specs.Columns.{Kept, columns_of, empty_line, fit, with_more}
 use Rattle.line_rows.specs.Fields.{field}
 use Rattle.line_rows.proofs.ColumnLemmas.{field_held, field_wide}
 use Rattle.part_rows.specs.declared.columns.Columns.{Columns}
 use Rattle.part_rows.specs.Rows.{right, row_of}
-
-pub not_zero : (n : ℕ) → 1 ≤ n → eqb n 0 ≡ false
-not_zero n le = grind (arith, nat_tests)
-
--- a text without characters has no bytes
-pub emptiness : (cs bytes : List ℕ) (r : Bool) → bytes ≡ encode_utf8_all cs → r ≡ eqb (length bytes) 0 → r ≡ eqb (length cs) 0
-emptiness [] bytes r e is = is ∙ ap (λ b. eqb (length b) 0) e
-emptiness (c ∷ cs) bytes r e is =
-    let more = length-le-encodes (c ∷ cs) in
-    let some : 1 ≤ length bytes = omega (arith, more, ap length e) in
-    is ∙ not_zero (length bytes) some ∙ sym (not_zero (length (c ∷ cs)) (omega arith))
 
 -- a space is a byte
 behind_space : (text : List ℕ) → encode_utf8_all (32 ∷ text) ≡ 32 ∷ encode_utf8_all text

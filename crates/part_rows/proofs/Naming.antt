@@ -10,10 +10,10 @@ use Rattle.mime_tree.specs.declared.span.Span.{Span}
 use Rattle.mime_tree.specs.ContentTypes.{fallback_in}
 use Rattle.mime_tree.specs.Spans.{whole}
 use Rattle.mime_tree.specs.Trees.{AreKids, IsPart, kid_of, kids_at, part_at, type_at}
-use Rattle.part_rows.proofs.Encoding.{not_zero}
 use Rattle.part_rows.specs.Choices.{has_path, is_missing}
 use Rattle.part_rows.specs.PartViews.{Fallback, PartView, parts_at, parts_of, plain_text, view_of, within}
 use Rattle.part_rows.proofs.Walking.{kids_left, part_first}
+use Rattle.mail_text.proofs.Emptiness.{not_zero}
 
 -- what is told of a part, where there is one
 abbrev views_of : List ℕ → Option Part → List PartView

@@ -11,7 +11,6 @@ use Rattle.mail_headers.specs.Message.{rest_of}
 use Rattle.mail_headers.specs.Unfolding.{joined, unfolded}
 use Rattle.mail_text.specs.ShownBytes.{shown}
 use Rattle.mail_text.specs.EncodedWords.{decoded, first_word}
-use Rattle.mail_text.specs.Stripping.{words}
 use Rattle.mime_codes.specs.Base64.{octets}
 use Rattle.mime_codes.specs.QuotedPrintable.{decoded_behind}
 use Rattle.mime_tree.specs.BoundaryLines.{line_len, lines, mark_of}
@@ -29,6 +28,7 @@ use Rattle.part_rows.specs.Choices.{first_missing, listed, stored}
 use Rattle.part_rows.specs.FileNames.{file_of, files_of, line_for, name_of}
 use Rattle.part_rows.specs.PartViews.{parts_at, parts_of}
 use Rattle.part_rows.specs.Rows.{header, part_row, row_of, rows_of}
+use Rattle.mh_base.specs.Characters.{words}
 
 abbrev message : List ℕ
 message =

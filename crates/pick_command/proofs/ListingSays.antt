@@ -24,7 +24,6 @@ use Rattle.step_plans.proofs.Going.{ByActs, Sound, Soundly, goes_keeps, okay}
 use Rattle.step_plans.proofs.Lasting.{KeptBy}
 use Rattle.step_plans.proofs.Ruling.{AreNumbered, rules_of}
 use Rattle.command_stages.specs.Current.{made_current}
-use Rattle.mh_looks.specs.Scan.{entries_seen}
 use Rattle.mh_looks.specs.ScanPledge.{HasListed}
 use Rattle.opened_folders.specs.Endings.{IsToldBy}
 use Rattle.opened_folders.specs.Reads.{TellsText}
@@ -47,6 +46,7 @@ use Rattle.pick_command.proofs.LooksJob.{looks_of}
 use Rattle.pick_command.proofs.PickSays.{Quietly, returns_so, said_says, tells_found, unless_says}
 use Rattle.pick_command.proofs.Tested.{All, AreTested, all_goes, tested_kept}
 use Rattle.pick_command.proofs.TestsGiven.{some_for}
+use Rattle.mh_profile.specs.Reading.{entries_seen}
 
 module _ (run : ℕ) (few : run < 2 ^ 128) (path : List ℕ) (job : PickJob) (h : Hand) where
   abbrev place : Place

@@ -1,6 +1,5 @@
 -- How a `pick` ends that marks nothing, and what shows it.
-use Rattle.std.proofs.Common.{◌≡◌, ◌⊎◌, inl, inr, ◌^◌, ◌∷◌, [], ℕ, true, List, Result, Ok, Err, nat_lt, refl, sym, ◌∙◌, subst}
-use Rattle.std.specs.Prelude.{decimal}
+use Rattle.std.proofs.Common.{◌≡◌, ◌⊎◌, inl, inr, ◌^◌, ◌∷◌, [], ℕ, true, List, Result, Ok, Err, nat_lt, refl, sym, subst}
 use Rattle.mh_base.specs.Entries.{entry_text}
 use Rattle.mh_base.specs.declared.entry.Entry.TheVariants.{Sequences}
 use Rattle.mh_sequences.specs.Runs.{numbers_of}
@@ -8,18 +7,14 @@ use Rattle.mh_sequences.specs.Sequences.{Marked}
 use Rattle.msg_ranges.specs.Selection.{marks_of}
 use Rattle.msg_ranges.proofs.Rising.{lists}
 use Rattle.folder_files.specs.Deeds.{Deed, did, last}
-use Rattle.folder_files.specs.Steps.{has_text}
 use Rattle.folder_files.specs.declared.place.Place.{Place}
 use Rattle.folder_files.specs.declared.place.Place.TheVariants.{Folder}
 use Rattle.folder_files.specs.declared.refusal.Refusal.TheVariants as refusal
 use Rattle.folder_files.specs.declared.step.Answer.{Answer}
 use Rattle.folder_files.specs.declared.step.Answer.TheVariants as answer
 use Rattle.folder_files.specs.declared.step.Step.TheVariants as step
-use Rattle.folder_files.proofs.Names.{both}
-use Rattle.file_plans.specs.Mailboxes.{is_message_number}
 use Rattle.file_plans.specs.Plan.{Hand, ◌>>=◌}
 use Rattle.file_plans.specs.Sightings.{has_number}
-use Rattle.file_plans.proofs.NumberTexts.{has_number_text}
 use Rattle.step_plans.specs.ContextCommit.{LIMIT_BYTES}
 use Rattle.step_plans.specs.Endings.{HasMet, name_gone}
 use Rattle.step_plans.specs.declared.command_fault.CommandFault.{CommandFault}
@@ -28,9 +23,8 @@ use Rattle.step_plans.proofs.Coming.{Comes, comes_more, comes_then}
 use Rattle.step_plans.proofs.Going.{Outcome}
 use Rattle.command_stages.specs.Chosen.{folder_with}
 use Rattle.command_stages.specs.Current.{made_current}
-use Rattle.mh_looks.specs.Scan.{entries_seen}
 use Rattle.mh_looks.specs.ScanJob.{ScanJob}
-use Rattle.mh_looks.proofs.Ending.{AfterSequences, IsUnmade, ScanEnds, ScanShows, absent, bad_spec, by_choice, comes_at, current_comes, empty_range, empty_sequence, long_file, meddled, name_of, unread, no_folder}
+use Rattle.mh_looks.proofs.Ending.{AfterSequences, IsUnmade, ScanEnds, ScanShows, absent, bad_spec, by_choice, comes_at, current_comes, empty_range, empty_sequence, long_file, meddled, name_of, unread, no_folder, listed_text}
 use Rattle.opened_folders.proofs.ChosenListed.{has_tested, words_listed}
 use Rattle.opened_folders.proofs.NamesKept.{met_kept}
 use Rattle.told_folders.specs.Tasks.{listed_runs, sequences_listed}
@@ -42,14 +36,11 @@ use Rattle.pick_command.specs.declared.job.PickJob.{PickJob}
 use Rattle.pick_command.proofs.LooksJob.{looks_of}
 use Rattle.pick_command.proofs.PickEnds.{FindsSome, found_comes, said_comes}
 use Rattle.pick_command.proofs.Tested.{AreTested, Stopped, is_gone, reading_kept, too_long}
+use Rattle.mh_profile.specs.Reading.{entries_seen}
 
 -- the same folder and words, as `scan` has them
 abbrev pub looks_job : PickJob → ScanJob
 looks_job job = told_looks.looks_job (looks_of job)
-
-listed_text : (n : ℕ) (names : List (List ℕ)) → has_number n names ≡ true → has_text (name_of n) names ≡ true
-unfolding entry_text
-listed_text n names e = (both (is_message_number n) (has_text (decimal n) names) (sym (has_number_text n names) ∙ e)).1
 
 module _ (run : ℕ) (mail : List ℕ) (job : PickJob) (h : Hand) (numbered : nat_lt h.next (2 ^ 64) ≡ true) where
   abbrev place : Place

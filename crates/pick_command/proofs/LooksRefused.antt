@@ -27,7 +27,6 @@ use Rattle.step_plans.proofs.Going.{Outcome}
 use Rattle.command_stages.specs.Chosen.{folder_with}
 use Rattle.command_stages.specs.Current.{made_current}
 use Rattle.command_stages.specs.Endings.{of_plan}
-use Rattle.mh_looks.specs.Scan.{entries_seen}
 use Rattle.mh_looks.proofs.Ending.{by_choice, comes_at, name_of}
 use Rattle.opened_folders.specs.Reads.{TellsText}
 use Rattle.told_folders.proofs.FrontComes.{IsUnmade, after_both, current_comes, front_comes, reading, unmade_both}
@@ -39,6 +38,7 @@ use Rattle.pick_command.specs.declared.job.PickJob.{PickJob}
 use Rattle.pick_command.proofs.ListedFound.{found_listed}
 use Rattle.pick_command.proofs.PickEnds.{FindsSome, found_comes, said_comes}
 use Rattle.pick_command.proofs.Tested.{AreTested, Stopped, is_gone, reading_kept, too_long}
+use Rattle.mh_profile.specs.Reading.{entries_seen}
 
 module _ (run : ℕ) (mail : List ℕ) (job : PickJob) (h : Hand) where
   abbrev place : Place

@@ -52,8 +52,10 @@ use Rattle.pick_command.specs.PickAnswers.{HasFound, ShowsPicking, ShowsTest, lo
 use Rattle.pick_command.specs.Testing.{ReadMessage, after_reading, all_tested}
 use Rattle.pick_command.specs.declared.job.PickJob.{PickJob}
 use Rattle.pick_command.specs.declared.job.PickMarks.{PickMarks}
-use Rattle.pick_command.proofs.PickPledged.{chosen_numbers, settled_runs}
-use Rattle.pick_command.proofs.Tested.{All, AreTested, Ends as TestEnds, Stopped, all_comes, is_gone, reading, reading_kept, reading_keeps, tested_all, too_long}
+use Rattle.pick_command.proofs.PickPledged.{chosen_numbers}
+use Rattle.pick_command.proofs.Tested.{All, AreTested, Ends as TestEnds, Stopped, all_comes, is_gone, reading_kept, reading_keeps, tested_all, too_long}
+use Rattle.opened_folders.proofs.Listed.{settled_runs}
+use Rattle.told_folders.proofs.MessagesStand.{reading}
 
 -- lines are said, and that is all
 module _ (own : List Deed) (h : Hand) (Q : Outcome (Result Unit CommandFault)) (q : Q own h (Ok tt)) where

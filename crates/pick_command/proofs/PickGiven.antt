@@ -7,8 +7,7 @@ use Rattle.mh_base.specs.Folders.{is_folder_name}
 use Rattle.mh_profile.specs.declared.named_value.NamedValue.{NamedValue}
 use Rattle.mh_sequences.specs.Reading.{suffix}
 use Rattle.mh_sequences.specs.Runs.{numbers_of}
-use Rattle.mh_sequences.specs.Sequences.{AreSequences, Marked}
-use Rattle.mh_sequences.specs.declared.mark.Mark.{Mark}
+use Rattle.mh_sequences.specs.Sequences.{Marked}
 use Rattle.msg_ranges.specs.Selection.{marks_of}
 use Rattle.folder_files.specs.declared.place.Place.{Place}
 use Rattle.folder_files.specs.declared.place.Place.TheVariants.{Folder, Mail}
@@ -26,10 +25,9 @@ use Rattle.step_plans.specs.declared.command_fault.CommandFault.TheVariants as f
 use Rattle.step_plans.proofs.Committed.{entries_at}
 use Rattle.sequence_commits.specs.Committing.{changed_sequences}
 use Rattle.sequence_commits.specs.Cutting.{cut_to}
-use Rattle.sequence_commits.specs.Marking.{marked_by, marked_by_all}
 use Rattle.sequence_commits.specs.Reading.{sequences_in}
 use Rattle.sequence_commits.specs.RunsOfAll.{set_among}
-use Rattle.sequence_commits.proofs.MarkedOnce.{marked_valid}
+use Rattle.sequence_commits.proofs.MarkedOnce.{all_valid}
 use Rattle.command_stages.specs.Chosen.{folder_with}
 use Rattle.command_stages.specs.Current.{made_current}
 use Rattle.command_stages.specs.Endings.{of_plan}
@@ -61,12 +59,6 @@ messages_there c path folder there = rw there refl
 message_there : (c : Contents) (path folder : List ℕ) (n : ℕ) → c.there (Folder path folder) ≡ true → message_at (mailbox_in c) (Folder path folder) n ≡ (folder_at c (Folder path folder)).messages n
 unfolding mailbox_in
 message_there c path folder n there = rw there refl
-
--- all marks leave sequences in order
-all_valid : (marks : List Mark) (m : Marked) → AreSequences m.users → AreSequences (marked_by_all marks m).users
-unfolding marked_by_all
-all_valid [] m f = f
-all_valid (mark ∷ marks) m f = all_valid marks (marked_by mark m) (marked_valid mark m)
 
 module _ (run : ℕ) (few : run < 2 ^ 128) (path : List ℕ) (job : PickJob) (valid : is_folder_name job.folder ≡ true) where
   abbrev place : Place

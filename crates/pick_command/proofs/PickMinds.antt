@@ -50,7 +50,8 @@ use Rattle.pick_command.specs.declared.job.PickAct.{PickAct}
 use Rattle.pick_command.specs.declared.job.PickAct.TheVariants as act
 use Rattle.pick_command.specs.declared.job.PickJob.{PickJob}
 use Rattle.pick_command.specs.declared.job.PickMarks.{PickMarks}
-use Rattle.pick_command.proofs.Tested.{All, AreTested, all_meets, reading}
+use Rattle.pick_command.proofs.Tested.{All, AreTested, all_meets}
+use Rattle.told_folders.proofs.MessagesStand.{reading}
 
 -- what matches is among what was read
 matches_among : (test : ReadMessage → Bool) (ms : List ReadMessage) (n : ℕ) → lists (numbers_in (filter test ms)) n ≡ true → lists (numbers_in ms) n ≡ true

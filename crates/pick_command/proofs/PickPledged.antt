@@ -41,18 +41,14 @@ use Rattle.step_plans.proofs.Ruling.{rules_of}
 use Rattle.step_plans.proofs.Stepping.{goes_end, goes_return}
 use Rattle.step_plans.proofs.Written.{goes_at}
 use Rattle.sequence_commits.specs.Committing.{changed_sequences}
-use Rattle.sequence_commits.proofs.RunTests.{all_runs}
 use Rattle.sequence_commits.proofs.SequencesPledged.{sequences_name}
 use Rattle.command_stages.specs.Current.{made_current}
 use Rattle.command_stages.specs.Endings.{of_plan}
 use Rattle.command_stages.specs.Listed.{folder_listed}
 use Rattle.command_stages.specs.Texts.{text_read}
-use Rattle.mh_looks.specs.Scan.{entries_seen}
 use Rattle.mh_looks.specs.ScanPledge.{HasListed}
 use Rattle.mh_looks.proofs.LooksLeave.{Lists, Looks, goes_chosen, listed_goes, text_goes}
 use Rattle.mh_looks.proofs.Ending.{name_of}
-use Rattle.held_messages.specs.Settle.{Settled}
-use Rattle.opened_folders.specs.Existing.{exists_in, numbers_settled}
 use Rattle.opened_folders.specs.FolderPledge.{folder_pledge, told_within}
 use Rattle.opened_folders.specs.Opening.{Opened}
 use Rattle.opened_folders.specs.Reads.{HaveSeen}
@@ -70,15 +66,12 @@ use Rattle.pick_command.specs.declared.job.PickJob.{PickJob}
 use Rattle.pick_command.specs.declared.job.PickMarks.{PickMarks}
 use Rattle.pick_command.proofs.LooksJob.{looks_of}
 use Rattle.pick_command.proofs.Tested.{All, AreTested, all_goes, reading_keeps, reading_kept, tested_all, tested_kept}
+use Rattle.opened_folders.proofs.Listed.{settled_runs}
+use Rattle.mh_profile.specs.Reading.{entries_seen}
 
 -- the numbers that words choose of a folder are those of messages
 pub chosen_numbers : (job : PickJob) (listing : List Run) (m : Marked) (numbers : List ℕ) → chosen_from job listing m ≡ Ok numbers → AreRuns listing → (n : ℕ) → lists numbers n ≡ true → IsMsgNum n
 chosen_numbers job listing m numbers is valid n e = has_ranged listing valid n (words_listed job.negation listing m job.specs numbers is n e)
-
--- the numbers of a folder that was begun are in order
-pub settled_runs : (run : ℕ) (s : Settled) → AreRuns (numbers_settled run s)
-unfolding numbers_settled
-settled_runs run s = all_runs (exists_in run s)
 
 -- no message has the name of the sequences
 number_apart : (n : ℕ) → IsMsgNum n → name_of n ≡ sequences_name → ⊥

@@ -1,9 +1,8 @@
 -- What comes of reading and testing messages.
 use Rattle.std.proofs.Common.{◌≡◌, ◌++◌, ◌∷◌, ◌==◌, ◌||◌, [], ℕ, Bool, true, false, cond, List, Result, Ok, Err, refl, sym, ◌∙◌, ap, append_assoc, append-nil}
-use Rattle.msg_ranges.proofs.Rising.{lists}
+use Rattle.msg_ranges.proofs.Rising.{lists, first_listed, other_listed}
 use Rattle.folder_files.specs.Deeds.{Deed, did}
 use Rattle.folder_files.specs.declared.place.Place.{Place}
-use Rattle.folder_files.specs.declared.step.Answer.{Answer}
 use Rattle.folder_files.specs.declared.step.Answer.TheVariants as answer
 use Rattle.folder_files.specs.declared.step.Step.{Step}
 use Rattle.folder_files.specs.declared.step.Step.TheVariants as step
@@ -22,13 +21,10 @@ use Rattle.command_stages.specs.Texts.{too_large}
 use Rattle.mh_looks.proofs.Ending.{comes_at, name_of}
 use Rattle.opened_folders.proofs.AllMarks.{MindsAll, look_minds}
 use Rattle.opened_folders.proofs.Meeting.{Meets, meets_end, meets_okay, meets_read, meets_return, meets_then}
-use Rattle.told_folders.proofs.MessagesStand.{first_listed, other_listed}
 use Rattle.pick_expr.specs.Picks.{picks}
 use Rattle.pick_expr.specs.declared.expr.Expr.{Expr}
 use Rattle.pick_command.specs.Testing.{HaveTested, ReadMessage, after_reading, all_tested, kept_if, matching, numbers_in, one_tested, reading_of, tested_by}
-
-abbrev pub reading : Place → ℕ → Answer → Deed
-reading place n a = did (step.Read place (name_of n) LIMIT_BYTES) a
+use Rattle.told_folders.proofs.MessagesStand.{reading}
 
 -- what each reading keeps of these, all of them keep
 pub reading_kept : (place : Place) (F : List Deed → Type 0) (Fine : ℕ → Type 0) → ((own : List Deed) (n : ℕ) (text : List ℕ) → Fine n → F own → F (reading place n (answer.Content text) ∷ own)) → (ms : List ReadMessage)

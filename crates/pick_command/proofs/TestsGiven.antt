@@ -1,6 +1,6 @@
 -- What tests of messages give alone.
 use Rattle.std.proofs.Common.{◌≡◌, ◌++◌, ◌∷◌, [], ℕ, Bool, true, false, cond, List, Option, Some, None, Result, Ok, Err, length, refl, sym, ◌∙◌, ap, subst, append_assoc, append-nil}
-use Rattle.std.specs.Prelude.{nat_lt, decimal, map, if◌then◌else◌}
+use Rattle.std.specs.Prelude.{nat_lt, decimal, map}
 use Rattle.mh_base.specs.Entries.{entry_text}
 use Rattle.folder_files.specs.Steps.{read_file_answer}
 use Rattle.folder_files.specs.declared.place.Place.{Place}
@@ -27,14 +27,15 @@ use Rattle.mh_looks.proofs.Ending.{name_of}
 use Rattle.opened_folders.proofs.WorkGiven.{WorkEnds}
 use Rattle.told_folders.specs.Tasks.{AreSome}
 use Rattle.told_folders.proofs.FoldersGiven.{Told, lines_give}
-use Rattle.told_folders.proofs.MessagesStand.{AllStand, Stands}
+use Rattle.told_folders.proofs.MessagesStand.{AllStand, Stands, Says, says_it}
 use Rattle.pick_expr.specs.Picks.{picks}
 use Rattle.pick_expr.specs.declared.expr.Expr.{Expr}
 use Rattle.pick_command.specs.Lines.{lines_for, number_line}
-use Rattle.pick_command.specs.Outcomes.{found_in, found_work, text_if, text_of, too_long_among, unless_long, unless_none as none_work}
+use Rattle.pick_command.specs.Outcomes.{found_in, found_work, text_if, too_long_among, unless_long, unless_none as none_work}
 use Rattle.pick_command.specs.Pick.{said_if, some_found, unless_none}
 use Rattle.pick_command.specs.Testing.{all_tested, kept_if, one_tested, tested_by}
 use Rattle.pick_command.specs.declared.job.PickJob.{PickJob}
+use Rattle.mh_looks.specs.Outcomes.{text_of}
 
 -- no line is empty
 line_some : (n : ℕ) → number_line n ≡ [] → ⊥
@@ -57,26 +58,6 @@ pub said_gives : (v : View) (h : Hand) (list : Bool) (lines : List (List ℕ)) �
 unfolding Gives
 said_gives v h true lines f = lines_give v h lines f
 said_gives v h false lines f = (refl, refl, refl, refl)
-
--- what an answer says of a message that is there
-abbrev Says : List ℕ → Answer → Type 0
-Says b (answer.Content bytes) = (bytes ≡ b) × (nat_lt LIMIT_BYTES (length b) ≡ false)
-Says b (answer.Long l) = (l ≡ length b) × (nat_lt LIMIT_BYTES (length b) ≡ true)
-Says b answer.Gone = ⊥
-Says b answer.Done = Unit {0}
-Says b (answer.Names names) = Unit {0}
-Says b (answer.Piece bytes l) = Unit {0}
-Says b answer.Exists = Unit {0}
-Says b answer.Busy = Unit {0}
-Says b answer.Grown = Unit {0}
-Says b answer.Failed = Unit {0}
-
-says_it : (b : List ℕ) (a : Answer) → a ≡ read_file_answer LIMIT_BYTES (Some b) → Says b a
-says_it b a e = go (nat_lt LIMIT_BYTES (length b)) refl e
-  where
-    go : (v : Bool) → nat_lt LIMIT_BYTES (length b) ≡ v → a ≡ (if v then answer.Long (length b) else answer.Content b) → Says b a
-    go true long is = rw is (refl, long)
-    go false short is = rw is (refl, short)
 
 module _ (place : Place) (expr : Expr) (c : Contents) (ns : List ℕ) where
   abbrev pub messages : ℕ → Option (List ℕ)

@@ -1,5 +1,5 @@
 -- What `pick` comes to, by the mailbox. Nothing here knows of steps.
-use Rattle.std.specs.Prelude.{ℕ, Bool, true, false, List, [], ◌∷◌, filter, length, nat_lt, unwrap_or, Option, None, Some, Result, Ok, Err, if◌then◌else◌}
+use Rattle.std.specs.Prelude.{ℕ, Bool, true, false, List, [], ◌∷◌, filter, length, nat_lt, Option, None, Some, Result, Ok, Err, if◌then◌else◌}
 use Rattle.mh_profile.specs.declared.named_value.NamedValue.{NamedValue}
 use Rattle.mh_sequences.specs.declared.run.Run.{Run}
 use Rattle.mh_sequences.specs.Sequences.{Marked}
@@ -23,6 +23,7 @@ use Rattle.pick_command.specs.Marking.{marked_for}
 use Rattle.pick_command.specs.Pick.{chosen_from}
 use Rattle.pick_command.specs.declared.job.PickJob.{PickJob}
 use Rattle.pick_command.specs.declared.job.PickMarks.{PickMarks}
+use Rattle.mh_looks.specs.Outcomes.{text_of}
 
 -- the text of these lines, where a job lists
 abbrev pub text_if : Bool → List (List ℕ) → List ℕ
@@ -33,9 +34,6 @@ text_if false lines = []
 abbrev pub messages_of : Option FolderValue → ℕ → Option (List ℕ)
 messages_of None n = None
 messages_of (Some f) n = f.messages n
-
-abbrev pub text_of : (ℕ → Option (List ℕ)) → ℕ → List ℕ
-text_of messages n = unwrap_or (messages n) []
 
 -- of these numbers those of whose messages the expression holds
 abbrev pub found_in : (ℕ → Option (List ℕ)) → Expr → List ℕ → List ℕ

@@ -21,7 +21,6 @@ use Rattle.command_stages.specs.Listed.{folder_listed}
 use Rattle.command_stages.specs.Texts.{Commanded, text_read}
 use Rattle.opened_folders.specs.Ending.{ended}
 use Rattle.opened_folders.specs.Opening.{Opened, begun}
-use Rattle.mh_looks.specs.Scan.{entries_seen}
 use Rattle.told_folders.specs.Plans.{lines_said}
 use Rattle.told_folders.specs.Tasks.{listed_runs, sequences_listed}
 use Rattle.pick_command.specs.Lines.{lines_for}
@@ -29,6 +28,7 @@ use Rattle.pick_command.specs.Marking.{marked_for}
 use Rattle.pick_command.specs.Testing.{all_tested}
 use Rattle.pick_command.specs.declared.job.PickJob.{PickJob}
 use Rattle.pick_command.specs.declared.job.PickMarks.{PickMarks}
+use Rattle.mh_profile.specs.Reading.{entries_seen}
 
 -- the messages that the job's words choose of a folder with these numbers and sequences, or the refusal of the first
 -- word that is refused

@@ -2,9 +2,9 @@
 ghost use Rattle.std.specs.Prelude.{◌≡◌};
 ghost use Rattle.file_plans.specs.Follows.{Follows, by_out};
 ghost use Rattle.step_plans.specs.CommandFaults.{command_cause};
-ghost use Rattle.mh_looks.specs.Scan.{entries_seen};
 ghost use Rattle.pick_command.specs.Pick.{chosen_seen, pick_looks};
 ghost use Rattle.pick_command.specs.Values.{AreValue};
+ghost use Rattle.mh_profile.specs.Reading.{entries_seen};
 
 use crate::PickJob;
 use crate::picking::{find, tell};

@@ -6,22 +6,9 @@ ghost use Rattle.pick_command.specs.Marking.{mark_with, marks_for};
 
 use crate::{PickAct, PickMarks};
 use mh_base::{List, MsgNum};
-use mh_sequences::{Mark, MarkList, NumSet, Pile, Run, SeqName};
+use mh_sequences::{Mark, MarkList, NumSet, SeqName};
+use opened_folders::number_set;
 use std::alloc::{AllocError, Global};
-
-/// These numbers as a set.
-fn number_set(alloc: Global, numbers: &[MsgNum]) -> Result<NumSet, AllocError>
-    ensures { IfOk result (λ s. s.runs ≡ set_among numbers.now) }
-{
-    let mut pile = Pile::new(alloc);
-    for number in numbers {
-        pile.add_run(Run {
-            from: *number,
-            to: *number,
-        })?;
-    }
-    pile.into_set()
-}
 
 fn mark_of(act: PickAct, name: SeqName, numbers: NumSet, public: Option<bool>) -> Mark
     ensures { plain_mark result ≡ mark_with act public numbers.runs name }

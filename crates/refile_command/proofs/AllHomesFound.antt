@@ -9,7 +9,7 @@ use Rattle.opened_folders.specs.Making.{IsBare}
 use Rattle.opened_folders.proofs.HomesFound.{homes_there}
 use Rattle.opened_folders.proofs.SettledShown.{there_shown}
 use Rattle.refile_command.specs.RefileOutcome.{AreHomesOfAll, homes_of_all}
-use Rattle.refile_command.proofs.FolderMade.{folder_or_empty}
+use Rattle.opened_folders.proofs.FolderMade.{folder_or_empty}
 
 -- so in each folder that is there, and nothing is held aside in one that is missing
 pub all_homes_found : (run : ℕ) (path : List ℕ) (c : Contents) → IsBare c → AreHomesOfAll run path (mailbox_in c) (homes_of_all run path (mailbox_in c))

@@ -33,7 +33,7 @@ use Rattle.step_plans.proofs.Lasting.{KeptBy}
 use Rattle.sequence_commits.specs.Committing.{changed_sequences}
 use Rattle.command_stages.specs.Chosen.{folder_with}
 use Rattle.command_stages.specs.Current.{made_current}
-use Rattle.command_stages.specs.Endings.{of_plan}
+use Rattle.command_stages.specs.Endings.{of_plan, if_room}
 use Rattle.mh_looks.proofs.Ending.{by_choice}
 use Rattle.message_moves.specs.Copying.{highest_of, messages_copied}
 use Rattle.message_moves.specs.Refiling.{messages_refiled}
@@ -49,7 +49,7 @@ use Rattle.opened_folders.proofs.NamesKept.{names_met_kept, names_safe_kept}
 use Rattle.opened_folders.proofs.SequencesEnd.{Leaves, Left, changed_comes}
 use Rattle.opened_folders.proofs.WorkEnds.{Ends, EndsWith, comes_shown, current_comes}
 use Rattle.refile_command.specs.Gathering.{Gathered}
-use Rattle.refile_command.specs.Refile.{current_if, destination_of, gathered_refiled, greatest_of, if_room, messages_left, messages_stay, moved_by, names_source, opened_refiled, refile_chosen, room_in, said_refiled, unless_source}
+use Rattle.refile_command.specs.Refile.{current_if, destination_of, gathered_refiled, greatest_of, messages_left, messages_stay, moved_by, names_source, opened_refiled, refile_chosen, room_in, said_refiled, unless_source}
 use Rattle.refile_command.specs.RefileAnswers.{HaveChosen, ShowsRefile, no_room, same_folder, source_answers}
 use Rattle.refile_command.specs.Rmm.{withdrawn}
 use Rattle.refile_command.specs.declared.job.RefileJob.{RefileJob}

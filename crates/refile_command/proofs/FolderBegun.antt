@@ -1,6 +1,5 @@
 -- One folder is begun, alone: the work goes on with it, and other folders are left as they were.
 use Rattle.std.proofs.Common.{◌≡◌, ◌<◌, ◌^◌, [], ℕ, true, false, List, Result, Ok, Err, refl, sym, ◌∙◌, ap, subst}
-use Rattle.std.specs.Prelude.{is_some}
 use Rattle.mh_profile.specs.declared.named_value.NamedValue.{NamedValue}
 use Rattle.mh_sequences.specs.Sequences.{Marked}
 use Rattle.mh_sequences.specs.declared.run.Run.{Run}
@@ -14,7 +13,6 @@ use Rattle.folder_files.proofs.Names.{not_both}
 use Rattle.folder_files.proofs.Sameness.{place_is}
 use Rattle.file_plans.specs.Contents.{Contents, folder_at, mailbox_in, with_folder}
 use Rattle.file_plans.specs.Giving.{Gives}
-use Rattle.file_plans.specs.Mailboxes.{Folder as FolderValue}
 use Rattle.file_plans.specs.Plan.{Hand, Plan, Return, converted, lifted}
 use Rattle.file_plans.specs.Views.{View, by_view, first_view, view_after}
 use Rattle.file_plans.proofs.Framing.{framed, silent}
@@ -28,8 +26,6 @@ use Rattle.step_plans.specs.declared.command_fault.CommandFault.TheVariants as c
 use Rattle.step_plans.specs.declared.fault.PlanFault.{PlanFault}
 use Rattle.step_plans.specs.declared.fault.PlanFault.TheVariants as plan
 use Rattle.step_plans.proofs.Committed.{entries_at}
-use Rattle.held_messages.specs.HeldPairs.{homes}
-use Rattle.held_messages.proofs.Unique.{held_once}
 use Rattle.command_stages.specs.Endings.{of_plan}
 use Rattle.command_stages.specs.Works.{Work}
 use Rattle.opened_folders.specs.BegunWork.{AreHomes, AreHomesAt, Homes, begun_work}
@@ -39,17 +35,10 @@ use Rattle.opened_folders.specs.Opening.{Opened, begun}
 use Rattle.opened_folders.proofs.BegunWorks.{begun_as, homes_in}
 use Rattle.opened_folders.proofs.FolderGiven.{BeginEnds, BeginErrs, IsBegunIn, IsUntouched, begun_gives}
 use Rattle.opened_folders.proofs.SettledShown.{there_shown}
-use Rattle.opened_folders.proofs.WorkGiven.{IsOpen, WorkEnds, homes_there, lifted_gives, not_begun, one_top}
+use Rattle.opened_folders.proofs.WorkGiven.{IsOpen, WorkEnds, homes_there, lifted_gives, not_begun, one_home}
 use Rattle.refile_command.proofs.BegunAsks.{IsIn, OneOf, asks_begun}
 use Rattle.refile_command.proofs.BegunBeside.{IsBeside, beside_self, kept_beside}
 use Rattle.refile_command.proofs.ViewsAlike.{gives_alike}
-
--- what a folder holds aside goes to one place each
-one_home : (run : ℕ) (f : FolderValue) (h g : Homes) → AreHomes run f h → AreHomes run f g → h ≡ g
-one_home run f h g a b =
-    let pairs : h.pairs ≡ g.pairs = held_once run f h.pairs g.pairs a.held b.held in
-    let ends : h.ends ≡ g.ends = a.ends ∙ ((λ i. homes (λ k. is_some (f.messages k)) (one_top f a.highest b.highest a.top b.top i) (pairs i)) ∙ sym b.ends) in
-    λ i. record { pairs = pairs i; ends = ends i }
 
 -- how a command ended, by views in which the same stands
 pub ends_alike : (w : Work CommandFault) (z y : View) → z.contents ≡ y.contents → (j : Hand) (left : List ℕ) (r : Result Unit CommandFault) → WorkEnds w y j left r → WorkEnds w z j left r

@@ -1,14 +1,13 @@
 -- Several folders are begun, one after another, and what comes after that.
 use Rattle.std.specs.Prelude.{IsErr, IsErrAnd}
-use Rattle.std.proofs.Common.{◌≡◌, ◌++◌, ◌∷◌, [], ℕ, ◌+◌, ◌<◌, ◌≤◌, List, Result, Ok, Err, refl, sym, ap, subst, drop, get_or, length}
+use Rattle.std.proofs.Common.{◌≡◌, ◌++◌, ◌∷◌, [], ℕ, ◌+◌, ◌<◌, ◌≤◌, List, Result, Ok, Err, refl, sym, subst, drop, get_or, length}
 use Rattle.std.proofs.lemmas.List.{drop_all}
 use Rattle.folder_files.specs.declared.place.Place.{Place}
 use Rattle.folder_files.specs.declared.place.Place.TheVariants.{Folder, Mail}
 use Rattle.folder_files.specs.declared.refusal.Which.TheVariants.{Files, Source, Out}
 use Rattle.file_plans.specs.Follows.{Follows, State}
-use Rattle.file_plans.specs.Plan.{Plan, Return, Ask, Try, Say, Hear, Recall, Note, bind, lifted}
-use Rattle.file_plans.specs.Runs.{exit_of}
-use Rattle.file_plans.proofs.Following.{end_off, end_on, no_room_at, refuses, same_plan}
+use Rattle.file_plans.specs.Plan.{bind, lifted}
+use Rattle.file_plans.proofs.Following.{end_off, end_on, no_room_at, refuses, same_plan, bind_both}
 use Rattle.step_plans.specs.CommandFaults.{command_cause}
 use Rattle.step_plans.specs.declared.command_fault.CommandFault.{CommandFault}
 use Rattle.step_plans.specs.declared.command_fault.CommandFault.TheVariants as fault
@@ -18,18 +17,7 @@ use Rattle.command_stages.specs.Texts.{Commanded}
 use Rattle.opened_folders.specs.Making.{made_begun}
 use Rattle.opened_folders.specs.Opening.{Opened}
 use Rattle.refile_command.specs.Gathering.{Gathered, after_one, all_begun, all_ended, gathered}
-use Rattle.refile_command.specs.Gathers.{EndsAll, GoesOn, WorksIf}
-
--- two plans and a third, in either order of joining
-pub bind_both : {A B C : Type 0} (p : Plan A) (k : A → Plan B) (l : B → Plan C) → bind (bind p k) l ≡ bind p (λ a. bind (k a) l)
-unfolding bind
-bind_both (Return r) k l = refl
-bind_both (Ask step next) k l = λ i. Ask step (λ a. bind_both (next a) k l i)
-bind_both (Try step next) k l = λ i. Try step (λ a. bind_both (next a) k l i)
-bind_both (Say piece next) k l = λ i. Say piece (bind_both next k l i)
-bind_both (Hear most next) k l = λ i. Hear most (λ p. bind_both (next p) k l i)
-bind_both (Recall next) k l = λ i. Recall (λ h. bind_both (next h) k l i)
-bind_both (Note hand next) k l = λ i. Note hand (bind_both next k l i)
+use Rattle.refile_command.specs.Gathers.{EndsAll, GoesOn}
 
 module _ (run : ℕ) (path : List ℕ) (later : Gathered → Commanded Unit) where
   abbrev one : List ℕ → Commanded Opened

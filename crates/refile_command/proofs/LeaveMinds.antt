@@ -7,7 +7,7 @@ use Rattle.mh_base.specs.declared.entry.Entry.TheVariants.{Held, Number, Sequenc
 use Rattle.mh_base.proofs.EntryKinds.{kind_of-entry_text}
 use Rattle.mh_sequences.specs.Runs.{has}
 use Rattle.mh_sequences.specs.declared.run.Run.{Run}
-use Rattle.msg_ranges.proofs.Rising.{Rise, lists}
+use Rattle.msg_ranges.proofs.Rising.{Rise, lists, first_of, rest_of}
 use Rattle.folder_files.specs.Careful.{HasLock}
 use Rattle.folder_files.specs.Deeds.{Deed, WasDone, did, now, on, still}
 use Rattle.folder_files.specs.Named.{is_held, is_number}
@@ -47,9 +47,8 @@ use Rattle.sequence_commits.proofs.SequencesPledged.{sequences_name}
 use Rattle.refile_command.specs.RefileHeld.{TakesUnheld}
 use Rattle.refile_command.proofs.ContentMinds.{content_meets}
 use Rattle.refile_command.proofs.CopiesMind.{AllOpen, all_open_kept, copies_meet}
-use Rattle.refile_command.proofs.Selected.{first_of, rest_of}
-use Rattle.refile_command.proofs.Shown.{AreNumbers}
 use Rattle.refile_command.proofs.UnmarkedNumbers.{IsUnmarkedIn, take_minds, unmarked_kept}
+use Rattle.mh_base.proofs.NumberTests.{AreNumbers}
 
 -- The folders whose private marks are minded; the pledge; the source, what was listed there, its numbers, and which of them leave.
 module _ (Of : List ℕ → Type 0) (w : Pledge) (few : w.run < 2 ^ 128) (path source : List ℕ) (names : List (List ℕ)) (listing : List Run) (chosen : ℕ → Bool) where

@@ -11,12 +11,12 @@ pub mod Distinct
 pub mod EndedAll
 pub mod EndedMinds
 pub mod FolderBegun
-pub mod FolderMade
 pub mod FolderMarks
 pub mod FolderNames
 pub mod FoldersMinded
 pub mod GatheredMinds
 pub mod Greatest
+pub mod Lasts
 pub mod LeaveMinds
 pub mod LetGoEnds
 pub mod Loops

@@ -32,7 +32,8 @@ use Rattle.step_plans.proofs.Lasting.{KeptBy}
 use Rattle.held_messages.specs.Settle.{Settled, put_back}
 use Rattle.sequence_commits.specs.Committing.{changed_sequences, committed_unless, entries_committed, sequences_replaced, told_committed}
 use Rattle.sequence_commits.specs.Cutting.{cut_to}
-use Rattle.sequence_commits.specs.PrivateChanges.{changes_to, entries_seen}
+use Rattle.sequence_commits.specs.PrivateChanges.{changes_to}
+use Rattle.mh_profile.specs.Reading.{entries_seen}
 use Rattle.sequence_commits.specs.Telling.{same_told}
 use Rattle.sequence_commits.proofs.SequencesPledged.{sequences_name}
 use Rattle.opened_folders.specs.Endings.{PutsBackups}

@@ -5,7 +5,7 @@ use Rattle.mh_base.specs.Numbers.{IsMsgNum}
 use Rattle.mh_base.specs.declared.entry.Entry.TheVariants.{Held, Number}
 use Rattle.mh_base.proofs.EntryKinds.{kind_of-entry_text}
 use Rattle.mh_sequences.specs.declared.run.Run.{Run}
-use Rattle.msg_ranges.proofs.Rising.{Rise, lists}
+use Rattle.msg_ranges.proofs.Rising.{Rise, lists, first_of, rest_of}
 use Rattle.folder_files.specs.Deeds.{Deed, WasDone, did, last, on, still}
 use Rattle.folder_files.specs.declared.place.Place.{Place}
 use Rattle.folder_files.specs.declared.place.Place.TheVariants.{Folder, Mail}
@@ -41,7 +41,6 @@ use Rattle.refile_command.specs.RmmOutcome.{is_among}
 use Rattle.refile_command.specs.declared.job.RefileJob.{RefileJob}
 use Rattle.refile_command.proofs.CopyEnds.{All, AreTargets, So, all_comes, targets_kept}
 use Rattle.refile_command.proofs.RmmEnds.{later_ones, number_names}
-use Rattle.refile_command.proofs.Selected.{first_of, rest_of}
 
 module _ (run : ℕ) (few : run < 2 ^ 128) (path : List ℕ) (job : RefileJob) (listing : List Run) (text context : List ℕ) (numbers : List ℕ) (chosen : refile_chosen job listing (told_within listing text context job.source) ≡ Ok numbers) where
   abbrev source : Place

@@ -5,7 +5,7 @@ use Rattle.std.proofs.lemmas.Bool.Decides.{Decides-eqb, nat_tests}
 use Rattle.mh_base.specs.Entries.{entry_text, kind_of}
 use Rattle.mh_base.specs.Numbers.{IsMsgNum}
 use Rattle.mh_base.specs.declared.entry.Entry.TheVariants.{Held, Number}
-use Rattle.msg_ranges.proofs.Rising.{Rise, lists, none_below}
+use Rattle.msg_ranges.proofs.Rising.{Rise, lists, none_below, first_of, rest_of}
 use Rattle.folder_files.specs.Named.{is_held, is_number}
 use Rattle.folder_files.specs.declared.place.Place.{Place}
 use Rattle.folder_files.specs.declared.place.Place.TheVariants.{Folder}
@@ -38,8 +38,7 @@ use Rattle.message_moves.proofs.RefiledGiven.{Copies, HaveRoom, IsElsewhere, Ref
 use Rattle.refile_command.specs.MailMoved.{Moves, copied_from, with_aside, gone_from, mail_moved, message_of, where_message}
 use Rattle.refile_command.proofs.MovedShown.{aside_other, held_number, held_other, message_shown, shows_aside, shows_copies}
 use Rattle.refile_command.proofs.Roomy.{AreRoomy, all_kept, copied_quiet, copied_roomy, have_room, not_same, raised_elsewhere}
-use Rattle.refile_command.proofs.Selected.{first_of, rest_of}
-use Rattle.refile_command.proofs.Shown.{AreNumbers}
+use Rattle.mh_base.proofs.NumberTests.{AreNumbers}
 
 -- numbers that rise from one on are not below it
 pub not_below : (low : ℕ) (numbers : List ℕ) → Rise low numbers → (k : ℕ) → lists numbers k ≡ true → low ≤ k

@@ -9,7 +9,7 @@ use Rattle.file_plans.specs.Mailboxes.{Folder as FolderValue, Mailbox}
 use Rattle.step_plans.specs.declared.command_fault.CommandFault.TheVariants as fault
 use Rattle.opened_folders.specs.Kept.{Commits, Kept, kept_of}
 use Rattle.message_moves.specs.declared.destination.Destination.{Destination}
-use Rattle.refile_command.specs.MadeFolder.{empty_folder}
+use Rattle.opened_folders.specs.MadeFolder.{empty_folder}
 use Rattle.refile_command.specs.MailMoved.{copied_from, gone_from, mail_moved, message_of, with_copies}
 use Rattle.refile_command.specs.RefileOutcome.{first_full, said_work, target_of}
 use Rattle.refile_command.specs.declared.job.RefileJob.{RefileJob}

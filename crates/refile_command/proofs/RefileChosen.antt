@@ -28,7 +28,7 @@ use Rattle.opened_folders.proofs.WorkGiven.{WorkEnds}
 use Rattle.message_moves.specs.Copying.{highest_of}
 use Rattle.message_moves.specs.declared.destination.Destination.{Destination}
 use Rattle.message_moves.proofs.RefiledGiven.{IsElsewhere}
-use Rattle.refile_command.specs.Refile.{current_if, if_room, messages_left, messages_stay, moved_by, names_source, refile_chosen, room_in, said_refiled, unless_source}
+use Rattle.refile_command.specs.Refile.{current_if, messages_left, messages_stay, moved_by, names_source, refile_chosen, room_in, said_refiled, unless_source}
 use Rattle.refile_command.specs.RefileOutcome.{apart_work, first_full, moved_work, room_work, said_work, set_work}
 use Rattle.refile_command.specs.declared.job.RefileJob.{RefileJob}
 use Rattle.refile_command.specs.declared.job.RmmJob.{RmmJob}
@@ -36,6 +36,7 @@ use Rattle.refile_command.proofs.Roomy.{AreRoomy}
 use Rattle.refile_command.proofs.Selected.{chosen_listed, chosen_numbers, chosen_rise}
 use Rattle.refile_command.proofs.Distinct.{IsFilled}
 use Rattle.refile_command.proofs.RefiledOpened.{Leads, leads_on, leave_gives, refused_so, stay_gives}
+use Rattle.command_stages.specs.Endings.{if_room}
 
 -- whether the destinations have room
 abbrev room_end : Option (List ℕ) → Result Unit CommandFault

@@ -27,13 +27,13 @@ use Rattle.opened_folders.proofs.KeptMessages as shown
 use Rattle.opened_folders.proofs.WorkGiven.{IsOpen, WorkEnds, weaker}
 use Rattle.message_moves.specs.declared.destination.Destination.{Destination}
 use Rattle.refile_command.specs.Gathering.{all_begun, all_ended}
-use Rattle.refile_command.specs.MadeFolder.{or_empty}
+use Rattle.opened_folders.specs.MadeFolder.{or_empty}
 use Rattle.refile_command.specs.Refile.{current_if, destination_of, gathered_refiled, names_without, opened_refiled, places_of, refile, refile_chosen, said_refiled, targets_of}
 use Rattle.refile_command.specs.RefileOutcome.{AreHomesOfAll, HomesOfAll, refile_work, said_work, source_work, targets_work}
 use Rattle.refile_command.specs.declared.job.RefileJob.{RefileJob}
 use Rattle.refile_command.proofs.EndedAll.{all_end}
 use Rattle.refile_command.proofs.FolderBegun.{BeginsIn, opens_give}
-use Rattle.refile_command.proofs.FolderMade.{AreBare, folder_or_empty}
+use Rattle.opened_folders.proofs.FolderMade.{AreBare, folder_or_empty}
 use Rattle.refile_command.proofs.MovedShown.{message_shown}
 use Rattle.refile_command.proofs.RefileSilent.{refile_silent}
 use Rattle.refile_command.proofs.RefileChosen.{chosen_give}

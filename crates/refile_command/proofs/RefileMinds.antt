@@ -31,7 +31,7 @@ use Rattle.sequence_commits.specs.Committing.{changed_sequences}
 use Rattle.sequence_commits.specs.RunsOfAll.{set_among}
 use Rattle.sequence_commits.proofs.MarkedOnce.{marked_valid}
 use Rattle.command_stages.specs.Current.{current_change, made_current}
-use Rattle.command_stages.specs.Endings.{of_plan}
+use Rattle.command_stages.specs.Endings.{of_plan, if_room}
 use Rattle.command_stages.specs.Texts.{Commanded}
 use Rattle.message_moves.specs.Copying.{highest_of, messages_copied}
 use Rattle.message_moves.specs.Refiling.{messages_refiled}
@@ -51,7 +51,7 @@ use Rattle.opened_folders.proofs.Meeting.{Meets, meets_bind, meets_end, meets_li
 use Rattle.opened_folders.proofs.ToldMarks.{InListing, told_cur, told_listed}
 use Rattle.opened_folders.proofs.WorkMinds.{Anyhow, current_meets}
 use Rattle.refile_command.specs.Gathering.{Gathered, all_begun, all_ended}
-use Rattle.refile_command.specs.Refile.{current_if, destination_of, gathered_refiled, if_room, messages_left, messages_stay, moved_by, names_source, opened_refiled, places_of, refile, refile_chosen, room_in, said_refiled, unless_source}
+use Rattle.refile_command.specs.Refile.{current_if, destination_of, gathered_refiled, messages_left, messages_stay, moved_by, names_source, opened_refiled, places_of, refile, refile_chosen, room_in, said_refiled, unless_source}
 use Rattle.refile_command.specs.RefileHeld.{TakesUnheld}
 use Rattle.refile_command.specs.RefilePledge.{Withdraws, destinations_of}
 use Rattle.refile_command.specs.Rmm.{withdrawn}
@@ -68,9 +68,9 @@ use Rattle.refile_command.proofs.Meetings.{AnyAsk, meets_okay_both, meets_okay_s
 use Rattle.refile_command.proofs.RefileLets.{destination_goes, lets_source, marks_source, w, withdraws_kept}
 use Rattle.refile_command.proofs.RmmMinds.{withdrawn_member}
 use Rattle.refile_command.proofs.Selected.{chosen_numbers, chosen_rise, listed_one}
-use Rattle.refile_command.proofs.Shown.{AreNumbers}
 use Rattle.refile_command.proofs.StayMinds.{all_copied_meet}
 use Rattle.refile_command.proofs.UnmarkedNumbers.{IsUnmarkedIn, unmarked_of}
+use Rattle.mh_base.proofs.NumberTests.{AreNumbers}
 
 -- the names of the folders that the run begins
 abbrev pub begun_names : RefileJob → List (List ℕ)

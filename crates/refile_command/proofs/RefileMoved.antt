@@ -6,7 +6,7 @@ use Rattle.mh_base.specs.declared.entry.Entry.TheVariants.{Held, Number, Sequenc
 use Rattle.mh_base.proofs.EntryKinds.{kind_of-entry_text}
 use Rattle.mh_sequences.specs.Sequences.{Marked}
 use Rattle.mh_sequences.specs.declared.run.Run.{Run}
-use Rattle.msg_ranges.proofs.Rising.{Rise, lists}
+use Rattle.msg_ranges.proofs.Rising.{Rise, lists, first_of, first_or, rest_of}
 use Rattle.folder_files.specs.Careful.{HasLock}
 use Rattle.folder_files.specs.Deeds.{Deed, did, on, still}
 use Rattle.folder_files.specs.declared.place.Place.{Place}
@@ -52,8 +52,8 @@ use Rattle.refile_command.specs.declared.job.RefileJob.{RefileJob}
 use Rattle.refile_command.specs.declared.job.RmmJob.{RmmJob}
 use Rattle.refile_command.proofs.FolderMarks as folder_marks
 use Rattle.refile_command.proofs.RefileLets.{HasReadOne, In, Known, MayCopy, lets_copy, lets_refile, lets_source, marks_source, p, read_one_kept, w, withdraws_kept}
-use Rattle.refile_command.proofs.Selected.{chosen_rise, first_of, first_or, rest_of}
-use Rattle.refile_command.proofs.Shown.{AreNumbers}
+use Rattle.refile_command.proofs.Selected.{chosen_rise}
+use Rattle.mh_base.proofs.NumberTests.{AreNumbers}
 
 -- ascending numbers of messages are each one once
 pub apart_from : (n : ℕ) (ns : List ℕ) → ((k : ℕ) → lists ns k ≡ true → n < k) → IsNone n ns

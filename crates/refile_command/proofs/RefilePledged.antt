@@ -41,7 +41,7 @@ use Rattle.held_messages.specs.HeldPairs.{held_name}
 use Rattle.held_messages.specs.declared.held.HeldPair.{HeldPair}
 use Rattle.held_messages.proofs.PairLemmas.{IsPair, held_kind}
 use Rattle.sequence_commits.proofs.SequencesPledged.{LeavesText, sequences_name}
-use Rattle.command_stages.specs.Endings.{of_plan}
+use Rattle.command_stages.specs.Endings.{of_plan, if_room}
 use Rattle.command_stages.specs.Texts.{Commanded}
 use Rattle.message_moves.specs.Copying.{highest_of}
 use Rattle.message_moves.specs.declared.destination.Destination.{Destination}
@@ -53,7 +53,7 @@ use Rattle.opened_folders.specs.Opening.{Opened, begun}
 use Rattle.opened_folders.specs.Reads.{HaveSeen}
 use Rattle.opened_folders.proofs.FolderPledged.{HasBegun, seen_kept}
 use Rattle.refile_command.specs.Gathering.{Gathered, all_begun, all_ended}
-use Rattle.refile_command.specs.Refile.{current_if, destination_of, gathered_refiled, if_room, messages_left, messages_stay, moved_by, names_source, opened_refiled, places_of, refile, refile_chosen, room_in, said_refiled, targets_of, unless_source}
+use Rattle.refile_command.specs.Refile.{current_if, destination_of, gathered_refiled, messages_left, messages_stay, moved_by, names_source, opened_refiled, places_of, refile, refile_chosen, room_in, said_refiled, targets_of, unless_source}
 use Rattle.refile_command.specs.RefileDone.{HasRefiledChosen}
 use Rattle.refile_command.specs.RefilePledge.{Withdraws, destinations_of, folders_of}
 use Rattle.refile_command.specs.declared.job.RefileJob.{RefileJob}
@@ -66,7 +66,7 @@ use Rattle.refile_command.proofs.RefileLets.{HasReadOne, In, Known, destination_
 use Rattle.refile_command.proofs.RefileMoved.{HasHeldNone, HasLocks, Moved, To, left_there, refiled_kept, stay_there}
 use Rattle.refile_command.proofs.RmmPledged.{listed_runs}
 use Rattle.refile_command.proofs.Selected.{chosen_numbers}
-use Rattle.refile_command.proofs.Shown.{AreNumbers}
+use Rattle.mh_base.proofs.NumberTests.{AreNumbers}
 
 module _ (run : ℕ) (few : run < 2 ^ 128) (path : List ℕ) (job : RefileJob) where
   abbrev pledge : Pledge

@@ -13,7 +13,7 @@ use Rattle.command_stages.specs.Works.{Work, readable}
 use Rattle.opened_folders.specs.BegunWork.{Homes, after_commits, begun_work, folder_work, runs_in, settled_by, text_work, unless_long}
 use Rattle.opened_folders.specs.Kept.{Commits, Kept, kept_of, sequences_kept}
 use Rattle.message_moves.specs.declared.destination.Destination.{Destination}
-use Rattle.refile_command.specs.MadeFolder.{with_folder_made}
+use Rattle.opened_folders.specs.MadeFolder.{with_folder_made}
 use Rattle.refile_command.specs.MailMoved.{copied_from, gone_from, mail_moved}
 use Rattle.refile_command.specs.Refile.{names_source, names_without, refile_chosen, targets_of}
 use Rattle.refile_command.specs.RefileOutcome.{HomesOfAll, apart_work, first_full, moved_work, refile_work, room_work, said_work, set_work, target_of, targets_work}

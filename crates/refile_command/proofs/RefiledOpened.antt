@@ -48,8 +48,8 @@ use Rattle.refile_command.specs.Rmm.{withdrawn}
 use Rattle.refile_command.proofs.MovedEntries.{moved_entries}
 use Rattle.refile_command.proofs.MovedGiven.{AreReady, Moved, copies_go, messages_go}
 use Rattle.refile_command.proofs.Roomy.{AreRoomy}
-use Rattle.refile_command.proofs.Shown.{AreNumbers}
 use Rattle.refile_command.proofs.Distinct.{IsFilled}
+use Rattle.mh_base.proofs.NumberTests.{AreNumbers}
 
 -- the context is no held message's name
 pub context_unheld : is_held (kind_of context_name) ≡ false

@@ -9,7 +9,7 @@ use Rattle.mh_sequences.specs.Runs.{has, numbers_of}
 use Rattle.mh_sequences.specs.Sequences.{Marked}
 use Rattle.mh_sequences.specs.declared.run.Run.{Run}
 use Rattle.msg_ranges.specs.Selection.{marks_of}
-use Rattle.msg_ranges.proofs.Rising.{Rise, lists, none_below}
+use Rattle.msg_ranges.proofs.Rising.{Rise, lists, none_below, first_of, first_or, rest_of}
 use Rattle.folder_files.specs.Commands.{Removing}
 use Rattle.folder_files.specs.Deeds.{Deed, WasDone, did, last, now, on, still}
 use Rattle.folder_files.proofs.Names.{not_both}
@@ -59,7 +59,7 @@ use Rattle.refile_command.specs.RmmOutcome.{is_among}
 use Rattle.refile_command.specs.RmmPledge.{Removes as TakesAt, RemovesChosen, every_message}
 use Rattle.refile_command.specs.declared.job.RmmJob.{RmmJob}
 use Rattle.refile_command.proofs.RmmPledged.{lets, listed_runs}
-use Rattle.refile_command.proofs.Selected.{chosen_listed, chosen_rise, first_of, first_or, in_runs, rest_of}
+use Rattle.refile_command.proofs.Selected.{chosen_listed, chosen_rise, in_runs}
 
 -- numbers that rise from a later one on are others
 pub later_ones : (first n : ℕ) (ns : List ℕ) → Rise first (n ∷ ns) → (k : ℕ) → lists ns k ≡ true → n ≡ k → ⊥

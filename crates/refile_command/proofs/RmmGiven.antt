@@ -14,7 +14,7 @@ use Rattle.mh_sequences.specs.Reading.{suffix}
 use Rattle.mh_sequences.specs.Runs.{numbers_of}
 use Rattle.mh_sequences.specs.Sequences.{AreSequences, Marked}
 use Rattle.msg_ranges.specs.Selection.{marks_of}
-use Rattle.msg_ranges.proofs.Rising.{Rise, lists, none_below}
+use Rattle.msg_ranges.proofs.Rising.{Rise, lists, none_below, first_of, rest_of}
 use Rattle.folder_files.specs.declared.place.Place.{Place}
 use Rattle.folder_files.specs.declared.place.Place.TheVariants.{Folder, Mail}
 use Rattle.folder_files.proofs.Names.{not_both}
@@ -52,11 +52,12 @@ use Rattle.opened_folders.proofs.WorkGiven.{IsOpen, WorkEnds, changes_give, curr
 use Rattle.refile_command.specs.Rmm.{all_removed, chosen_from, opened_removed, removed_marked, removed_safely, rmm, said_removed, withdrawn}
 use Rattle.refile_command.specs.RmmOutcome.{chosen_work, opened_work, removed_from, rmm_work, without}
 use Rattle.refile_command.specs.declared.job.RmmJob.{RmmJob}
-use Rattle.refile_command.proofs.Selected.{chosen_listed, chosen_numbers, chosen_rise, first_of, rest_of}
-use Rattle.refile_command.proofs.Shown.{AreNumbers, all_at, context_all, removed_at, shows_all, still_one, temp_all, there_all}
+use Rattle.refile_command.proofs.Selected.{chosen_listed, chosen_numbers, chosen_rise}
+use Rattle.refile_command.proofs.Shown.{all_at, context_all, removed_at, shows_all, still_one, temp_all, there_all}
+use Rattle.mh_base.proofs.NumberTests.{AreNumbers}
 
 -- a message that is there by the mailbox is there
-stands_in : (c : Contents) (path folder : List ℕ) (n : ℕ) → is_some (message_at (mailbox_in c) (Folder path folder) n) ≡ true → is_some (c.texts (Folder path folder) (decimal n)) ≡ true
+pub stands_in : (c : Contents) (path folder : List ℕ) (n : ℕ) → is_some (message_at (mailbox_in c) (Folder path folder) n) ≡ true → is_some (c.texts (Folder path folder) (decimal n)) ≡ true
 unfolding mailbox_in entry_text
 stands_in c path folder n e = go (c.there (Folder path folder)) (is_message_number n) e
   where

@@ -10,7 +10,7 @@ use Rattle.mh_sequences.specs.declared.mark.Mark.TheVariants.{Withdraw}
 use Rattle.mh_sequences.specs.Runs.{has, set_of}
 use Rattle.mh_sequences.specs.Sequences.{AreSequences, Marked, member}
 use Rattle.mh_sequences.specs.declared.run.Run.{Run}
-use Rattle.msg_ranges.proofs.Rising.{lists}
+use Rattle.msg_ranges.proofs.Rising.{lists, first_of, rest_of}
 use Rattle.folder_files.specs.Deeds.{Deed, WasDone, did, now, on, still}
 use Rattle.folder_files.specs.Named.{is_backing_up, is_held, is_number}
 use Rattle.folder_files.specs.declared.place.Place.{Place}
@@ -53,8 +53,8 @@ use Rattle.refile_command.specs.HeldLeft.{HasLetGo, RemovesUnheld}
 use Rattle.refile_command.specs.Rmm.{all_removed, chosen_from, opened_removed, removed_marked, removed_safely, rmm, said_removed, withdrawn}
 use Rattle.refile_command.specs.RmmPledge.{rmm_pledge}
 use Rattle.refile_command.specs.declared.job.RmmJob.{RmmJob}
-use Rattle.refile_command.proofs.Selected.{chosen_numbers, first_of, rest_of}
-use Rattle.refile_command.proofs.Shown.{AreNumbers}
+use Rattle.refile_command.proofs.Selected.{chosen_numbers}
+use Rattle.mh_base.proofs.NumberTests.{AreNumbers}
 
 -- the step minds all marks, where no message is held aside when it removes
 abbrev pub MindsUnheld : (List ℕ → Type 0) → ℕ → List Deed → Step → Type 0

@@ -3,7 +3,7 @@ use Rattle.std.proofs.Common.{◌≡◌, ◌≢◌, inl, inr, ◌<◌, ◌≤◌
 use Rattle.std.specs.Prelude.{Contains, not, ◌==◌}
 use Rattle.std.proofs.lemmas.Bool.Decides.{Decides-eqb}
 use Rattle.mh_base.specs.Entries.{entry_text, kind_of}
-use Rattle.mh_base.specs.Numbers.{IsMsgNum}
+use Rattle.mh_base.specs.Numbers.{IsMsgNum, numbers_up}
 use Rattle.mh_base.specs.declared.entry.Entry.{Entry}
 use Rattle.mh_base.specs.declared.entry.Entry.TheVariants.{Backup, Number, Sequences}
 use Rattle.mh_base.proofs.EntryKinds.{kind_of-entry_text}
@@ -58,12 +58,12 @@ use Rattle.opened_folders.proofs.FolderPledged.{HasBegun, seen_kept}
 use Rattle.opened_folders.proofs.WorkPledged.{LetsBegin, begun_keeps, current_goes, sequences_goes, whenever}
 use Rattle.opened_folders.proofs.Listed.{settled_runs}
 use Rattle.refile_command.specs.Rmm.{all_removed, chosen_from, opened_removed, removed_marked, removed_safely, rmm, said_removed, withdrawn}
-use Rattle.refile_command.specs.RmmPledge.{Removes, RemovesChosen, WasChosen, Withdraws, every_message, numbers_up, rmm_pledge}
+use Rattle.refile_command.specs.RmmPledge.{Removes, RemovesChosen, WasChosen, Withdraws, every_message, rmm_pledge}
 use Rattle.refile_command.specs.RmmOutcome.{is_among}
 use Rattle.refile_command.specs.declared.job.RmmJob.{RmmJob}
-use Rattle.refile_command.proofs.Selected.{chosen_numbers, first_of, rest_of}
-use Rattle.refile_command.proofs.Shown.{AreNumbers}
-use Rattle.msg_ranges.proofs.Rising.{lists}
+use Rattle.refile_command.proofs.Selected.{chosen_numbers}
+use Rattle.msg_ranges.proofs.Rising.{lists, first_of, rest_of}
+use Rattle.mh_base.proofs.NumberTests.{AreNumbers}
 
 -- each message number is among all of them
 pub in_up : (n count k : ℕ) → n ≤ k → k < n + count → Contains (numbers_up n count) k

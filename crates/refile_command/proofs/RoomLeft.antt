@@ -14,7 +14,8 @@ use Rattle.step_plans.proofs.Rounds.{next}
 use Rattle.opened_folders.specs.Opening.{Opened}
 use Rattle.message_moves.specs.Copying.{highest_of}
 use Rattle.message_moves.specs.declared.destination.Destination.{Destination}
-use Rattle.refile_command.specs.Refile.{destination_of, greatest_of, if_room, room_in}
+use Rattle.refile_command.specs.Refile.{destination_of, greatest_of, room_in}
+use Rattle.command_stages.specs.Endings.{if_room}
 
 module _ (run : ℕ) (l : List Destination) (i : ℕ) (count : ℕ) {x y : State} {r : Result Unit CommandFault} where
   pub next_room : (to : Destination) → i < length l → to ≡ get_or l i to

@@ -1,10 +1,8 @@
 -- What words choose: ascending numbers of messages that are there.
-use Rattle.std.proofs.Common.{◌≡◌, ◌⊎◌, inl, inr, ℕ, Bool, true, false, List, [], ◌∷◌, Result, Ok, Err, refl, sym, ◌∙◌, ap, subst}
-use Rattle.std.specs.Prelude.{◌==◌, ◌||◌, map}
+use Rattle.std.proofs.Common.{◌≡◌, inl, inr, ℕ, true, false, List, [], ◌∷◌, Result, Ok, Err, sym, ◌∙◌, subst}
+use Rattle.std.specs.Prelude.{◌==◌, map}
 use Rattle.std.specs.List.{list_any}
 use Rattle.std.specs.Str.{encode_utf8_all}
-use Rattle.std.proofs.lemmas.Bool.{eqb-true}
-use Rattle.std.proofs.lemmas.Bool.Decides.{Decides-eqb}
 use Rattle.mh_base.specs.Numbers.{IsMsgNum}
 use Rattle.mh_sequences.specs.Runs.{AreRuns, has, numbers_of}
 use Rattle.mh_sequences.specs.declared.run.Run.{Run}
@@ -13,7 +11,7 @@ use Rattle.msg_ranges.specs.Selected.{all_united, designated, every_number, sele
 use Rattle.msg_ranges.specs.Selecting.{Folder}
 use Rattle.msg_ranges.specs.Selection.{marks_of}
 use Rattle.msg_ranges.specs.declared.fault.SelectFault.{SelectFault}
-use Rattle.msg_ranges.proofs.Rising.{Rise, lists, lists_numbers, rise_filter, rise_runs}
+use Rattle.msg_ranges.proofs.Rising.{Rise, lists, lists_numbers, rise_filter, rise_runs, first_listed, other_listed, first_or}
 use Rattle.msg_ranges.proofs.Selected.{every_runs}
 use Rattle.msg_ranges.proofs.Within.{selected_within}
 use Rattle.sequence_commits.proofs.RunTests.{none_outside}
@@ -22,7 +20,7 @@ use Rattle.opened_folders.proofs.ExistingNumbers.{in_range_or}
 use Rattle.opened_folders.proofs.ChosenListed.{as_selected}
 use Rattle.refile_command.specs.Rmm.{chosen_from}
 use Rattle.refile_command.specs.declared.job.RmmJob.{RmmJob}
-use Rattle.refile_command.proofs.Shown.{AreNumbers}
+use Rattle.mh_base.proofs.NumberTests.{AreNumbers}
 
 selected_rises : (f : Folder) (words : List (List ℕ)) (numbers : List ℕ) → selected f words ≡ Ok numbers → Rise 1 numbers
 selected_rises f words numbers is = go (designated f 0 words) is
@@ -53,36 +51,12 @@ in_runs rs valid n e = elim (in_range_or n) [
   | inr out ↦ absurd (let no : true ≡ false = sym e ∙ none_outside rs n valid out in cc (no))
 ]
 
-first_listed : (n : ℕ) (ns : List ℕ) → lists (n ∷ ns) n ≡ true
-first_listed n ns = ap (λ b. b || lists ns n) ((Decides-eqb n n).1 refl)
-
-other_listed : (m n : ℕ) (ns : List ℕ) → lists ns n ≡ true → lists (m ∷ ns) n ≡ true
-other_listed m n ns e = go (m == n)
-  where
-    go : (b : Bool) → b || lists ns n ≡ true
-    go true = refl
-    go false = e
-
 all_numbers : (ns : List ℕ) → ((n : ℕ) → lists ns n ≡ true → IsMsgNum n) → AreNumbers ns
 all_numbers [] f = tt
 all_numbers (n ∷ ns) f = (f n (first_listed n ns), all_numbers ns (λ m e. f m (other_listed n m ns e)))
 
 pub chosen_numbers : (job : RmmJob) (listing : List Run) (m : Marked) (numbers : List ℕ) → chosen_from job listing m ≡ Ok numbers → AreRuns listing → AreNumbers numbers
 chosen_numbers job listing m numbers is valid = all_numbers numbers (λ n e. in_runs listing valid n (chosen_listed job listing m numbers is n e))
-
--- what holds of each number of a list holds of its first and of each of the others
-pub rest_of : {F : ℕ → Type 0} (n : ℕ) (ns : List ℕ) → ((k : ℕ) → lists (n ∷ ns) k ≡ true → F k) → (k : ℕ) → lists ns k ≡ true → F k
-rest_of n ns f k e = f k (other_listed n k ns e)
-
-pub first_of : {F : ℕ → Type 0} (n : ℕ) (ns : List ℕ) → ((k : ℕ) → lists (n ∷ ns) k ≡ true → F k) → F n
-first_of n ns f = f n (first_listed n ns)
-
-pub first_or : (n k : ℕ) (ns : List ℕ) → lists (n ∷ ns) k ≡ true → (n ≡ k) ⊎ (lists ns k ≡ true)
-first_or n k ns e = go (n == k) refl
-  where
-    go : (b : Bool) → (n == k) ≡ b → (n ≡ k) ⊎ (lists ns k ≡ true)
-    go true same = inl (eqb-true n k same)
-    go false other = inr (ap (λ b. b || lists ns k) (sym other) ∙ e)
 
 -- each of these numbers is a message number
 pub listed_one : (ns : List ℕ) → AreNumbers ns → (k : ℕ) → lists ns k ≡ true → IsMsgNum k

@@ -21,6 +21,7 @@ use Rattle.step_plans.specs.ContextCommit.{context_name}
 use Rattle.held_messages.specs.HeldPairs.{with_folder_changed}
 use Rattle.held_messages.proofs.Shown.{shows_folder, twice_changed, unchanged}
 use Rattle.refile_command.specs.RmmOutcome.{is_among, without}
+use Rattle.mh_base.proofs.NumberTests.{AreNumbers}
 
 -- one message leaves
 abbrev pub removed_at : Bool → Contents → Place → ℕ → Contents
@@ -39,11 +40,6 @@ without_one backup n f = record {
   held = f.held;
   sequences = f.sequences;
 }
-
--- message numbers, all of them
-abbrev pub AreNumbers : List ℕ → Type 0
-AreNumbers [] = Unit {0}
-AreNumbers (n ∷ ns) = IsMsgNum n × AreNumbers ns
 
 module _ (path name : List ℕ) where
   abbrev p : Place

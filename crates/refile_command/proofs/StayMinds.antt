@@ -26,7 +26,7 @@ use Rattle.opened_folders.proofs.Meeting.{Meets, meets_lifted, meets_return, mee
 use Rattle.sequence_commits.proofs.SequencesPledged.{sequences_name}
 use Rattle.refile_command.proofs.ContentMinds.{content_meets}
 use Rattle.refile_command.proofs.CopiesMind.{AllOpen, copies_meet}
-use Rattle.refile_command.proofs.Shown.{AreNumbers}
+use Rattle.mh_base.proofs.NumberTests.{AreNumbers}
 
 module _ (Of : List ℕ → Type 0) (w : Pledge) (path source : List ℕ) (names : List (List ℕ)) (There : List ℕ → Type 0) (ns : List (List ℕ)) (off : (m : List ℕ) → Contains ns m → m ≡ source → ⊥) where
   abbrev p : Place

@@ -31,7 +31,7 @@ use Rattle.message_moves.specs.Copying.{highest_of}
 use Rattle.message_moves.specs.declared.destination.Destination.{Destination}
 use Rattle.message_moves.proofs.RefiledGiven.{IsElsewhere, place_apart}
 use Rattle.refile_command.specs.Gathering.{Gathered, after_one, all_begun}
-use Rattle.refile_command.specs.MadeFolder.{with_folder_made}
+use Rattle.opened_folders.specs.MadeFolder.{with_folder_made}
 use Rattle.refile_command.specs.MailMoved.{message_of}
 use Rattle.refile_command.specs.Refile.{destination_of, greatest_of}
 use Rattle.refile_command.specs.RefileOutcome.{HomesOfAll, target_of, targets_work}
@@ -39,7 +39,7 @@ use Rattle.refile_command.proofs.BegunBeside.{IsBeside}
 use Rattle.refile_command.proofs.Distinct.{AreDistinct, IsAny, IsFilled, NotAmong, any_behind, elsewhere_behind, roomy_behind}
 use Rattle.refile_command.proofs.Greatest.{greatest_low, unlisted}
 use Rattle.refile_command.proofs.FolderBegun.{MakesIn, made_opens}
-use Rattle.refile_command.proofs.FolderMade.{AreBare, shows_folder_made}
+use Rattle.opened_folders.proofs.FolderMade.{AreBare, shows_folder_made}
 use Rattle.refile_command.proofs.MovedShown.{message_shown}
 use Rattle.refile_command.proofs.Roomy.{AreRoomy, IsRoomy, roomy_alike}
 

@@ -1,7 +1,6 @@
 pub mod Gathering
 pub mod Gathers
 pub mod HeldLeft
-pub mod MadeFolder
 pub mod MailMoved
 pub mod Refile
 pub mod RefileAnswers

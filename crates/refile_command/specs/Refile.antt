@@ -16,7 +16,7 @@ use Rattle.step_plans.specs.declared.command_fault.CommandFault.TheVariants as f
 use Rattle.sequence_commits.specs.Committing.{changed_sequences}
 use Rattle.command_stages.specs.Chosen.{chosen_in, folder_with}
 use Rattle.command_stages.specs.Current.{made_current}
-use Rattle.command_stages.specs.Endings.{of_plan}
+use Rattle.command_stages.specs.Endings.{of_plan, if_room}
 use Rattle.command_stages.specs.Texts.{Commanded}
 use Rattle.opened_folders.specs.Opening.{Opened, begun}
 use Rattle.message_moves.specs.Copying.{highest_of, messages_copied}
@@ -61,11 +61,6 @@ destination_of o = record { folder = o.folder; place = o.place; highest = greate
 abbrev pub unless_source : Bool → List ℕ → Commanded Unit
 unless_source true source = Return (Err (fault.Refused (refusal.SameFolder source)))
 unless_source false source = Return (Ok tt)
-
--- so many numbers are free above the highest of this folder
-abbrev pub if_room : Bool → List ℕ → Commanded Unit
-if_room true folder = Return (Ok tt)
-if_room false folder = Return (Err (fault.Refused (refusal.Full folder)))
 
 -- and of each of these; the first that has no room is the one that is refused
 unfoldable pub room_in : List Destination → ℕ → Commanded Unit

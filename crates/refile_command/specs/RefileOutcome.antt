@@ -14,7 +14,7 @@ use Rattle.opened_folders.specs.HomesOf.{homes_at}
 use Rattle.opened_folders.specs.Kept.{Kept, all_made, sequences_kept}
 use Rattle.message_moves.specs.Copying.{highest_of}
 use Rattle.message_moves.specs.declared.destination.Destination.{Destination}
-use Rattle.refile_command.specs.MadeFolder.{or_empty, with_folder_made}
+use Rattle.opened_folders.specs.MadeFolder.{or_empty, with_folder_made}
 use Rattle.refile_command.specs.MailMoved.{copied_from, gone_from, mail_moved}
 use Rattle.refile_command.specs.Refile.{greatest_of, names_source, names_without, refile_chosen, targets_of}
 use Rattle.refile_command.specs.Rmm.{withdrawn}

@@ -1,5 +1,5 @@
 -- The pledge of `rmm`.
-use Rattle.std.specs.Prelude.{◌≡◌, ◌<◌, ◌^◌, ◌+◌, ℕ, zero, suc, true, List, [], ◌∷◌, Ok}
+use Rattle.std.specs.Prelude.{◌≡◌, ◌<◌, ◌^◌, ℕ, true, List, Ok}
 use Rattle.mh_base.specs.Entries.{kind_of}
 use Rattle.mh_base.specs.declared.entry.Entry.TheVariants.{Backup, Number}
 use Rattle.mh_sequences.specs.Sequences.{Marked}
@@ -18,16 +18,12 @@ use Rattle.opened_folders.specs.Reads.{HaveSeen}
 use Rattle.refile_command.specs.Rmm.{chosen_from, withdrawn}
 use Rattle.refile_command.specs.RmmOutcome.{is_among}
 use Rattle.refile_command.specs.declared.job.RmmJob.{RmmJob}
+use Rattle.mh_base.specs.Numbers.{numbers_up}
 
 -- the sequences are without the messages that the job's words choose
 abbrev pub Withdraws : RmmJob → List Run → Marked → Marked → Type 0
 Withdraws job listing m new =
     (numbers : List ℕ) × (chosen_from job listing m ≡ Ok numbers) × (new ≡ withdrawn numbers m)
-
--- so many numbers from this one on
-unfoldable pub numbers_up : ℕ → ℕ → List ℕ
-numbers_up n zero = []
-numbers_up n (suc count) = n ∷ numbers_up (n + 1) count
 
 -- all numbers that a message may have
 abbrev pub every_message : List ℕ

@@ -32,7 +32,8 @@ use Rattle.step_plans.specs.declared.fault.PlanFault.{PlanFault}
 use Rattle.step_plans.proofs.Committed.{CommitEnds, shows_committed}
 use Rattle.sequence_commits.specs.CommittedAlone.{CommitsAlone, CommitsAloneIfTold}
 use Rattle.sequence_commits.specs.Committing.{changed_sequences}
-use Rattle.sequence_commits.specs.PrivateChanges.{entries_seen, private_changes}
+use Rattle.sequence_commits.specs.PrivateChanges.{private_changes}
+use Rattle.mh_profile.specs.Reading.{entries_seen}
 use Rattle.sequence_commits.specs.SequencesChanged.{with_sequences_text}
 use Rattle.sequence_commits.specs.Telling.{same_told}
 use Rattle.sequence_commits.proofs.NeverFailed.{changed_clean}

@@ -17,7 +17,8 @@ use Rattle.step_plans.specs.Replacing.{replaced}
 use Rattle.step_plans.specs.declared.fault.PlanFault.TheVariants as fault
 use Rattle.step_plans.proofs.Asks.{Commits, asks_commit, asks_replaced}
 use Rattle.sequence_commits.specs.Committing.{changed_sequences, committed_unless, entries_committed, sequences_replaced, told_committed}
-use Rattle.sequence_commits.specs.PrivateChanges.{changes_to, entries_seen}
+use Rattle.sequence_commits.specs.PrivateChanges.{changes_to}
+use Rattle.mh_profile.specs.Reading.{entries_seen}
 use Rattle.sequence_commits.specs.Telling.{same_told}
 
 module _ (P : Step → Type 0) (run : ℕ) (p mail : Place) (of_text : Commits P p (entry_text Sequences)) (of_context : Commits P mail context_name) where

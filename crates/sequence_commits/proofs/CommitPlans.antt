@@ -19,7 +19,8 @@ use Rattle.step_plans.specs.Replacing.{replaced}
 use Rattle.step_plans.specs.declared.fault.PlanFault.{PlanFault}
 use Rattle.step_plans.specs.declared.fault.PlanFault.TheVariants as fault
 use Rattle.sequence_commits.specs.Committing.{sequences_replaced, entries_committed, sequences_committed, committed_unless, changed_sequences}
-use Rattle.sequence_commits.specs.PrivateChanges.{changes_to, entries_seen}
+use Rattle.sequence_commits.specs.PrivateChanges.{changes_to}
+use Rattle.mh_profile.specs.Reading.{entries_seen}
 use Rattle.sequence_commits.specs.Telling.{same_entries, tells}
 
 -- a text that is too long

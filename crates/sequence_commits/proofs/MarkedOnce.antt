@@ -127,3 +127,9 @@ marked_is mark m h v = record {
   public = λ t n is. public_together (λ s. marked mark s (member m.users s)) (λ s. marked_public mark s (public_of m.users s)) (name_in_mark mark ++ names_of m.users) t n is;
   cur = refl;
 }
+
+-- all marks leave sequences in order
+pub all_valid : (marks : List Mark) (m : Marked) → AreSequences m.users → AreSequences (marked_by_all marks m).users
+unfolding marked_by_all
+all_valid [] m f = f
+all_valid (mark ∷ marks) m f = all_valid marks (marked_by mark m) (marked_valid mark m)

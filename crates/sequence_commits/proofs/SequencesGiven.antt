@@ -1,7 +1,7 @@
 -- What a commit of a folder's sequences makes of contents, alone and beside others.
 use Rattle.std.proofs.Common.{◌≡◌, ◌⊎◌, inl, inr, ◌<◌, ◌^◌, ◌&&◌, ℕ, Bool, true, false, List, length, Option, Some, None, Result, Ok, Err, refl, sym, ◌∙◌, ap, subst, nat_lt}
 use Rattle.std.specs.Prelude.{if◌then◌else◌}
-use Rattle.mh_profile.specs.Reading.{entries_in}
+use Rattle.mh_profile.specs.Reading.{entries_in, entries_seen}
 use Rattle.mh_profile.specs.declared.named_value.NamedValue.{NamedValue}
 use Rattle.mh_sequences.specs.Printing.{private_entries, text_of}
 use Rattle.mh_sequences.specs.Reading.{suffix}
@@ -23,7 +23,7 @@ use Rattle.step_plans.specs.declared.fault.PlanFault.TheVariants as fault
 use Rattle.step_plans.proofs.Committed.{CommitEnds, Knows, entries_at, made_gives}
 use Rattle.step_plans.proofs.Replaced.{Left, Leaves, Fails, replaced_gives}
 use Rattle.sequence_commits.specs.Committing.{sequences_replaced, entries_committed, told_committed, committed_unless, changed_sequences}
-use Rattle.sequence_commits.specs.PrivateChanges.{changes_to, entries_seen}
+use Rattle.sequence_commits.specs.PrivateChanges.{changes_to}
 use Rattle.sequence_commits.specs.Telling.{same_told}
 use Rattle.sequence_commits.proofs.SequencesPledged.{sequences_name}
 use Rattle.sequence_commits.proofs.SequencesShown.{sequences_no_temp, context_apart}

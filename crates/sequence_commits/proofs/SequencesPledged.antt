@@ -31,7 +31,8 @@ use Rattle.step_plans.proofs.Pledged.{HasMarked, Of, Changed, after_written, rep
 use Rattle.step_plans.proofs.Stepping.{goes_end, goes_return}
 use Rattle.step_plans.proofs.Written.{Serves}
 use Rattle.sequence_commits.specs.Committing.{sequences_replaced, entries_committed, told_committed, committed_unless, changed_sequences}
-use Rattle.sequence_commits.specs.PrivateChanges.{changes_to, entries_seen}
+use Rattle.sequence_commits.specs.PrivateChanges.{changes_to}
+use Rattle.mh_profile.specs.Reading.{entries_seen}
 use Rattle.sequence_commits.specs.Telling.{same_told}
 
 -- the name of the text of a folder's sequences

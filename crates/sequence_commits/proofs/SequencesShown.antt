@@ -1,6 +1,6 @@
 -- A new text of a folder's sequences shows as that, and nothing else changes.
 use Rattle.std.proofs.Common.{◌≡◌, ◌&&◌, ℕ, Bool, true, false, List, Some, None, refl, sym, ◌∙◌, ap, bytes_eq}
-use Rattle.std.specs.Prelude.{option_map, codes, if◌then◌else◌}
+use Rattle.std.specs.Prelude.{option_map, if◌then◌else◌}
 use Rattle.mh_base.specs.Entries.{IsEntry, kind_of, entry_text}
 use Rattle.mh_base.specs.declared.entry.Entry.{Entry}
 use Rattle.mh_base.specs.declared.entry.Entry.TheVariants.{Number, Backup, Held, Sequences}
@@ -15,9 +15,7 @@ use Rattle.file_plans.specs.Mailboxes.{where_mail}
 use Rattle.file_plans.proofs.Showing.{numbered_same, held_same}
 use Rattle.sequence_commits.specs.SequencesChanged.{folder_with_sequences, with_sequences_text}
 use Rattle.sequence_commits.proofs.SequencesPledged.{sequences_name}
-
-abbrev pub context_name : List ℕ
-context_name = codes "context"
+use Rattle.step_plans.specs.ContextCommit.{context_name}
 
 sequences_kind : kind_of sequences_name ≡ Sequences
 sequences_kind = kind_of-entry_text Sequences tt

@@ -11,7 +11,8 @@ use Rattle.file_plans.specs.Mailboxes.{Mailbox, text_in}
 use Rattle.file_plans.specs.Plan.{Hand}
 use Rattle.step_plans.specs.ContextCommitted.{IsContextCommitted, KnowsContext}
 use Rattle.step_plans.specs.Hands.{temp_name}
-use Rattle.sequence_commits.specs.PrivateChanges.{entries_seen, private_changes}
+use Rattle.sequence_commits.specs.PrivateChanges.{private_changes}
+use Rattle.mh_profile.specs.Reading.{entries_seen}
 use Rattle.sequence_commits.specs.SequencesChanged.{with_sequences_text}
 use Rattle.sequence_commits.specs.Telling.{same_told}
 

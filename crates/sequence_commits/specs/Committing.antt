@@ -16,7 +16,8 @@ use Rattle.step_plans.specs.Replacing.{replaced}
 use Rattle.step_plans.specs.declared.fault.PlanFault.TheVariants as fault
 use Rattle.sequence_commits.specs.Cutting.{cut_to}
 use Rattle.sequence_commits.specs.Marking.{marked_by_all}
-use Rattle.sequence_commits.specs.PrivateChanges.{changes_to, entries_seen}
+use Rattle.sequence_commits.specs.PrivateChanges.{changes_to}
+use Rattle.mh_profile.specs.Reading.{entries_seen}
 use Rattle.sequence_commits.specs.Telling.{same_told}
 
 -- the text takes the place of the folder's, where it is not too long

@@ -1,5 +1,5 @@
 -- The changes of the context that write a folder's private sequences.
-use Rattle.std.specs.Prelude.{ℕ, ◌&&◌, Bool, not, List, [], ◌++◌, Option, None, Some, filter, map}
+use Rattle.std.specs.Prelude.{ℕ, ◌&&◌, Bool, not, List, ◌++◌, None, Some, filter, map}
 use Rattle.mh_profile.specs.declared.named_value.NamedValue.{NamedValue}
 use Rattle.mh_profile.specs.Validity.{has_name}
 use Rattle.mh_sequences.specs.Printing.{private_entries}
@@ -30,8 +30,3 @@ changes_to ending kept entries = map given kept ++ map gone (filter (is_left_ove
 -- the changes that write the private sequences of a folder, where the context has these entries
 abbrev pub private_changes : List ℕ → List Sequence → List NamedValue → List ChangeEntry
 private_changes folder users entries = changes_to (suffix folder) (private_entries (suffix folder) users) entries
-
--- the entries of the context that a run last read or wrote; none where it has seen none
-abbrev pub entries_seen : Option (List NamedValue) → List NamedValue
-entries_seen None = []
-entries_seen (Some es) = es

@@ -5,7 +5,8 @@ ghost use Rattle.mh_profile.specs.Validity.{IsEntry};
 ghost use Rattle.mh_sequences.specs.Reading.{suffix};
 ghost use Rattle.step_plans.specs.ContextCommit.{AreChanges};
 ghost use Rattle.sequence_commits.specs.FolderEntries.{set_all};
-ghost use Rattle.sequence_commits.specs.PrivateChanges.{changes_to, entries_seen, entry_names, given, gone, is_left_over};
+ghost use Rattle.sequence_commits.specs.PrivateChanges.{changes_to, entry_names, given, gone, is_left_over};
+ghost use Rattle.mh_profile.specs.Reading.{entries_seen};
 
 use crate::ending::{ending_of, is_of_folder};
 use mh_base::{Bytes, Duplicate, FolderName};

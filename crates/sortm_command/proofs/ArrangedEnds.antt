@@ -1,8 +1,7 @@
 -- How it ends that messages of a folder change places, and what shows it.
-use Rattle.std.proofs.Common.{◌≡◌, ◌⊎◌, inl, inr, ◌<◌, ◌≤◌, ◌+◌, ◌-◌, ◌^◌, ◌++◌, ◌∷◌, [], max, nat_le, ℕ, zero, suc, Bool, true, false, List, Option, Some, None, Result, Ok, Err, length, refl, sym, ◌∙◌, ap, subst, arith, append-nil, append_assoc}
+use Rattle.std.proofs.Common.{◌≡◌, ◌⊎◌, inl, inr, ◌<◌, ◌≤◌, ◌+◌, ◌-◌, ◌^◌, ◌++◌, ◌∷◌, [], max, ℕ, zero, suc, true, false, List, Option, Some, None, Result, Ok, Err, length, refl, sym, ◌∙◌, ap, subst, arith, append-nil, append_assoc}
 use Rattle.std.specs.Prelude.{decimal}
 use Rattle.std.specs.List.{last_or}
-use Rattle.std.proofs.lemmas.Bool.Decides.{nat_tests}
 use Rattle.mh_base.specs.Entries.{entry_text, kind_of}
 use Rattle.mh_base.specs.Numbers.{IsMsgNum}
 use Rattle.mh_base.specs.declared.entry.Entry.TheVariants.{Held, Number}
@@ -37,17 +36,7 @@ use Rattle.message_places.specs.declared.moves.Move.{Move}
 use Rattle.message_places.proofs.ArrangedGiven.{last_none}
 use Rattle.message_places.proofs.NumberLists.{in_cases, in_good, in_head, in_tail}
 use Rattle.refile_command.proofs.RmmEnds.{number_names}
-
--- the greater of two numbers is one of them
-greater_is : (C : ℕ → Type 0) (a b : ℕ) → C a → C b → C (max a b)
-greater_is C a b x y = go (nat_le a b) (at (nat_le a b) refl)
-  where
-    at : (v : Bool) → nat_le a b ≡ v → (v ≡ true → max a b ≡ b) × (v ≡ false → max a b ≡ a)
-    at v e = ((λ f. let l : a ≤ b = grind (arith, nat_tests, e ∙ f) in omega (arith, l)), (λ f. let l : b ≤ a = grind (arith, nat_tests, e ∙ f) in omega (arith, l)))
-
-    go : (v : Bool) → (v ≡ true → max a b ≡ b) × (v ≡ false → max a b ≡ a) → C (max a b)
-    go true f = subst C (sym (f.0 refl)) y
-    go false f = subst C (sym (f.1 refl)) x
+use Rattle.mh_base.proofs.NumberTests.{greater_is}
 
 -- that the last number is taken lasts, and is so where a link met it
 module _ (run : ℕ) (few : run < 2 ^ 128) (path folder : List ℕ) (Top : List Deed → Type 0) (lasts : KeptBy AnyStep Top) (tops : (own : List Deed) → HasMetAt (Folder path folder) 999999 own → Top own) where

@@ -44,7 +44,7 @@ use Rattle.held_messages.proofs.Telling.{highest_small}
 use Rattle.held_messages.proofs.Tops.{highest_above}
 use Rattle.marks_law.specs.Apart as apart
 use Rattle.marks_law.specs.Minding.{Sees, listed}
-use Rattle.sequence_marks.specs.SequenceMarks.{says_private, says_public}
+use Rattle.sequence_marks.specs.SequenceMarks.{says_private}
 use Rattle.sequence_commits.specs.Committing.{cut_committed}
 use Rattle.sequence_commits.specs.Reading.{sequences_in}
 use Rattle.sequence_commits.proofs.ReadOnce.{read_is, read_valid}
@@ -61,14 +61,7 @@ use Rattle.opened_folders.proofs.SettledSeen.{AbsentFrom, HasSettled, number_ran
 use Rattle.opened_folders.proofs.ToldMarks.{read_cur, told_cur, told_valid}
 use Rattle.refile_command.proofs.Meetings.{AnyAsk}
 use Rattle.sortm_command.proofs.MarksKnown.{KnowsMarks, ReadSo, changed_known}
-
--- what a text marks, and what a context does, is a member of what both tell
-read_marks : (text context folder sequence : List ℕ) (n : ℕ) → says_public sequence text n ≡ true → member (sequences_in text (entries_in context) folder).users sequence n ≡ true
-read_marks text context folder sequence n e =
-    let parts = both (is_seq_name sequence) (lists_public (fields_of text) sequence n) e in
-    (read_is text (entries_in context) folder).numbers sequence n
-    ∙ and_both (is_seq_name sequence) (lists_public (fields_of text) sequence n || lists_private (entries_in context) (suffix folder) sequence n) parts.0
-    (ap (λ b. b || lists_private (entries_in context) (suffix folder) sequence n) parts.1)
+use Rattle.opened_folders.proofs.BaseMarks.{read_marks}
 
 read_private : (text context folder sequence : List ℕ) (n : ℕ) → says_private folder sequence context n ≡ true → member (sequences_in text (entries_in context) folder).users sequence n ≡ true
 read_private text context folder sequence n e =

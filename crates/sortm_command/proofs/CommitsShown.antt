@@ -1,19 +1,16 @@
 -- How a command's commits of sequences end that it makes after its deeds, and messages that change places, and what shows it.
 use Rattle.std.specs.Prelude.{nat_lt}
-use Rattle.std.proofs.Common.{◌≡◌, ◌⊎◌, inl, inr, ◌==◌, ◌||◌, ◌<◌, ◌-◌, ◌^◌, ◌∷◌, [], Bool, true, false, ℕ, zero, suc, List, Result, Ok, Err, length, get_or, refl, sym, ◌∙◌, ap, subst, arith}
-use Rattle.std.proofs.lemmas.Bool.Decides.{Decides-eqb}
-use Rattle.std.proofs.lemmas.Option.{unwrap_or-slice_get}
+use Rattle.std.proofs.Common.{◌≡◌, ◌⊎◌, inl, inr, ◌<◌, ◌-◌, ◌^◌, ◌∷◌, [], true, ℕ, List, Result, Ok, Err, length, refl, sym, subst}
 use Rattle.mh_base.specs.Entries.{entry_text, kind_of}
 use Rattle.mh_base.specs.Numbers.{IsMsgNum}
 use Rattle.mh_base.specs.declared.entry.Entry.TheVariants.{Number}
 use Rattle.mh_base.proofs.EntryKinds.{kind_of-entry_text}
 use Rattle.mh_profile.specs.declared.named_value.NamedValue.{NamedValue}
-use Rattle.mh_sequences.specs.Runs.{has, numbers_of}
+use Rattle.mh_sequences.specs.Runs.{has}
 use Rattle.mh_sequences.specs.Sequences.{Marked}
 use Rattle.mh_sequences.specs.declared.run.Run.{Run}
 use Rattle.mh_sequences.specs.Printing.{private_entries, text_of}
 use Rattle.mh_sequences.specs.Reading.{suffix}
-use Rattle.msg_ranges.proofs.Rising.{lists, lists_numbers}
 use Rattle.folder_files.specs.Careful.{HasLock}
 use Rattle.folder_files.specs.Commands.{Marking}
 use Rattle.folder_files.specs.Deeds.{Deed, Once, WasDone, did, now, on, still}
@@ -57,30 +54,8 @@ use Rattle.opened_folders.proofs.NumbersStay.{takes_none}
 use Rattle.opened_folders.proofs.SequencesEnd.{Left, changed_comes}
 use Rattle.opened_folders.proofs.SettledEnds.{Shown}
 use Rattle.opened_folders.proofs.WorkPledged.{LetsBegin, sequences_goes, whenever}
-use Rattle.sortm_command.specs.Moving.{last_in}
 use Rattle.sortm_command.specs.MovesDone.{AllSettled, HasSettled}
 use Rattle.sortm_command.proofs.ArrangedEnds as moving
-use Rattle.sortm_command.proofs.ArrangedEnds.{arranged_comes}
-
-pub first_listed : (n : ℕ) (ns : List ℕ) → lists (n ∷ ns) n ≡ true
-first_listed n ns = ap (λ b. b || lists ns n) ((Decides-eqb n n).1 refl)
-
-pub other_listed : (m n : ℕ) (ns : List ℕ) → lists ns n ≡ true → lists (m ∷ ns) n ≡ true
-other_listed m n ns e = go (m == n)
-  where
-    go : (b : Bool) → b || lists ns n ≡ true
-    go true = refl
-    go false = e
-
--- a number of a list that is not 0 stands there
-stands_at : (ns : List ℕ) (i : ℕ) → get_or ns i 0 ≡ 999999 → lists ns 999999 ≡ true
-stands_at [] i e = absurd (omega (arith, e))
-stands_at (n ∷ ns) zero e = subst (λ k. lists (n ∷ ns) k ≡ true) e (first_listed n ns)
-stands_at (n ∷ ns) (suc i) e = other_listed n 999999 ns (stands_at ns i e)
-
--- where the last of a listing is the last number, a message has that
-pub last_listed : (listing : List Run) → last_in listing ≡ 999999 → has listing 999999 ≡ true
-last_listed listing e = sym (lists_numbers listing 999999) ∙ stands_at (numbers_of listing) (length (numbers_of listing) - 1) (sym (unwrap_or-slice_get (numbers_of listing) (length (numbers_of listing) - 1) 0) ∙ e)
 
 -- what settled had moved
 once_moved : (run : ℕ) (p : Place) (from end : ℕ) {P : Deed → Type 0} (own : List Deed) → Once (λ e before. P e × HasMoved run p from end before) own → HasMoved run p from end own

@@ -16,7 +16,6 @@ pub mod MarksKnown
 pub mod MoveLets
 pub mod MovesMade
 pub mod MovesMind
-pub mod Numbered
 pub mod OrderMoves
 pub mod OrderStands
 pub mod PlacesGiven
@@ -33,7 +32,6 @@ pub mod SortLets
 pub mod SortMinds
 pub mod SortPledged
 pub mod Sorted
-pub mod Values
 pub mod Withdrawing
 pub mod WorkDone
 pub mod Zipped

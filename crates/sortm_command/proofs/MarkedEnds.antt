@@ -1,6 +1,6 @@
 -- How it ends that messages of a folder get other numbers and their marks go along, and what shows it.
 use Rattle.std.proofs.Common.{◌≡◌, inl, inr, ◌<◌, ◌^◌, ◌∷◌, [], true, ℕ, List, Option, Result, Ok, Err, refl}
-use Rattle.mh_sequences.specs.Runs.{AreRuns}
+use Rattle.mh_sequences.specs.Runs.{AreRuns, last_in}
 use Rattle.mh_sequences.specs.declared.run.Run.{Run}
 use Rattle.mh_sequences.specs.Sequences.{Marked}
 use Rattle.folder_files.specs.Deeds.{Deed, WasDone, on}
@@ -25,13 +25,12 @@ use Rattle.opened_folders.specs.Reads.{HaveSeen}
 use Rattle.opened_folders.proofs.CleanRuns.{comes_both}
 use Rattle.opened_folders.proofs.FolderPledged.{seen_kept}
 use Rattle.opened_folders.proofs.SequencesEnd.{Left}
-use Rattle.sortm_command.specs.Marking.{gone_along, withdrawn}
+use Rattle.sortm_command.specs.Marking.{gone_along}
 use Rattle.sortm_command.proofs.ArrangedDone as settling
 use Rattle.sortm_command.proofs.ArrangedDone.{arranged_settles}
 use Rattle.sortm_command.proofs.ArrangedEnds as moving
 use Rattle.sortm_command.proofs.ArrangedEnds.{arranged_comes}
-use Rattle.sortm_command.specs.Moving.{last_in, marked_moved, moved_if}
-use Rattle.sortm_command.proofs.Listed.{last_small}
+use Rattle.sortm_command.specs.Moving.{marked_moved, moved_if}
 use Rattle.sortm_command.proofs.CommitsShown as commits
 use Rattle.sortm_command.proofs.CommitsShown.{Commits}
 use Rattle.sortm_command.specs.MovePledge.{MovesMarks}
@@ -41,6 +40,8 @@ use Rattle.folder_files.specs.Careful.{HasLock}
 use Rattle.step_plans.specs.Commits.{IsBase}
 use Rattle.sequence_commits.proofs.SequencesPledged.{sequences_name}
 use Rattle.sortm_command.specs.MovesDone.{AllSettled}
+use Rattle.refile_command.proofs.Lasts.{last_small}
+use Rattle.refile_command.specs.Rmm.{withdrawn}
 
 module _ (shown : Commits) where
   abbrev run : ℕ

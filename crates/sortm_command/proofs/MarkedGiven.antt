@@ -28,12 +28,14 @@ use Rattle.opened_folders.specs.Kept.{Commits, Kept, kept_of, sequences_kept}
 use Rattle.opened_folders.specs.Opening.{Opened, opened_of}
 use Rattle.opened_folders.proofs.KeptGiven.{Ends, Holds, IsClear}
 use Rattle.opened_folders.proofs.WorkGiven.{IsOpen, sequences_give}
-use Rattle.sortm_command.specs.Marking.{gone_along, withdrawn}
+use Rattle.sortm_command.specs.Marking.{gone_along}
 use Rattle.sortm_command.specs.MarksAlong.{marks_along, then_commits}
-use Rattle.sortm_command.specs.Moving.{last_in, marked_moved, moved_if}
+use Rattle.sortm_command.specs.Moving.{marked_moved, moved_if}
+use Rattle.mh_sequences.specs.Runs.{last_in}
 use Rattle.sortm_command.proofs.Cleared.{unheld}
-use Rattle.sortm_command.proofs.Listed.{last_small}
 use Rattle.sortm_command.proofs.PlacesGiven.{Stands, StandsSo, stands_give}
+use Rattle.refile_command.proofs.Lasts.{last_small}
+use Rattle.refile_command.specs.Rmm.{withdrawn}
 
 then_all : (c : Commits) (next : Kept → Commits) → c.long ≡ None → then_commits c next ≡ next c.kept
 then_all c next none = rw none refl

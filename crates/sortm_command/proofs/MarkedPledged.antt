@@ -51,7 +51,6 @@ use Rattle.refile_command.proofs.RmmPledged.{listed_runs}
 use Rattle.sortm_command.proofs.ArrangedDone as settling
 use Rattle.sortm_command.proofs.ArrangedDone.{arranged_settles}
 use Rattle.sortm_command.proofs.HeldNone.{Spares, begins_sparing, none_kept, spared_of}
-use Rattle.sortm_command.proofs.Listed.{last_small}
 use Rattle.sortm_command.proofs.SafeCommits.{Stands, goes_comes, okay_both, stands_go}
 use Rattle.opened_folders.specs.FolderPledge.{folder_pledge}
 use Rattle.opened_folders.proofs.FolderPledged.{Begins}
@@ -59,10 +58,13 @@ use Rattle.opened_folders.proofs.WorkPledged as work
 use Rattle.opened_folders.proofs.WorkPledged.{LetsBegin}
 use Rattle.message_moves.proofs.MovePledged.{LetsTake}
 use Rattle.refile_command.proofs.BeginsAsks.{asks_begun}
-use Rattle.sortm_command.specs.Marking.{gone_along, withdrawn}
+use Rattle.sortm_command.specs.Marking.{gone_along}
 use Rattle.sortm_command.specs.MovePledge.{AreToldWithout, HasCommitted, MovesMarks}
 use Rattle.sortm_command.specs.MovesDone.{AllSettled, IsReplaced, MarksWent}
-use Rattle.sortm_command.specs.Moving.{last_in, marked_moved, moved_if}
+use Rattle.sortm_command.specs.Moving.{marked_moved, moved_if}
+use Rattle.mh_sequences.specs.Runs.{last_in}
+use Rattle.refile_command.proofs.Lasts.{last_small}
+use Rattle.refile_command.specs.Rmm.{withdrawn}
 
 module _ (run : ℕ) (few : run < 2 ^ 128) (path folder : List ℕ) (Makes : List Deed → List Run → Marked → Marked → Type 0) (Tells : List Deed → List ℕ → Type 0) (So : List Deed → Step → Type 0)
     (lets : LetsBegin path folder (Sorting path folder every_message) So) (makes_kept : (listing : List Run) (m new : Marked) → KeptBy AnyStep (λ own. Makes own listing m new)) where

@@ -5,7 +5,7 @@ use Rattle.mh_base.specs.Numbers.{IsMsgNum}
 use Rattle.mh_base.specs.declared.entry.Entry.TheVariants.{Sequences}
 use Rattle.mh_base.proofs.EntryKinds.{kind_of-entry_text}
 use Rattle.mh_profile.specs.Printing.{printed}
-use Rattle.mh_profile.specs.Reading.{entries_in}
+use Rattle.mh_profile.specs.Reading.{entries_in, entries_seen}
 use Rattle.mh_profile.specs.declared.named_value.NamedValue.{NamedValue}
 use Rattle.mh_profile.proofs.ValidLemmas.{entries_valid}
 use Rattle.mh_sequences.specs.Names.{is_seq_name}
@@ -44,7 +44,7 @@ use Rattle.marks_law.specs.Apart.{IsFree}
 use Rattle.marks_law.specs.Apart as apart
 use Rattle.sequence_marks.specs.SequenceMarks.{private_marks, says_private, says_public}
 use Rattle.sequence_commits.specs.Committing.{changed_sequences, committed_unless, entries_committed, sequences_replaced, told_committed}
-use Rattle.sequence_commits.specs.PrivateChanges.{changes_to, entries_seen}
+use Rattle.sequence_commits.specs.PrivateChanges.{changes_to}
 use Rattle.sequence_commits.specs.Telling.{same_told}
 use Rattle.sequence_commits.proofs.ChangesTo.{are_changes}
 use Rattle.sequence_commits.proofs.SequencesPledged.{LeavesText, entries_leave, sequences_name}

@@ -1,5 +1,5 @@
 -- What the pledge of a command that gives messages other numbers lets its steps be.
-use Rattle.std.proofs.Common.{◌≡◌, inl, inr, ◌<◌, ◌^◌, ℕ, true, false, List, [], ◌∷◌, sym, ◌∙◌, ap, subst, arith}
+use Rattle.std.proofs.Common.{◌≡◌, inl, inr, ◌<◌, ◌^◌, ℕ, List, [], ◌∷◌, sym, ◌∙◌, ap, subst, arith}
 use Rattle.mh_base.specs.Entries.{entry_text, kind_of}
 use Rattle.mh_base.specs.Numbers.{IsMsgNum}
 use Rattle.mh_base.specs.declared.entry.Entry.TheVariants.{Number}
@@ -9,12 +9,9 @@ use Rattle.mh_sequences.specs.declared.run.Run.{Run}
 use Rattle.folder_files.specs.Careful.{WasGivenAway}
 use Rattle.folder_files.specs.Commands.{Sorting}
 use Rattle.folder_files.specs.Deeds.{Deed, on}
-use Rattle.folder_files.specs.Named.{is_committed, is_held, is_temp}
-use Rattle.folder_files.specs.Standing.{is_standing}
 use Rattle.folder_files.specs.declared.place.Place.{Place}
 use Rattle.folder_files.specs.declared.place.Place.TheVariants.{Folder}
 use Rattle.folder_files.specs.declared.step.Step.{Step}
-use Rattle.folder_files.proofs.Names.{held_stands, is_committed_quiet, is_temp_unheld, not_both}
 use Rattle.file_plans.proofs.Framing.{AnyStep}
 use Rattle.step_plans.proofs.Lasting.{KeptBy}
 use Rattle.message_moves.proofs.MovePledged.{LetsTake, taking}
@@ -27,13 +24,7 @@ use Rattle.refile_command.specs.RmmPledge.{every_message}
 use Rattle.refile_command.proofs.RmmPledged.{in_up}
 use Rattle.sortm_command.specs.MovePledge.{MovesMarks, MovesSo, Taking, WasWithdrawn}
 use Rattle.sortm_command.specs.MovesDone.{MarksWent}
-
--- a temporary name, and one that is committed, holds no message aside
-temp_unheld : (temp held : List ℕ) → is_temp (kind_of temp) ≡ true → temp ≡ held → is_held (kind_of held) ≡ true → ⊥
-temp_unheld temp held is same other = not_both (is_held (kind_of held)) other (subst (λ z. is_held (kind_of z) ≡ false) same (is_temp_unheld temp is))
-
-pub committed_unheld : (q : Place) (name held : List ℕ) → is_committed q name ≡ true → name ≡ held → is_held (kind_of held) ≡ true → ⊥
-committed_unheld q name held is same other = let e = is_committed_quiet q name is in let f = held_stands held other in absurd (let no : true ≡ false = sym f ∙ (ap (λ z. is_standing z) (sym same) ∙ e) in cc (no))
+use Rattle.refile_command.proofs.RefileLets.{temp_unheld, committed_unheld}
 
 module _ (run : ℕ) (path folder : List ℕ) where
   abbrev p : Place

@@ -1,5 +1,5 @@
 -- Moves, and what they come to, one after another.
-use Rattle.std.proofs.Common.{◌≡◌, ◌≢◌, ◌<◌, ◌≤◌, ◌+◌, ◌==◌, ℕ, Bool, true, false, List, [], ◌∷◌, ◌++◌, length, drop, get_or, min, refl, sym, ap, ◌∙◌, arith, add-one, append_assoc, append-nil, drop-cons, ⊎_elim}
+use Rattle.std.proofs.Common.{◌≡◌, ◌≢◌, ◌<◌, ◌≤◌, ◌+◌, ◌==◌, ℕ, Bool, true, false, List, [], ◌∷◌, ◌++◌, length, drop, get_or, min, refl, sym, ap, ◌∙◌, arith, append_assoc, append-nil, ⊎_elim}
 use Rattle.std.specs.Prelude.{if◌then◌else◌}
 use Rattle.std.proofs.lemmas.Bool.{cases_lt}
 use Rattle.std.proofs.lemmas.Bool.Decides.{nat_tests}
@@ -12,12 +12,10 @@ use Rattle.file_plans.specs.Plan.{Return}
 use Rattle.std.specs.Prelude.{Ok}
 use Rattle.mh_sequences.specs.Sequences.{Marked}
 use Rattle.sortm_command.specs.Moving.{marked_moved, moved_if, sequences_after}
+use Rattle.step_plans.proofs.Rounds.{next}
 
 abbrev pair_with : Bool → ℕ → ℕ → List Move → List Move
 pair_with b n s ms = if b then ms else record { from = n; slot = s } ∷ ms
-
-next : (l : List ℕ) (i x : ℕ) → i < length l → x ≡ get_or l i x → drop i l ≡ x ∷ drop (i + 1) l
-next l i x h is = drop-cons l i x h ∙ (λ j. sym is j ∷ drop (sym (add-one i) j) l)
 
 both : (ns ss : List ℕ) (i n s : ℕ) → i < min (length ns) (length ss) → n ≡ get_or ns i n → s ≡ get_or ss i s → moves_of (drop i ns) (drop i ss) ≡ pair_with (n == s) n s (moves_of (drop (i + 1) ns) (drop (i + 1) ss))
 both ns ss i n s h en es = λ j. moves_of (next ns i n (omega (arith, h)) en j) (next ss i s (omega (arith, h)) es j)

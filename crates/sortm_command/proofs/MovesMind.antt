@@ -1,17 +1,15 @@
 -- Messages that change places mind the marks of all sequences.
-use Rattle.std.proofs.Common.{◌≡◌, ◌⊎◌, inl, inr, ◌<◌, ◌≤◌, ◌+◌, ◌-◌, ◌^◌, ◌==◌, ◌&&◌, ◌||◌, ◌∷◌, [], ℕ, zero, suc, Bool, true, false, List, Option, Some, None, Ok, length, get_or, refl, sym, ◌∙◌, subst, arith}
+use Rattle.std.proofs.Common.{◌≡◌, ◌⊎◌, inl, inr, ◌<◌, ◌≤◌, ◌-◌, ◌^◌, ◌==◌, ◌&&◌, ◌||◌, ◌∷◌, [], ℕ, Bool, true, false, List, Option, Some, None, Ok, length, refl, sym, ◌∙◌, subst, arith}
 use Rattle.std.specs.Prelude.{IfSome, if◌then◌else◌, not}
 use Rattle.std.specs.List.{list_any}
-use Rattle.std.proofs.lemmas.Option.{unwrap_or-slice_get}
 use Rattle.mh_base.specs.Entries.{kind_of}
 use Rattle.mh_base.specs.Numbers.{IsMsgNum}
 use Rattle.mh_base.specs.declared.entry.Entry.TheVariants.{Number}
 use Rattle.mh_sequences.specs.Marks.{moved_cur, moved_to}
-use Rattle.mh_sequences.specs.Runs.{AreRuns, has, numbers_of, set_of}
+use Rattle.mh_sequences.specs.Runs.{AreRuns, has, set_of, last_in}
 use Rattle.mh_sequences.specs.Sequences.{AreSequences, Marked, member}
 use Rattle.mh_sequences.specs.declared.mark.Mark.TheVariants.{Move as Moves, Withdraw}
 use Rattle.mh_sequences.specs.declared.run.Run.{Run}
-use Rattle.msg_ranges.proofs.Rising.{Rise, lists, lists_numbers, rise_runs}
 use Rattle.folder_files.specs.Deeds.{Deed}
 use Rattle.folder_files.specs.declared.place.Place.{Place}
 use Rattle.folder_files.specs.declared.place.Place.TheVariants.{Folder, Mail}
@@ -40,40 +38,11 @@ use Rattle.opened_folders.proofs.CommitMinds.{Facts, IsTold, Within, changed_mee
 use Rattle.opened_folders.proofs.Meeting.{Meets, meets_okay, meets_return, meets_then}
 use Rattle.opened_folders.proofs.ToldMarks.{InListing, told_cur, told_listed, told_valid}
 use Rattle.refile_command.proofs.Meetings.{AnyAsk, meets_okay_both}
-use Rattle.refile_command.proofs.Selected.{first_or}
-use Rattle.sortm_command.specs.Marking.{gone_along, pairs_of, withdrawn}
-use Rattle.sortm_command.specs.Moving.{last_in, marked_moved, moved_if}
-use Rattle.sortm_command.proofs.Listed.{last_small}
+use Rattle.sortm_command.specs.Marking.{gone_along, pairs_of}
+use Rattle.sortm_command.specs.Moving.{marked_moved, moved_if}
 use Rattle.sortm_command.proofs.MarksKnown.{KnowsMarks, changed_known}
-
--- the last of rising numbers is the greatest
-top_at : (low : ℕ) (ns : List ℕ) (i : ℕ) → i + 1 ≡ length ns → Rise low ns → (k : ℕ) → lists ns k ≡ true → k ≤ get_or ns i 0
-top_at low [] i e rise k l = cc (l)
-top_at low (n ∷ []) zero e rise k l = elim (first_or n k [] l) [ inl same ↦ omega (arith, same) | inr there ↦ cc (there) ]
-top_at low (n ∷ []) (suc i) e rise k l = absurd (omega (arith, e))
-top_at low (n ∷ (m ∷ ms)) zero e rise k l = absurd (omega (arith, e))
-top_at low (n ∷ (m ∷ ms)) (suc i) e rise k l = elim (first_or n k (m ∷ ms) l) [
-  | inl same ↦ (let next = rise.1.0 in let top = top_at (n + 1) (m ∷ ms) i (omega (arith, e)) rise.1 m (in_head m ms) in omega (arith, same, next, top))
-  | inr there ↦ top_at (n + 1) (m ∷ ms) i (omega (arith, e)) rise.1 k there
-]
-
-some_there : (ns : List ℕ) (k : ℕ) → lists ns k ≡ true → (length ns - 1) + 1 ≡ length ns
-some_there [] k l = cc (l)
-some_there (n ∷ ns) k l = omega arith
-
--- no message above the last of a listing was listed
-none_above : (listing : List Run) → AreRuns listing → (j : ℕ) → last_in listing < j → has listing j ≡ false
-none_above listing runs j lt = by_bool (has listing j) there_is (λ e. e)
-  where
-    ns : List ℕ
-    ns = numbers_of listing
-
-    there_is : has listing j ≡ true → has listing j ≡ false
-    there_is e =
-        let there : lists ns j ≡ true = lists_numbers listing j ∙ e in
-        let top : j ≤ get_or ns (length ns - 1) 0 = top_at 1 ns (length ns - 1) (some_there ns j there) (rise_runs 1 listing runs) j there in
-        let last : last_in listing ≡ get_or ns (length ns - 1) 0 = unwrap_or-slice_get ns (length ns - 1) 0 in
-        absurd (omega (arith, lt, top, last))
+use Rattle.refile_command.proofs.Lasts.{last_small, none_above}
+use Rattle.refile_command.specs.Rmm.{withdrawn}
 
 -- a mark that went along with a message stands where this ended
 came_there : (ms : List Move) (ends : List ℕ) (old : ℕ → Bool) (n : ℕ) → list_any (λ p. n == p.to && old p.from) (pairs_of ms ends) ≡ true → is_in n ends ≡ true

@@ -10,7 +10,7 @@ use Rattle.message_order.specs.Dates.{later}
 use Rattle.message_order.specs.Order.{comes_before}
 use Rattle.message_places.specs.Places.{AreDistinct, AreMsgNums, froms, is_in, slots}
 use Rattle.message_places.specs.declared.moves.Move.{Move}
-use Rattle.message_places.proofs.InOrder.{froms_distinct, froms_good, moves_permute, slot_in, slots_distinct, slots_good}
+use Rattle.message_places.proofs.InOrder.{froms_distinct, froms_good, moves_permute, slot_in, slots_distinct, slots_good, suc_same}
 use Rattle.message_places.proofs.Permuted.{same_distinct, same_good, same_many, same_members}
 use Rattle.sortm_command.specs.Keys.{date_key, text_key}
 use Rattle.sortm_command.specs.Ordered.{filled_behind, in_order, order_by_dates, order_by_texts, date_cmp, sorted, text_cmp}
@@ -22,9 +22,6 @@ use Rattle.sortm_command.proofs.Sorted.{sorted_permutes}
 in_order_permutes : {K : Type 0} (cmp : K → K → Ordering) (keyed : List (K × ℕ)) → IsPermutation (map (λ x. x.1) keyed) (in_order cmp keyed)
 unfolding in_order
 in_order_permutes cmp keyed = IsPermutation-map (λ x. x.1) keyed (sorted (comes_before cmp) keyed) (sorted_permutes (comes_before cmp) keyed)
-
-suc_same : (a b : ℕ) → suc a ≡ suc b → a ≡ b
-suc_same a b e = cc
 
 seconds : {A : Type 0} (xs : List A) (ys : List ℕ) → length xs ≡ length ys → map (λ x. x.1) (zip xs ys) ≡ ys
 seconds [] [] e = refl

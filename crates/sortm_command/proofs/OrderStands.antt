@@ -1,18 +1,15 @@
 -- Messages that were moved by the moves of an order stand at their slots in that order.
-use Rattle.std.proofs.Common.{◌≡◌, ◌==◌, ◌&&◌, ◌||◌, ℕ, suc, Bool, true, false, List, [], ◌∷◌, None, length, refl, sym, ◌∙◌, ap, subst}
+use Rattle.std.proofs.Common.{◌≡◌, ◌==◌, ◌&&◌, ◌||◌, ℕ, Bool, true, false, List, [], ◌∷◌, None, length, refl, sym, ◌∙◌, ap, subst}
 use Rattle.std.specs.Prelude.{if◌then◌else◌}
 use Rattle.folder_files.proofs.Names.{num_same, or_false}
 use Rattle.file_plans.specs.Mailboxes.{Folder}
 use Rattle.message_places.specs.Order.{StandInOrder, moves_of}
 use Rattle.message_places.specs.Places.{AreDistinct, froms, is_in, rearranged, slots}
-use Rattle.message_places.proofs.InOrder.{from_in, slot_in, stand_in_order}
+use Rattle.message_places.proofs.InOrder.{from_in, slot_in, stand_in_order, suc_same}
 use Rattle.message_places.proofs.NumberLists.{none_in}
 use Rattle.message_places.proofs.Standing.{others_stay}
 use Rattle.sortm_command.specs.SortOutcome.{comes_from, in_order_at}
 use Rattle.sortm_command.proofs.Cleared.{unheld}
-
-suc_same : (a b : ℕ) → suc a ≡ suc b → a ≡ b
-suc_same a b e = cc
 
 -- at a number that is no slot the same message stands
 stays_at : (ns ss : List ℕ) (k : ℕ) → is_in k ss ≡ false → comes_from ns ss k ≡ k

@@ -1,16 +1,15 @@
 -- What it gives alone that messages come to stand at other numbers.
-use Rattle.std.proofs.Common.{◌≡◌, ◌<◌, ◌≤◌, ◌^◌, ℕ, Bool, true, false, List, [], ◌∷◌, Option, Some, None, Result, Ok, Err, refl, sym, ◌∙◌, ap, subst, bytes_eq}
-use Rattle.std.specs.Prelude.{decimal, is_some, option_map, if◌then◌else◌}
+use Rattle.std.proofs.Common.{◌≡◌, ◌<◌, ◌≤◌, ◌^◌, ℕ, Bool, true, false, List, [], ◌∷◌, Some, None, Result, Ok, Err, refl, sym, ◌∙◌, ap, subst, bytes_eq}
+use Rattle.std.specs.Prelude.{decimal, is_some}
 use Rattle.mh_base.specs.Entries.{kind_of}
 use Rattle.folder_files.specs.Named.{is_held, is_number, is_temp}
-use Rattle.folder_files.specs.Places.{same_place}
 use Rattle.folder_files.specs.declared.place.Place.{Place}
 use Rattle.folder_files.specs.declared.place.Place.TheVariants.{Folder, Mail}
 use Rattle.folder_files.proofs.Names.{bytes_true, is_temp_unheld, is_temp_unnumbered, not_both}
 use Rattle.folder_files.proofs.Sameness.{place_is}
 use Rattle.file_plans.specs.Contents.{Contents, mailbox_in, with_text}
 use Rattle.file_plans.specs.Giving.{Gives}
-use Rattle.file_plans.specs.Mailboxes.{Folder as FolderValue, Mailbox}
+use Rattle.file_plans.specs.Mailboxes.{Folder as FolderValue}
 use Rattle.file_plans.specs.Plan.{Hand}
 use Rattle.file_plans.specs.Views.{Hidden, Listed, Seen, View, by_view}
 use Rattle.file_plans.proofs.Giving.{gives_more}
@@ -30,14 +29,15 @@ use Rattle.message_places.specs.Places.{AreDistinct, AreMsgNums, froms, is_in, r
 use Rattle.message_places.specs.declared.moves.Move.{Move}
 use Rattle.message_places.proofs.ArrangedGiven as giving
 use Rattle.message_places.proofs.ArrangedGiven.{arranged_gives, arranged_in}
-use Rattle.message_places.proofs.ArrangedShown.{shows_arranged}
+use Rattle.message_places.proofs.ArrangedShown.{shows_arranged, slots_free}
 use Rattle.message_places.proofs.AsideNames.{aside_of, asides, asides_are, names_one, somes}
 use Rattle.message_places.proofs.NumberLists.{in_head, in_tail}
-use Rattle.message_places.proofs.SlotsGiven.{AllFree, Halts}
-use Rattle.message_places.proofs.TakenGiven.{AllStand, aside_foreign, aside_in, aside_number, aside_there}
+use Rattle.message_places.proofs.SlotsGiven.{Halts}
+use Rattle.message_places.proofs.TakenGiven.{AllStand, aside_foreign, aside_in, aside_there}
 use Rattle.refile_command.proofs.ViewsAlike.{gives_alike}
 use Rattle.sortm_command.proofs.Cleared.{aside_cleared, cleared, cleared_free, shows_cleared, unheld}
 use Rattle.sortm_command.proofs.HandSame.{arranged_same}
+use Rattle.held_messages.proofs.Shown.{changed_twice}
 
 -- other names of the folder stay as they are
 linked_foreign : (p : Place) (hs : List HeldPair) (ends : List ℕ) → AreEnds hs (somes ends) → (c : Contents) (x : List ℕ) → is_number (kind_of x) ≡ false → (linked_in c p hs (somes ends)).texts p x ≡ c.texts p x
@@ -59,15 +59,6 @@ dropped_other p [] pairs ends e c x other = refl
 dropped_other p (h ∷ hs) pairs [] e c x other = absurd e
 dropped_other p (h ∷ hs) pairs (y ∷ ends) e c x other = dropped_other p hs pairs.1 ends e.1 (with_text c p (held_name h) None) x other ∙ rw (place_is p, unheld_name h pairs.0 x other) refl
 
--- where the slots are old numbers or free ones, all are free once the messages are held aside
-slots_free : (p : Place) (run : ℕ) → run < 2 ^ 128 → (takes : List ℕ) → AreMsgNums takes → (c : Contents) (ss : List ℕ) → AreMsgNums ss → ((k : ℕ) → is_in k ss ≡ true → is_in k takes ≡ false → c.texts p (decimal k) ≡ None) → AllFree (aside_in c p run takes) p ss
-slots_free p run few takes ok c [] good free = tt
-slots_free p run few takes ok c (s ∷ ss) good free = (aside_number p run few takes ok c s good.0 ∙ go (is_in s takes) refl, slots_free p run few takes ok c ss good.1 (λ k e. free k (in_tail s k ss e)))
-  where
-    go : (b : Bool) → is_in s takes ≡ b → (if b then None else c.texts p (decimal s)) ≡ None
-    go true e = refl
-    go false e = free s (in_head s ss) e
-
 all_stand : (c : Contents) (p : Place) (ns : List ℕ) → ((k : ℕ) → is_in k ns ≡ true → is_some (c.texts p (decimal k)) ≡ true) → AllStand c p ns
 all_stand c p [] f = tt
 all_stand c p (n ∷ ns) f = (f n (in_head n ns), all_stand c p ns (λ k e. f k (in_tail n k ns e)))
@@ -75,15 +66,6 @@ all_stand c p (n ∷ ns) f = (f n (in_head n ns), all_stand c p ns (λ k e. f k 
 -- a view that has seen of each name that it is there
 abbrev all_listed : Seen
 all_listed = record { names = λ q x. Listed; places = λ q. false; files = λ f. Hidden }
-
--- changes one after another
-changed_twice : (m : Mailbox) (p : Place) (f g : FolderValue → FolderValue) → with_folder_changed (with_folder_changed m p f) p g ≡ with_folder_changed m p (λ x. g (f x))
-changed_twice m p f g = λ i. record { folders = λ q. at (same_place p q) (m.folders q) i; home = m.home; work = m.work; context = m.context; outside = m.outside }
-  where
-    at : (b : Bool) (o : Option FolderValue) → (if b then option_map g (if b then option_map f o else o) else (if b then option_map f o else o)) ≡ (if b then option_map (λ x. g (f x)) o else o)
-    at true None = refl
-    at true (Some x) = refl
-    at false o = refl
 
 -- moves of different messages of a folder, to different numbers; these numbers are taken, and the folder is so then
 module _ (run : ℕ) (few : run < 2 ^ 128) (path folder : List ℕ) (takes : List ℕ) (good_takes : AreMsgNums takes) (takes_distinct : AreDistinct takes) (ms : List Move) (good_froms : AreMsgNums (froms ms)) (froms_distinct : AreDistinct (froms ms))

@@ -1,9 +1,9 @@
 -- What is read of messages alone: their bytes, or the length of the first that is too long.
-use Rattle.std.proofs.Common.{◌≡◌, ◌++◌, ◌∷◌, [], ℕ, Bool, true, false, List, Option, Some, None, Result, Ok, Err, refl, sym, ◌∙◌, ap, subst, length, map, nat_lt, append-nil, append_assoc}
+use Rattle.std.proofs.Common.{◌≡◌, ◌++◌, ◌∷◌, [], ℕ, Bool, true, false, List, Some, None, Result, Ok, Err, refl, sym, ◌∙◌, ap, subst, length, map, nat_lt, append-nil, append_assoc}
 use Rattle.std.specs.Prelude.{decimal, is_some, if◌then◌else◌}
 use Rattle.mh_base.specs.Entries.{entry_text}
 use Rattle.mh_base.specs.declared.entry.Entry.TheVariants.{Number}
-use Rattle.msg_ranges.proofs.Rising.{lists}
+use Rattle.msg_ranges.proofs.Rising.{lists, first_of, rest_of}
 use Rattle.folder_files.specs.Steps.{read_file_answer}
 use Rattle.folder_files.specs.declared.place.Place.{Place}
 use Rattle.folder_files.specs.declared.step.Answer.{Answer}
@@ -20,7 +20,6 @@ use Rattle.step_plans.specs.CommandFaults.{of_stop}
 use Rattle.step_plans.specs.ContextCommit.{LIMIT_BYTES}
 use Rattle.step_plans.specs.declared.command_fault.CommandFault.{CommandFault}
 use Rattle.command_stages.specs.Texts.{too_large}
-use Rattle.refile_command.proofs.Selected.{first_of, rest_of}
 use Rattle.sortm_command.specs.Keys.{date_key, text_key}
 use Rattle.sortm_command.specs.Ordered.{order_by_dates, order_by_texts}
 use Rattle.sortm_command.specs.Reading.{date_order_read, keys_read, message_by, message_read, order_read, text_order_read}
@@ -28,10 +27,8 @@ use Rattle.sortm_command.specs.SortMoves.{order_by}
 use Rattle.sortm_command.specs.SortOutcome.{first_long}
 use Rattle.sortm_command.specs.declared.job.SortKey.{SortKey}
 use Rattle.sortm_command.specs.declared.job.SortKey.TheVariants as key
-
-some_of : (o : Option (List ℕ)) → is_some o ≡ true → (b : List ℕ) × (o ≡ Some b)
-some_of None e = cc (e)
-some_of (Some b) e = (b, refl)
+use Rattle.refile_command.proofs.MovedGiven.{some_of}
+use Rattle.message_moves.proofs.MoveGiven.{not_gone_read}
 
 content_is : (bytes b : List ℕ) → answer.Content b ≡ read_file_answer LIMIT_BYTES (Some bytes) → (nat_lt LIMIT_BYTES (length bytes) ≡ false) × (b ≡ bytes)
 content_is bytes b e = go (nat_lt LIMIT_BYTES (length bytes)) refl e
@@ -46,13 +43,6 @@ long_is bytes l e = go (nat_lt LIMIT_BYTES (length bytes)) refl e
     go : (v : Bool) → nat_lt LIMIT_BYTES (length bytes) ≡ v → answer.Long l ≡ (if v then answer.Long (length bytes) else answer.Content bytes) → (nat_lt LIMIT_BYTES (length bytes) ≡ true) × (l ≡ length bytes)
     go true w f = (w, (let same : l ≡ length bytes = cc (f) in same))
     go false w f = absurd (cc (f))
-
-not_gone_read : (bytes : List ℕ) → answer.Gone ≡ read_file_answer LIMIT_BYTES (Some bytes) → ⊥
-not_gone_read bytes e = go (nat_lt LIMIT_BYTES (length bytes)) e
-  where
-    go : (v : Bool) → answer.Gone ≡ (if v then answer.Long (length bytes) else answer.Content bytes) → ⊥
-    go true e = cc
-    go false e = cc
 
 number_same : (n : ℕ) → entry_text (Number n) ≡ decimal n
 unfolding entry_text

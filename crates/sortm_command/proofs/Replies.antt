@@ -1,9 +1,10 @@
 -- What stands behind the marks of replies.
 use Rattle.std.proofs.Common.{◌≡◌, ◌≤◌, ℕ, zero, suc, true, List, [], ◌∷◌, length, drop, refl, ◌∙◌, arith, length-drop}
 use Rattle.std.specs.List.{prefix_len}
-use Rattle.message_order.specs.Texts.{IsBehindReplies, begins_reply, behind_mark, is_blank}
+use Rattle.message_order.specs.Texts.{IsBehindReplies, begins_reply, behind_mark}
 use Rattle.message_order.specs.Texts.IsBehindReplies.{none, one}
 use Rattle.sortm_command.specs.Keys.{behind_replies, behind_up_to}
+use Rattle.mh_base.specs.Characters.{is_blank}
 
 shorter : (text : List ℕ) (n : ℕ) → begins_reply text ≡ true → length text ≤ suc n → length (behind_mark text) ≤ n
 shorter [] n e h = absurd (cc e)

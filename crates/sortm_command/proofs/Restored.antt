@@ -15,7 +15,8 @@ use Rattle.sequence_commits.specs.Marking.{marked_by, marked_by_all}
 use Rattle.sequence_commits.specs.RunsOfAll.{set_among}
 use Rattle.sequence_commits.proofs.MarkedOnce.{marked_is, marked_valid}
 use Rattle.sequence_commits.proofs.RunTests.{all_runs}
-use Rattle.sortm_command.specs.Marking.{set_again, withdrawn}
+use Rattle.sortm_command.specs.Marking.{set_again}
+use Rattle.refile_command.specs.Rmm.{withdrawn}
 
 -- what these sequences get back, after other marks
 abbrev again : List Sequence → Marked → Marked

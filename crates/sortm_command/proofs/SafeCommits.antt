@@ -32,7 +32,8 @@ use Rattle.step_plans.proofs.Pledged.{Changed, IsPledged, Known, Of}
 use Rattle.step_plans.proofs.Stepping.{goes_return}
 use Rattle.step_plans.proofs.Written.{Serves}
 use Rattle.sequence_commits.specs.Committing.{changed_sequences, committed_unless, entries_committed, sequences_replaced, told_committed}
-use Rattle.sequence_commits.specs.PrivateChanges.{changes_to, entries_seen}
+use Rattle.sequence_commits.specs.PrivateChanges.{changes_to}
+use Rattle.mh_profile.specs.Reading.{entries_seen}
 use Rattle.sequence_commits.specs.Telling.{same_told}
 use Rattle.sequence_commits.proofs.SequencesPledged.{CommittedOrSame, MayReplace, changed_goes, entries_go, sequences_name, text_goes}
 use Rattle.sortm_command.specs.MovePledge.{HasCommitted}

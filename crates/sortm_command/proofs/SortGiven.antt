@@ -1,9 +1,8 @@
 -- What `sortm` gives alone: what it comes to on the mailbox that it finds.
-use Rattle.std.proofs.Common.{◌≡◌, ◌<◌, ◌^◌, ℕ, suc, Bool, true, false, List, [], ◌∷◌, Option, Some, None, Result, Ok, Err, length, map, refl, sym, ◌∙◌, ap, subst}
-use Rattle.std.specs.Prelude.{decimal, is_some, if◌then◌else◌}
+use Rattle.std.proofs.Common.{◌≡◌, ◌<◌, ◌^◌, ℕ, suc, true, List, [], ◌∷◌, Option, Some, None, Result, Ok, Err, length, map, refl, sym, ◌∙◌, ap, subst}
+use Rattle.std.specs.Prelude.{decimal, is_some}
 use Rattle.std.specs.List.{list_all}
 use Rattle.mail_headers.specs.Lines.{is_name_byte}
-use Rattle.mh_base.specs.Entries.{entry_text}
 use Rattle.mh_base.specs.Folders.{is_folder_name}
 use Rattle.mh_profile.specs.declared.named_value.NamedValue.{NamedValue}
 use Rattle.mh_sequences.specs.Reading.{suffix}
@@ -14,9 +13,8 @@ use Rattle.msg_ranges.proofs.Rising.{lists}
 use Rattle.folder_files.specs.declared.place.Place.{Place}
 use Rattle.folder_files.specs.declared.place.Place.TheVariants.{Folder, Mail}
 use Rattle.folder_files.proofs.Names.{not_both}
-use Rattle.file_plans.specs.Contents.{Contents, filled, folder_at, mailbox_in}
+use Rattle.file_plans.specs.Contents.{Contents, filled, mailbox_in}
 use Rattle.file_plans.specs.Giving.{Gives}
-use Rattle.file_plans.specs.Mailboxes.{is_message_number}
 use Rattle.file_plans.specs.Plan.{Hand, Plan, after, bind, converted, lifted, ◌>>=◌}
 use Rattle.file_plans.specs.Views.{View, by_view}
 use Rattle.file_plans.proofs.Giving.{gives_more, gives_on}
@@ -46,7 +44,6 @@ use Rattle.opened_folders.proofs.KeptMessages.{message_at, message_of, sequences
 use Rattle.opened_folders.proofs.WorkGiven.{IsOpen, WorkEnds, changes_give, current_gives, lifted_gives, weaker}
 use Rattle.refile_command.specs.MailMoved as mail_moved
 use Rattle.refile_command.proofs.MovedShown.{message_shown}
-use Rattle.sortm_command.specs.Marking.{withdrawn}
 use Rattle.sortm_command.specs.Reading.{order_read}
 use Rattle.sortm_command.specs.Sort.{chosen_from, chosen_sorted, opened_sorted, places_changed, sortm}
 use Rattle.sortm_command.specs.SortMoves.{order_by}
@@ -59,31 +56,14 @@ use Rattle.sortm_command.proofs.OrderMoves.{order_distinct, order_many, order_me
 use Rattle.sortm_command.proofs.OrderStands.{in_order_so}
 use Rattle.sortm_command.proofs.ReadGiven as reading
 use Rattle.sortm_command.proofs.ReadGiven.{order_gives}
-
--- a message that is there by the mailbox is there
-stands_in : (c : Contents) (path folder : List ℕ) (n : ℕ) → is_some (message_at (mailbox_in c) (Folder path folder) n) ≡ true → is_some (c.texts (Folder path folder) (decimal n)) ≡ true
-unfolding mailbox_in entry_text
-stands_in c path folder n e = go (c.there (Folder path folder)) (is_message_number n) e
-  where
-    within : (b : Bool) (o : Option (List ℕ)) → is_some (if b then o else None) ≡ true → is_some o ≡ true
-    within true o e = e
-    within false o e = cc (e)
-
-    go : (b v : Bool) → is_some (message_of (if b then Some (folder_at c (Folder path folder)) else None) n) ≡ true → is_some (c.texts (Folder path folder) (decimal n)) ≡ true
-    go true v e = within (is_message_number n) (c.texts (Folder path folder) (decimal n)) e
-    go false v e = cc (e)
+use Rattle.refile_command.specs.Rmm.{withdrawn}
+use Rattle.refile_command.proofs.RefiledOpened.{after_all, after_long}
+use Rattle.refile_command.proofs.RmmGiven.{stands_in}
 
 -- the end of work that says nothing
 long_silent : (o : Option ℕ) (k : Kept) (next : Kept → Work CommandFault) → (next k).text ≡ [] → (unless_long o k next).text ≡ []
 long_silent None k next f = f
 long_silent (Some l) k next f = refl
-
--- what the definitions come to
-after_all : (c : Commits) (next : Kept → Work CommandFault) → c.long ≡ None → after_commits c next ≡ next c.kept
-after_all c next none = rw none refl
-
-after_long : (c : Commits) (next : Kept → Work CommandFault) (l : ℕ) → c.long ≡ Some l → after_commits c next ≡ refused_at c.kept.mailbox (too_large l)
-after_long c next l some = rw some refl
 
 mapped_many : {A B : Type 0} (f : A → B) (xs : List A) → length (map f xs) ≡ length xs
 mapped_many f [] = refl

@@ -26,7 +26,8 @@ use Rattle.sortm_command.specs.SortMoves.{moves_by, read_on}
 use Rattle.sortm_command.specs.declared.job.SortJob.{SortJob}
 use Rattle.sortm_command.proofs.ArrangedDone.{settled_kept}
 use Rattle.sortm_command.proofs.MoveLets as moving
-use Rattle.sortm_command.proofs.MoveLets.{committed_unheld, marks_kept, may_take, moves_marks_kept, taken_number}
+use Rattle.sortm_command.proofs.MoveLets.{marks_kept, may_take, moves_marks_kept, taken_number}
+use Rattle.refile_command.proofs.RefileLets.{committed_unheld}
 
 module _ (run : ℕ) (few : run < 2 ^ 128) (path : List ℕ) (job : SortJob) where
   abbrev w : Pledge

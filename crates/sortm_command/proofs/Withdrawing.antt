@@ -5,7 +5,7 @@ use Rattle.mh_sequences.specs.Sequences.{Marked}
 use Rattle.mh_sequences.specs.declared.mark.Mark.TheVariants.{Withdraw}
 use Rattle.sequence_commits.specs.Marking.{marked_by_all}
 use Rattle.sequence_commits.specs.RunsOfAll.{set_among}
-use Rattle.sortm_command.specs.Marking.{withdrawn}
+use Rattle.refile_command.specs.Rmm.{withdrawn}
 
 pub one_withdrawn : (numbers : List ℕ) (m : Marked) → marked_by_all (Withdraw (set_of (set_among numbers) 0) ∷ []) m ≡ withdrawn numbers m
 unfolding marked_by_all

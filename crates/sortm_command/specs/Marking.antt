@@ -4,19 +4,14 @@ use Rattle.std.specs.List.{zip}
 use Rattle.mh_sequences.specs.Runs.{set_of}
 use Rattle.mh_sequences.specs.Sequences.{Marked, Sequence}
 use Rattle.mh_sequences.specs.declared.mark.Mark.{Mark}
-use Rattle.mh_sequences.specs.declared.mark.Mark.TheVariants.{Move as Moves, Set, Withdraw}
+use Rattle.mh_sequences.specs.declared.mark.Mark.TheVariants.{Move as Moves, Set}
 use Rattle.mh_sequences.specs.declared.mark.Pair.{Pair}
 use Rattle.message_places.specs.declared.moves.Move.{Move}
 use Rattle.sequence_commits.specs.Marking.{marked_by}
-use Rattle.sequence_commits.specs.RunsOfAll.{set_among}
 
 -- the number that each message had, and the one that it has now
 abbrev pub pairs_of : List Move → List ℕ → List Pair
 pairs_of ms ends = map (λ x. record { from = x.0.from; to = x.1 }) (zip ms ends)
-
--- no sequence has these messages
-abbrev pub withdrawn : List ℕ → Marked → Marked
-withdrawn numbers m = marked_by (Withdraw (set_of (set_among numbers) 0)) m
 
 -- where each message has the number beside it, the marks go with their messages, and so does the current message
 abbrev pub gone_along : List Move → List ℕ → Marked → Marked

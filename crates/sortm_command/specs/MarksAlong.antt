@@ -5,7 +5,8 @@ use Rattle.mh_sequences.specs.Sequences.{Marked}
 use Rattle.message_places.specs.Places.{slots}
 use Rattle.message_places.specs.declared.moves.Move.{Move}
 use Rattle.opened_folders.specs.Kept.{Commits, Kept, all_made, sequences_kept, too_long}
-use Rattle.sortm_command.specs.Marking.{gone_along, withdrawn}
+use Rattle.sortm_command.specs.Marking.{gone_along}
+use Rattle.refile_command.specs.Rmm.{withdrawn}
 
 -- how it goes on after commits: not at all where a text was too long
 abbrev pub unless_too_long : Option ℕ → Kept → (Kept → Commits) → Commits

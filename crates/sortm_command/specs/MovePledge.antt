@@ -20,7 +20,8 @@ use Rattle.message_places.specs.declared.moves.Move.{Move}
 use Rattle.sequence_commits.specs.Telling.{same_told}
 use Rattle.opened_folders.specs.FolderPledge.{told_within}
 use Rattle.opened_folders.specs.Reads.{HaveSeen}
-use Rattle.sortm_command.specs.Marking.{gone_along, withdrawn}
+use Rattle.sortm_command.specs.Marking.{gone_along}
+use Rattle.refile_command.specs.Rmm.{withdrawn}
 
 -- the sequences are without the messages of these numbers; or, once each of the moves' messages has gone to a number,
 -- their marks have gone along

@@ -10,8 +10,9 @@ use Rattle.message_places.specs.Arranging.{aside_name}
 use Rattle.message_places.specs.Moved.{HasMoved}
 use Rattle.message_places.specs.declared.moves.Move.{Move}
 use Rattle.sequence_commits.specs.Telling.{same_told}
-use Rattle.sortm_command.specs.Marking.{gone_along, withdrawn}
+use Rattle.sortm_command.specs.Marking.{gone_along}
 use Rattle.sortm_command.specs.MovePledge.{WasCommitted}
+use Rattle.refile_command.specs.Rmm.{withdrawn}
 
 -- the run held the message of this number aside, gave it that one and made the folder safe; then its held name went,
 -- and the run made that safe too

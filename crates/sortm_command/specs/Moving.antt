@@ -1,7 +1,6 @@
 -- The plan by which messages of a folder get other numbers, and their marks go with them.
-use Rattle.std.specs.Prelude.{ℕ, ◌-◌, List, [], ◌∷◌, length, slice_get, unwrap_or, Ok}
-use Rattle.mh_sequences.specs.declared.run.Run.{Run}
-use Rattle.mh_sequences.specs.Runs.{numbers_of}
+use Rattle.std.specs.Prelude.{ℕ, List, [], ◌∷◌, Ok}
+use Rattle.mh_sequences.specs.Runs.{last_in}
 use Rattle.mh_sequences.specs.Sequences.{Marked}
 use Rattle.folder_files.specs.declared.place.Place.{Place}
 use Rattle.file_plans.specs.Plan.{Return, ◌>>=◌}
@@ -10,11 +9,8 @@ use Rattle.message_places.specs.Arranging.{arranged}
 use Rattle.message_places.specs.declared.moves.Move.{Move}
 use Rattle.sequence_commits.specs.Committing.{changed_sequences}
 use Rattle.opened_folders.specs.Opening.{Opened}
-use Rattle.sortm_command.specs.Marking.{gone_along, withdrawn}
-
--- the last of these numbers, or 0 where there is none
-abbrev pub last_in : List Run → ℕ
-last_in listing = unwrap_or (slice_get (numbers_of listing) (length (numbers_of listing) - 1)) 0
+use Rattle.sortm_command.specs.Marking.{gone_along}
+use Rattle.refile_command.specs.Rmm.{withdrawn}
 
 -- the messages of these numbers leave all sequences, and that is committed
 abbrev pub marks_withdrawn : ℕ → Place → Opened → List ℕ → Planned Unit

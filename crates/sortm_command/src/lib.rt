@@ -10,6 +10,5 @@ mod reading;
 mod sorting;
 
 pub use job::{SortJob, SortKey};
-pub use marks::number_set;
 pub use moving::{move_all, moves};
 pub use sorting::sortm;

@@ -8,22 +8,9 @@ ghost use Rattle.sortm_command.specs.Marking.{pairs_of, set_again as set_again_o
 
 use message_places::Move;
 use mh_base::{List, MsgNum};
-use mh_sequences::{Mark, MarkList, NumSet, Pair, PairList, Pile, Run, Sequences, User};
+use mh_sequences::{Mark, MarkList, Pair, PairList, Sequences, User};
+use opened_folders::number_set;
 use std::alloc::{AllocError, Global};
-
-/// These numbers as a set.
-pub fn number_set(alloc: Global, numbers: &[MsgNum]) -> Result<NumSet, AllocError>
-    ensures { IfOk result (λ s. s.runs ≡ set_among numbers.now) }
-{
-    let mut pile = Pile::new(alloc);
-    for number in numbers {
-        pile.add_run(Run {
-            from: *number,
-            to: *number,
-        })?;
-    }
-    pile.into_set()
-}
 
 /// The mark that takes these messages out of all sequences.
 pub(crate) fn withdrawing(alloc: Global, numbers: &[MsgNum]) -> Result<MarkList, AllocError>

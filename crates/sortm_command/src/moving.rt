@@ -1,5 +1,5 @@
 // Messages change places, and their marks go with them.
-ghost use Rattle.std.specs.Prelude.{◌≡◌, ◌≤◌, ◌++◌, ◌∷◌, [], map, IfOk, OnOk};
+ghost use Rattle.std.specs.Prelude.{◌≡◌, ◌++◌, ◌∷◌, [], map, IfOk, OnOk};
 ghost use Rattle.file_plans.specs.Follows.{Follows, by_hand};
 ghost use Rattle.message_places.specs.Order.{moves_of};
 ghost use Rattle.message_places.specs.Places.{slots};
@@ -9,15 +9,16 @@ ghost use Rattle.sequence_commits.specs.Marking.{marked_by_all};
 ghost use Rattle.sequence_commits.specs.PlainMarks.{plain_mark};
 ghost use Rattle.step_plans.specs.Hands.{mail_place};
 ghost use Rattle.step_plans.specs.PlanFaults.{plan_cause};
-ghost use Rattle.sortm_command.specs.Marking.{gone_along, withdrawn};
-ghost use Rattle.sortm_command.specs.Moving.{last_in, marked_moved, moved_if, sequences_after};
+ghost use Rattle.sortm_command.specs.Marking.{gone_along};
+ghost use Rattle.sortm_command.specs.Moving.{marked_moved, moved_if, sequences_after};
 ghost use Rattle.sortm_command.specs.Sort.{places_changed};
+ghost use Rattle.refile_command.specs.Rmm.{withdrawn};
 
 use crate::marks::{kept_marks, pairs, withdrawing};
 use folder_files::Files;
 use message_places::{Move, arrange};
 use mh_base::{List, MsgNum};
-use mh_sequences::{Mark, MarkList, NumSet, PairList};
+use mh_sequences::{Mark, MarkList, PairList};
 use opened_folders::{Opened, commit_marks};
 use std::alloc::{AllocError, Global};
 use step_plans::{Hand, PlanFault};
@@ -45,17 +46,6 @@ fn moving(alloc: Global, moves: &[Move]) -> Result<List<MsgNum>, AllocError>
         numbers.push(one.slot)?;
     }
     Ok(numbers)
-}
-
-/// The last number of a listing, or 0.
-fn last(listing: &NumSet) -> u32
-    ensures value { result ≡ last_in listing.now.runs }
-    ensures range { result ≤ 999999 }
-{
-    match listing.at(listing.len().saturating_sub(1)) {
-        Some(number) => number.get(),
-        None => 0,
-    }
 }
 
 /// These messages leave all sequences.
@@ -116,18 +106,10 @@ fn move_marked<F: Files>(
     ensures left { IfOk result (λ ends. opened.new.sequences ≡ gone_along moves.now ends opened.old.sequences) }
     ensures same { (hand.new.run ≡ hand.old.run) × (hand.new.mail ≡ hand.old.mail) }
 {
-    let highest = last(opened.listing());
+    let top = opened.highest();
     let marks = kept_marks(alloc, opened.sequences())?;
     withdraw(alloc, hand, files, opened, takes)?;
-    let ends = arrange(
-        alloc,
-        hand.run(),
-        files,
-        opened.place(),
-        takes,
-        moves,
-        highest,
-    )?;
+    let ends = arrange(alloc, hand.run(), files, opened.place(), takes, moves, top)?;
     let pairs = pairs(alloc, moves, ends.as_slice())?;
     restore(alloc, hand, files, opened, marks, pairs)?;
     Ok(ends)

@@ -52,26 +52,26 @@ committed = Act 5 (Rename inbox temp sequences) Done Made ∷ ready
 abbrev pub settled : List Event
 settled = Act 5 (SyncFolder inbox) Done Made ∷ committed
 
-begun_starts : IsStart begun
+pub begun_starts : IsStart begun
 begun_starts = record { directories = (refl, refl, tt, tt); files = tt; outside = tt; no_lock = refl }
 
-committed_is_legal : IsLegal begun committed
+pub committed_is_legal : IsLegal begun committed
 unfolding world_after made shown
 committed_is_legal = answers 5 (Rename inbox temp sequences) Done (answers 5 (SyncFile inbox temp) Done (answers 5 (Create inbox temp text) Done (answers 5 (Read inbox sequences 100) Gone
     (answers 5 (Lock inbox) Done begins refl refl) refl refl) refl refl) refl refl) refl refl
 
-settled_is_legal : IsLegal begun settled
+pub settled_is_legal : IsLegal begun settled
 unfolding world_after made shown
 settled_is_legal = answers 5 (SyncFolder inbox) Done committed_is_legal refl refl
 
-sequences_is : kind_of sequences ≡ Sequences
+pub sequences_is : kind_of sequences ≡ Sequences
 unfolding kind_of
 sequences_is = refl
 
-is_one : is_committed inbox sequences ≡ true
+pub is_one : is_committed inbox sequences ≡ true
 is_one = ap (λ k. is_sequences k) sequences_is
 
-created_is_careful : AreCareful created
+pub created_is_careful : AreCareful created
 unfolding own
 created_is_careful = ((λ on. changes (unfailed (own 5 read) (no_failure, (done_is_no_failure, tt))) Creates (creates inbox temp text (ap (λ k. is_temp_of 5 k) temp_is, not_made))), ((λ on. looks tt), ((λ on. looks tt), tt)))
   where
@@ -84,11 +84,11 @@ created_is_careful = ((λ on. changes (unfailed (own 5 read) (no_failure, (done_
       | inr y ↦ elim (once_head y) [ inl e ↦ (let z = ap (λ d. d.step) e.1 in cc (z)) | inr k ↦ once_none k ]
     ]
 
-has_base : HasBase 5 inbox sequences (own 5 ready)
+pub has_base : HasBase 5 inbox sequences (own 5 ready)
 unfolding own
 has_base = still (λ e. cc (e)) (still (λ e. cc (e)) (last (inr (inl (100, refl)), last refl)))
 
-committed_is_careful : AreCareful committed
+pub committed_is_careful : AreCareful committed
 unfolding own
 committed_is_careful = (
   λ on. changes (unfailed (own 5 ready) (done_is_no_failure, (done_is_no_failure, (no_failure, (done_is_no_failure, tt))))) Commits
@@ -99,27 +99,27 @@ committed_is_careful = (
     no_failure : Gone ≡ Failed → ⊥
     no_failure e = cc (e)
 
-committed_is_honest : AreHonest begun committed
+pub committed_is_honest : AreHonest begun committed
 unfolding world_after shown
 committed_is_honest = ((λ other n. refl), tt)
 
-lock_when_read : HasLock inbox (own 5 read)
+pub lock_when_read : HasLock inbox (own 5 read)
 unfolding own
 lock_when_read = still (λ e. cc (e)) (last refl)
 
-lock_when_ready : HasLock inbox (own 5 ready)
+pub lock_when_ready : HasLock inbox (own 5 ready)
 unfolding own
 lock_when_ready = still (λ e. cc (e)) (still (λ e. cc (e)) (still (λ e. cc (e)) (last refl)))
 
-committed_is_orderly : AreOrderly committed
+pub committed_is_orderly : AreOrderly committed
 committed_is_orderly = ((λ p l c. rw c lock_when_ready), ((λ p l c. absurd c), ((λ p l c. rw c lock_when_read), ((λ p l c. absurd c), ((λ p l c. absurd c), tt)))))
 
-none_of_theirs : (past : List Event) → HasNoneOfTheirs begun past
+pub none_of_theirs : (past : List Event) → HasNoneOfTheirs begun past
 unfolding shown
 none_of_theirs past r acted = at_all inbox (λ p. (x : List ℕ) → is_own_of r x ≡ true → ((shown begun).directories p).safe x ≡ None) (λ x o. refl) (λ p e x o. rw e refl)
 
 -- the base of the commit is that the file was missing
-base_is_empty : IsBase 5 inbox sequences [] (own 5 ready)
+pub base_is_empty : IsBase 5 inbox sequences [] (own 5 ready)
 unfolding world_after made shown
 base_is_empty = base_law begun ready 5 inbox temp sequences Done Made begun_starts committed_is_legal committed_is_careful (none_of_theirs committed) committed_is_honest committed_is_orderly is_one ready (live refl)
 

@@ -40,12 +40,12 @@ use Rattle.step_plans.proofs.Promising.{keeps_pledge}
 use Rattle.step_plans.proofs.Ruling.{rules_of}
 use Rattle.command_stages.specs.Listed.{folder_listed}
 use Rattle.command_stages.specs.Texts.{text_read}
-use Rattle.mh_looks.specs.Scan.{entries_seen}
 use Rattle.mh_looks.specs.ScanPledge.{HasListed}
 use Rattle.mh_looks.proofs.LooksLeave.{Lists, Looks, goes_chosen, listed_goes, text_goes}
 use Rattle.told_folders.specs.Plans.{chosen_changed, folder_changed, folder_looked, lines_said, opened_told}
 use Rattle.told_folders.specs.Pledge.{Changes, change_pledge, look_pledge}
 use Rattle.told_folders.specs.Tasks.{Task, chosen_from, listed_runs, sequences_seen}
+use Rattle.mh_profile.specs.Reading.{entries_seen}
 
 -- lines are free to be said
 module _ (w : Pledge) (tells : (own : List Deed) (piece : List ℕ) → w.may_tell own piece) where

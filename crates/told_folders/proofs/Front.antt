@@ -8,7 +8,7 @@ use Rattle.file_plans.specs.Plan.{Plan, Recall, Return, ◌>>=◌}
 use Rattle.step_plans.specs.declared.command_fault.CommandFault.{CommandFault}
 use Rattle.command_stages.specs.Listed.{folder_listed}
 use Rattle.command_stages.specs.Texts.{text_read}
-use Rattle.mh_looks.specs.Scan.{entries_seen}
+use Rattle.mh_profile.specs.Reading.{entries_seen}
 
 module _ (path folder : List ℕ) (A : Type 0) (seen : List (List ℕ) → List ℕ → List NamedValue → Result A CommandFault) (next : List (List ℕ) → A → Plan (Result Unit CommandFault)) where
   -- by the names and the text

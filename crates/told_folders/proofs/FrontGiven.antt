@@ -23,7 +23,6 @@ use Rattle.sequence_commits.specs.RunsOfAll.{runs_of_all}
 use Rattle.command_stages.specs.Listed.{folder_listed}
 use Rattle.command_stages.specs.Texts.{text_read}
 use Rattle.command_stages.specs.Works.{Work, readable, refused_at}
-use Rattle.mh_looks.specs.Scan.{entries_seen}
 use Rattle.mh_looks.proofs.Folders.{FolderListed, IsAbsent, IsListed, Tells, folder_gives, messages_listed}
 use Rattle.mh_looks.proofs.Reading.{TextRead, after_read, text_gives}
 use Rattle.mh_looks.proofs.Scanning.{unreadable}
@@ -31,6 +30,7 @@ use Rattle.opened_folders.specs.BegunWork.{runs_in}
 use Rattle.opened_folders.proofs.WorkGiven.{WorkEnds}
 use Rattle.told_folders.specs.Tasks.{listed_runs}
 use Rattle.told_folders.proofs.Front.{looks, then_decided, then_read}
+use Rattle.mh_profile.specs.Reading.{entries_seen}
 
 -- the runs of a folder's messages are those of its listing
 pub same_runs : (c : Contents) (p : Place) (names : List (List ℕ)) → Tells c p names → runs_in (folder_at c p) ≡ listed_runs names

@@ -29,7 +29,6 @@ use Rattle.step_plans.proofs.Ruling.{rules_of}
 use Rattle.command_stages.specs.Current.{made_current}
 use Rattle.command_stages.specs.Listed.{folder_listed, names_by}
 use Rattle.command_stages.specs.Texts.{text_read}
-use Rattle.mh_looks.specs.Scan.{entries_seen}
 use Rattle.mh_looks.specs.ScanPledge.{HasListed}
 use Rattle.opened_folders.specs.Endings.{IsToldBy}
 use Rattle.opened_folders.specs.Reads.{TellsText}
@@ -39,6 +38,7 @@ use Rattle.told_folders.specs.Tasks.{Task}
 use Rattle.told_folders.proofs.ChangesPledged.{StillBy, noted_goes, notes_pledge}
 use Rattle.told_folders.proofs.Front.{looks, then_decided, then_read}
 use Rattle.told_folders.proofs.FrontComes.{Listing, Reading, after_both, after_list, list_comes, reading, text_comes}
+use Rattle.mh_profile.specs.Reading.{entries_seen}
 
 -- a listing is asked for in silence
 pub listed_silent : (past : List Deed) (h : Hand) (p : Place) (folder : List ℕ) → Keeps silence past h (folder_listed p folder) (λ later j r. Unit {0})

@@ -14,13 +14,13 @@ use Rattle.step_plans.proofs.Coming.{Comes, comes_then}
 use Rattle.step_plans.proofs.Going.{Outcome}
 use Rattle.command_stages.specs.Chosen.{folder_with}
 use Rattle.command_stages.specs.Current.{made_current}
-use Rattle.mh_looks.specs.Scan.{entries_seen}
 use Rattle.mh_looks.specs.ScanJob.{ScanJob}
 use Rattle.mh_looks.proofs.Ending.{AfterSequences, IsUnmade, ScanEnds, ScanShows, absent, bad_spec, by_choice, comes_at, current_comes, empty_range, empty_sequence, long_file, no_folder}
 use Rattle.told_folders.proofs.ChangesEnd.{lines_come}
 use Rattle.told_folders.proofs.FrontComes.{front_comes, unmade_both}
 use Rattle.told_folders.specs.Plans.{folder_looked, lines_said}
 use Rattle.told_folders.specs.Tasks.{Task, checked_by, chosen_from, listed_runs, sequences_listed, sequences_seen, unless_refused}
+use Rattle.mh_profile.specs.Reading.{entries_seen}
 
 -- the same folder and words, as `scan` has them; of lines this says nothing
 abbrev pub looks_job : Task → ScanJob

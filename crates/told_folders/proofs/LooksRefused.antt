@@ -23,7 +23,6 @@ use Rattle.step_plans.proofs.Going.{Outcome}
 use Rattle.command_stages.specs.Chosen.{folder_with}
 use Rattle.command_stages.specs.Current.{made_current}
 use Rattle.command_stages.specs.Endings.{of_plan}
-use Rattle.mh_looks.specs.Scan.{entries_seen}
 use Rattle.mh_looks.proofs.Ending.{by_choice, comes_at}
 use Rattle.opened_folders.specs.Reads.{TellsText}
 use Rattle.told_folders.proofs.ChangesEnd.{lines_come}
@@ -32,6 +31,7 @@ use Rattle.told_folders.proofs.LooksEnd.{checked_so}
 use Rattle.told_folders.specs.Answers.{IsRefusedByListing, ShowsListing}
 use Rattle.told_folders.specs.Plans.{folder_looked, lines_said}
 use Rattle.told_folders.specs.Tasks.{Task, listed_runs, sequences_listed, sequences_seen}
+use Rattle.mh_profile.specs.Reading.{entries_seen}
 
 module _ (run : ℕ) (mail : List ℕ) (task : Task) (h : Hand) where
   abbrev place : Place

@@ -23,7 +23,6 @@ use Rattle.step_plans.proofs.Going.{Sound}
 use Rattle.step_plans.proofs.Lasting.{KeptBy}
 use Rattle.step_plans.proofs.Ruling.{AreNumbered}
 use Rattle.command_stages.specs.Current.{made_current}
-use Rattle.mh_looks.specs.Scan.{entries_seen}
 use Rattle.mh_looks.specs.ScanPledge.{HasListed}
 use Rattle.opened_folders.proofs.CleanRuns.{unfailed_by}
 use Rattle.opened_folders.proofs.Speaking.{speaking}
@@ -35,6 +34,7 @@ use Rattle.told_folders.specs.Answers.{TellsFolder}
 use Rattle.told_folders.specs.Outcomes.{joined}
 use Rattle.told_folders.specs.Plans.{folder_looked, lines_said}
 use Rattle.told_folders.specs.Tasks.{IsOrderly, Task, listed_runs, sequences_seen}
+use Rattle.mh_profile.specs.Reading.{entries_seen}
 
 module _ (run : ℕ) (few : run < 2 ^ 128) (path : List ℕ) (task : Task) (orderly : IsOrderly task) (h : Hand) where
   abbrev place : Place

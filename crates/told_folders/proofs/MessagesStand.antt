@@ -1,12 +1,11 @@
 -- Messages of a folder that stand in its contents, and that words choose only such.
-use Rattle.std.proofs.Common.{◌≡◌, ◌∷◌, ◌==◌, ◌||◌, [], ℕ, Bool, true, false, List, Option, Some, None, Ok, refl, ◌∙◌, ap}
+use Rattle.std.proofs.Common.{◌≡◌, ◌∷◌, [], ℕ, Bool, true, false, List, Option, Some, None, Ok, refl, ◌∙◌}
 use Rattle.std.specs.Prelude.{decimal, is_some, if◌then◌else◌}
-use Rattle.std.proofs.lemmas.Bool.Decides.{Decides-eqb}
 use Rattle.mh_base.specs.Entries.{entry_text}
 use Rattle.mh_sequences.specs.Runs.{numbers_of}
 use Rattle.mh_sequences.specs.Sequences.{Marked}
 use Rattle.msg_ranges.specs.Selection.{marks_of}
-use Rattle.msg_ranges.proofs.Rising.{lists}
+use Rattle.msg_ranges.proofs.Rising.{lists, first_listed, other_listed}
 use Rattle.folder_files.specs.declared.place.Place.{Place}
 use Rattle.file_plans.specs.Contents.{Contents, folder_at}
 use Rattle.file_plans.specs.Mailboxes.{is_message_number}
@@ -15,17 +14,6 @@ use Rattle.command_stages.specs.Chosen.{chosen_in, folder_with}
 use Rattle.mh_looks.proofs.Folders.{Tells, messages_listed}
 use Rattle.opened_folders.proofs.ChosenListed.{has_tested, words_listed}
 use Rattle.told_folders.specs.Tasks.{listed_runs}
-
--- the first of a list is in it, and so are the others
-pub first_listed : (n : ℕ) (ns : List ℕ) → lists (n ∷ ns) n ≡ true
-first_listed n ns = ap (λ b. b || lists ns n) ((Decides-eqb n n).1 refl)
-
-pub other_listed : (m n : ℕ) (ns : List ℕ) → lists ns n ≡ true → lists (m ∷ ns) n ≡ true
-other_listed m n ns e = go (m == n)
-  where
-    go : (b : Bool) → b || lists ns n ≡ true
-    go true = refl
-    go false = e
 
 -- a message that stands in the contents
 pub record Stands (c : Contents) (place : Place) (n : ℕ) : Type 0 where
@@ -55,3 +43,26 @@ all_stand c q (n ∷ numbers) f = (stands_of c q n (f n (first_listed n numbers)
 pub words_stand : (c : Contents) (q : Place) (names : List (List ℕ)) → Tells c q names → (negation : List ℕ) (m : Marked) (words : List (List ℕ)) (numbers : List ℕ) → chosen_in (folder_with negation (numbers_of (listed_runs names)) (marks_of m)) words ≡ Ok numbers
     → AllStand c q numbers
 words_stand c q names t negation m words numbers is = all_stand c q numbers (λ n e. messages_listed c q names t n ∙ has_tested (λ k. has_number k names) n (words_listed negation (listed_runs names) m words numbers is n e))
+
+-- what an answer says of a message that is there
+abbrev pub Says : List ℕ → Answer → Type 0
+Says b (answer.Content bytes) = (bytes ≡ b) × (nat_lt LIMIT_BYTES (length b) ≡ false)
+Says b (answer.Long l) = (l ≡ length b) × (nat_lt LIMIT_BYTES (length b) ≡ true)
+Says b answer.Gone = ⊥
+Says b answer.Done = Unit {0}
+Says b (answer.Names names) = Unit {0}
+Says b (answer.Piece bytes l) = Unit {0}
+Says b answer.Exists = Unit {0}
+Says b answer.Busy = Unit {0}
+Says b answer.Grown = Unit {0}
+Says b answer.Failed = Unit {0}
+
+pub says_it : (b : List ℕ) (a : Answer) → a ≡ read_file_answer LIMIT_BYTES (Some b) → Says b a
+says_it b a e = go (nat_lt LIMIT_BYTES (length b)) refl e
+  where
+    go : (v : Bool) → nat_lt LIMIT_BYTES (length b) ≡ v → a ≡ (if v then answer.Long (length b) else answer.Content b) → Says b a
+    go true long is = rw is (refl, long)
+    go false short is = rw is (refl, short)
+
+abbrev pub reading : Place → ℕ → Answer → Deed
+reading place n a = did (step.Read place (name_of n) LIMIT_BYTES) a

@@ -12,8 +12,8 @@ use Rattle.command_stages.specs.Listed.{folder_listed}
 use Rattle.command_stages.specs.Texts.{Commanded, text_read}
 use Rattle.opened_folders.specs.Ending.{ended}
 use Rattle.opened_folders.specs.Opening.{Opened, begun, with_sequences}
-use Rattle.mh_looks.specs.Scan.{entries_seen}
 use Rattle.told_folders.specs.Tasks.{Task, chosen_from, listed_runs, sequences_seen}
+use Rattle.mh_profile.specs.Reading.{entries_seen}
 
 -- these lines, one after another
 unfoldable pub lines_said : List (List ℕ) → Commanded Unit

@@ -1,9 +1,9 @@
 // What a folder's names and its text of sequences tell, without its lock.
 ghost use Rattle.std.specs.Prelude.{◌≡◌, IfOk};
-ghost use Rattle.mh_looks.specs.Scan.{entries_seen};
 ghost use Rattle.sequence_commits.specs.Cutting.{cut_to};
 ghost use Rattle.sequence_commits.specs.Reading.{sequences_in as sequences_in_text};
 ghost use Rattle.told_folders.specs.Tasks.{listed_runs};
+ghost use Rattle.mh_profile.specs.Reading.{entries_seen};
 
 use command_stages::noted;
 use mh_base::{FolderName, NameList};

@@ -27,11 +27,11 @@ pub returns-in-Ok-clause-plan : goal.returns-in-Ok-clause-plan
 unfolding said_noted
 returns-in-Ok-clause-plan g c =
     value_on _ (chosen_from c.args.job.now c.args.opened.now.listing c.args.opened.now.sequences) (numbers_of c.in_ok-chosen.chosen.runs) c.in_ok-chosen.ensures
-    (lift_ok _ plan_cause command_cause (of_plan c.args.job.now.folder) _ _ _ _ (rw (c.place.ensures, c.as_slice.ensures, c.as_slice-2.ensures.value, c.in_ok-numbers.ensures, c.last-top.ensures.value, c.listing.ensures) at c.in-Ok.ensures.plan))
+    (lift_ok _ plan_cause command_cause (of_plan c.args.job.now.folder) _ _ _ _ (rw (c.place.ensures, c.as_slice.ensures, c.as_slice-2.ensures.value, c.in_ok-numbers.ensures, c.highest-top.ensures.value) at c.in-Ok.ensures.plan))
 
 pub returns-clause-plan : goal.returns-clause-plan
 unfolding said_noted
 returns-clause-plan g c =
     value_on _ (chosen_from c.args.job.now c.args.opened.now.listing c.args.opened.now.sequences) (numbers_of c.in_ok-chosen.chosen.runs) c.in_ok-chosen.ensures
     (lift_err _ plan_cause command_cause (of_plan c.args.job.now.folder) _ _ _ _ _ (plan_same _) (rw c.in_ok-folder.ensures at c.fault_in.ensures)
-    (rw (c.place.ensures, c.as_slice.ensures, c.as_slice-2.ensures.value, c.in_ok-numbers.ensures, c.last-top.ensures.value, c.listing.ensures) at c.in-Err.ensures.plan))
+    (rw (c.place.ensures, c.as_slice.ensures, c.as_slice-2.ensures.value, c.in_ok-numbers.ensures, c.highest-top.ensures.value) at c.in-Err.ensures.plan))

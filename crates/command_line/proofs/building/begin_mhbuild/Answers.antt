@@ -1,10 +1,10 @@
 use Rattle.std.proofs.Common.{refl}
 use Rattle.file_plans.proofs.Following.{beside, go, no_room, recalled, stop, whole}
 use Rattle.mhbuild_command.specs.Building.{mhbuild}
-use Rattle.mh_looks.specs.Scan.{entries_seen}
 use Rattle.command_line.specs.Command.{build_begun, build_job}
 use Rattle.command_line.specs.Profile.{path_of}
 use Rattle.command_line.proofs.building.begin_mhbuild.Goals as goal
+use Rattle.mh_profile.specs.Reading.{entries_seen}
 
 pub returns-in_err-enter_context : goal.returns-in_err-enter_context
 unfolding build_begun

@@ -1,9 +1,9 @@
-use Rattle.mh_looks.specs.Scan.{entries_seen}
 use Rattle.file_plans.proofs.Following.{go, stop}
 use Rattle.command_line.specs.Command.{folder_found}
 use Rattle.command_line.specs.Profile.{folder_of}
 use Rattle.command_line.proofs.Plans.{folder_chosen}
 use Rattle.command_line.proofs.current.enter_folder.Goals as goal
+use Rattle.mh_profile.specs.Reading.{entries_seen}
 
 pub returns-in_err-enter_context-clause-plan : goal.returns-in_err-enter_context-clause-plan
 unfolding folder_found

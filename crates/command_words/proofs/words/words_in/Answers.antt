@@ -2,11 +2,10 @@ use Rattle.std.proofs.Common.{rules, ap, ◌∙◌, map}
 use Rattle.std.specs.Prelude.{filter}
 use Rattle.std.proofs.lemmas.Iterator.Consumers.{YieldsList-end}
 use Rattle.std.proofs.lemmas.Iterator.Splits.{YieldsList-from_slice_split}
-use Rattle.mail_headers.specs.Lines.{is_blank}
 use Rattle.mail_text.specs.ShownBytes.{shown}
-use Rattle.command_words.specs.Words.{is_some_text}
 use Rattle.command_words.proofs.Texts.{shown_more}
 use Rattle.command_words.proofs.words.words_in.Goals as goal
+use Rattle.mh_base.specs.Characters.{is_blank, is_some_text}
 
 pub loop-part-preserved : goal.loop-part-preserved
 loop-part-preserved c = shown_more c.loop-part.yielded c.in-Some.part c.loop-part.words c.push_shown.new.words c.in_ok-push_shown.ensures c.loop-part.invariant

@@ -1,10 +1,10 @@
 use Rattle.std.proofs.Common.{refl}
 use Rattle.file_plans.proofs.Following.{go, no_room, stop}
-use Rattle.mh_looks.specs.Scan.{entries_seen}
 use Rattle.command_stages.proofs.Values.{seen_off, seen_on}
 use Rattle.draft_contents.specs.Forwards.{chosen_seen}
 use Rattle.draft_contents.specs.Messages.{messages_given}
 use Rattle.draft_contents.proofs.messages.give_messages.Goals as goal
+use Rattle.mh_profile.specs.Reading.{entries_seen}
 
 pub returns-in_err-place : goal.returns-in_err-place
 returns-in_err-place g c = no_room _ c.from_residual.ensures refl

@@ -2,11 +2,11 @@ use Rattle.std.proofs.Common.{[], ap, refl, sym}
 use Rattle.std.specs.Prelude.{Ok}
 use Rattle.file_plans.proofs.Following.{go, no_room, stop, whole}
 use Rattle.command_stages.proofs.Values.{seen_on}
-use Rattle.mh_looks.specs.Scan.{entries_seen}
 use Rattle.told_folders.specs.Plans.{folder_looked}
 use Rattle.told_folders.specs.Tasks.{sequences_seen}
 use Rattle.folder_command.specs.Folder.{task_with}
 use Rattle.folder_command.proofs.looking.look.Goals as goal
+use Rattle.mh_profile.specs.Reading.{entries_seen}
 
 pub returns-in_err-place-clause-plan : goal.returns-in_err-place-clause-plan
 returns-in_err-place-clause-plan g c = no_room _ c.from_residual.ensures refl

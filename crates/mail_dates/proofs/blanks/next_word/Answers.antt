@@ -1,9 +1,9 @@
 use Rattle.std.proofs.Common.{◌≡◌, length, ap, arith}
 use Rattle.std.proofs.lemmas.Bool.Decides.{nat_tests}
 use Rattle.std.proofs.lemmas.List.{nil_from_length}
-use Rattle.mail_dates.specs.Picking.{is_blank}
 use Rattle.mail_dates.proofs.Parting.{none_cut, word_parted}
 use Rattle.mail_dates.proofs.blanks.next_word.Goals as goal
+use Rattle.mh_base.specs.Characters.{is_blank}
 
 pub returns-then-is_empty : goal.returns-then-is_empty
 returns-then-is_empty c =

@@ -1,9 +1,8 @@
 use Rattle.std.proofs.Common.{sym, ◌∙◌, FitsSigned, w16}
 use Rattle.std.proofs.lemmas.Int.{to_z-of_z}
 use Rattle.mail_dates.proofs.Picked.{written_read, trimmed_read}
-use Rattle.mail_dates.specs.Words.{words}
-use Rattle.mail_dates.specs.Picking.{is_blank}
 use Rattle.mail_dates.proofs.written.written_date.Goals as goal
+use Rattle.mh_base.specs.Characters.{is_blank, words}
 
 pub returns-clause-value : goal.returns-clause-value
 returns-clause-value c =

@@ -1,11 +1,11 @@
 use Rattle.std.proofs.Common.{refl}
 use Rattle.file_plans.proofs.Following.{go, no_room, stop, whole}
-use Rattle.mh_looks.specs.Scan.{entries_seen}
 use Rattle.told_folders.specs.Plans.{folder_looked}
 use Rattle.told_folders.specs.Tasks.{sequences_seen}
 use Rattle.mark_command.specs.Mark.{look_task}
 use Rattle.command_stages.proofs.Values.{seen_off, seen_on}
 use Rattle.mark_command.proofs.looking.look.Goals as goal
+use Rattle.mh_profile.specs.Reading.{entries_seen}
 
 pub returns-in_err-place-clause-plan : goal.returns-in_err-place-clause-plan
 returns-in_err-place-clause-plan g c = no_room _ c.from_residual.ensures refl

@@ -1,9 +1,10 @@
 use Rattle.std.proofs.Common.{drop, sym, ap, ◌∙◌, subst}
 use Rattle.std.specs.List.{prefix_len}
 use Rattle.std.proofs.lemmas.List.{drop_min}
-use Rattle.message_order.specs.Texts.{IsBehindReplies, is_blank}
+use Rattle.message_order.specs.Texts.{IsBehindReplies}
 use Rattle.message_order.specs.Texts.IsBehindReplies.{none, one}
 use Rattle.message_order.proofs.texts.behind_replies.Goals as goal
+use Rattle.mh_base.specs.Characters.{is_blank}
 
 pub loop-rest-preserved : goal.loop-rest-preserved
 loop-rest-preserved c =

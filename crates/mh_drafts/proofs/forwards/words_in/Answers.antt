@@ -2,11 +2,10 @@ use Rattle.std.proofs.Common.{rules, ap, ◌∙◌, map}
 use Rattle.std.specs.Prelude.{filter}
 use Rattle.std.proofs.lemmas.Iterator.Consumers.{YieldsList-end}
 use Rattle.std.proofs.lemmas.Iterator.Splits.{YieldsList-from_slice_split}
-use Rattle.mail_headers.specs.Lines.{is_blank}
 use Rattle.mail_text.specs.ShownBytes.{shown}
-use Rattle.mh_drafts.specs.Blanks.{is_some_text}
 use Rattle.mh_drafts.proofs.Wording.{shown_more}
 use Rattle.mh_drafts.proofs.forwards.words_in.Goals as goal
+use Rattle.mh_base.specs.Characters.{is_blank, is_some_text}
 
 pub loop-word-preserved : goal.loop-word-preserved
 loop-word-preserved c = shown_more c.loop-word.yielded c.in-Some.word c.loop-word.words c.push_shown.new.words c.in_ok-push_shown.ensures c.loop-word.invariant

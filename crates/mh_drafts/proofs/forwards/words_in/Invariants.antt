@@ -1,8 +1,8 @@
 use Rattle.std.proofs.Common.{◌≡◌, map}
 use Rattle.std.specs.Prelude.{filter}
 use Rattle.mail_text.specs.ShownBytes.{shown}
-use Rattle.mh_drafts.specs.Blanks.{is_some_text}
 use Rattle.mh_drafts.proofs.forwards.words_in.Given as goal
+use Rattle.mh_base.specs.Characters.{is_some_text}
 
 abbrev pub invariant-loop-word : goal.invariant-loop-word
 invariant-loop-word l = l.words ≡ map shown (filter is_some_text (map (λ i. i.now) l.yielded))

@@ -2,9 +2,10 @@ use Rattle.std.proofs.Common.{refl}
 use Rattle.std.specs.Prelude.{Ok}
 use Rattle.file_plans.proofs.Following.{go, no_room, stop, whole}
 use Rattle.mh_looks.specs.Asked.{asked}
-use Rattle.mh_looks.specs.Scan.{chosen_by, entries_seen, scan}
+use Rattle.mh_looks.specs.Scan.{chosen_by, scan}
 use Rattle.mh_looks.proofs.Choosing.{chosen_on, listed_by, recalls_shown, refused_by_words}
 use Rattle.mh_looks.proofs.looking.scan.Goals as goal
+use Rattle.mh_profile.specs.Reading.{entries_seen}
 
 pub returns-in_err-place-clause-plan : goal.returns-in_err-place-clause-plan
 returns-in_err-place-clause-plan g c = no_room _ c.from_residual.ensures refl

@@ -1,9 +1,9 @@
 use Rattle.std.proofs.Common.{rules}
 use Rattle.std.proofs.lemmas.Iterator.Search.{find_from_yields_List}
 use Rattle.std.proofs.lemmas.Iterator.Splits.{YieldsList-from_slice_split}
-use Rattle.mail_headers.specs.Lines.{is_blank}
 use Rattle.mh_sequences.specs.Lists.{is_listed}
 use Rattle.mh_sequences.proofs.lists.first_item.Goals as goal
+use Rattle.mh_base.specs.Characters.{is_blank}
 
 pub returns : goal.returns
 returns c =

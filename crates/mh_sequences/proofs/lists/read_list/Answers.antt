@@ -2,11 +2,11 @@ use Rattle.std.proofs.Common.{◌≡◌, ℕ, rules, ap, ◌∙◌}
 use Rattle.std.specs.List.{list_any}
 use Rattle.std.proofs.lemmas.Iterator.Consumers.{YieldsList-end}
 use Rattle.std.proofs.lemmas.Iterator.Splits.{YieldsList-from_slice_split}
-use Rattle.mail_headers.specs.Lines.{is_blank}
 use Rattle.mh_sequences.specs.Lists.{lists, run_has, run_in}
 use Rattle.mh_sequences.specs.Runs.{has}
 use Rattle.mh_sequences.proofs.Bools.{any_ok, if_ok_then}
 use Rattle.mh_sequences.proofs.lists.read_list.Goals as goal
+use Rattle.mh_base.specs.Characters.{is_blank}
 
 pub returns : goal.returns
 returns c =

@@ -1,11 +1,11 @@
 use Rattle.std.proofs.Common.{refl}
 use Rattle.file_plans.proofs.Following.{go, no_room, stop, whole}
-use Rattle.mh_looks.specs.Scan.{entries_seen}
 use Rattle.command_stages.proofs.Values.{seen_off, seen_on}
 use Rattle.mhlist_command.specs.Listing.{chosen_seen, mhlist}
 use Rattle.mhlist_command.proofs.ListAlone.{list_alone}
 use Rattle.mhlist_command.proofs.ListPledged.{list_promises}
 use Rattle.mhlist_command.proofs.looking.mhlist.Goals as goal
+use Rattle.mh_profile.specs.Reading.{entries_seen}
 
 pub returns-in_err-place-clause-plan : goal.returns-in_err-place-clause-plan
 returns-in_err-place-clause-plan g c = no_room _ c.from_residual.ensures refl

@@ -2,8 +2,9 @@ use Rattle.std.proofs.Common.{take, sym, subst, ap, ◌∙◌}
 use Rattle.mh_base.specs.Names.{IsName}
 use Rattle.mime_tree.specs.declared.part.Part.{out-Part}
 use Rattle.part_rows.specs.FileNames.{name_of}
-use Rattle.part_rows.proofs.Cleanness.{cut, is_made, is_name}
+use Rattle.part_rows.proofs.Cleanness.{cut, is_name}
 use Rattle.part_rows.proofs.files.file_name.Goals as goal
+use Rattle.mh_base.proofs.EntryNames.{is_made}
 
 pub unwrap-requires : goal.unwrap-requires
 unwrap-requires c =

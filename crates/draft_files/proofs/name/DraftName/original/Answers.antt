@@ -1,7 +1,8 @@
 use Rattle.std.proofs.Common.{rules, ◌≡◌}
 use Rattle.folder_files.specs.Named.{original_of}
-use Rattle.draft_files.proofs.Names.{is_made, original_named}
+use Rattle.draft_files.proofs.Names.{original_named}
 use Rattle.draft_files.proofs.name.DraftName.original.Goals as goal
+use Rattle.mh_base.proofs.EntryNames.{is_made}
 
 pub unwrap-requires : goal.unwrap-requires
 unwrap-requires c =

@@ -1,9 +1,10 @@
 use Rattle.std.proofs.Common.{ap, ◌∙◌, FitsSigned, w16, rules}
 use Rattle.std.proofs.lemmas.Int.{to_z-of_z}
-use Rattle.mail_dates.specs.Words.{outside, words, is_separator}
+use Rattle.mail_dates.specs.Words.{outside, is_separator}
 use Rattle.mail_dates.specs.Reading.{behind_weekday, date_from, date_in}
 use Rattle.mail_dates.proofs.Fronts.{date_read}
 use Rattle.mail_dates.proofs.mail_date.MailDate.read.Goals as goal
+use Rattle.mh_base.specs.Characters.{words}
 
 pub returns-clause-value : goal.returns-clause-value
 unfolding date_in

@@ -9,18 +9,18 @@ use Rattle.folder_files.specs.declared.place.Place.TheVariants.{Folder, Home, Wo
 use Rattle.file_plans.specs.Contents.{Contents, folder_at, mailbox_in, with_folder}
 use Rattle.file_plans.specs.Mailboxes.{numbered, where_mail}
 use Rattle.file_plans.proofs.EmptyFolders.{numbered_none}
-use Rattle.refile_command.specs.MadeFolder.{empty_folder, or_empty, with_folder_made}
+use Rattle.opened_folders.specs.MadeFolder.{empty_folder, or_empty, with_folder_made}
 
 -- no name of a folder that isn't there leads anywhere
 abbrev pub AreBare : Contents → Type 0
 AreBare c = (q : Place) → is_folder q ≡ true → c.there q ≡ false → (x : List ℕ) → c.texts q x ≡ None
 
-held_none : (b : Bool) (n : ℕ) (o : Option (List ℕ)) → o ≡ None → (if b then numbered n o else None) ≡ None
+pub held_none : (b : Bool) (n : ℕ) (o : Option (List ℕ)) → o ≡ None → (if b then numbered n o else None) ≡ None
 held_none true n o e = numbered_none n o e
 held_none false n o e = refl
 
 -- a folder whose names lead nowhere is empty
-is_empty : (c : Contents) (q : Place) → ((x : List ℕ) → c.texts q x ≡ None) → folder_at c q ≡ empty_folder
+pub is_empty : (c : Contents) (q : Place) → ((x : List ℕ) → c.texts q x ≡ None) → folder_at c q ≡ empty_folder
 is_empty c q none = λ i. record {
   messages = λ n. numbered_none n (c.texts q (entry_text (Number n))) (none (entry_text (Number n))) i;
   removed = λ n. numbered_none n (c.texts q (entry_text (Backup n))) (none (entry_text (Backup n))) i;

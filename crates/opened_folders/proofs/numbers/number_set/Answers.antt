@@ -1,7 +1,7 @@
 use Rattle.opened_folders.proofs.Sets.{made_from}
 use Rattle.mh_base.proofs.NumberTests.{is_one}
-use Rattle.inc_command.proofs.NewMarks.{all_added, one_added}
-use Rattle.inc_command.proofs.marks.number_set.Goals as goal
+use Rattle.opened_folders.proofs.numbers.number_set.Goals as goal
+use Rattle.command_stages.proofs.Adding.{all_added, one_added}
 
 pub loop-number-preserved : goal.loop-number-preserved
 loop-number-preserved c = one_added _ _ _ _ _ c.loop-number-test.true c.number-item.is c.in_ok-add_run.ensures c.loop-number.invariant

@@ -1,9 +1,0 @@
-use Rattle.opened_folders.proofs.Sets.{made_from}
-use Rattle.sortm_command.proofs.Numbered.{all_added, is_one, one_added}
-use Rattle.sortm_command.proofs.marks.number_set.Goals as goal
-
-pub loop-number-preserved : goal.loop-number-preserved
-loop-number-preserved c = one_added _ _ _ _ _ c.loop-number-test.true c.number-item.is c.in_ok-add_run.ensures c.loop-number.invariant
-
-pub returns : goal.returns
-returns c = made_from (λ n. is_one n c.args.numbers.now) c.loop-number.pile c.into_set.result (all_added _ _ _ c.loop-number-test.false c.loop-number.invariant) c.into_set.ensures.numbers c.into_set.ensures.valid
