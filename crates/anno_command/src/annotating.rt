@@ -3,9 +3,9 @@ ghost use Rattle.std.specs.Prelude.{◌≡◌};
 ghost use Rattle.file_plans.specs.Follows.{Follows, by_hand};
 ghost use Rattle.step_plans.specs.CommandFaults.{command_cause};
 ghost use Rattle.command_stages.specs.Chosen.{IsValue};
-ghost use Rattle.anno_command.specs.Anno.{anno as anno_plan, chosen_from, opened_noted, said_noted};
-ghost use Rattle.anno_command.specs.AnnoAlone.{NotesIfUnfaulted};
-ghost use Rattle.anno_command.specs.AnnoPledge.{PromisesSteps};
+ghost use Rattle.anno_plans.specs.Anno.{anno as anno_plan, chosen_from, opened_noted, said_noted};
+ghost use Rattle.anno_plans.specs.AnnoAlone.{NotesIfUnfaulted};
+ghost use Rattle.anno_plans.specs.AnnoPledge.{PromisesSteps};
 
 use crate::AnnoJob;
 use command_stages::{choose, fault_in, folder_place, make_current, numbers};

@@ -2,7 +2,6 @@
 #![tactic(auto)]
 
 mod annotating;
-mod job;
 
+pub use anno_plans::AnnoJob;
 pub use annotating::anno;
-pub use job::AnnoJob;

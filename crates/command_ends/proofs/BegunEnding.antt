@@ -28,19 +28,19 @@ use Rattle.step_plans.proofs.Ruling.{rules_of}
 use Rattle.step_plans.proofs.Refusals.{IsRefusal}
 use Rattle.command_stages.specs.Texts.{Commanded, text_read}
 use Rattle.mh_looks.proofs.Ending.{ScanEnds, ScanShows}
-use Rattle.opened_folders.specs.Endings.{IsEndedBy, IsToldBy, PutsNone, at_once}
-use Rattle.opened_folders.proofs.CleanRuns.{Clean, comes_both}
-use Rattle.opened_folders.proofs.EndedKept.{Still, keeps_more}
-use Rattle.opened_folders.proofs.Speaking.{Quiet, keeps_both, keeps_holding, quietly, run_speaks, silent_told, speaking, speaks_more}
-use Rattle.opened_folders.proofs.WorkEnds.{EndsBeside, EndsSo, ShowsSo}
+use Rattle.opening_plans.specs.Endings.{IsEndedBy, IsToldBy, PutsNone, at_once}
+use Rattle.opening_plans.proofs.CleanRuns.{Clean, comes_both}
+use Rattle.opening_plans.proofs.EndedKept.{Still, keeps_more}
+use Rattle.opening_plans.proofs.Speaking.{Quiet, keeps_both, keeps_holding, quietly, run_speaks, silent_told, speaking, speaks_more}
+use Rattle.opening_plans.proofs.WorkEnds.{EndsBeside, EndsSo, ShowsSo}
 use Rattle.mark_command.specs.Mark.{look_task, mark, mark_by_act, mark_task}
 use Rattle.mark_command.specs.declared.job.MarkAct.{MarkAct}
 use Rattle.mark_command.specs.declared.job.MarkJob.{MarkJob}
 use Rattle.mark_command.proofs.Orderly.{look_orderly, mark_orderly}
-use Rattle.pick_command.specs.Pick.{pick, pick_by as pick_by_marks}
-use Rattle.pick_command.specs.PickAnswers.{ShowsListing as ShowsPickListing, ShowsPicking}
-use Rattle.pick_command.specs.declared.job.PickJob.{PickJob}
-use Rattle.pick_command.specs.declared.job.PickMarks.{PickMarks}
+use Rattle.pick_plans.specs.Pick.{pick, pick_by as pick_by_marks}
+use Rattle.pick_plans.specs.PickAnswers.{ShowsListing as ShowsPickListing, ShowsPicking}
+use Rattle.pick_plans.specs.declared.job.PickJob.{PickJob}
+use Rattle.pick_plans.specs.declared.job.PickMarks.{PickMarks}
 use Rattle.told_folders.specs.Answers.{HasChanged, ShowsListing, TellsFolder, change_answers}
 use Rattle.told_folders.specs.Plans.{folder_changed, folder_looked}
 use Rattle.told_folders.specs.Tasks.{IsOrderly, Task}
@@ -58,50 +58,50 @@ use Rattle.pack_command.specs.PackPledge.{TellsPacked}
 use Rattle.pack_command.specs.declared.job.PackJob.{PackJob}
 use Rattle.pack_command.proofs.PackEnds.{pack_ends}
 use Rattle.pack_command.proofs.PackSays.{pack_says}
-use Rattle.anno_command.specs.Anno.{anno}
-use Rattle.anno_command.specs.AnnoAnswers.{ShowsAnno}
-use Rattle.anno_command.specs.AnnoPledge.{anno_pledge}
-use Rattle.anno_command.specs.declared.job.AnnoJob.{AnnoJob}
-use Rattle.anno_command.proofs.AnnoDone.{Has as HasNoted, anno_done}
-use Rattle.anno_command.proofs.AnnoEnds.{anno_ends}
+use Rattle.anno_plans.specs.Anno.{anno}
+use Rattle.anno_plans.specs.AnnoAnswers.{ShowsAnno}
+use Rattle.anno_plans.specs.AnnoPledge.{anno_pledge}
+use Rattle.anno_plans.specs.declared.job.AnnoJob.{AnnoJob}
+use Rattle.anno_plans.proofs.AnnoDone.{Has as HasNoted, anno_done}
+use Rattle.anno_plans.proofs.AnnoEnds.{anno_ends}
 use Rattle.anno_words.specs.declared.words.AnnoWords.{AnnoWords}
 use Rattle.anno_words.proofs.Said.{anno_annotates, anno_refuses}
 use Rattle.message_lines.specs.MessageText.{Writing}
 use Rattle.message_lines.specs.declared.standing.Standing.{Standing}
-use Rattle.sortm_command.specs.Sort.{sortm}
-use Rattle.sortm_command.specs.SortAnswers.{ShowsSort}
-use Rattle.sortm_command.specs.SortPledge.{sortm_pledge}
-use Rattle.sortm_command.specs.declared.job.SortJob.{SortJob}
-use Rattle.sortm_command.proofs.SortDone.{Has as HasSorted, sortm_done}
-use Rattle.sortm_command.proofs.SortEnds.{sortm_ends}
+use Rattle.sortm_plans.specs.Sort.{sortm}
+use Rattle.sortm_plans.specs.SortAnswers.{ShowsSort}
+use Rattle.sortm_plans.specs.SortPledge.{sortm_pledge}
+use Rattle.sortm_plans.specs.declared.job.SortJob.{SortJob}
+use Rattle.sortm_plans.proofs.SortDone.{Has as HasSorted, sortm_done}
+use Rattle.sortm_plans.proofs.SortEnds.{sortm_ends}
 use Rattle.sort_words.specs.declared.words.SortWords.{SortWords}
 use Rattle.sort_words.proofs.Said.{sort_refuses}
-use Rattle.mhlist_command.specs.ListAnswers.{IsNoPart, ShowsListing as ShowsPartsListing, TellsFirstRows, TellsRows}
-use Rattle.mhlist_command.specs.Listing.{mhlist}
-use Rattle.mhlist_command.specs.declared.job.ListJob.{ListJob}
-use Rattle.mhlist_command.proofs.ListEnds.{Looks as PartsLook, list_comes}
-use Rattle.mhlist_command.proofs.ListRefused.{Refuses as PartsRefuse, list_refuses}
-use Rattle.mhlist_command.proofs.ListSays.{list_says}
+use Rattle.mhlist_plans.specs.ListAnswers.{IsNoPart, ShowsListing as ShowsPartsListing, TellsFirstRows, TellsRows}
+use Rattle.mhlist_plans.specs.Listing.{mhlist}
+use Rattle.mhlist_plans.specs.declared.job.ListJob.{ListJob}
+use Rattle.mhlist_plans.proofs.ListEnds.{Looks as PartsLook, list_comes}
+use Rattle.mhlist_plans.proofs.ListRefused.{Refuses as PartsRefuse, list_refuses}
+use Rattle.mhlist_plans.proofs.ListSays.{list_says}
 use Rattle.list_words.specs.ListWords.{list_said}
 use Rattle.list_words.specs.declared.words.ListWords.{ListWords}
 use Rattle.list_words.proofs.Said.{list_refuses as list_words_refuse}
-use Rattle.mhstore_command.specs.StoreAnswers.{IsNoStoring, ShowsRefused, ShowsStoring, TellsFiles, TellsFirstFiles}
-use Rattle.mhstore_command.specs.Storing.{mhstore}
-use Rattle.mhstore_command.specs.declared.job.StoreJob.{StoreJob}
-use Rattle.mhstore_command.proofs.StoreEnds.{Ends as StoreEnd, store_comes}
-use Rattle.mhstore_command.proofs.StoreSays.{store_says}
+use Rattle.mhstore_plans.specs.StoreAnswers.{IsNoStoring, ShowsRefused, ShowsStoring, TellsFiles, TellsFirstFiles}
+use Rattle.mhstore_plans.specs.Storing.{mhstore}
+use Rattle.mhstore_plans.specs.declared.job.StoreJob.{StoreJob}
+use Rattle.mhstore_plans.proofs.StoreEnds.{Ends as StoreEnd, store_comes}
+use Rattle.mhstore_plans.proofs.StoreSays.{store_says}
 use Rattle.store_words.specs.StoreWords.{store_said}
 use Rattle.store_words.specs.declared.words.StoreWords.{StoreWords}
 use Rattle.store_words.proofs.Said.{store_refuses as store_words_refuse}
-use Rattle.inc_command.specs.Inc.{inc}
-use Rattle.inc_command.specs.IncAnswers.{ShowsInc, ShowsIncorporating}
-use Rattle.refile_command.specs.Rmm.{rmm}
-use Rattle.refile_command.specs.RmmAnswers.{HasRemovedChosen, rmm_answers}
-use Rattle.refile_command.proofs.RefileMoved.{HasHeldNone}
-use Rattle.refile_command.proofs.RmmEnds.{rmm_ends}
-use Rattle.refile_command.proofs.RmmPledged.{rmm_keeps as rmm_pledged}
-use Rattle.refile_command.specs.RmmPledge.{rmm_pledge}
-use Rattle.refile_command.specs.declared.job.RmmJob.{RmmJob}
+use Rattle.inc_plans.specs.Inc.{inc}
+use Rattle.inc_plans.specs.IncAnswers.{ShowsInc, ShowsIncorporating}
+use Rattle.refile_plans.specs.Rmm.{rmm}
+use Rattle.refile_plans.specs.RmmAnswers.{HasRemovedChosen, rmm_answers}
+use Rattle.refile_plans.proofs.RefileMoved.{HasHeldNone}
+use Rattle.refile_plans.proofs.RmmEnds.{rmm_ends}
+use Rattle.refile_plans.proofs.RmmPledged.{rmm_keeps as rmm_pledged}
+use Rattle.refile_plans.specs.RmmPledge.{rmm_pledge}
+use Rattle.refile_plans.specs.declared.job.RmmJob.{RmmJob}
 use Rattle.command_words.specs.Ended.{plain}
 use Rattle.command_words.specs.IncWords.{inc_said}
 use Rattle.command_words.specs.MarkWords.{mark_said}

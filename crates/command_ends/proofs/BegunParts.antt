@@ -34,12 +34,12 @@ use Rattle.step_plans.proofs.Going.{Outcome}
 use Rattle.step_plans.proofs.Lasting.{KeptBy}
 use Rattle.step_plans.proofs.Past.{did_step}
 use Rattle.command_stages.specs.Texts.{Commanded, text_by, text_read, too_large}
-use Rattle.opened_folders.specs.Endings.{IsEndedBy, IsShownBy, IsToldBy, PutsNone, at_once, let_go}
-use Rattle.opened_folders.proofs.CleanRuns.{Clean, unfailed_by}
-use Rattle.opened_folders.proofs.EndedKept.{keeps_more}
-use Rattle.opened_folders.proofs.NamesKept.{putting, taking}
-use Rattle.opened_folders.proofs.Speaking.{keeps_both, silence, silent_told, silently, speaking, speaks_more, text_silent}
-use Rattle.refile_command.proofs.RefileMoved.{HasHeldNone}
+use Rattle.opening_plans.specs.Endings.{IsEndedBy, IsShownBy, IsToldBy, PutsNone, at_once, let_go}
+use Rattle.opening_plans.proofs.CleanRuns.{Clean, unfailed_by}
+use Rattle.opening_plans.proofs.EndedKept.{keeps_more}
+use Rattle.opening_plans.proofs.NamesKept.{putting, taking}
+use Rattle.opening_plans.proofs.Speaking.{keeps_both, silence, silent_told, silently, speaking, speaks_more, text_silent}
+use Rattle.refile_plans.proofs.RefileMoved.{HasHeldNone}
 use Rattle.command_words.specs.Ended.{plain}
 use Rattle.command_words.specs.declared.ended.Ended.{Ended}
 use Rattle.command_words.specs.FolderWords.{named_folder}

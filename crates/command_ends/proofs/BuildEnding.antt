@@ -25,18 +25,18 @@ use Rattle.step_plans.proofs.Coming.{Comes, NoneFailed, OfActs, anything, comes_
 use Rattle.step_plans.proofs.Going.{Outcome}
 use Rattle.step_plans.proofs.Ruling.{rules_of}
 use Rattle.command_stages.specs.Texts.{Commanded, text_read, too_large}
-use Rattle.opened_folders.specs.Endings.{IsToldBy}
-use Rattle.opened_folders.proofs.CleanRuns.{Clean}
-use Rattle.opened_folders.proofs.EndedKept.{keeps_more}
-use Rattle.opened_folders.proofs.Speaking.{keeps_both, keeps_holding, run_speaks, speaking, speaks_more}
-use Rattle.mhbuild_command.specs.BuildDone.{HasBuilt}
-use Rattle.mhbuild_command.specs.BuildPledge.{build_pledge}
-use Rattle.mhbuild_command.specs.Building.{mhbuild}
-use Rattle.mhbuild_command.specs.declared.job.BuildJob.{BuildJob}
-use Rattle.mhbuild_command.proofs.BuildEnds.{Built, build_ends}
-use Rattle.mhbuild_command.proofs.BuildPledged.{build_keeps}
-use Rattle.mhbuild_command.proofs.BuildSays.{SaysSo, Tells, build_says}
-use Rattle.mhbuild_command.proofs.Unlocked.{IsUnlocked, not_locked, refused_unlocked}
+use Rattle.opening_plans.specs.Endings.{IsToldBy}
+use Rattle.opening_plans.proofs.CleanRuns.{Clean}
+use Rattle.opening_plans.proofs.EndedKept.{keeps_more}
+use Rattle.opening_plans.proofs.Speaking.{keeps_both, keeps_holding, run_speaks, speaking, speaks_more}
+use Rattle.mhbuild_plans.specs.BuildDone.{HasBuilt}
+use Rattle.mhbuild_plans.specs.BuildPledge.{build_pledge}
+use Rattle.mhbuild_plans.specs.Building.{mhbuild}
+use Rattle.mhbuild_plans.specs.declared.job.BuildJob.{BuildJob}
+use Rattle.mhbuild_plans.proofs.BuildEnds.{Built, build_ends}
+use Rattle.mhbuild_plans.proofs.BuildPledged.{build_keeps}
+use Rattle.mhbuild_plans.proofs.BuildSays.{SaysSo, Tells, build_says}
+use Rattle.mhbuild_plans.proofs.Unlocked.{IsUnlocked, not_locked, refused_unlocked}
 use Rattle.build_words.specs.BuildWords.{build_said}
 use Rattle.build_words.specs.declared.words.BuildWords.{BuildWords}
 use Rattle.build_words.proofs.Said.{build_refuses, build_valid}

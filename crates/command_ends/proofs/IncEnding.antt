@@ -18,18 +18,18 @@ use Rattle.step_plans.proofs.Coming.{NoneFailed, anything}
 use Rattle.step_plans.proofs.Lasting.{KeptBy}
 use Rattle.message_lines.specs.MessageText.{Writing}
 use Rattle.message_lines.specs.declared.standing.Standing.{Standing}
-use Rattle.opened_folders.specs.Endings.{PutsNone}
-use Rattle.opened_folders.proofs.EndedKept.{Still, keeps_more}
-use Rattle.opened_folders.proofs.Speaking.{keeps_both, speaking}
-use Rattle.opened_folders.proofs.WorkEnds.{EndsBeside}
+use Rattle.opening_plans.specs.Endings.{PutsNone}
+use Rattle.opening_plans.proofs.EndedKept.{Still, keeps_more}
+use Rattle.opening_plans.proofs.Speaking.{keeps_both, speaking}
+use Rattle.opening_plans.proofs.WorkEnds.{EndsBeside}
 use Rattle.message_puts.proofs.FirstPuts.{AreOnce}
-use Rattle.inc_command.specs.Inc.{inc}
-use Rattle.inc_command.specs.IncAnswers.{HasTakenMail, ShowsInc, IsTextOfNew, nothing}
-use Rattle.inc_command.specs.IncPledge.{inc_pledge}
-use Rattle.inc_command.specs.IncJob.{IncJob}
-use Rattle.inc_command.proofs.IncEnds.{inc_ends}
-use Rattle.inc_command.proofs.IncPledged.{inc_keeps}
-use Rattle.inc_command.proofs.IncSays.{HasTold, TellsSo, says}
+use Rattle.inc_plans.specs.Inc.{inc}
+use Rattle.inc_plans.specs.IncAnswers.{HasTakenMail, ShowsInc, IsTextOfNew, nothing}
+use Rattle.inc_plans.specs.IncPledge.{inc_pledge}
+use Rattle.inc_plans.specs.IncJob.{IncJob}
+use Rattle.inc_plans.proofs.IncEnds.{inc_ends}
+use Rattle.inc_plans.proofs.IncPledged.{inc_keeps}
+use Rattle.inc_plans.proofs.IncSays.{HasTold, TellsSo, says}
 use Rattle.command_line.specs.Incorporating.{IncAsked, job_writing}
 use Rattle.command_line.specs.Looking.{WritesAs, written_by}
 use Rattle.command_line.specs.Profile.{entries_by, path_of}

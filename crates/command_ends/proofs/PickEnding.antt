@@ -16,19 +16,19 @@ use Rattle.step_plans.specs.Hands.{knowing, temp_name}
 use Rattle.step_plans.specs.declared.command_fault.CommandFault.{CommandFault}
 use Rattle.step_plans.proofs.Coming.{NoneFailed, OfActs, anything, comes_clean, comes_framed, comes_keeps}
 use Rattle.step_plans.proofs.Going.{Outcome}
-use Rattle.opened_folders.specs.Endings.{PutsNone}
-use Rattle.opened_folders.proofs.CleanRuns.{Clean, comes_both}
-use Rattle.opened_folders.proofs.Speaking.{keeps_both, speaking}
-use Rattle.opened_folders.proofs.WorkEnds.{EndsBeside}
-use Rattle.pick_command.specs.Pick.{pick_changes, pick_looks}
-use Rattle.pick_command.specs.PickAnswers.{HasFound, HasFoundListed, ShowsPicking, TellsFound, TellsSome}
-use Rattle.pick_command.specs.declared.job.PickJob.{PickJob}
-use Rattle.pick_command.specs.declared.job.PickMarks.{PickMarks}
-use Rattle.pick_command.proofs.ListingSays.{listing_says}
-use Rattle.pick_command.proofs.LooksEnd.{Looks, looks_comes}
-use Rattle.pick_command.proofs.LooksRefused.{Refuses, looks_refuses}
-use Rattle.pick_command.proofs.PickEnds.{changes_end}
-use Rattle.pick_command.proofs.PickSays.{changes_say}
+use Rattle.opening_plans.specs.Endings.{PutsNone}
+use Rattle.opening_plans.proofs.CleanRuns.{Clean, comes_both}
+use Rattle.opening_plans.proofs.Speaking.{keeps_both, speaking}
+use Rattle.opening_plans.proofs.WorkEnds.{EndsBeside}
+use Rattle.pick_plans.specs.Pick.{pick_changes, pick_looks}
+use Rattle.pick_plans.specs.PickAnswers.{HasFound, HasFoundListed, ShowsPicking, TellsFound, TellsSome}
+use Rattle.pick_plans.specs.declared.job.PickJob.{PickJob}
+use Rattle.pick_plans.specs.declared.job.PickMarks.{PickMarks}
+use Rattle.pick_plans.proofs.ListingSays.{listing_says}
+use Rattle.pick_plans.proofs.LooksEnd.{Looks, looks_comes}
+use Rattle.pick_plans.proofs.LooksRefused.{Refuses, looks_refuses}
+use Rattle.pick_plans.proofs.PickEnds.{changes_end}
+use Rattle.pick_plans.proofs.PickSays.{changes_say}
 use Rattle.command_line.specs.Profile.{entries_by, path_of}
 use Rattle.command_ends.proofs.BegunParts.{Behind, after_context, behind_kept, clean_there, none_made, none_put, none_taken, numbered_there}
 

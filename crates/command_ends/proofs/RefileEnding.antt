@@ -21,18 +21,18 @@ use Rattle.step_plans.proofs.Coming.{Comes, NoneFailed, OfActs, anything, comes_
 use Rattle.step_plans.proofs.Going.{Outcome}
 use Rattle.step_plans.proofs.Ruling.{rules_of}
 use Rattle.command_stages.specs.Texts.{Commanded, text_read}
-use Rattle.opened_folders.specs.Endings.{IsToldBy, PutsNone}
-use Rattle.opened_folders.proofs.CleanRuns.{Clean}
-use Rattle.opened_folders.proofs.EndedKept.{keeps_more}
-use Rattle.opened_folders.proofs.Speaking.{Quiet, keeps_both, keeps_holding, quietly, run_speaks, silent_told, speaking}
-use Rattle.refile_command.specs.Refile.{refile}
-use Rattle.refile_command.specs.RefileAnswers.{IsEndedFirst, ShowsRefile}
-use Rattle.refile_command.specs.RefilePledge.{refile_pledge}
-use Rattle.refile_command.specs.declared.job.RefileJob.{RefileJob}
-use Rattle.refile_command.proofs.RefileEnds.{RefileEndsSo, refile_ends}
-use Rattle.refile_command.proofs.RefileMoved.{HasHeldNone}
-use Rattle.refile_command.proofs.RefilePledged.{EndsRefiled, refile_keeps as refile_pledged}
-use Rattle.refile_command.proofs.ShownFirst.{ended_first, first_more}
+use Rattle.opening_plans.specs.Endings.{IsToldBy, PutsNone}
+use Rattle.opening_plans.proofs.CleanRuns.{Clean}
+use Rattle.opening_plans.proofs.EndedKept.{keeps_more}
+use Rattle.opening_plans.proofs.Speaking.{Quiet, keeps_both, keeps_holding, quietly, run_speaks, silent_told, speaking}
+use Rattle.refile_plans.specs.Refile.{refile}
+use Rattle.refile_plans.specs.RefileAnswers.{IsEndedFirst, ShowsRefile}
+use Rattle.refile_plans.specs.RefilePledge.{refile_pledge}
+use Rattle.refile_plans.specs.declared.job.RefileJob.{RefileJob}
+use Rattle.refile_plans.proofs.RefileEnds.{RefileEndsSo, refile_ends}
+use Rattle.refile_plans.proofs.RefileMoved.{HasHeldNone}
+use Rattle.refile_plans.proofs.RefilePledged.{EndsRefiled, refile_keeps as refile_pledged}
+use Rattle.refile_plans.proofs.ShownFirst.{ended_first, first_more}
 use Rattle.command_words.specs.Ended.{plain}
 use Rattle.command_words.specs.RefileWords.{refile_said}
 use Rattle.command_words.specs.declared.ended.Ended.{Ended}

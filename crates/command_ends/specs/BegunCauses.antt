@@ -13,19 +13,19 @@ use Rattle.step_plans.specs.ContextCommit.{LIMIT_BYTES, context_name}
 use Rattle.step_plans.specs.declared.command_fault.CommandFault.{CommandFault}
 use Rattle.step_plans.specs.declared.command_fault.CommandFault.TheVariants as fault
 use Rattle.command_stages.specs.Texts.{too_large}
-use Rattle.opened_folders.specs.Endings.{ShowsEnd}
+use Rattle.opening_plans.specs.Endings.{ShowsEnd}
 use Rattle.mark_command.specs.Mark.{look_task, mark_task}
 use Rattle.mark_command.specs.declared.job.MarkAct.{MarkAct}
 use Rattle.mark_command.specs.declared.job.MarkJob.{MarkJob}
-use Rattle.pick_command.specs.PickAnswers.{HasFound, HasFoundListed, ShowsListing as ShowsPickListing, ShowsPicking, TellsNone, TellsSome}
-use Rattle.pick_command.specs.declared.job.PickJob.{PickJob}
-use Rattle.pick_command.specs.declared.job.PickMarks.{PickMarks}
-use Rattle.anno_command.specs.AnnoAnswers.{ShowsAnno}
-use Rattle.anno_command.specs.AnnoDone.{HasNotedChosen}
-use Rattle.anno_command.specs.declared.job.AnnoJob.{AnnoJob}
-use Rattle.sortm_command.specs.SortAnswers.{ShowsSort}
-use Rattle.sortm_command.specs.SortDone.{HasSortedChosen}
-use Rattle.sortm_command.specs.declared.job.SortJob.{SortJob}
+use Rattle.pick_plans.specs.PickAnswers.{HasFound, HasFoundListed, ShowsListing as ShowsPickListing, ShowsPicking, TellsNone, TellsSome}
+use Rattle.pick_plans.specs.declared.job.PickJob.{PickJob}
+use Rattle.pick_plans.specs.declared.job.PickMarks.{PickMarks}
+use Rattle.anno_plans.specs.AnnoAnswers.{ShowsAnno}
+use Rattle.anno_plans.specs.AnnoDone.{HasNotedChosen}
+use Rattle.anno_plans.specs.declared.job.AnnoJob.{AnnoJob}
+use Rattle.sortm_plans.specs.SortAnswers.{ShowsSort}
+use Rattle.sortm_plans.specs.SortDone.{HasSortedChosen}
+use Rattle.sortm_plans.specs.declared.job.SortJob.{SortJob}
 use Rattle.told_folders.specs.Answers.{HasChanged, ShowsListing, TellsFolder, change_answers}
 use Rattle.told_folders.specs.Tasks.{Task}
 use Rattle.folder_command.specs.Folder.{task_with}
@@ -33,18 +33,18 @@ use Rattle.folder_command.specs.declared.job.FolderJob.{FolderJob}
 use Rattle.pack_command.specs.PackAnswers.{ShowsPack}
 use Rattle.pack_command.specs.PackPledge.{TellsPacked}
 use Rattle.pack_command.specs.declared.job.PackJob.{PackJob}
-use Rattle.inc_command.specs.IncAnswers.{IsTextOfNew, ShowsIncorporating}
-use Rattle.mhlist_command.specs.ListAnswers.{IsNoPart, ShowsListing as ShowsPartsListing, TellsFirstRows, TellsRows}
-use Rattle.mhlist_command.specs.declared.job.ListJob.{ListJob}
-use Rattle.mhstore_command.specs.StoreAnswers.{IsNoStoring, ShowsRefused, ShowsStoring, TellsFiles, TellsFirstFiles}
-use Rattle.mhstore_command.specs.declared.job.StoreJob.{StoreJob}
+use Rattle.inc_plans.specs.IncAnswers.{IsTextOfNew, ShowsIncorporating}
+use Rattle.mhlist_plans.specs.ListAnswers.{IsNoPart, ShowsListing as ShowsPartsListing, TellsFirstRows, TellsRows}
+use Rattle.mhlist_plans.specs.declared.job.ListJob.{ListJob}
+use Rattle.mhstore_plans.specs.StoreAnswers.{IsNoStoring, ShowsRefused, ShowsStoring, TellsFiles, TellsFirstFiles}
+use Rattle.mhstore_plans.specs.declared.job.StoreJob.{StoreJob}
 use Rattle.message_lines.specs.MessageText.{Writing}
 use Rattle.message_lines.specs.declared.standing.Standing.{Standing}
-use Rattle.refile_command.specs.RefileAnswers.{ShowsRefile}
-use Rattle.refile_command.specs.RefileDone.{HasRefiledChosen}
-use Rattle.refile_command.specs.RmmAnswers.{HasRemovedChosen, rmm_answers}
-use Rattle.refile_command.specs.declared.job.RefileJob.{RefileJob}
-use Rattle.refile_command.specs.declared.job.RmmJob.{RmmJob}
+use Rattle.refile_plans.specs.RefileAnswers.{ShowsRefile}
+use Rattle.refile_plans.specs.RefileDone.{HasRefiledChosen}
+use Rattle.refile_plans.specs.RmmAnswers.{HasRemovedChosen, rmm_answers}
+use Rattle.refile_plans.specs.declared.job.RefileJob.{RefileJob}
+use Rattle.refile_plans.specs.declared.job.RmmJob.{RmmJob}
 use Rattle.command_words.specs.IncWords.{inc_said}
 use Rattle.command_words.specs.MarkWords.{mark_said}
 use Rattle.command_words.specs.RefileWords.{refile_said}

@@ -13,10 +13,10 @@ use Rattle.command_stages.specs.Texts.{too_large}
 use Rattle.command_words.specs.declared.ended.Ended.{Ended}
 use Rattle.build_words.specs.BuildWords.{build_said}
 use Rattle.build_words.specs.declared.words.BuildWords.{BuildWords}
-use Rattle.mhbuild_command.specs.BuildAnswers.{NotBuilt}
-use Rattle.mhbuild_command.specs.BuildDone.{PlacedBy}
-use Rattle.mhbuild_command.specs.BuildPledge.{IsBuilt}
-use Rattle.mhbuild_command.specs.declared.job.BuildJob.{BuildJob}
+use Rattle.mhbuild_plans.specs.BuildAnswers.{NotBuilt}
+use Rattle.mhbuild_plans.specs.BuildDone.{PlacedBy}
+use Rattle.mhbuild_plans.specs.BuildPledge.{IsBuilt}
+use Rattle.mhbuild_plans.specs.declared.job.BuildJob.{BuildJob}
 use Rattle.command_line.specs.Command.{build_job}
 use Rattle.command_line.specs.CommandNames.{named}
 use Rattle.command_line.specs.Profile.{entries_by, path_by, profile_name}

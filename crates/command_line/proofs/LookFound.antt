@@ -36,8 +36,8 @@ use Rattle.message_lines.specs.Finding.{LIMIT_FORMAT, file_read, format_by, wron
 use Rattle.message_lines.specs.MessageText.{Writing, formed}
 use Rattle.message_lines.specs.declared.standing.Standing.{Standing}
 use Rattle.message_puts.proofs.FirstPuts.{AreOnce, once_asked}
-use Rattle.opened_folders.proofs.BegunSeen.{NoneUnlinked, still_none}
-use Rattle.opened_folders.proofs.Speaking.{silence}
+use Rattle.opening_plans.proofs.BegunSeen.{NoneUnlinked, still_none}
+use Rattle.opening_plans.proofs.Speaking.{silence}
 use Rattle.command_line.specs.Looking.{InFile, Known, Telling, WritesAs, look_found, written_by, written_with}
 
 abbrev pub file_step : FilePath → Step

@@ -7,7 +7,7 @@ use Rattle.folder_files.specs.declared.place.FilePath.{FilePath}
 use Rattle.step_plans.specs.declared.command_fault.CommandFault.{CommandFault}
 use Rattle.message_lines.specs.MessageText.{Writing}
 use Rattle.message_lines.specs.declared.standing.Standing.{Standing}
-use Rattle.inc_command.specs.IncJob.{IncJob}
+use Rattle.inc_plans.specs.IncJob.{IncJob}
 use Rattle.command_words.specs.Ended.{plain}
 use Rattle.command_words.specs.SequenceNames.{named_sequences}
 use Rattle.command_words.specs.Words.{profile_words}

@@ -34,28 +34,28 @@ use Rattle.mh_looks.specs.Scan.{scan}
 use Rattle.mh_looks.proofs.Folders.{IsFresh}
 use Rattle.mh_looks.proofs.Reading.{after_read, TextRead, text_gives}
 use Rattle.mh_looks.proofs.Scanning.{IsLate, Decides, ScanEnds, scan_gives}
-use Rattle.opened_folders.specs.BegunWork.{AreHomesAt, Homes}
-use Rattle.opened_folders.specs.HomesOf.{homes_at}
-use Rattle.opened_folders.specs.Making.{IsBare}
-use Rattle.opened_folders.proofs.HomesFound.{homes_there}
-use Rattle.inc_command.specs.Inc.{inc}
-use Rattle.inc_command.specs.IncOutcome.{inc_work}
-use Rattle.inc_command.proofs.IncGiven.{inc_gives}
+use Rattle.opening_plans.specs.BegunWork.{AreHomesAt, Homes}
+use Rattle.opening_plans.specs.HomesOf.{homes_at}
+use Rattle.opening_plans.specs.Making.{IsBare}
+use Rattle.opening_plans.proofs.HomesFound.{homes_there}
+use Rattle.inc_plans.specs.Inc.{inc}
+use Rattle.inc_plans.specs.IncOutcome.{inc_work}
+use Rattle.inc_plans.proofs.IncGiven.{inc_gives}
 use Rattle.mark_command.specs.Mark.{mark}
-use Rattle.opened_folders.proofs.WorkGiven.{WorkEnds}
+use Rattle.opening_plans.proofs.WorkGiven.{WorkEnds}
 use Rattle.mark_command.proofs.MarkAlone.{mark_gives}
-use Rattle.pick_command.specs.Pick.{pick}
-use Rattle.pick_command.proofs.PickGiven.{pick_gives}
+use Rattle.pick_plans.specs.Pick.{pick}
+use Rattle.pick_plans.proofs.PickGiven.{pick_gives}
 use Rattle.folder_command.specs.Folder.{folder as tell}
 use Rattle.folder_command.proofs.FolderAlone.{folder_gives}
 use Rattle.pack_command.specs.Pack.{pack}
 use Rattle.pack_command.proofs.PackGiven.{pack_gives}
-use Rattle.refile_command.specs.Refile.{refile}
-use Rattle.refile_command.specs.RefileOutcome.{homes_of_all}
-use Rattle.refile_command.specs.Rmm.{rmm}
-use Rattle.refile_command.proofs.AllHomesFound.{all_homes_found}
-use Rattle.refile_command.proofs.RefileGiven.{refile_gives}
-use Rattle.refile_command.proofs.RmmGiven.{rmm_gives}
+use Rattle.refile_plans.specs.Refile.{refile}
+use Rattle.refile_plans.specs.RefileOutcome.{homes_of_all}
+use Rattle.refile_plans.specs.Rmm.{rmm}
+use Rattle.refile_plans.proofs.AllHomesFound.{all_homes_found}
+use Rattle.refile_plans.proofs.RefileGiven.{refile_gives}
+use Rattle.refile_plans.proofs.RmmGiven.{rmm_gives}
 use Rattle.command_words.specs.Ended.{plain}
 use Rattle.command_words.specs.IncWords.{inc_said}
 use Rattle.command_words.specs.MarkWords.{mark_said}
@@ -72,28 +72,28 @@ use Rattle.command_words.specs.declared.rmm.RmmWords.{RmmWords}
 use Rattle.sort_words.specs.SortWords.{sort_said}
 use Rattle.command_line.specs.Looking.{ScanAsked, look_found, scan_asked}
 use Rattle.command_words.proofs.SaidFolder.{IsValid, IsValid as IsDraft}
-use Rattle.anno_command.specs.Anno.{anno}
-use Rattle.sortm_command.specs.Sort.{sortm}
-use Rattle.anno_command.proofs.AnnoGiven.{anno_gives}
-use Rattle.sortm_command.proofs.SortGiven.{sortm_gives}
+use Rattle.anno_plans.specs.Anno.{anno}
+use Rattle.sortm_plans.specs.Sort.{sortm}
+use Rattle.anno_plans.proofs.AnnoGiven.{anno_gives}
+use Rattle.sortm_plans.proofs.SortGiven.{sortm_gives}
 use Rattle.anno_words.specs.declared.words.AnnoWords.{AnnoWords}
 use Rattle.sort_words.specs.declared.words.SortWords.{SortWords}
 use Rattle.anno_words.proofs.Said.{anno_refuses, anno_valid}
 use Rattle.sort_words.proofs.Said.{sort_refuses, sort_valid}
-use Rattle.mhlist_command.specs.Listing.{mhlist}
-use Rattle.mhlist_command.proofs.ListGiven.{list_works}
+use Rattle.mhlist_plans.specs.Listing.{mhlist}
+use Rattle.mhlist_plans.proofs.ListGiven.{list_works}
 use Rattle.list_words.specs.ListWords.{list_said}
 use Rattle.list_words.specs.declared.words.ListWords.{ListWords}
 use Rattle.list_words.proofs.Said.{list_refuses, list_valid}
-use Rattle.mhstore_command.specs.ClearWork.{HasClearWork}
-use Rattle.mhstore_command.specs.Storing.{mhstore}
-use Rattle.mhstore_command.proofs.WholeGiven.{store_gives}
+use Rattle.mhstore_plans.specs.ClearWork.{HasClearWork}
+use Rattle.mhstore_plans.specs.Storing.{mhstore}
+use Rattle.mhstore_plans.proofs.WholeGiven.{store_gives}
 use Rattle.build_words.specs.BuildWords.{build_said}
 use Rattle.build_words.specs.declared.words.BuildWords.{BuildWords}
 use Rattle.build_words.proofs.Said.{build_refuses, build_valid}
-use Rattle.mhbuild_command.specs.Heard.{Heard}
-use Rattle.mhbuild_command.proofs.HeardBuild.{mhbuild_given}
-use Rattle.mhbuild_command.proofs.HeardGiven.{given_gives}
+use Rattle.mhbuild_plans.specs.Heard.{Heard}
+use Rattle.mhbuild_plans.proofs.HeardBuild.{mhbuild_given}
+use Rattle.mhbuild_plans.proofs.HeardGiven.{given_gives}
 use Rattle.store_words.specs.StoreWords.{store_said}
 use Rattle.store_words.specs.declared.words.StoreWords.{StoreWords}
 use Rattle.store_words.proofs.Said.{store_refuses, store_valid}
@@ -111,8 +111,8 @@ use Rattle.command_outcomes.proofs.LookGives.{fresh_alike, look_gives}
 use Rattle.command_line.proofs.SaidInc.{job_valid}
 use Rattle.command_line.proofs.SaidFolder.{acted_valid, mark_valid, refile_words_valid, rmm_words_valid, tell_words_valid}
 use Rattle.command_line.proofs.SaidPick.{pick_refuses, pick_valid}
-use Rattle.opened_folders.specs.MadeFolder.{with_folder_made}
-use Rattle.opened_folders.proofs.FolderMade.{shows_folder_made}
+use Rattle.opening_plans.specs.MadeFolder.{with_folder_made}
+use Rattle.opening_plans.proofs.FolderMade.{shows_folder_made}
 
 -- an end that the last commit alone decides
 abbrev pub IsLateEnd : Result Unit Ended → Type 0

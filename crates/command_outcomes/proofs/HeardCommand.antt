@@ -15,12 +15,12 @@ use Rattle.command_words.specs.Ended.{Ending, plain}
 use Rattle.command_words.specs.declared.ended.Ended.{Ended}
 use Rattle.build_words.specs.BuildWords.{build_said}
 use Rattle.build_words.specs.declared.words.BuildWords.{BuildWords}
-use Rattle.mhbuild_command.specs.Building.{mhbuild}
-use Rattle.mhbuild_command.specs.Heard.{Heard}
-use Rattle.mhbuild_command.specs.declared.job.BuildJob.{BuildJob}
-use Rattle.mhbuild_command.proofs.HeardBuild.{mhbuild_given, mhbuild_heeds}
-use Rattle.mhbuild_command.proofs.Heeding.{Heeds, bind_assoc, heeds_bind, heeds_recall, heeds_same, plain_heeds}
-use Rattle.mhbuild_command.proofs.PlainBuild.{plain_text_read}
+use Rattle.mhbuild_plans.specs.Building.{mhbuild}
+use Rattle.mhbuild_plans.specs.Heard.{Heard}
+use Rattle.mhbuild_plans.specs.declared.job.BuildJob.{BuildJob}
+use Rattle.mhbuild_plans.proofs.HeardBuild.{mhbuild_given, mhbuild_heeds}
+use Rattle.mhbuild_plans.proofs.Heeding.{Heeds, bind_assoc, heeds_bind, heeds_recall, heeds_same, plain_heeds}
+use Rattle.mhbuild_plans.proofs.PlainBuild.{plain_text_read}
 use Rattle.command_line.specs.Command.{build_begun, build_by, build_job, command, command_by, context_entered, context_seen, no_command, word_by}
 use Rattle.command_line.specs.CommandNames.{command_of, named}
 use Rattle.command_line.specs.Profile.{path_of, profile_name}

@@ -15,22 +15,22 @@ use Rattle.message_lines.specs.Finding.{format_within}
 use Rattle.message_lines.specs.MessageText.{Writing}
 use Rattle.message_lines.specs.declared.standing.Standing.{Standing}
 use Rattle.mh_looks.specs.Outcomes.{scan_work}
-use Rattle.opened_folders.specs.BegunWork.{Homes}
-use Rattle.opened_folders.specs.HomesOf.{homes_at}
+use Rattle.opening_plans.specs.BegunWork.{Homes}
+use Rattle.opening_plans.specs.HomesOf.{homes_at}
 use Rattle.mark_command.specs.Mark.{mark_work}
-use Rattle.pick_command.specs.Outcomes.{pick_work}
-use Rattle.anno_command.specs.AnnoOutcome.{anno_work}
-use Rattle.sortm_command.specs.SortOutcome.{sort_work}
+use Rattle.pick_plans.specs.Outcomes.{pick_work}
+use Rattle.anno_plans.specs.AnnoOutcome.{anno_work}
+use Rattle.sortm_plans.specs.SortOutcome.{sort_work}
 use Rattle.folder_command.specs.Folder.{folder_work}
 use Rattle.pack_command.specs.PackOutcome.{pack_work}
-use Rattle.mhlist_command.specs.ListOutcome.{mhlist_work}
-use Rattle.mhbuild_command.specs.BuildOutcome.{build_work, text_found}
-use Rattle.mhbuild_command.specs.Heard.{Heard}
-use Rattle.mhstore_command.specs.StoreOutcome.{mhstore_work}
-use Rattle.inc_command.specs.IncOutcome.{inc_work}
-use Rattle.opened_folders.specs.MadeFolder.{or_empty, with_folder_made}
-use Rattle.refile_command.specs.RefileOutcome.{refile_work}
-use Rattle.refile_command.specs.RmmOutcome.{rmm_work}
+use Rattle.mhlist_plans.specs.ListOutcome.{mhlist_work}
+use Rattle.mhbuild_plans.specs.BuildOutcome.{build_work, text_found}
+use Rattle.mhbuild_plans.specs.Heard.{Heard}
+use Rattle.mhstore_plans.specs.StoreOutcome.{mhstore_work}
+use Rattle.inc_plans.specs.IncOutcome.{inc_work}
+use Rattle.opening_plans.specs.MadeFolder.{or_empty, with_folder_made}
+use Rattle.refile_plans.specs.RefileOutcome.{refile_work}
+use Rattle.refile_plans.specs.RmmOutcome.{rmm_work}
 use Rattle.command_words.specs.Ended.{plain}
 use Rattle.command_words.specs.IncWords.{inc_said}
 use Rattle.command_words.specs.MarkWords.{mark_said}

@@ -20,17 +20,17 @@ use Rattle.step_plans.proofs.Ruling.{rules_of}
 use Rattle.sequence_marks.proofs.SequencesOf.{MindsSequencesOf}
 use Rattle.command_stages.proofs.FolderLines.{current_valid}
 use Rattle.mh_looks.specs.ScanPledge.{scan_pledge}
-use Rattle.opened_folders.proofs.AllMarks.{MindsAll, pledge_minds}
-use Rattle.opened_folders.proofs.CommitMinds.{IsTold}
-use Rattle.opened_folders.proofs.EndedKept.{Still, keeps_more}
-use Rattle.opened_folders.proofs.Meeting.{keeps_met, with_step}
-use Rattle.opened_folders.proofs.WorkMinds.{Anyhow}
-use Rattle.refile_command.specs.RefileHeld.{TakesUnheld}
-use Rattle.anno_command.specs.Anno.{anno}
-use Rattle.anno_command.specs.AnnoPledge.{anno_pledge}
-use Rattle.anno_command.specs.declared.job.AnnoJob.{AnnoJob}
-use Rattle.anno_command.proofs.AnnoMinds.{anno_meets}
-use Rattle.anno_command.proofs.AnnoPledged.{anno_keeps}
+use Rattle.opening_plans.proofs.AllMarks.{MindsAll, pledge_minds}
+use Rattle.opening_plans.proofs.CommitMinds.{IsTold}
+use Rattle.opening_plans.proofs.EndedKept.{Still, keeps_more}
+use Rattle.opening_plans.proofs.Meeting.{keeps_met, with_step}
+use Rattle.opening_plans.proofs.WorkMinds.{Anyhow}
+use Rattle.refile_plans.specs.RefileHeld.{TakesUnheld}
+use Rattle.anno_plans.specs.Anno.{anno}
+use Rattle.anno_plans.specs.AnnoPledge.{anno_pledge}
+use Rattle.anno_plans.specs.declared.job.AnnoJob.{AnnoJob}
+use Rattle.anno_plans.proofs.AnnoMinds.{anno_meets}
+use Rattle.anno_plans.proofs.AnnoPledged.{anno_keeps}
 use Rattle.anno_words.specs.declared.words.AnnoWords.{AnnoWords}
 use Rattle.command_words.specs.declared.ended.Ended.{Ended}
 use Rattle.command_words.proofs.SaidFolder.{IsValid}

@@ -12,7 +12,7 @@ use Rattle.file_plans.specs.Runs.{Cause, Deed as Done}
 use Rattle.file_plans.proofs.Acting.{acts}
 use Rattle.step_plans.proofs.Past.{did_step}
 use Rattle.sequence_marks.proofs.Sequences.{SameStart}
-use Rattle.opened_folders.proofs.BegunSeen.{NoneUnlinked}
+use Rattle.opening_plans.proofs.BegunSeen.{NoneUnlinked}
 use Rattle.command_line.specs.Profile.{path_of}
 use Rattle.command_line.proofs.FirstReadings.{two_readings}
 

@@ -10,8 +10,8 @@ use Rattle.sequence_marks.specs.KeepsSequences.{KeepsSequences}
 use Rattle.sequence_marks.proofs.Sequences.{sequences_kept}
 use Rattle.step_plans.proofs.StoryMay.{StoryMay}
 use Rattle.mh_looks.specs.ScanPledge.{scan_pledge}
-use Rattle.mhbuild_command.specs.BuildPledge.{build_pledge}
-use Rattle.mhbuild_command.proofs.BuildMinds.{build_minds}
+use Rattle.mhbuild_plans.specs.BuildPledge.{build_pledge}
+use Rattle.mhbuild_plans.proofs.BuildMinds.{build_minds}
 use Rattle.command_words.specs.Ended.{ended_cause}
 use Rattle.command_words.specs.declared.ended.Ended.{Ended}
 use Rattle.build_words.specs.BuildWords.{build_said}

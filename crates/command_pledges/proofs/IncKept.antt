@@ -26,17 +26,17 @@ use Rattle.sequence_marks.proofs.SequencesOf.{MindsSequencesOf}
 use Rattle.command_stages.specs.Texts.{too_large}
 use Rattle.command_stages.proofs.FolderLines.{current_valid}
 use Rattle.mh_looks.specs.ScanPledge.{scan_pledge}
-use Rattle.opened_folders.proofs.AllMarks.{MindsAll, pledge_minds}
-use Rattle.opened_folders.proofs.CommitMinds.{IsTold}
-use Rattle.opened_folders.proofs.EndedKept.{Still, keeps_more}
-use Rattle.opened_folders.proofs.Meeting.{keeps_met, with_step}
-use Rattle.opened_folders.proofs.WorkMinds.{Anyhow}
+use Rattle.opening_plans.proofs.AllMarks.{MindsAll, pledge_minds}
+use Rattle.opening_plans.proofs.CommitMinds.{IsTold}
+use Rattle.opening_plans.proofs.EndedKept.{Still, keeps_more}
+use Rattle.opening_plans.proofs.Meeting.{keeps_met, with_step}
+use Rattle.opening_plans.proofs.WorkMinds.{Anyhow}
 use Rattle.message_lines.specs.MessageText.{Writing}
 use Rattle.message_lines.specs.declared.standing.Standing.{Standing}
-use Rattle.inc_command.specs.Inc.{inc}
-use Rattle.inc_command.specs.IncPledge.{inc_pledge}
-use Rattle.inc_command.proofs.IncMinds.{inc_meets}
-use Rattle.inc_command.proofs.IncPledged.{inc_keeps}
+use Rattle.inc_plans.specs.Inc.{inc}
+use Rattle.inc_plans.specs.IncPledge.{inc_pledge}
+use Rattle.inc_plans.proofs.IncMinds.{inc_meets}
+use Rattle.inc_plans.proofs.IncPledged.{inc_keeps}
 use Rattle.command_words.specs.Ended.{ended_cause, plain}
 use Rattle.command_words.specs.IncWords.{inc_said}
 use Rattle.command_words.specs.declared.ended.Ended.{Ended}

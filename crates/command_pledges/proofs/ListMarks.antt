@@ -13,7 +13,7 @@ use Rattle.command_words.proofs.SaidFolder.{IsValid}
 use Rattle.command_pledges.specs.CommandMarks.{IsTextName}
 use Rattle.command_pledges.proofs.MindsMarks.{minds_sequences}
 use Rattle.command_line.proofs.SaidFolder.{acted_valid}
-use Rattle.mhlist_command.specs.ListPledge.{list_pledge, task_of}
+use Rattle.mhlist_plans.specs.ListPledge.{list_pledge, task_of}
 use Rattle.list_words.specs.declared.words.ListWords.{ListWords}
 use Rattle.command_line.specs.Command.{list_by, list_job}
 use Rattle.command_pledges.specs.CommandPledge.{list_on_named, lists_pledge}
@@ -24,7 +24,7 @@ use Rattle.command_pledges.proofs.LooksMarks.{looks_mind}
 use Rattle.command_pledges.proofs.MindingPlans.{Minding, minds_with}
 use Rattle.command_pledges.proofs.Pledging.{list_onward, list_words_keep}
 use Rattle.command_pledges.proofs.TwoAnswers.{rest_by}
-use Rattle.opened_folders.proofs.Meeting.{with_step}
+use Rattle.opening_plans.proofs.Meeting.{with_step}
 
 module _ (run : ℕ) (few : run < 2 ^ 128) (profile : List NamedValue) (h : Hand) where
   abbrev path : List ℕ

@@ -27,11 +27,11 @@ use Rattle.sequence_marks.proofs.SequencesOf.{MindsSequencesOf}
 use Rattle.command_stages.specs.Texts.{too_large}
 use Rattle.command_stages.proofs.FolderLines.{current_valid}
 use Rattle.mh_looks.specs.ScanPledge.{scan_pledge}
-use Rattle.opened_folders.proofs.AllMarks.{MindsAll, pledge_minds}
-use Rattle.opened_folders.proofs.CommitMinds.{IsTold}
-use Rattle.opened_folders.proofs.EndedKept.{Still, keeps_more}
-use Rattle.opened_folders.proofs.Meeting.{keeps_met, with_step}
-use Rattle.opened_folders.proofs.WorkMinds.{Anyhow}
+use Rattle.opening_plans.proofs.AllMarks.{MindsAll, pledge_minds}
+use Rattle.opening_plans.proofs.CommitMinds.{IsTold}
+use Rattle.opening_plans.proofs.EndedKept.{Still, keeps_more}
+use Rattle.opening_plans.proofs.Meeting.{keeps_met, with_step}
+use Rattle.opening_plans.proofs.WorkMinds.{Anyhow}
 use Rattle.mark_command.specs.Mark.{look_task, mark, mark_by_act, mark_task, pledge_by}
 use Rattle.mark_command.specs.declared.job.MarkAct.{MarkAct}
 use Rattle.mark_command.proofs.Orderly.{mark_orderly}
@@ -43,13 +43,13 @@ use Rattle.told_folders.proofs.ChangesPledged.{changes_keep}
 use Rattle.folder_command.specs.Folder.{folder as tell, folder_by, pledge_by as tell_pledge_by, task_with}
 use Rattle.folder_command.specs.declared.job.FolderJob.{FolderJob}
 use Rattle.folder_command.proofs.Orderly.{orderly}
-use Rattle.refile_command.specs.HeldLeft.{RemovesUnheld}
-use Rattle.refile_command.specs.RefileHeld.{TakesUnheld}
-use Rattle.refile_command.specs.Rmm.{rmm}
-use Rattle.refile_command.specs.RmmPledge.{rmm_pledge}
-use Rattle.refile_command.specs.declared.job.RmmJob.{RmmJob}
-use Rattle.refile_command.proofs.RmmMinds.{MindsUnheld, rmm_meets}
-use Rattle.refile_command.proofs.RmmPledged.{rmm_keeps}
+use Rattle.refile_plans.specs.HeldLeft.{RemovesUnheld}
+use Rattle.refile_plans.specs.RefileHeld.{TakesUnheld}
+use Rattle.refile_plans.specs.Rmm.{rmm}
+use Rattle.refile_plans.specs.RmmPledge.{rmm_pledge}
+use Rattle.refile_plans.specs.declared.job.RmmJob.{RmmJob}
+use Rattle.refile_plans.proofs.RmmMinds.{MindsUnheld, rmm_meets}
+use Rattle.refile_plans.proofs.RmmPledged.{rmm_keeps}
 use Rattle.command_words.specs.Ended.{ended_cause, plain}
 use Rattle.command_words.specs.MarkWords.{mark_said}
 use Rattle.command_words.specs.RefileWords.{refile_said}

@@ -20,9 +20,9 @@ use Rattle.step_plans.proofs.StoryMay.{StoryMay}
 use Rattle.sequence_marks.specs.KeepsSequencesOf.{KeepsSequencesOf}
 use Rattle.sequence_marks.proofs.Sequences.{MindsSequences, SameStart}
 use Rattle.sequence_marks.proofs.SequencesOf.{MindsSequencesOf, sequences_kept_of}
-use Rattle.opened_folders.proofs.CommitMinds.{IsTold}
-use Rattle.opened_folders.proofs.Meeting.{with_step}
-use Rattle.refile_command.proofs.FoldersMinded.{IsToldAll}
+use Rattle.opening_plans.proofs.CommitMinds.{IsTold}
+use Rattle.opening_plans.proofs.Meeting.{with_step}
+use Rattle.refile_plans.proofs.FoldersMinded.{IsToldAll}
 use Rattle.command_pledges.specs.CommandMarks.{IsTextName, KeepsWhere}
 use Rattle.command_pledges.proofs.MindsMarks.{keeps_may}
 use Rattle.command_pledges.proofs.StepsWith.{may_without, own_with}

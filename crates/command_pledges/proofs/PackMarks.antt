@@ -17,11 +17,11 @@ use Rattle.step_plans.proofs.Going.{Sound}
 use Rattle.step_plans.proofs.Ruling.{rules_of}
 use Rattle.sequence_marks.proofs.SequencesOf.{MindsSequencesOf}
 use Rattle.command_stages.proofs.FolderLines.{current_valid}
-use Rattle.opened_folders.proofs.AllMarks.{MindsAll, pledge_minds}
-use Rattle.opened_folders.proofs.CommitMinds.{IsTold}
-use Rattle.opened_folders.proofs.EndedKept.{Still, keeps_more}
-use Rattle.opened_folders.proofs.Meeting.{keeps_met, with_step}
-use Rattle.opened_folders.proofs.WorkMinds.{Anyhow}
+use Rattle.opening_plans.proofs.AllMarks.{MindsAll, pledge_minds}
+use Rattle.opening_plans.proofs.CommitMinds.{IsTold}
+use Rattle.opening_plans.proofs.EndedKept.{Still, keeps_more}
+use Rattle.opening_plans.proofs.Meeting.{keeps_met, with_step}
+use Rattle.opening_plans.proofs.WorkMinds.{Anyhow}
 use Rattle.pack_command.specs.Pack.{pack}
 use Rattle.pack_command.specs.PackPledge.{pack_pledge}
 use Rattle.pack_command.specs.declared.job.PackJob.{PackJob}

@@ -21,17 +21,17 @@ use Rattle.sequence_marks.proofs.Sequences.{MindsSequences}
 use Rattle.sequence_marks.proofs.SequencesOf.{MindsSequencesOf}
 use Rattle.command_stages.proofs.FolderLines.{current_valid}
 use Rattle.mh_looks.specs.ScanPledge.{scan_pledge}
-use Rattle.opened_folders.proofs.AllMarks.{MindsAll, pledge_minds}
-use Rattle.opened_folders.proofs.CommitMinds.{IsTold}
-use Rattle.opened_folders.proofs.EndedKept.{Still, keeps_more}
-use Rattle.opened_folders.proofs.Meeting.{keeps_met, with_step}
-use Rattle.opened_folders.proofs.WorkMinds.{Anyhow}
-use Rattle.pick_command.specs.Pick.{pick, pick_by as pick_by_marks}
-use Rattle.pick_command.specs.PickPledge.{looks_pledge, pick_pledge, pledge_by}
-use Rattle.pick_command.specs.declared.job.PickJob.{PickJob}
-use Rattle.pick_command.specs.declared.job.PickMarks.{PickMarks}
-use Rattle.pick_command.proofs.PickMinds.{changes_meet}
-use Rattle.pick_command.proofs.PickPledged.{pick_keeps}
+use Rattle.opening_plans.proofs.AllMarks.{MindsAll, pledge_minds}
+use Rattle.opening_plans.proofs.CommitMinds.{IsTold}
+use Rattle.opening_plans.proofs.EndedKept.{Still, keeps_more}
+use Rattle.opening_plans.proofs.Meeting.{keeps_met, with_step}
+use Rattle.opening_plans.proofs.WorkMinds.{Anyhow}
+use Rattle.pick_plans.specs.Pick.{pick, pick_by as pick_by_marks}
+use Rattle.pick_plans.specs.PickPledge.{looks_pledge, pick_pledge, pledge_by}
+use Rattle.pick_plans.specs.declared.job.PickJob.{PickJob}
+use Rattle.pick_plans.specs.declared.job.PickMarks.{PickMarks}
+use Rattle.pick_plans.proofs.PickMinds.{changes_meet}
+use Rattle.pick_plans.proofs.PickPledged.{pick_keeps}
 use Rattle.command_words.specs.declared.ended.Ended.{Ended}
 use Rattle.command_words.specs.declared.pick.PickWords.{PickWords}
 use Rattle.command_words.proofs.SaidFolder.{IsValid}

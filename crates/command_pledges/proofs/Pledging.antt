@@ -32,38 +32,38 @@ use Rattle.command_stages.specs.Texts.{Commanded, text_by, text_read, too_large}
 use Rattle.mh_looks.specs.Scan.{scan}
 use Rattle.mh_looks.specs.ScanPledge.{scan_pledge}
 use Rattle.mh_looks.proofs.Pledging.{Noted, scan_goes}
-use Rattle.opened_folders.proofs.EndedKept.{Still, keeps_more}
+use Rattle.opening_plans.proofs.EndedKept.{Still, keeps_more}
 use Rattle.message_lines.specs.MessageText.{Writing}
 use Rattle.message_lines.specs.declared.standing.Standing.{Standing}
-use Rattle.inc_command.specs.Inc.{inc}
-use Rattle.inc_command.specs.IncPledge.{inc_pledge}
-use Rattle.inc_command.proofs.IncPledged.{inc_keeps}
+use Rattle.inc_plans.specs.Inc.{inc}
+use Rattle.inc_plans.specs.IncPledge.{inc_pledge}
+use Rattle.inc_plans.proofs.IncPledged.{inc_keeps}
 use Rattle.mark_command.specs.Mark.{mark, pledge_by}
 use Rattle.mark_command.specs.declared.job.MarkAct.{MarkAct}
 use Rattle.mark_command.proofs.MarkPledged.{mark_keeps}
-use Rattle.anno_command.specs.Anno.{anno}
-use Rattle.anno_command.proofs.AnnoPledged.{anno_keeps}
+use Rattle.anno_plans.specs.Anno.{anno}
+use Rattle.anno_plans.proofs.AnnoPledged.{anno_keeps}
 use Rattle.anno_words.specs.declared.words.AnnoWords.{AnnoWords}
 use Rattle.anno_words.proofs.Said.{anno_annotates}
-use Rattle.sortm_command.specs.Sort.{sortm}
-use Rattle.sortm_command.proofs.SortPledged.{sortm_keeps}
+use Rattle.sortm_plans.specs.Sort.{sortm}
+use Rattle.sortm_plans.proofs.SortPledged.{sortm_keeps}
 use Rattle.sort_words.specs.declared.words.SortWords.{SortWords}
-use Rattle.mhlist_command.specs.Listing.{mhlist}
-use Rattle.mhlist_command.proofs.ListPledged.{list_keeps}
+use Rattle.mhlist_plans.specs.Listing.{mhlist}
+use Rattle.mhlist_plans.proofs.ListPledged.{list_keeps}
 use Rattle.list_words.specs.ListWords.{list_said}
 use Rattle.list_words.specs.declared.words.ListWords.{ListWords}
-use Rattle.mhstore_command.specs.Storing.{mhstore}
-use Rattle.mhstore_command.proofs.StorePledged.{store_keeps}
+use Rattle.mhstore_plans.specs.Storing.{mhstore}
+use Rattle.mhstore_plans.proofs.StorePledged.{store_keeps}
 use Rattle.store_words.specs.StoreWords.{store_said}
 use Rattle.store_words.specs.declared.words.StoreWords.{StoreWords}
 use Rattle.folder_command.specs.Folder.{folder as tell, pledge_by as tell_pledge_by}
 use Rattle.folder_command.proofs.FolderPledged.{folder_keeps}
 use Rattle.pack_command.specs.Pack.{pack}
 use Rattle.pack_command.proofs.PackPledged.{pack_keeps}
-use Rattle.pick_command.specs.Pick.{pick}
-use Rattle.pick_command.specs.PickPledge.{pledge_by as pick_pledge_by}
-use Rattle.pick_command.specs.declared.job.PickMarks.{PickMarks}
-use Rattle.pick_command.proofs.PickPledged.{pick_keeps}
+use Rattle.pick_plans.specs.Pick.{pick}
+use Rattle.pick_plans.specs.PickPledge.{pledge_by as pick_pledge_by}
+use Rattle.pick_plans.specs.declared.job.PickMarks.{PickMarks}
+use Rattle.pick_plans.proofs.PickPledged.{pick_keeps}
 use Rattle.command_words.specs.Ended.{Ending, ended_cause, plain}
 use Rattle.command_words.specs.IncWords.{inc_said}
 use Rattle.command_words.specs.MarkWords.{mark_said}
@@ -80,23 +80,23 @@ use Rattle.command_words.specs.declared.rmm.RmmWords.{RmmWords}
 use Rattle.sort_words.specs.SortWords.{sort_said}
 use Rattle.command_line.specs.Looking.{ScanAsked, WritesAs, look_found, scan_asked, written_by}
 use Rattle.command_words.proofs.SaidFolder.{IsValid, IsValid as IsDraft}
-use Rattle.refile_command.specs.Refile.{refile}
-use Rattle.refile_command.specs.Rmm.{rmm}
-use Rattle.refile_command.specs.declared.job.RefileJob.{RefileJob}
-use Rattle.refile_command.proofs.RefileMoved.{HasHeldNone}
-use Rattle.refile_command.proofs.RefilePledged.{EndsRefiled, refile_keeps}
-use Rattle.refile_command.proofs.RmmPledged.{rmm_keeps}
+use Rattle.refile_plans.specs.Refile.{refile}
+use Rattle.refile_plans.specs.Rmm.{rmm}
+use Rattle.refile_plans.specs.declared.job.RefileJob.{RefileJob}
+use Rattle.refile_plans.proofs.RefileMoved.{HasHeldNone}
+use Rattle.refile_plans.proofs.RefilePledged.{EndsRefiled, refile_keeps}
+use Rattle.refile_plans.proofs.RmmPledged.{rmm_keeps}
 use Rattle.command_line.specs.Command.{anno_begun, anno_by, anno_job, annotated_by, build_begun, build_by, build_job, command, command_by, context_entered, context_seen, folder_found, inc_begun, inc_by, job_of, list_begun, list_by, list_job, mark_begun, mark_by, mark_job, no_command, pack_begun, pack_job, pick_begun, pick_by, pick_job, picked_by, refile_begun, refile_by, refile_job, rmm_begun, rmm_by, rmm_job, scan_begun, scan_by, sort_begun, sort_by, sort_job, store_begun, store_by, store_job, task_begun, tell_begun, tell_by, tell_job, word_by}
 use Rattle.command_line.specs.CommandNames.{command_of, named}
 use Rattle.command_pledges.specs.CommandPledge.{IsDone, KeepsPledge, TellsAsked, anno_on_named, annos_pledge, asked_pledge, builds_pledge, command_pledge, incs_pledge, list_on_named, lists_pledge, marks_pledge, on_named, pick_on_named, picks_pledge, refile_on_named, refiles_pledge, rmm_on_named, rmms_pledge, sort_on_named, sorts_pledge, store_on_named, stores_pledge, task_pledge, tell_on_named, tells_pledge, word_pledge}
 use Rattle.build_words.specs.BuildWords.{build_said}
 use Rattle.build_words.specs.declared.words.BuildWords.{BuildWords}
 use Rattle.build_words.proofs.Said.{build_valid}
-use Rattle.mhbuild_command.specs.BuildDone.{HasBuilt}
-use Rattle.mhbuild_command.specs.BuildPledge.{build_pledge}
-use Rattle.mhbuild_command.specs.Building.{mhbuild}
-use Rattle.mhbuild_command.specs.declared.job.BuildJob.{BuildJob}
-use Rattle.mhbuild_command.proofs.BuildPledged.{build_keeps}
+use Rattle.mhbuild_plans.specs.BuildDone.{HasBuilt}
+use Rattle.mhbuild_plans.specs.BuildPledge.{build_pledge}
+use Rattle.mhbuild_plans.specs.Building.{mhbuild}
+use Rattle.mhbuild_plans.specs.declared.job.BuildJob.{BuildJob}
+use Rattle.mhbuild_plans.proofs.BuildPledged.{build_keeps}
 use Rattle.command_line.specs.Incorporating.{IncAsked, job_by, job_writing}
 use Rattle.command_line.specs.Profile.{entries_by, folder_of, path_by, path_of, profile_name, text_of}
 use Rattle.command_line.specs.declared.name.CommandName.{CommandName}

@@ -20,18 +20,18 @@ use Rattle.step_plans.proofs.Ruling.{rules_of}
 use Rattle.sequence_marks.proofs.SequencesOf.{MindsSequencesOf}
 use Rattle.command_stages.proofs.FolderLines.{current_valid}
 use Rattle.mh_looks.specs.ScanPledge.{scan_pledge}
-use Rattle.opened_folders.proofs.AllMarks.{pledge_minds}
-use Rattle.opened_folders.proofs.EndedKept.{keeps_more}
-use Rattle.opened_folders.proofs.Meeting.{keeps_met, with_step}
-use Rattle.opened_folders.proofs.WorkMinds.{Anyhow}
-use Rattle.refile_command.specs.Refile.{each_once, names_without, refile, targets_of}
-use Rattle.refile_command.specs.RefileHeld.{TakesUnheld}
-use Rattle.refile_command.specs.RefilePledge.{destinations_of, refile_pledge}
-use Rattle.refile_command.specs.declared.job.RefileJob.{RefileJob}
-use Rattle.refile_command.proofs.FolderNames.{first_or_later, first_there, later_there, left_names, none_there}
-use Rattle.refile_command.proofs.FoldersMinded.{AreToldApart, IsToldAll}
-use Rattle.refile_command.proofs.RefileMinds.{MindsTaking, begun_names, refile_meets}
-use Rattle.refile_command.proofs.RefilePledged.{EndsRefiled, refile_keeps}
+use Rattle.opening_plans.proofs.AllMarks.{pledge_minds}
+use Rattle.opening_plans.proofs.EndedKept.{keeps_more}
+use Rattle.opening_plans.proofs.Meeting.{keeps_met, with_step}
+use Rattle.opening_plans.proofs.WorkMinds.{Anyhow}
+use Rattle.refile_plans.specs.Refile.{each_once, names_without, refile, targets_of}
+use Rattle.refile_plans.specs.RefileHeld.{TakesUnheld}
+use Rattle.refile_plans.specs.RefilePledge.{destinations_of, refile_pledge}
+use Rattle.refile_plans.specs.declared.job.RefileJob.{RefileJob}
+use Rattle.refile_plans.proofs.FolderNames.{first_or_later, first_there, later_there, left_names, none_there}
+use Rattle.refile_plans.proofs.FoldersMinded.{AreToldApart, IsToldAll}
+use Rattle.refile_plans.proofs.RefileMinds.{MindsTaking, begun_names, refile_meets}
+use Rattle.refile_plans.proofs.RefilePledged.{EndsRefiled, refile_keeps}
 use Rattle.command_words.specs.declared.ended.Ended.{Ended}
 use Rattle.command_words.specs.declared.refile.RefileWords.{RefileWords}
 use Rattle.command_words.proofs.SaidFolder.{IsValid}

@@ -19,16 +19,16 @@ use Rattle.step_plans.proofs.Ruling.{rules_of}
 use Rattle.sequence_marks.proofs.SequencesOf.{MindsSequencesOf}
 use Rattle.command_stages.proofs.FolderLines.{current_valid}
 use Rattle.mh_looks.specs.ScanPledge.{scan_pledge}
-use Rattle.opened_folders.proofs.AllMarks.{MindsAll, pledge_minds}
-use Rattle.opened_folders.proofs.CommitMinds.{IsTold}
-use Rattle.opened_folders.proofs.EndedKept.{Still, keeps_more}
-use Rattle.opened_folders.proofs.Meeting.{keeps_met, with_step}
-use Rattle.opened_folders.proofs.WorkMinds.{Anyhow}
-use Rattle.sortm_command.specs.Sort.{sortm}
-use Rattle.sortm_command.specs.SortPledge.{sortm_pledge}
-use Rattle.sortm_command.specs.declared.job.SortJob.{SortJob}
-use Rattle.sortm_command.proofs.SortMinds.{sortm_meets}
-use Rattle.sortm_command.proofs.SortPledged.{sortm_keeps}
+use Rattle.opening_plans.proofs.AllMarks.{MindsAll, pledge_minds}
+use Rattle.opening_plans.proofs.CommitMinds.{IsTold}
+use Rattle.opening_plans.proofs.EndedKept.{Still, keeps_more}
+use Rattle.opening_plans.proofs.Meeting.{keeps_met, with_step}
+use Rattle.opening_plans.proofs.WorkMinds.{Anyhow}
+use Rattle.sortm_plans.specs.Sort.{sortm}
+use Rattle.sortm_plans.specs.SortPledge.{sortm_pledge}
+use Rattle.sortm_plans.specs.declared.job.SortJob.{SortJob}
+use Rattle.sortm_plans.proofs.SortMinds.{sortm_meets}
+use Rattle.sortm_plans.proofs.SortPledged.{sortm_keeps}
 use Rattle.sort_words.specs.declared.words.SortWords.{SortWords}
 use Rattle.command_words.specs.declared.ended.Ended.{Ended}
 use Rattle.command_words.proofs.SaidFolder.{IsValid}

@@ -8,7 +8,7 @@ use Rattle.folder_files.specs.declared.step.Step.TheVariants as step
 use Rattle.step_plans.specs.Pledges.{Marks, MayAsk, Pledge}
 use Rattle.step_plans.specs.Safety.{AtSteps}
 use Rattle.step_plans.proofs.KeptPledges.{OwnMay}
-use Rattle.opened_folders.proofs.Meeting.{may_with, with_step}
+use Rattle.opening_plans.proofs.Meeting.{may_with, with_step}
 
 -- what may be asked with more may be asked with less
 module _ (w : Pledge) (A : List Deed → Step → Type 0) where

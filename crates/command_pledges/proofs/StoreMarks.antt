@@ -20,9 +20,9 @@ use Rattle.file_plans.specs.StaysCareful.{IsOwnStep, only_looks, careful}
 use Rattle.step_plans.proofs.KeptPledges.{look_changes}
 use Rattle.sequence_marks.proofs.Sequences.{MindsSequences}
 use Rattle.mh_base.specs.Folders.{is_folder_name}
-use Rattle.mhstore_command.specs.declared.job.StoreJob.{StoreJob}
+use Rattle.mhstore_plans.specs.declared.job.StoreJob.{StoreJob}
 use Rattle.command_line.proofs.SaidFolder.{acted_valid}
-use Rattle.mhstore_command.specs.StorePledge.{store_pledge}
+use Rattle.mhstore_plans.specs.StorePledge.{store_pledge}
 use Rattle.store_words.specs.declared.words.StoreWords.{StoreWords}
 use Rattle.command_line.specs.Command.{store_by, store_job}
 use Rattle.command_pledges.specs.CommandPledge.{store_on_named, stores_pledge}
@@ -32,7 +32,7 @@ use Rattle.command_line.proofs.FirstReadings.{context_step, profile_step}
 use Rattle.command_pledges.proofs.MindingPlans.{Minding, minds_with}
 use Rattle.command_pledges.proofs.Pledging.{store_onward, store_words_keep}
 use Rattle.command_pledges.proofs.TwoAnswers.{rest_by}
-use Rattle.opened_folders.proofs.Meeting.{with_step}
+use Rattle.opening_plans.proofs.Meeting.{with_step}
 
 -- a step in the current directory changes no folder
 work_changes : (path folder : List ℕ) (s : Step) → Changes Work s → Changes (Folder path folder) s → ⊥

@@ -2,7 +2,7 @@
 use Rattle.std.proofs.Common.{◌≡◌, inl, inr, ℕ, Bool, true, false, List, refl, bytes_eq}
 use Rattle.mh_sequences.specs.Reading.{suffix}
 use Rattle.folder_files.proofs.Names.{bytes_true}
-use Rattle.opened_folders.proofs.CommitMinds.{IsTold}
+use Rattle.opening_plans.proofs.CommitMinds.{IsTold}
 use Rattle.command_pledges.specs.CommandMarks.{IsTextName}
 use Rattle.command_pledges.proofs.SuffixesApart.{suffix_same}
 

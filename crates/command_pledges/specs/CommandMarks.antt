@@ -9,8 +9,8 @@ use Rattle.folder_files.specs.declared.step.Step.{Step}
 use Rattle.step_plans.specs.Safety.{AtSteps}
 use Rattle.sequence_marks.specs.KeepsSequences.{KeepsSequences}
 use Rattle.sequence_marks.specs.KeepsSequencesOf.{KeepsSequencesOf, SequencesStaySoundOf}
-use Rattle.refile_command.specs.HeldLeft.{RemovesUnheld}
-use Rattle.refile_command.specs.RefileHeld.{TakesUnheld}
+use Rattle.refile_plans.specs.HeldLeft.{RemovesUnheld}
+use Rattle.refile_plans.specs.RefileHeld.{TakesUnheld}
 use Rattle.command_line.specs.declared.name.CommandName.{CommandName}
 use Rattle.command_line.specs.declared.name.CommandName.TheVariants.{Anno, Folder as FolderCommand, Inc, Mark, Mhbuild, Mhlist, Mhstore, Pick, Refile, Rmm, Scan, Sortm}
 

@@ -16,19 +16,19 @@ use Rattle.step_plans.specs.Settled.{AreSettled}
 use Rattle.step_plans.specs.declared.command_fault.CommandFault.{CommandFault}
 use Rattle.mh_looks.specs.ScanPledge.{scan_pledge}
 use Rattle.mark_command.specs.Mark.{pledge_by}
-use Rattle.pick_command.specs.PickPledge.{pledge_by as pick_pledge_by}
-use Rattle.anno_command.specs.AnnoPledge.{anno_pledge}
-use Rattle.sortm_command.specs.SortPledge.{sortm_pledge}
-use Rattle.mhlist_command.specs.ListPledge.{list_pledge}
-use Rattle.mhbuild_command.specs.BuildPledge.{build_pledge}
-use Rattle.mhstore_command.specs.StorePledge.{store_pledge}
+use Rattle.pick_plans.specs.PickPledge.{pledge_by as pick_pledge_by}
+use Rattle.anno_plans.specs.AnnoPledge.{anno_pledge}
+use Rattle.sortm_plans.specs.SortPledge.{sortm_pledge}
+use Rattle.mhlist_plans.specs.ListPledge.{list_pledge}
+use Rattle.mhbuild_plans.specs.BuildPledge.{build_pledge}
+use Rattle.mhstore_plans.specs.StorePledge.{store_pledge}
 use Rattle.folder_command.specs.Folder.{pledge_by as tell_pledge_by}
 use Rattle.pack_command.specs.PackPledge.{pack_pledge}
 use Rattle.message_lines.specs.MessageText.{Writing}
 use Rattle.message_lines.specs.declared.standing.Standing.{Standing}
-use Rattle.inc_command.specs.IncPledge.{TellsNew, inc_pledge}
-use Rattle.refile_command.specs.RefilePledge.{refile_pledge}
-use Rattle.refile_command.specs.RmmPledge.{rmm_pledge}
+use Rattle.inc_plans.specs.IncPledge.{TellsNew, inc_pledge}
+use Rattle.refile_plans.specs.RefilePledge.{refile_pledge}
+use Rattle.refile_plans.specs.RmmPledge.{rmm_pledge}
 use Rattle.command_words.specs.IncWords.{inc_said}
 use Rattle.command_words.specs.MarkWords.{mark_said}
 use Rattle.command_words.specs.RefileWords.{refile_said}

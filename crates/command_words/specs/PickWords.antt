@@ -12,9 +12,9 @@ use Rattle.pick_expr.specs.Whole.{expr_in}
 use Rattle.pick_expr.specs.declared.expr.Expr.{Expr}
 use Rattle.pick_expr.specs.declared.fault.ExprFault.{ExprFault}
 use Rattle.pick_expr.specs.declared.fault.ExprFault.TheVariants.{BadExpr, BadDate, Memory}
-use Rattle.pick_command.specs.declared.job.PickAct.{PickAct}
-use Rattle.pick_command.specs.declared.job.PickAct.TheVariants as act
-use Rattle.pick_command.specs.declared.job.PickMarks.{PickMarks}
+use Rattle.pick_plans.specs.declared.job.PickAct.{PickAct}
+use Rattle.pick_plans.specs.declared.job.PickAct.TheVariants as act
+use Rattle.pick_plans.specs.declared.job.PickMarks.{PickMarks}
 use Rattle.command_words.specs.BadValues.{first_of, unless_bad}
 use Rattle.command_words.specs.Ended.{plain, wrong_at}
 use Rattle.command_words.specs.FieldNames.{bad_names}

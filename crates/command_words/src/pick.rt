@@ -37,8 +37,8 @@ use mh_base::{Duplicate, FolderName, List, Text, TextList, WordWhy};
 use mh_profile::Entries;
 use mh_sequences::SeqNameList;
 use mh_words::{Item, ItemList, Words};
-use pick_command::{PickAct, PickMarks};
 use pick_expr::{Expr, ExprFault, read_expr};
+use pick_plans::{PickAct, PickMarks};
 use std::alloc::{AllocError, Global};
 use step_plans::CommandFault;
 

@@ -36,7 +36,7 @@ use Rattle.command_stages.specs.Works.{readable}
 use Rattle.mh_looks.proofs.Folders.{FolderListed, IsAbsent, IsListed, Tells, folder_gives, messages_listed}
 use Rattle.mh_looks.proofs.Reading.{TextRead, text_gives}
 use Rattle.mh_looks.proofs.Scanning.{refuses, unreadable}
-use Rattle.opened_folders.specs.BegunWork.{runs_in}
+use Rattle.opening_plans.specs.BegunWork.{runs_in}
 use Rattle.told_folders.proofs.MessagesStand.{AllStand, Stands, words_stand}
 use Rattle.told_folders.specs.Tasks.{listed_runs, sequences_listed}
 use Rattle.draft_contents.specs.Forwards.{chosen_seen}

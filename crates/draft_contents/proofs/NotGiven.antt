@@ -35,9 +35,9 @@ use Rattle.command_stages.specs.Chosen.{folder_with}
 use Rattle.command_stages.specs.Listed.{folder_listed, names_by}
 use Rattle.command_stages.specs.Texts.{text_by, text_read, too_large}
 use Rattle.mh_looks.proofs.Ending.{by_choice, comes_at, comes_recall, name_of, listed_text}
-use Rattle.opened_folders.specs.Reads.{TellsText}
-use Rattle.opened_folders.proofs.ChosenListed.{has_tested, words_listed}
-use Rattle.opened_folders.proofs.NamesKept.{met_kept}
+use Rattle.opening_plans.specs.Reads.{TellsText}
+use Rattle.opening_plans.proofs.ChosenListed.{has_tested, words_listed}
+use Rattle.opening_plans.proofs.NamesKept.{met_kept}
 use Rattle.told_folders.specs.Tasks.{listed_runs, sequences_listed}
 use Rattle.mh_drafts.specs.declared.want.Want.{Want}
 use Rattle.mh_drafts.specs.declared.want.Want.TheVariants as want

@@ -13,7 +13,7 @@ use Rattle.sequence_commits.specs.Cutting.{cut_to}
 use Rattle.sequence_commits.specs.Reading.{sequences_in}
 use Rattle.command_stages.specs.Chosen.{chosen_in, folder_with}
 use Rattle.command_stages.specs.Works.{readable}
-use Rattle.opened_folders.specs.BegunWork.{runs_in}
+use Rattle.opening_plans.specs.BegunWork.{runs_in}
 use Rattle.mh_drafts.specs.declared.want.Want.{Want}
 use Rattle.mh_drafts.specs.declared.want.Want.TheVariants as want
 use Rattle.mhbuild_compose.specs.declared.given.Given.{Given}

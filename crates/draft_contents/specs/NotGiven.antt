@@ -16,7 +16,7 @@ use Rattle.step_plans.specs.Endings.{HasMet}
 use Rattle.step_plans.specs.declared.command_fault.CommandFault.{CommandFault}
 use Rattle.step_plans.specs.declared.command_fault.CommandFault.TheVariants as fault
 use Rattle.command_stages.specs.Texts.{too_large}
-use Rattle.opened_folders.specs.Reads.{TellsText}
+use Rattle.opening_plans.specs.Reads.{TellsText}
 use Rattle.mh_drafts.specs.declared.want.Want.{Want}
 use Rattle.mh_drafts.specs.declared.want.Want.TheVariants as want
 use Rattle.mhbuild_compose.specs.declared.given.Given.{Given}

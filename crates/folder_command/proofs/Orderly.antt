@@ -9,7 +9,7 @@ use Rattle.mh_sequences.specs.declared.mark.Mark.TheVariants.{Cur}
 use Rattle.folder_files.proofs.Names.{num_itself}
 use Rattle.sequence_commits.specs.Marking.{marked_by_all}
 use Rattle.sequence_commits.proofs.MarkedOnce.{marked_valid}
-use Rattle.opened_folders.proofs.ChosenListed.{marked_cur_is, marked_member}
+use Rattle.opening_plans.proofs.ChosenListed.{marked_cur_is, marked_member}
 use Rattle.told_folders.specs.Tasks.{AreMsgNums, IsOrderly}
 use Rattle.folder_command.specs.Folder.{task_with, with_current}
 use Rattle.folder_command.specs.Summary.{summary, summary_by}

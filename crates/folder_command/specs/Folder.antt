@@ -11,7 +11,7 @@ use Rattle.step_plans.specs.declared.command_fault.CommandFault.{CommandFault}
 use Rattle.sequence_commits.specs.Marking.{marked_by_all}
 use Rattle.command_stages.specs.Texts.{Commanded}
 use Rattle.command_stages.specs.Works.{Work}
-use Rattle.opened_folders.specs.BegunWork.{Homes}
+use Rattle.opening_plans.specs.BegunWork.{Homes}
 use Rattle.told_folders.specs.Outcomes.{changed_work, looked_work}
 use Rattle.told_folders.specs.Plans.{folder_changed, folder_looked}
 use Rattle.told_folders.specs.Pledge.{change_pledge, look_pledge}

@@ -197,10 +197,10 @@ shows_settled path name (h ∷ hs) pairs apart (Some m ∷ ends) ok c =
     ∙ (ap (λ o. with_folder_changed o (Folder path name) (λ f. settled f hs ends)) (shows_home c path name h pairs.0 m ok.0) ∙ twice_changed (mailbox_in c) (Folder path name) (given_home h m) (λ f. settled f hs ends)))
 
 -- changes one after another
-pub changed_twice : (m : Mailbox) (p : Place) (f g : FolderValue → FolderValue) → with_folder_changed (with_folder_changed m p f) p g ≡ with_folder_changed m p (λ x. g (f x))
+pub changed_twice : (m : Mailbox) (p : Place) (f g : FolderOf → FolderOf) → with_folder_changed (with_folder_changed m p f) p g ≡ with_folder_changed m p (λ x. g (f x))
 changed_twice m p f g = λ i. record { folders = λ q. at (same_place p q) (m.folders q) i; home = m.home; work = m.work; context = m.context; outside = m.outside }
   where
-    at : (b : Bool) (o : Option FolderValue) → (if b then option_map g (if b then option_map f o else o) else (if b then option_map f o else o)) ≡ (if b then option_map (λ x. g (f x)) o else o)
+    at : (b : Bool) (o : Option FolderOf) → (if b then option_map g (if b then option_map f o else o) else (if b then option_map f o else o)) ≡ (if b then option_map (λ x. g (f x)) o else o)
     at true None = refl
     at true (Some x) = refl
     at false o = refl

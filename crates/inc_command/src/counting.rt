@@ -4,9 +4,10 @@ ghost use Rattle.mbox_drop.specs.Counting.{HasCounted};
 ghost use Rattle.file_plans.specs.Plan.{Hand};
 ghost use Rattle.file_plans.specs.Follows.{Follows, by_hand};
 ghost use Rattle.step_plans.specs.CommandFaults.{command_cause};
-ghost use Rattle.inc_command.specs.Counting.{counted_by, drop_counted, rest_read};
-ghost use Rattle.inc_command.specs.Passing.{Passes};
+ghost use Rattle.inc_plans.specs.Counting.{counted_by, drop_counted, rest_read};
+ghost use Rattle.inc_plans.specs.Passing.{Passes};
 
+use crate::DropSize;
 use crate::head::read_head;
 use crate::piece::{PIECE, read_piece};
 use folder_files::{FilePath, Files, Refusal};
@@ -16,13 +17,6 @@ use step_plans::CommandFault;
 
 /// The longest message, in bytes.
 const LIMIT: u64 = 67_108_864;
-
-/// How long a drop is, in bytes, and how many messages it has.
-#[derive(Clone, Copy, Debug, PartialEq, Eq)]
-pub struct DropSize {
-    pub length: u64,
-    pub messages: u64,
-}
 
 /// What was counted in a drop of this length.
 fn size(length: u64, counter: &DropCounter) -> Result<DropSize, CommandFault>

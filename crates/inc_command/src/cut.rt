@@ -3,7 +3,7 @@ ghost use Rattle.std.specs.Prelude.{◌≡◌, ℕ};
 ghost use Rattle.file_plans.specs.Plan.{Hand as Kept};
 ghost use Rattle.file_plans.specs.Follows.{State, Follows, by_hand};
 ghost use Rattle.step_plans.specs.CommandFaults.{command_cause};
-ghost use Rattle.inc_command.specs.Inc.{cut_by, cut_if, drop_ended};
+ghost use Rattle.inc_plans.specs.Inc.{cut_by, cut_if, drop_ended};
 
 use file_plans::{DropCut, ask_cut_drop};
 use folder_files::{FilePath, Files, Refusal};

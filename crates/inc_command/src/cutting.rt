@@ -1,7 +1,7 @@
 // A piece of a drop is cut into the messages that it finishes.
 ghost use Rattle.std.specs.Prelude.{◌≡◌, ◌++◌, ℕ, List, OnOk};
 ghost use Rattle.mbox_drop.specs.Cutting.{HasTaken};
-ghost use Rattle.inc_command.specs.Cutting.{IsGiven, fault_of, given_by, last_by};
+ghost use Rattle.inc_plans.specs.Cutting.{IsGiven, fault_of, given_by, last_by};
 
 use crate::piece::drop_changed;
 use mbox_drop::{CutFault, DropCutter};

@@ -3,15 +3,14 @@ ghost use Rattle.std.specs.Prelude.{◌≡◌, ◌≤◌, ◌+◌, ◌-◌, ℕ,
 ghost use Rattle.mbox_drop.specs.Cutting.{HasTaken};
 ghost use Rattle.file_plans.specs.Follows.{Follows, by_out};
 ghost use Rattle.step_plans.specs.CommandFaults.{command_cause};
-ghost use Rattle.inc_command.specs.DropTaken.{drop_taken, ended_taken, piece_taken, rest_taken, where_of};
-ghost use Rattle.inc_command.specs.Passing.{Takes};
-ghost use Rattle.inc_command.specs.Targets.{told_by};
+ghost use Rattle.inc_plans.specs.DropTaken.{drop_taken, ended_taken, piece_taken, rest_taken, where_of};
+ghost use Rattle.inc_plans.specs.Passing.{Takes};
+ghost use Rattle.inc_plans.specs.Targets.{told_by};
 
-use crate::counting::DropSize;
 use crate::cutting::{end, feed};
-use crate::intake::{Taken, take_all};
+use crate::intake::take_all;
 use crate::piece::{PIECE, drop_changed, read_piece};
-use crate::taking::Target;
+use crate::{DropSize, Taken, Target};
 use folder_files::{FilePath, Files};
 use mbox_drop::DropCutter;
 use mh_base::{BytesList, List, Sink};

@@ -3,8 +3,9 @@ ghost use Rattle.std.specs.Prelude.{◌≡◌, ◌≤◌, ℕ, IfOk, length};
 ghost use Rattle.file_plans.specs.Plan.{Hand as Kept};
 ghost use Rattle.file_plans.specs.Follows.{State, Follows, by_hand};
 ghost use Rattle.step_plans.specs.CommandFaults.{command_cause};
-ghost use Rattle.inc_command.specs.Counting.{IsHead, head_by, head_of as head_of_plan, head_read};
+ghost use Rattle.inc_plans.specs.Counting.{IsHead, head_by, head_of as head_of_plan, head_read};
 
+use crate::Head;
 use crate::piece::{PIECE, drop_changed};
 use file_plans::{DropPiece, ask_read_drop};
 use folder_files::{FilePath, Files, Refusal};
@@ -14,13 +15,6 @@ use step_plans::CommandFault;
 
 /// The longest drop, in bytes.
 const LONGEST: u64 = 268_435_456;
-
-/// The length of a drop in bytes, and its first piece.
-#[derive(Drop)]
-pub(crate) struct Head {
-    pub(crate) length: u64,
-    pub(crate) bytes: Bytes,
-}
 
 /// A drop of this length whose first piece is this.
 fn head_of(length: u64, bytes: Bytes) -> Result<Head, CommandFault>

@@ -4,7 +4,7 @@ ghost use Rattle.folder_files.specs.Story.{FilesState};
 ghost use Rattle.file_plans.specs.Plan.{Hand as Kept};
 ghost use Rattle.file_plans.specs.Follows.{Follows, by_out};
 ghost use Rattle.step_plans.specs.CommandFaults.{command_cause};
-ghost use Rattle.inc_command.specs.Inc.{heading as heading_of, heading_told};
+ghost use Rattle.inc_plans.specs.Inc.{heading as heading_of, heading_told};
 
 use file_plans::say;
 use mh_base::{Bytes, FolderName, Sink};

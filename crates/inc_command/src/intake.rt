@@ -2,21 +2,15 @@
 ghost use Rattle.std.specs.Prelude.{◌≡◌, ◌≤◌, IfOk};
 ghost use Rattle.file_plans.specs.Follows.{Follows, by_out};
 ghost use Rattle.step_plans.specs.CommandFaults.{command_cause};
-ghost use Rattle.inc_command.specs.Intake.{all_taken};
-ghost use Rattle.inc_command.specs.Targets.{told_by};
+ghost use Rattle.inc_plans.specs.Intake.{all_taken};
+ghost use Rattle.inc_plans.specs.Targets.{told_by};
 
-use crate::taking::{Target, take};
+use crate::taking::take;
+use crate::{Taken, Target};
 use folder_files::Files;
 use mh_base::{BytesList, List, MsgNum, Sink};
 use std::alloc::Global;
 use step_plans::{CommandFault, Hand};
-
-/// The numbers that the new messages got, and the highest number of the folder.
-#[derive(Drop)]
-pub struct Taken {
-    pub numbers: List<MsgNum>,
-    pub highest: u32,
-}
 
 /// Messages are taken in after others.
 pub(crate) fn take_all<F: Files, O: Sink>(

@@ -1,8 +1,8 @@
 // The marks on new messages.
 ghost use Rattle.std.specs.Prelude.{◌≡◌, ◌++◌, map, IfOk, OnOk};
 ghost use Rattle.sequence_commits.specs.PlainMarks.{plain_mark};
-ghost use Rattle.inc_command.specs.Asked.{asked};
-ghost use Rattle.inc_command.specs.Inc.{add_mark, add_marks, cur_marks, new_marks as new_marks_of};
+ghost use Rattle.inc_plans.specs.Asked.{asked};
+ghost use Rattle.inc_plans.specs.Inc.{add_mark, add_marks, cur_marks, new_marks as new_marks_of};
 
 use crate::IncJob;
 use mh_base::{List, MsgNum};

@@ -3,7 +3,7 @@ ghost use Rattle.std.specs.Prelude.{◌≡◌, ℕ, IfOk, length};
 ghost use Rattle.file_plans.specs.Plan.{Hand};
 ghost use Rattle.file_plans.specs.Follows.{State, Follows, by_hand};
 ghost use Rattle.step_plans.specs.CommandFaults.{command_cause};
-ghost use Rattle.inc_command.specs.Counting.{piece_by, piece_read};
+ghost use Rattle.inc_plans.specs.Counting.{piece_by, piece_read};
 
 use file_plans::{DropPiece, ask_read_drop};
 use folder_files::{FilePath, Files, Refusal};

@@ -7,9 +7,10 @@ ghost use Rattle.step_plans.specs.CommandFaults.{command_cause};
 ghost use Rattle.command_stages.specs.Endings.{of_plan};
 ghost use Rattle.message_puts.specs.Putting.{message_stored};
 ghost use Rattle.message_lines.specs.MessageText.{line_of};
-ghost use Rattle.inc_command.specs.Taking.{first_of as first_of_all, message_taken, message_told, standing_for};
-ghost use Rattle.inc_command.specs.Targets.{told_by};
+ghost use Rattle.inc_plans.specs.Taking.{first_of as first_of_all, message_taken, message_told, standing_for};
+ghost use Rattle.inc_plans.specs.Targets.{told_by};
 
+use crate::Target;
 use command_stages::fault_in;
 use file_plans::say;
 use folder_files::{Files, Place};
@@ -19,20 +20,6 @@ use mh_base::{Bytes, Duplicate, FolderName, MsgNum, Sink};
 use mh_sequences::Sequences;
 use std::alloc::{AllocError, Global};
 use step_plans::{CommandFault, Hand};
-
-/// Where messages go: the folder and its place; whether no line is written of them; and for their lines whether the
-/// first becomes the current message, whether they come to an unseen sequence, the folder's sequences before, and how
-/// messages are looked at.
-#[derive(Clone, Copy)]
-pub struct Target<'a> {
-    pub folder: &'a FolderName,
-    pub place: &'a Place,
-    pub silent: bool,
-    pub change_cur: bool,
-    pub unseen: bool,
-    pub sequences: &'a Sequences,
-    pub look: &'a Look,
-}
 
 /// The first of the numbers that new messages got, and then this one.
 fn first_of(numbers: &[MsgNum], number: MsgNum) -> MsgNum

@@ -10,7 +10,7 @@ use Rattle.step_plans.specs.Promises.{Promises}
 use Rattle.step_plans.specs.declared.command_fault.CommandFault.{CommandFault}
 use Rattle.step_plans.proofs.Going.{Sound}
 use Rattle.step_plans.proofs.Ruling.{rules_of}
-use Rattle.opened_folders.proofs.EndedKept.{Still}
+use Rattle.opening_plans.proofs.EndedKept.{Still}
 use Rattle.told_folders.proofs.ChangesPledged.{changes_keep, changes_promise, looks_keep, looks_promise}
 use Rattle.mark_command.specs.Mark.{look_task, mark, mark_by_act, mark_task, pledge_by}
 use Rattle.mark_command.specs.declared.job.MarkAct.{MarkAct}

@@ -11,7 +11,7 @@ use Rattle.folder_files.proofs.Names.{both, or_case}
 use Rattle.sequence_commits.specs.Marking.{marked_by, marked_by_all}
 use Rattle.sequence_commits.specs.RunsOfAll.{set_among}
 use Rattle.sequence_commits.proofs.MarkedOnce.{all_valid}
-use Rattle.opened_folders.proofs.ChosenListed.{has_tested, marked_cur_is, marked_member}
+use Rattle.opening_plans.proofs.ChosenListed.{has_tested, marked_cur_is, marked_member}
 use Rattle.told_folders.specs.Tasks.{AreSome, IsListed, IsOrderly}
 use Rattle.mark_command.specs.Lines.{cur_line, cur_lines, is_beside_cur, line_of, lines_beside, lines_for, privacy, sequence_of, spaced}
 use Rattle.mark_command.specs.Mark.{lines_if, look_task, mark_task}

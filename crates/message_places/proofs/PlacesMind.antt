@@ -36,11 +36,11 @@ use Rattle.held_messages.specs.Settle.{given_at, given_from, given_up, homed_nam
 use Rattle.message_puts.specs.Putting.{number_got}
 use Rattle.message_moves.specs.Moving.{number_taken}
 use Rattle.message_moves.proofs.MoveAsks.{asks_taken}
-use Rattle.opened_folders.proofs.AllMarks.{MindsAll}
-use Rattle.opened_folders.proofs.CommitMinds.{Facts, Steady}
-use Rattle.opened_folders.proofs.CommitSeen.{Synced}
-use Rattle.opened_folders.proofs.FolderSeen.{WasListed}
-use Rattle.opened_folders.proofs.Meeting.{Meets, meets_end, meets_link, meets_okay, meets_quietly, meets_return, meets_sync_folder, meets_then, meets_unlink}
+use Rattle.opening_plans.proofs.AllMarks.{MindsAll}
+use Rattle.opening_plans.proofs.CommitMinds.{Facts, Steady}
+use Rattle.opening_plans.proofs.CommitSeen.{Synced}
+use Rattle.opening_plans.proofs.FolderSeen.{WasListed}
+use Rattle.opening_plans.proofs.Meeting.{Meets, meets_end, meets_link, meets_okay, meets_quietly, meets_return, meets_sync_folder, meets_then, meets_unlink}
 use Rattle.message_places.specs.Arranging.{all_dropped, all_given, all_taken, arranged, aside_name, dropped_for_good, dropped_safely, given, let_go_after, let_go_by}
 use Rattle.message_places.specs.Places.{AreMsgNums, froms, is_in, slots}
 use Rattle.message_places.specs.declared.moves.Move.{Move}

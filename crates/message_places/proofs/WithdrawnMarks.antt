@@ -25,8 +25,8 @@ use Rattle.marks_law.specs.Minding.{IsUnmarked, Knowing, Minds, Sees, Touches, b
 use Rattle.marks_law.specs.Minding as minding
 use Rattle.message_moves.proofs.MovePledged.{is_held_so, is_taken_so, taking}
 use Rattle.sequence_marks.specs.SequenceMarks.{private_marks, public_marks, says_public}
-use Rattle.opened_folders.proofs.AllMarks.{MindsAll, drop_minds, look_minds}
-use Rattle.opened_folders.proofs.CommitMinds.{one_folder, one_mail, text_name}
+use Rattle.opening_plans.proofs.AllMarks.{MindsAll, drop_minds, look_minds}
+use Rattle.opening_plans.proofs.CommitMinds.{one_folder, one_mail, text_name}
 use Rattle.sequence_commits.proofs.SequencesPledged.{sequences_name}
 use Rattle.message_places.specs.Arranging.{aside_name}
 use Rattle.message_places.specs.Places.{is_in}

@@ -1,8 +1,9 @@
 -- What tests of numbers say.
-use Rattle.std.proofs.Common.{Bool, List, arith, eqb, false, max, nat_le, refl, subst, sym, true, ℕ, ◌<◌, ◌==◌, ◌||◌, ◌∙◌, ◌≡◌, ◌≤◌}
+use Rattle.std.proofs.Common.{Bool, List, [], ◌∷◌, arith, eqb, false, max, nat_le, refl, subst, sym, true, ℕ, ◌<◌, ◌==◌, ◌||◌, ◌∙◌, ◌≡◌, ◌≤◌}
 use Rattle.std.proofs.lemmas.Bool.{le-leb, leb-true}
 use Rattle.std.proofs.lemmas.Bool.Decides.{nat_tests}
 use Rattle.std.specs.List.{list_any}
+use Rattle.mh_base.specs.Numbers.{IsMsgNum}
 
 -- the greater of two numbers is one of them
 pub greater_is : (C : ℕ → Type 0) (a b : ℕ) → C a → C b → C (max a b)

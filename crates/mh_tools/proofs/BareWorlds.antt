@@ -24,7 +24,7 @@ use Rattle.folder_files.specs.Histories.{past_of}
 use Rattle.folder_files.specs.Story.{Story}
 use Rattle.file_plans.specs.Alone.{world_at}
 use Rattle.file_plans.specs.Contents.{contents_of}
-use Rattle.opened_folders.specs.Making.{IsBare}
+use Rattle.opening_plans.specs.Making.{IsBare}
 
 abbrev pub IsBareDirectory : DirectoryMap → Type 0
 IsBareDirectory d = d.there ≡ false → (x : List ℕ) → now_in d x ≡ None

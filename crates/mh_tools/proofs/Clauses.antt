@@ -37,10 +37,10 @@ use Rattle.step_plans.specs.Promises.{Promises}
 use Rattle.step_plans.specs.declared.command_fault.CommandFault.{CommandFault}
 use Rattle.step_plans.specs.declared.command_fault.CommandFault.TheVariants as fault
 use Rattle.command_stages.specs.Works.{Work}
-use Rattle.opened_folders.specs.Making.{IsBare}
-use Rattle.opened_folders.proofs.HomesFound.{homes_there}
-use Rattle.opened_folders.specs.Endings.{IsEndedBy}
-use Rattle.refile_command.specs.RefileAnswers.{IsEndedFirst}
+use Rattle.opening_plans.specs.Making.{IsBare}
+use Rattle.opening_plans.proofs.HomesFound.{homes_there}
+use Rattle.opening_plans.specs.Endings.{IsEndedBy}
+use Rattle.refile_plans.specs.RefileAnswers.{IsEndedFirst}
 use Rattle.command_ends.specs.BegunCauses.{ShowsFault, ShowsOnFolder}
 use Rattle.command_ends.specs.BuildCauses.{ShowsBuilt}
 use Rattle.command_line.specs.Command.{command}
@@ -63,13 +63,13 @@ use Rattle.command_ends.proofs.RefileEnding.{run_refile_ends_by, run_refile_sile
 use Rattle.command_outcomes.proofs.Unlinked.{command_first}
 use Rattle.mh_tools.proofs.Told.{adds_none, fault_undone}
 use Rattle.mh_tools.proofs.BareWorlds.{story_bare}
-use Rattle.mhbuild_command.specs.BuildAlone.{IsHeard}
-use Rattle.mhbuild_command.specs.Heard.{Heard, TooMuch, Whole, heard_text}
-use Rattle.mhbuild_command.proofs.Heeding.{HeardAs, heard_all, in_vain, unheard}
-use Rattle.mhbuild_command.proofs.InputHeard.{heard_are, heard_of, same_acts, same_said}
+use Rattle.mhbuild_plans.specs.BuildAlone.{IsHeard}
+use Rattle.mhbuild_plans.specs.Heard.{Heard, TooMuch, Whole, heard_text}
+use Rattle.mhbuild_plans.proofs.Heeding.{HeardAs, heard_all, in_vain, unheard}
+use Rattle.mhbuild_plans.proofs.InputHeard.{heard_are, heard_of, same_acts, same_said}
 use Rattle.mh_tools.specs.AnswersAlone.{ByHeard, HasHeard, HasOutcome, IsUnfaulted, HasOutcomeAlone, AloneIfTold, AnswersAlone}
 use Rattle.mh_tools.specs.AnswersAsOne.{AnswersAsOne}
-use Rattle.mhstore_command.specs.ClearWork.{HasClearWork}
+use Rattle.mhstore_plans.specs.ClearWork.{HasClearWork}
 use Rattle.mh_tools.specs.Calls.{Builds, Call, LooksOnly, MakesFolder, StoresFiles, begins, ends, MadeBy}
 use Rattle.mh_tools.specs.FollowsItsPlan.{TellsStatus, FollowsItsPlan}
 use Rattle.mh_tools.specs.IsCaused.{IsCaused, IsShown, IsShownBegun, IsShownBuilt, IsShownRefiled, MayBegin, Refiles}

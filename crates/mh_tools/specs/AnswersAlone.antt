@@ -8,9 +8,9 @@ use Rattle.folder_files.specs.Worlds.{IsStart}
 use Rattle.file_plans.specs.Alone.{first_of, mailbox_at, world_at}
 use Rattle.file_plans.specs.Contents.{contents_of}
 use Rattle.file_plans.specs.Mailboxes.{Mailbox}
-use Rattle.mhbuild_command.specs.BuildAlone.{IsHeard}
-use Rattle.mhbuild_command.specs.Heard.{Heard, heard_text}
-use Rattle.mhstore_command.specs.ClearWork.{HasClearWork}
+use Rattle.mhbuild_plans.specs.BuildAlone.{IsHeard}
+use Rattle.mhbuild_plans.specs.Heard.{Heard, heard_text}
+use Rattle.mhstore_plans.specs.ClearWork.{HasClearWork}
 use Rattle.mh_tools.specs.Calls.{Call, StoresFiles}
 use Rattle.mh_tools.specs.Outcome.{Outcome, outcome_of}
 use Rattle.mh_tools.specs.Status.{IsVerdict}

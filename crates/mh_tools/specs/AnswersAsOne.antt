@@ -6,9 +6,9 @@ use Rattle.folder_files.specs.declared.place.Place.{Place}
 use Rattle.file_plans.specs.Agreeing.{FitPast}
 use Rattle.file_plans.specs.Contents.{Contents, by_contents, mailbox_in}
 use Rattle.file_plans.specs.Mailboxes.{Mailbox}
-use Rattle.opened_folders.specs.Making.{IsBare}
+use Rattle.opening_plans.specs.Making.{IsBare}
 use Rattle.mh_tools.specs.AnswersAlone.{ByHeard, HasOutcome}
-use Rattle.mhstore_command.specs.ClearWork.{HasClearWork}
+use Rattle.mhstore_plans.specs.ClearWork.{HasClearWork}
 use Rattle.mh_tools.specs.Calls.{Call, MadeBy, MakesFolder, StoresFiles}
 use Rattle.mh_tools.specs.Status.{IsVerdict}
 use Rattle.mh_tools.specs.TellsWhatItSaw.{outcome_on}

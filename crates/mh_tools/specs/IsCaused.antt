@@ -12,10 +12,10 @@ use Rattle.file_plans.specs.Mailboxes.{Mailbox}
 use Rattle.file_plans.specs.Sightings.{Made, IsFailed}
 use Rattle.step_plans.specs.ContextCommit.{TRIES}
 use Rattle.step_plans.specs.Endings.{IsHeld, IsMeddled}
-use Rattle.mhbuild_command.specs.Heard.{Heard}
+use Rattle.mhbuild_plans.specs.Heard.{Heard}
 use Rattle.step_plans.specs.declared.command_fault.CommandFault.TheVariants as fault
-use Rattle.opened_folders.specs.Endings.{IsShownBy, IsToldBy}
-use Rattle.refile_command.specs.RefileAnswers.{IsShownFirst}
+use Rattle.opening_plans.specs.Endings.{IsShownBy, IsToldBy}
+use Rattle.refile_plans.specs.RefileAnswers.{IsShownFirst}
 use Rattle.command_ends.specs.BegunCauses.{ShowsFault, ShowsOnFolder, TellsOnFolder}
 use Rattle.command_ends.specs.BuildCauses.{ShowsBuildFault, ShowsBuilt, TellsBuilt}
 use Rattle.command_ends.specs.Causes.{ShowsRefusal}

@@ -2,7 +2,7 @@
 use Rattle.std.specs.Prelude.{ℕ, List, [], Result, Ok, Err}
 use Rattle.file_plans.specs.Mailboxes.{Mailbox}
 use Rattle.command_stages.specs.Works.{Work}
-use Rattle.mhbuild_command.specs.Heard.{Heard}
+use Rattle.mhbuild_plans.specs.Heard.{Heard}
 use Rattle.command_outcomes.specs.Outcomes.{work_of}
 use Rattle.command_words.specs.declared.ended.Ended.{Ended}
 use Rattle.mh_tools.specs.Lines.{error_line_of}

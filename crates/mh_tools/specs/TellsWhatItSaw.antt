@@ -7,7 +7,7 @@ use Rattle.folder_files.specs.declared.refusal.Refusal.TheVariants.{TooLarge}
 use Rattle.file_plans.specs.Agreeing.{MailboxAgrees}
 use Rattle.file_plans.specs.Mailboxes.{Mailbox}
 use Rattle.step_plans.specs.ContextCommit.{LIMIT_BYTES}
-use Rattle.mhbuild_command.specs.Heard.{Heard}
+use Rattle.mhbuild_plans.specs.Heard.{Heard}
 use Rattle.mh_tools.specs.Calls.{Call, LooksOnly, MadeBy}
 use Rattle.mh_tools.specs.Outcome.{Outcome, outcome_of}
 use Rattle.mh_tools.specs.Status.{IsVerdict}

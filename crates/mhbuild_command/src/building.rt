@@ -4,9 +4,9 @@ ghost use Rattle.folder_files.specs.Story.{FilesState};
 ghost use Rattle.file_plans.specs.Plan.{Hand as Kept, lifted, say as say_plan};
 ghost use Rattle.file_plans.specs.Follows.{Follows, all, by_out};
 ghost use Rattle.step_plans.specs.CommandFaults.{command_cause, of_sink};
-ghost use Rattle.mhbuild_command.specs.BuildAlone.{TellsIfUnfaulted};
-ghost use Rattle.mhbuild_command.specs.BuildPledge.{PromisesSteps};
-ghost use Rattle.mhbuild_command.specs.Building.{message_done, mhbuild as mhbuild_plan};
+ghost use Rattle.mhbuild_plans.specs.BuildAlone.{TellsIfUnfaulted};
+ghost use Rattle.mhbuild_plans.specs.BuildPledge.{PromisesSteps};
+ghost use Rattle.mhbuild_plans.specs.Building.{message_done, mhbuild as mhbuild_plan};
 
 use crate::BuildJob;
 use crate::message::build;

@@ -2,9 +2,8 @@
 #![tactic(auto)]
 
 mod building;
-mod job;
 mod message;
 mod text;
 
 pub use building::mhbuild;
-pub use job::BuildJob;
+pub use mhbuild_plans::BuildJob;

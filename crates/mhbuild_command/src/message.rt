@@ -3,9 +3,9 @@ ghost use Rattle.std.specs.Prelude.{◌≡◌, IfOk};
 ghost use Rattle.file_plans.specs.Follows.{Follows, by_hand};
 ghost use Rattle.step_plans.specs.CommandFaults.{command_cause};
 ghost use Rattle.draft_contents.specs.Values.{IsValueOf};
-ghost use Rattle.mhbuild_command.specs.Building.{text_built};
-ghost use Rattle.mhbuild_command.specs.Composed.{composed};
-ghost use Rattle.mhbuild_command.specs.Parsed.{parsed};
+ghost use Rattle.mhbuild_plans.specs.Building.{text_built};
+ghost use Rattle.mhbuild_plans.specs.Composed.{composed};
+ghost use Rattle.mhbuild_plans.specs.Parsed.{parsed};
 
 use crate::BuildJob;
 use draft_contents::give_all;

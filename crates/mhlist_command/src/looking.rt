@@ -3,10 +3,10 @@ ghost use Rattle.std.specs.Prelude.{◌≡◌};
 ghost use Rattle.file_plans.specs.Follows.{Follows, by_out};
 ghost use Rattle.step_plans.specs.CommandFaults.{command_cause};
 ghost use Rattle.told_folders.specs.ToldAlone.{TellsIfUnfaulted};
-ghost use Rattle.mhlist_command.specs.ListOutcome.{mhlist_work};
-ghost use Rattle.mhlist_command.specs.ListPledge.{PromisesSteps};
-ghost use Rattle.mhlist_command.specs.Listing.{chosen_by, mhlist as mhlist_plan};
-ghost use Rattle.mhlist_command.specs.Values.{AreValue};
+ghost use Rattle.mhlist_plans.specs.ListOutcome.{mhlist_work};
+ghost use Rattle.mhlist_plans.specs.ListPledge.{PromisesSteps};
+ghost use Rattle.mhlist_plans.specs.Listing.{chosen_by, mhlist as mhlist_plan};
+ghost use Rattle.mhlist_plans.specs.Values.{AreValue};
 ghost use Rattle.mh_profile.specs.Reading.{entries_seen};
 
 use crate::ListJob;

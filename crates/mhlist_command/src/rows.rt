@@ -5,7 +5,7 @@ ghost use Rattle.folder_files.specs.Story.{FilesState};
 ghost use Rattle.file_plans.specs.Plan.{Hand as Kept};
 ghost use Rattle.file_plans.specs.Follows.{Follows, by_out};
 ghost use Rattle.step_plans.specs.CommandFaults.{command_cause};
-ghost use Rattle.mhlist_command.specs.Listing.{all_listed, header_said, listed_by, no_part as no_part_of, one_listed, rows_said};
+ghost use Rattle.mhlist_plans.specs.Listing.{all_listed, header_said, listed_by, no_part as no_part_of, one_listed, rows_said};
 
 use command_stages::LIMIT;
 use file_plans::{Reading, ask_read};

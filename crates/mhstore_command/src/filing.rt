@@ -7,8 +7,8 @@ ghost use Rattle.step_plans.specs.CommandFaults.{command_cause};
 ghost use Rattle.command_stages.specs.Endings.{of_plan};
 ghost use Rattle.part_rows.specs.FileNames.{file_of};
 ghost use Rattle.part_rows.specs.PartViews.{view_of};
-ghost use Rattle.mhstore_command.specs.Files.{file_stored};
-ghost use Rattle.mhstore_command.specs.Storing.{all_filed, one_filed, parts_filed, told_by};
+ghost use Rattle.mhstore_plans.specs.Files.{file_stored};
+ghost use Rattle.mhstore_plans.specs.Storing.{all_filed, one_filed, parts_filed, told_by};
 
 use crate::StoreJob;
 use crate::linking::store_file;

@@ -2,9 +2,8 @@
 #![tactic(auto)]
 
 mod filing;
-mod job;
 mod linking;
 mod storing;
 
-pub use job::StoreJob;
+pub use mhstore_plans::StoreJob;
 pub use storing::mhstore;

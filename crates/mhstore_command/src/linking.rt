@@ -3,7 +3,7 @@ ghost use Rattle.std.specs.Prelude.{◌≡◌, ℕ};
 ghost use Rattle.file_plans.specs.Follows.{Follows, State, by_hand};
 ghost use Rattle.file_plans.specs.Plan.{Hand as Kept};
 ghost use Rattle.step_plans.specs.PlanFaults.{plan_cause};
-ghost use Rattle.mhstore_command.specs.Files.{file_added, file_replaced, file_stored as file_stored_plan, if_free, linked, linked_by};
+ghost use Rattle.mhstore_plans.specs.Files.{file_added, file_replaced, file_stored as file_stored_plan, if_free, linked, linked_by};
 
 use file_plans::{Entered, ask_link};
 use folder_files::{Files, Place};

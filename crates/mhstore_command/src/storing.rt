@@ -2,9 +2,9 @@
 ghost use Rattle.std.specs.Prelude.{◌≡◌};
 ghost use Rattle.file_plans.specs.Follows.{Follows, by_out};
 ghost use Rattle.step_plans.specs.CommandFaults.{command_cause};
-ghost use Rattle.mhstore_command.specs.StoreAlone.{StoresIfUnfaulted};
-ghost use Rattle.mhstore_command.specs.StorePledge.{PromisesSteps};
-ghost use Rattle.mhstore_command.specs.Storing.{all_stored, mhstore as mhstore_plan, one_stored, stored_by};
+ghost use Rattle.mhstore_plans.specs.StoreAlone.{StoresIfUnfaulted};
+ghost use Rattle.mhstore_plans.specs.StorePledge.{PromisesSteps};
+ghost use Rattle.mhstore_plans.specs.Storing.{all_stored, mhstore as mhstore_plan, one_stored, stored_by};
 
 use crate::StoreJob;
 use crate::filing::store_message;

@@ -7,8 +7,8 @@ ghost use Rattle.step_plans.specs.Hands.{mail_place};
 ghost use Rattle.step_plans.specs.CommandFaults.{command_cause};
 ghost use Rattle.step_plans.specs.PlanFaults.{plan_cause};
 ghost use Rattle.command_stages.specs.Endings.{of_plan};
-ghost use Rattle.opened_folders.specs.BegunAlone.{BeginsIfUnfaulted};
-ghost use Rattle.opened_folders.specs.Opening.{begun, folder_locked, locked_begun, locked_by, mail_made, marks_cut, settled_read};
+ghost use Rattle.opening_plans.specs.BegunAlone.{BeginsIfUnfaulted};
+ghost use Rattle.opening_plans.specs.Opening.{begun, folder_locked, locked_begun, locked_by, mail_made, marks_cut, settled_read};
 
 use crate::Opened;
 use crate::existing::settled_numbers;

@@ -4,7 +4,7 @@ ghost use Rattle.file_plans.specs.Plan.{Hand};
 ghost use Rattle.file_plans.specs.Follows.{Follows, by_hand};
 ghost use Rattle.file_plans.specs.Runs.{OfPlan};
 ghost use Rattle.step_plans.specs.CommandFaults.{command_cause};
-ghost use Rattle.opened_folders.specs.Ending.{Ends, finished, given_up};
+ghost use Rattle.opening_plans.specs.Ending.{Ends, finished, given_up};
 
 use file_plans::{ask_unlock, attempt_unlock};
 use folder_files::{Files, Place};

@@ -2,7 +2,7 @@
 ghost use Rattle.std.specs.Prelude.{◌≡◌, ◌≤◌, ◌||◌, ℕ, unwrap_or, IfOk, OnOk};
 ghost use Rattle.mh_base.specs.Numbers.{IsMsgNum};
 ghost use Rattle.mh_sequences.specs.Runs.{has};
-ghost use Rattle.opened_folders.specs.Existing.{are_tried, exists_in, is_between, is_tried, numbers_settled};
+ghost use Rattle.opening_plans.specs.Existing.{are_tried, exists_in, is_between, is_tried, numbers_settled};
 
 use command_stages::noted;
 use held_messages::{HeldPair, Settled, held_pairs, highest, highest_after};

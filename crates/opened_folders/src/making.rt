@@ -8,7 +8,7 @@ ghost use Rattle.step_plans.specs.Hands.{mail_place};
 ghost use Rattle.step_plans.specs.Locking.{lock_name};
 ghost use Rattle.step_plans.specs.PlanFaults.{plan_cause};
 ghost use Rattle.command_stages.specs.Endings.{of_plan};
-ghost use Rattle.opened_folders.specs.Making.{made_begun, once_made as once_made_of};
+ghost use Rattle.opening_plans.specs.Making.{made_begun, once_made as once_made_of};
 
 use crate::Opened;
 use crate::beginning::begin;

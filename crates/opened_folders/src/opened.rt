@@ -6,7 +6,7 @@ ghost use Rattle.step_plans.specs.PlanFaults.{plan_cause};
 ghost use Rattle.mh_sequences.specs.Runs.{AreRuns, last_in};
 ghost use Rattle.sequence_commits.specs.Committing.{marks_committed};
 ghost use Rattle.sequence_commits.specs.Marking.{marked_by_all};
-ghost use Rattle.opened_folders.specs.Opening.{with_sequences};
+ghost use Rattle.opening_plans.specs.Opening.{with_sequences};
 
 use folder_files::{Files, Place};
 use held_messages::HomeList;
@@ -29,7 +29,7 @@ pub struct Opened {
 }
 
 impl Model for Opened {
-    ghost use Rattle.opened_folders.specs.Opening.{Opened as OpenedValue, opened_of};
+    ghost use Rattle.opening_plans.specs.Opening.{Opened as OpenedValue, opened_of};
 
     ghost Value = { OpenedValue };
 

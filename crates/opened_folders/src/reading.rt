@@ -6,7 +6,7 @@ ghost use Rattle.folder_files.specs.declared.place.Place.TheVariants.{Mail};
 ghost use Rattle.step_plans.specs.ContextCommit.{context_read};
 ghost use Rattle.step_plans.specs.Hands.{mail_place};
 ghost use Rattle.step_plans.specs.PlanFaults.{plan_cause};
-ghost use Rattle.opened_folders.specs.Opening.{marks_read, sequences_read, text_by};
+ghost use Rattle.opening_plans.specs.Opening.{marks_read, sequences_read, text_by};
 
 use file_plans::{Reading, ask_read};
 use folder_files::{Files, Place};

@@ -13,7 +13,7 @@ use Rattle.message_places.specs.Places.{is_in, slots}
 use Rattle.message_places.proofs.InOrder.{slots_alone, stand_in_order, with_pair, suc_same}
 use Rattle.message_places.proofs.NumberLists.{in_good}
 use Rattle.sequence_commits.proofs.RunTests.{all_runs}
-use Rattle.opened_folders.proofs.ChosenListed.{has_tested, tested_has}
+use Rattle.opening_plans.proofs.ChosenListed.{has_tested, tested_has}
 use Rattle.pack_command.specs.PackOutcome.{moved_at}
 use Rattle.pack_command.specs.Places.{listing_moves, packed_listing, places_of, staying}
 use Rattle.pack_command.proofs.PackMoves.{numbers_distinct, places_distinct, places_good, places_many, places_rise}

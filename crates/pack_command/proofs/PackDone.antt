@@ -9,8 +9,8 @@ use Rattle.file_plans.proofs.Acting.{acts}
 use Rattle.step_plans.specs.Pledges.{Pledge}
 use Rattle.step_plans.proofs.Going.{Sound}
 use Rattle.step_plans.proofs.Ruling.{rules_of}
-use Rattle.refile_command.proofs.RefileMoved.{HasHeldNone}
-use Rattle.sortm_command.proofs.WorkDone.{work_done}
+use Rattle.refile_plans.proofs.RefileMoved.{HasHeldNone}
+use Rattle.sortm_plans.proofs.WorkDone.{work_done}
 use Rattle.pack_command.specs.Pack.{opened_packed, pack}
 use Rattle.pack_command.specs.PackDone.{HasPacked}
 use Rattle.pack_command.specs.PackPledge.{TellsPacked, pack_pledge}

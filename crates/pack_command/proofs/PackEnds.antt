@@ -26,23 +26,23 @@ use Rattle.message_places.specs.declared.moves.Move.{Move}
 use Rattle.message_places.proofs.NumberLists.{in_good}
 use Rattle.command_stages.specs.Current.{made_current}
 use Rattle.command_stages.specs.Endings.{of_plan}
-use Rattle.opened_folders.specs.Endings.{Answering, HasMetIn, PutsNone, ShowsEnd}
-use Rattle.opened_folders.specs.FolderPledge.{told_within}
-use Rattle.opened_folders.specs.Opening.{Opened, begun, opened_of}
-use Rattle.opened_folders.proofs.BeginState.{HasState, TakesNone, begin_state, locked_there}
-use Rattle.opened_folders.proofs.CleanRuns.{Clean}
-use Rattle.opened_folders.proofs.SequencesEnd.{Left}
-use Rattle.opened_folders.proofs.WorkEnds.{EndsBeside, EndsWith, current_comes, work_ends}
-use Rattle.refile_command.specs.RmmPledge.{every_message}
-use Rattle.refile_command.proofs.RmmPledged.{listed_runs}
+use Rattle.opening_plans.specs.Endings.{Answering, HasMetIn, PutsNone, ShowsEnd}
+use Rattle.opening_plans.specs.FolderPledge.{told_within}
+use Rattle.opening_plans.specs.Opening.{Opened, begun, opened_of}
+use Rattle.opening_plans.proofs.BeginState.{HasState, TakesNone, begin_state, locked_there}
+use Rattle.opening_plans.proofs.CleanRuns.{Clean}
+use Rattle.opening_plans.proofs.SequencesEnd.{Left}
+use Rattle.opening_plans.proofs.WorkEnds.{EndsBeside, EndsWith, current_comes, work_ends}
+use Rattle.refile_plans.specs.RmmPledge.{every_message}
+use Rattle.refile_plans.proofs.RmmPledged.{listed_runs}
 use Rattle.step_plans.specs.CommandFaults.{of_sink}
 use Rattle.step_plans.proofs.Coming.{comes_say}
 use Rattle.told_folders.specs.Plans.{lines_said}
-use Rattle.sortm_command.proofs.CommitsShown as commits
-use Rattle.sortm_command.proofs.CommitsShown.{Commits}
+use Rattle.sortm_plans.proofs.CommitsShown as commits
+use Rattle.sortm_plans.proofs.CommitsShown.{Commits}
 use Rattle.pack_command.specs.Pack.{line_after, opened_packed, pack, renumbered}
-use Rattle.sortm_command.specs.MovesAnswers.{long_marks, none_left, none_met}
-use Rattle.sortm_command.proofs.MarkedEnds as stage
+use Rattle.sortm_plans.specs.MovesAnswers.{long_marks, none_left, none_met}
+use Rattle.sortm_plans.proofs.MarkedEnds as stage
 use Rattle.pack_command.specs.PackAnswers.{ShowsPack, pack_answers}
 use Rattle.pack_command.specs.PackPledge.{MakesMarks, PacksSo, TellsPacked}
 use Rattle.pack_command.specs.Places.{listing_moves}

@@ -32,27 +32,27 @@ use Rattle.message_places.specs.Places.{AreMsgNums, froms, is_in, slots}
 use Rattle.message_places.specs.declared.moves.Move.{Move}
 use Rattle.message_places.proofs.InOrder.{slot_unlisted}
 use Rattle.message_places.proofs.NumberLists.{in_good}
-use Rattle.opened_folders.specs.BegunWork.{AreHomesAt, Homes, current_work}
-use Rattle.opened_folders.specs.Kept.{Commits, Kept, sequences_kept}
-use Rattle.opened_folders.specs.Opening.{Opened, opened_of}
-use Rattle.opened_folders.proofs.FolderGiven.{IsUntouched}
-use Rattle.opened_folders.proofs.KeptGiven.{Holds, IsClear}
-use Rattle.opened_folders.proofs.KeptMessages.{message_at, message_of, sequences_messages}
-use Rattle.opened_folders.proofs.WorkGiven.{IsOpen, WorkEnds, changes_give, current_gives, lifted_gives, weaker}
+use Rattle.opening_plans.specs.BegunWork.{AreHomesAt, Homes, current_work}
+use Rattle.opening_plans.specs.Kept.{Commits, Kept, sequences_kept}
+use Rattle.opening_plans.specs.Opening.{Opened, opened_of}
+use Rattle.opening_plans.proofs.FolderGiven.{IsUntouched}
+use Rattle.opening_plans.proofs.KeptGiven.{Holds, IsClear}
+use Rattle.opening_plans.proofs.KeptMessages.{message_at, message_of, sequences_messages}
+use Rattle.opening_plans.proofs.WorkGiven.{IsOpen, WorkEnds, changes_give, current_gives, lifted_gives, weaker}
 use Rattle.told_folders.specs.Plans.{lines_said}
 use Rattle.folder_command.proofs.Orderly.{summary_some}
-use Rattle.refile_command.specs.MailMoved as mail_moved
-use Rattle.refile_command.proofs.MovedShown.{message_shown}
-use Rattle.sortm_command.specs.Moving.{sequences_after}
-use Rattle.sortm_command.proofs.MarkedGiven as stage
-use Rattle.sortm_command.proofs.MarkedGiven.{EndsAt}
+use Rattle.refile_plans.specs.MailMoved as mail_moved
+use Rattle.refile_plans.proofs.MovedShown.{message_shown}
+use Rattle.sortm_plans.specs.Moving.{sequences_after}
+use Rattle.sortm_plans.proofs.MarkedGiven as stage
+use Rattle.sortm_plans.proofs.MarkedGiven.{EndsAt}
 use Rattle.pack_command.specs.Pack.{line_after, opened_packed, pack, renumbered}
 use Rattle.pack_command.specs.PackOutcome.{mail_packed, moved_at, opened_work, pack_work}
 use Rattle.pack_command.specs.Places.{listing_moves, packed_listing, places_of}
 use Rattle.pack_command.specs.declared.job.PackJob.{PackJob}
 use Rattle.pack_command.proofs.PackMoves.{meant_distinct, meant_good, moving_distinct, moving_good, moving_listed, places_distinct, places_many}
-use Rattle.refile_command.specs.Rmm.{withdrawn}
-use Rattle.refile_command.proofs.RefiledOpened.{after_all, after_long}
+use Rattle.refile_plans.specs.Rmm.{withdrawn}
+use Rattle.refile_plans.proofs.RefiledOpened.{after_all, after_long}
 use Rattle.told_folders.proofs.FoldersGiven.{Told}
 
 -- one message, as two layers have it

@@ -11,15 +11,15 @@ use Rattle.file_plans.proofs.Framing.{AnyStep}
 use Rattle.step_plans.specs.Pledges.{Pledge}
 use Rattle.step_plans.proofs.Lasting.{KeptBy}
 use Rattle.message_moves.proofs.MovePledged.{LetsTake}
-use Rattle.opened_folders.specs.FolderPledge.{folder_pledge, told_within}
-use Rattle.opened_folders.proofs.FolderPledged.{seen_kept}
-use Rattle.opened_folders.proofs.WorkPledged.{LetsBegin}
-use Rattle.refile_command.specs.RmmPledge.{every_message}
-use Rattle.sortm_command.proofs.ArrangedDone.{settled_kept}
+use Rattle.opening_plans.specs.FolderPledge.{folder_pledge, told_within}
+use Rattle.opening_plans.proofs.FolderPledged.{seen_kept}
+use Rattle.opening_plans.proofs.WorkPledged.{LetsBegin}
+use Rattle.refile_plans.specs.RmmPledge.{every_message}
+use Rattle.sortm_plans.proofs.ArrangedDone.{settled_kept}
 use Rattle.message_places.specs.Places.{froms}
-use Rattle.sortm_command.specs.MovePledge.{WasWithdrawn}
-use Rattle.sortm_command.proofs.MoveLets as moving
-use Rattle.sortm_command.proofs.MoveLets.{marks_kept, may_take, moves_marks_kept}
+use Rattle.sortm_plans.specs.MovePledge.{WasWithdrawn}
+use Rattle.sortm_plans.proofs.MoveLets as moving
+use Rattle.sortm_plans.proofs.MoveLets.{marks_kept, may_take, moves_marks_kept}
 use Rattle.pack_command.specs.PackDone.{AllPacked, HasPacked}
 use Rattle.pack_command.specs.PackPledge.{MakesMarks, PacksSo, TakesMoving}
 use Rattle.pack_command.specs.Places.{listing_moves}

@@ -17,26 +17,26 @@ use Rattle.message_places.specs.declared.moves.Move.{Move}
 use Rattle.command_stages.specs.Current.{current_change, made_current}
 use Rattle.command_stages.specs.Endings.{of_plan}
 use Rattle.sequence_marks.proofs.OtherEntries.{by_bool}
-use Rattle.opened_folders.specs.FolderPledge.{told_within}
-use Rattle.opened_folders.specs.Opening.{Opened, opened_of}
-use Rattle.opened_folders.proofs.AllMarks.{MindsAll}
-use Rattle.opened_folders.proofs.BegunSeen.{NoneUnlinked}
-use Rattle.opened_folders.proofs.CommitMinds.{Facts, IsTold}
-use Rattle.opened_folders.proofs.Meeting.{Meets, meets_lifted, meets_okay, meets_return, meets_then}
-use Rattle.opened_folders.proofs.ToldMarks.{InListing}
-use Rattle.opened_folders.proofs.WorkMinds.{Anyhow, current_meets}
-use Rattle.sortm_command.proofs.MarksKnown.{KnowsMarks}
+use Rattle.opening_plans.specs.FolderPledge.{told_within}
+use Rattle.opening_plans.specs.Opening.{Opened, opened_of}
+use Rattle.opening_plans.proofs.AllMarks.{MindsAll}
+use Rattle.opening_plans.proofs.BegunSeen.{NoneUnlinked}
+use Rattle.opening_plans.proofs.CommitMinds.{Facts, IsTold}
+use Rattle.opening_plans.proofs.Meeting.{Meets, meets_lifted, meets_okay, meets_return, meets_then}
+use Rattle.opening_plans.proofs.ToldMarks.{InListing}
+use Rattle.opening_plans.proofs.WorkMinds.{Anyhow, current_meets}
+use Rattle.sortm_plans.proofs.MarksKnown.{KnowsMarks}
 use Rattle.step_plans.specs.CommandFaults.{of_sink}
-use Rattle.opened_folders.proofs.Meeting.{meets_say}
+use Rattle.opening_plans.proofs.Meeting.{meets_say}
 use Rattle.told_folders.specs.Plans.{lines_said}
 use Rattle.message_places.proofs.InOrder.{slot_unlisted}
-use Rattle.sortm_command.proofs.MovesMind as moves
+use Rattle.sortm_plans.proofs.MovesMind as moves
 use Rattle.pack_command.specs.Pack.{line_after, opened_packed, pack, renumbered}
 use Rattle.pack_command.specs.PackPledge.{pack_pledge}
 use Rattle.pack_command.specs.Places.{listing_moves, places_of}
 use Rattle.pack_command.specs.declared.job.PackJob.{PackJob}
 use Rattle.pack_command.proofs.PackMoves.{meant_good, moving_good, places_distinct, places_many}
-use Rattle.sortm_command.proofs.KnownMinds.{work_meets}
+use Rattle.sortm_plans.proofs.KnownMinds.{work_meets}
 
 module _ (w : Pledge) (few : w.run < 2 ^ 128) (path : List ℕ) (job : PackJob) (ok : AreChanges (current_change job.folder)) where
   abbrev Of : List ℕ → Type 0

@@ -10,9 +10,9 @@ use Rattle.msg_ranges.proofs.Rising.{Rise, lists, lists_numbers, rise_runs, firs
 use Rattle.message_places.specs.Places.{AreDistinct, AreMsgNums, froms, is_in, slots}
 use Rattle.message_places.specs.declared.moves.Move.{Move}
 use Rattle.message_places.proofs.InOrder.{from_in, froms_distinct, froms_good, slots_distinct, slots_good}
-use Rattle.refile_command.proofs.Selected.{in_runs}
+use Rattle.refile_plans.proofs.Selected.{in_runs}
 use Rattle.pack_command.specs.Places.{listing_moves, places_of}
-use Rattle.sortm_command.proofs.Listed.{rise_distinct}
+use Rattle.sortm_plans.proofs.Listed.{rise_distinct}
 
 all_good : (ns : List ℕ) → ((n : ℕ) → lists ns n ≡ true → IsMsgNum n) → AreMsgNums ns
 all_good [] f = tt

@@ -29,20 +29,20 @@ use Rattle.message_places.specs.declared.moves.Move.{Move}
 use Rattle.message_places.proofs.NumberLists.{in_good}
 use Rattle.command_stages.specs.Current.{made_current}
 use Rattle.command_stages.specs.Endings.{of_plan}
-use Rattle.opened_folders.specs.FolderPledge.{told_within}
-use Rattle.opened_folders.specs.Opening.{Opened, begun, opened_of}
-use Rattle.opened_folders.specs.Reads.{HaveSeen}
-use Rattle.opened_folders.proofs.EndedKept.{Still}
-use Rattle.opened_folders.proofs.FolderPledged.{HasBegun}
-use Rattle.opened_folders.proofs.WorkPledged.{current_goes, opened_keeps}
+use Rattle.opening_plans.specs.FolderPledge.{told_within}
+use Rattle.opening_plans.specs.Opening.{Opened, begun, opened_of}
+use Rattle.opening_plans.specs.Reads.{HaveSeen}
+use Rattle.opening_plans.proofs.EndedKept.{Still}
+use Rattle.opening_plans.proofs.FolderPledged.{HasBegun}
+use Rattle.opening_plans.proofs.WorkPledged.{current_goes, opened_keeps}
 use Rattle.told_folders.specs.Plans.{lines_said}
-use Rattle.refile_command.specs.RmmPledge.{every_message}
-use Rattle.refile_command.proofs.RefileMoved.{HasHeldNone}
-use Rattle.refile_command.proofs.RmmPledged.{listed_runs}
+use Rattle.refile_plans.specs.RmmPledge.{every_message}
+use Rattle.refile_plans.proofs.RefileMoved.{HasHeldNone}
+use Rattle.refile_plans.proofs.RmmPledged.{listed_runs}
 use Rattle.pack_command.specs.Pack.{line_after, opened_packed, pack, renumbered}
 use Rattle.message_moves.proofs.MovePledged.{LetsTake}
-use Rattle.sortm_command.specs.MovePledge.{AreToldWithout}
-use Rattle.sortm_command.proofs.MarkedPledged as stage
+use Rattle.sortm_plans.specs.MovePledge.{AreToldWithout}
+use Rattle.sortm_plans.proofs.MarkedPledged as stage
 use Rattle.pack_command.specs.PackDone.{AllPacked, HasPacked}
 use Rattle.pack_command.specs.PackPledge.{MakesMarks, PacksSo, TellsPacked, pack_pledge}
 use Rattle.pack_command.specs.Places.{listing_moves}

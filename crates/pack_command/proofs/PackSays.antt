@@ -22,24 +22,24 @@ use Rattle.step_plans.proofs.Pledged.{Of}
 use Rattle.step_plans.proofs.Ruling.{rules_of}
 use Rattle.command_stages.specs.Current.{made_current}
 use Rattle.command_stages.specs.Endings.{of_plan}
-use Rattle.opened_folders.specs.Ending.{ended}
-use Rattle.opened_folders.specs.Endings.{IsToldBy}
-use Rattle.opened_folders.specs.FolderPledge.{told_within}
-use Rattle.opened_folders.specs.Opening.{Opened, begun}
-use Rattle.opened_folders.proofs.EndedKept.{keeps_more}
-use Rattle.opened_folders.proofs.FolderPledged.{HasBegun, seen_kept}
-use Rattle.opened_folders.proofs.Speaking.{Quiet, keeps_holding, quietly, silent_told, speaking}
-use Rattle.opened_folders.proofs.WorkPledged.{current_goes}
+use Rattle.opening_plans.specs.Ending.{ended}
+use Rattle.opening_plans.specs.Endings.{IsToldBy}
+use Rattle.opening_plans.specs.FolderPledge.{told_within}
+use Rattle.opening_plans.specs.Opening.{Opened, begun}
+use Rattle.opening_plans.proofs.EndedKept.{keeps_more}
+use Rattle.opening_plans.proofs.FolderPledged.{HasBegun, seen_kept}
+use Rattle.opening_plans.proofs.Speaking.{Quiet, keeps_holding, quietly, silent_told, speaking}
+use Rattle.opening_plans.proofs.WorkPledged.{current_goes}
 use Rattle.told_folders.specs.Plans.{lines_said}
 use Rattle.told_folders.proofs.ChangesSay.{Adds, all_told, lines_say}
 use Rattle.pack_command.proofs.SaysEnded as saying
 use Rattle.folder_command.proofs.Orderly.{summary_some}
-use Rattle.refile_command.specs.RmmPledge.{every_message}
-use Rattle.refile_command.proofs.RefileMoved.{HasHeldNone}
+use Rattle.refile_plans.specs.RmmPledge.{every_message}
+use Rattle.refile_plans.proofs.RefileMoved.{HasHeldNone}
 use Rattle.pack_command.specs.Pack.{line_after, opened_packed, pack, renumbered}
 use Rattle.pack_command.specs.PackPledge.{MakesMarks, PacksSo, TellsPacked}
 use Rattle.pack_command.specs.Places.{listing_moves, packed_listing}
-use Rattle.sortm_command.specs.Moving.{sequences_after}
+use Rattle.sortm_plans.specs.Moving.{sequences_after}
 use Rattle.pack_command.specs.declared.job.PackJob.{PackJob}
 use Rattle.pack_command.proofs.PackLets.{all_kept, lets, makes_kept, packing}
 use Rattle.pack_command.proofs.PackPledged as pledged

@@ -15,9 +15,9 @@ use Rattle.file_plans.proofs.Framing.{AnyStep}
 use Rattle.step_plans.specs.declared.command_fault.CommandFault.{CommandFault}
 use Rattle.step_plans.specs.declared.command_fault.CommandFault.TheVariants as fault
 use Rattle.step_plans.proofs.Lasting.{KeptBy}
-use Rattle.opened_folders.specs.Ending.{ended, finished, given_up}
-use Rattle.opened_folders.specs.Endings.{IsToldBy}
-use Rattle.opened_folders.proofs.Speaking.{said_did, speaking, told_did}
+use Rattle.opening_plans.specs.Ending.{ended, finished, given_up}
+use Rattle.opening_plans.specs.Endings.{IsToldBy}
+use Rattle.opening_plans.proofs.Speaking.{said_did, speaking, told_did}
 
 -- at its end all that it said is such a text
 abbrev pub Ends : (List ℕ → List deeds.Deed → Type 0) → List Deed → Hand → Result Unit CommandFault → Type 0

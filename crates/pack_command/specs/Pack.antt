@@ -10,15 +10,15 @@ use Rattle.file_plans.specs.Plan.{bind, lifted, ◌>>=◌}
 use Rattle.command_stages.specs.Current.{made_current}
 use Rattle.command_stages.specs.Endings.{of_plan}
 use Rattle.command_stages.specs.Texts.{Commanded}
-use Rattle.opened_folders.specs.Ending.{ended}
-use Rattle.opened_folders.specs.Opening.{Opened, begun}
+use Rattle.opening_plans.specs.Ending.{ended}
+use Rattle.opening_plans.specs.Opening.{Opened, begun}
 use Rattle.told_folders.specs.Plans.{lines_said}
 use Rattle.folder_command.specs.Summary.{summary}
 use Rattle.folder_command.specs.declared.job.FolderJob.{FolderJob}
 use Rattle.step_plans.specs.PlanFaults.{Planned}
 use Rattle.message_places.specs.Places.{froms}
 use Rattle.message_places.specs.declared.moves.Move.{Move}
-use Rattle.sortm_command.specs.Moving.{moved_if, sequences_after}
+use Rattle.sortm_plans.specs.Moving.{moved_if, sequences_after}
 use Rattle.pack_command.specs.Places.{listing_moves, packed_listing}
 use Rattle.pack_command.specs.declared.job.PackJob.{PackJob}
 

@@ -3,8 +3,8 @@
 use Rattle.std.specs.Prelude.{◌⊎◌, ℕ, List}
 use Rattle.folder_files.specs.Deeds.{Deed}
 use Rattle.step_plans.specs.declared.command_fault.CommandFault.{CommandFault}
-use Rattle.opened_folders.specs.Endings.{Answering, ShowsEnd}
-use Rattle.sortm_command.specs.MovesAnswers.{ShowsMoves}
+use Rattle.opening_plans.specs.Endings.{Answering, ShowsEnd}
+use Rattle.sortm_plans.specs.MovesAnswers.{ShowsMoves}
 use Rattle.pack_command.specs.PackPledge.{MakesMarks}
 use Rattle.pack_command.specs.declared.job.PackJob.{PackJob}
 

@@ -5,9 +5,9 @@ use Rattle.mh_sequences.specs.declared.run.Run.{Run}
 use Rattle.folder_files.specs.Deeds.{Deed}
 use Rattle.folder_files.specs.declared.place.Place.TheVariants.{Folder, Mail}
 use Rattle.message_places.specs.Places.{froms}
-use Rattle.opened_folders.specs.FolderPledge.{told_within}
-use Rattle.opened_folders.specs.Reads.{HaveSeen}
-use Rattle.sortm_command.specs.MovesDone.{AllSettled, MarksWent}
+use Rattle.opening_plans.specs.FolderPledge.{told_within}
+use Rattle.opening_plans.specs.Reads.{HaveSeen}
+use Rattle.sortm_plans.specs.MovesDone.{AllSettled, MarksWent}
 use Rattle.pack_command.specs.Places.{listing_moves}
 use Rattle.pack_command.specs.declared.job.PackJob.{PackJob}
 

@@ -11,9 +11,9 @@ use Rattle.held_messages.specs.HeldPairs.{with_folder_changed}
 use Rattle.message_places.specs.Places.{froms, is_in, slots, source_of, stood_at}
 use Rattle.message_places.specs.declared.moves.Move.{Move}
 use Rattle.command_stages.specs.Works.{Work}
-use Rattle.opened_folders.specs.BegunWork.{Homes, after_commits, begun_work, current_work}
-use Rattle.opened_folders.specs.Kept.{Commits, Kept, kept_of}
-use Rattle.sortm_command.specs.MarksAlong.{marks_along}
+use Rattle.opening_plans.specs.BegunWork.{Homes, after_commits, begun_work, current_work}
+use Rattle.opening_plans.specs.Kept.{Commits, Kept, kept_of}
+use Rattle.sortm_plans.specs.MarksAlong.{marks_along}
 use Rattle.pack_command.specs.Pack.{line_after}
 use Rattle.pack_command.specs.Places.{listing_moves}
 use Rattle.pack_command.specs.declared.job.PackJob.{PackJob}

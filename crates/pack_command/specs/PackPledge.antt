@@ -10,9 +10,9 @@ use Rattle.file_plans.specs.Follows.{State}
 use Rattle.step_plans.specs.Pledges.{Pledge}
 use Rattle.step_plans.specs.Promises.{Promises}
 use Rattle.message_places.specs.Places.{froms}
-use Rattle.opened_folders.specs.FolderPledge.{folder_pledge, told_within}
-use Rattle.refile_command.specs.RmmPledge.{every_message}
-use Rattle.sortm_command.specs.MovePledge.{MovesMarks, MovesSo, Taking}
+use Rattle.opening_plans.specs.FolderPledge.{folder_pledge, told_within}
+use Rattle.refile_plans.specs.RmmPledge.{every_message}
+use Rattle.sortm_plans.specs.MovePledge.{MovesMarks, MovesSo, Taking}
 use Rattle.pack_command.specs.Pack.{line_after}
 use Rattle.pack_command.specs.PackDone.{HasPacked}
 use Rattle.pack_command.specs.Places.{listing_moves}

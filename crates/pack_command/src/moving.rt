@@ -4,7 +4,7 @@ ghost use Rattle.file_plans.specs.Follows.{Follows, by_hand};
 ghost use Rattle.message_places.specs.Places.{froms};
 ghost use Rattle.step_plans.specs.Hands.{mail_place};
 ghost use Rattle.step_plans.specs.PlanFaults.{plan_cause};
-ghost use Rattle.sortm_command.specs.Moving.{sequences_after};
+ghost use Rattle.sortm_plans.specs.Moving.{sequences_after};
 ghost use Rattle.pack_command.specs.Pack.{renumbered};
 
 use folder_files::Files;

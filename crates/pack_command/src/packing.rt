@@ -6,7 +6,7 @@ ghost use Rattle.step_plans.specs.CommandFaults.{command_cause};
 ghost use Rattle.step_plans.specs.Hands.{mail_place};
 ghost use Rattle.command_stages.specs.Endings.{of_plan};
 ghost use Rattle.message_places.specs.Order.{moves_of};
-ghost use Rattle.sortm_command.specs.Moving.{sequences_after};
+ghost use Rattle.sortm_plans.specs.Moving.{sequences_after};
 ghost use Rattle.pack_command.specs.Pack.{opened_packed, pack as pack_plan, renumbered, told_of};
 ghost use Rattle.pack_command.specs.PackAlone.{PacksIfUnfaulted};
 ghost use Rattle.pack_command.specs.PackPledge.{PromisesSteps};

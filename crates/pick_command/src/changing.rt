@@ -6,11 +6,11 @@ ghost use Rattle.folder_files.specs.declared.place.Place.TheVariants.{Mail};
 ghost use Rattle.step_plans.specs.CommandFaults.{command_cause};
 ghost use Rattle.sequence_commits.specs.Committing.{changed_sequences};
 ghost use Rattle.command_stages.specs.Endings.{of_plan};
-ghost use Rattle.pick_command.specs.Marking.{marked_for};
-ghost use Rattle.pick_command.specs.Pick.{chosen_from, found_marked, opened_picked, pick as pick_plan, pick_changes};
-ghost use Rattle.pick_command.specs.PickPledge.{PromisesSteps};
-ghost use Rattle.pick_command.specs.PickedAlone.{PicksIfUnfaulted};
-ghost use Rattle.pick_command.specs.Values.{AreValue};
+ghost use Rattle.pick_plans.specs.Marking.{marked_for};
+ghost use Rattle.pick_plans.specs.Pick.{chosen_from, found_marked, opened_picked, pick as pick_plan, pick_changes};
+ghost use Rattle.pick_plans.specs.PickPledge.{PromisesSteps};
+ghost use Rattle.pick_plans.specs.PickedAlone.{PicksIfUnfaulted};
+ghost use Rattle.pick_plans.specs.Values.{AreValue};
 
 use crate::looking::look;
 use crate::marks::marks;

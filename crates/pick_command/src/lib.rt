@@ -2,7 +2,6 @@
 #![tactic(auto)]
 
 mod changing;
-mod job;
 mod lines;
 mod looking;
 mod marks;
@@ -11,4 +10,4 @@ mod saying;
 mod testing;
 
 pub use changing::pick;
-pub use job::{PickAct, PickJob, PickMarks};
+pub use pick_plans::{PickAct, PickJob, PickMarks};

@@ -1,6 +1,6 @@
 // The lines that tell which messages match.
 ghost use Rattle.std.specs.Prelude.{◌≡◌, [], map, IfOk};
-ghost use Rattle.pick_command.specs.Lines.{lines_for, number_line as number_line_of, zero_line as zero_line_of};
+ghost use Rattle.pick_plans.specs.Lines.{lines_for, number_line as number_line_of, zero_line as zero_line_of};
 
 use itoa::Buffer;
 use mh_base::{Bytes, BytesList, List, MsgNum};

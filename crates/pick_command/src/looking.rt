@@ -2,8 +2,8 @@
 ghost use Rattle.std.specs.Prelude.{◌≡◌};
 ghost use Rattle.file_plans.specs.Follows.{Follows, by_out};
 ghost use Rattle.step_plans.specs.CommandFaults.{command_cause};
-ghost use Rattle.pick_command.specs.Pick.{chosen_seen, pick_looks};
-ghost use Rattle.pick_command.specs.Values.{AreValue};
+ghost use Rattle.pick_plans.specs.Pick.{chosen_seen, pick_looks};
+ghost use Rattle.pick_plans.specs.Values.{AreValue};
 ghost use Rattle.mh_profile.specs.Reading.{entries_seen};
 
 use crate::PickJob;

@@ -2,7 +2,7 @@
 ghost use Rattle.std.specs.Prelude.{◌≡◌, map, IfOk};
 ghost use Rattle.sequence_commits.specs.PlainMarks.{plain_mark};
 ghost use Rattle.sequence_commits.specs.RunsOfAll.{set_among};
-ghost use Rattle.pick_command.specs.Marking.{mark_with, marks_for};
+ghost use Rattle.pick_plans.specs.Marking.{mark_with, marks_for};
 
 use crate::{PickAct, PickMarks};
 use mh_base::{List, MsgNum};

@@ -4,7 +4,7 @@ ghost use Rattle.folder_files.specs.Story.{FilesState};
 ghost use Rattle.file_plans.specs.Plan.{Hand as Kept};
 ghost use Rattle.file_plans.specs.Follows.{Follows, by_out};
 ghost use Rattle.step_plans.specs.CommandFaults.{command_cause};
-ghost use Rattle.pick_command.specs.Pick.{found_told, some_found, unless_none as unless_none_plan};
+ghost use Rattle.pick_plans.specs.Pick.{found_told, some_found, unless_none as unless_none_plan};
 
 use crate::PickJob;
 use crate::saying::say_if;

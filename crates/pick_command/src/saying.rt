@@ -5,8 +5,8 @@ ghost use Rattle.file_plans.specs.Plan.{Hand};
 ghost use Rattle.file_plans.specs.Follows.{Follows, by_out};
 ghost use Rattle.step_plans.specs.CommandFaults.{command_cause};
 ghost use Rattle.told_folders.specs.Plans.{lines_said};
-ghost use Rattle.pick_command.specs.Lines.{lines_for};
-ghost use Rattle.pick_command.specs.Pick.{said_if};
+ghost use Rattle.pick_plans.specs.Lines.{lines_for};
+ghost use Rattle.pick_plans.specs.Pick.{said_if};
 
 use crate::lines::lines;
 use mh_base::{MsgNum, Sink};

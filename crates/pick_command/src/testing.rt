@@ -4,7 +4,7 @@ ghost use Rattle.mh_base.specs.Entries.{entry_text};
 ghost use Rattle.file_plans.specs.Plan.{Hand};
 ghost use Rattle.file_plans.specs.Follows.{State, Follows, by_hand};
 ghost use Rattle.step_plans.specs.CommandFaults.{command_cause};
-ghost use Rattle.pick_command.specs.Testing.{all_tested, kept_if, one_tested, tested_by};
+ghost use Rattle.pick_plans.specs.Testing.{all_tested, kept_if, one_tested, tested_by};
 
 use command_stages::LIMIT;
 use file_plans::{Reading, ask_read};

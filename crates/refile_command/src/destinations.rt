@@ -1,6 +1,6 @@
 // Folders that were begun, as messages go to them.
 ghost use Rattle.std.specs.Prelude.{◌≡◌, map, IfOk};
-ghost use Rattle.refile_command.specs.Refile.{destination_of, greatest_of};
+ghost use Rattle.refile_plans.specs.Refile.{destination_of, greatest_of};
 
 use message_moves::{Destination, DestinationList};
 use mh_base::{Duplicate, MsgNum};

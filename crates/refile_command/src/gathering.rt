@@ -1,8 +1,8 @@
 // Several folders are begun, one after another.
 ghost use Rattle.std.specs.Prelude.{◌≡◌};
 ghost use Rattle.file_plans.specs.Follows.{by_hand};
-ghost use Rattle.refile_command.specs.Gathering.{all_begun};
-ghost use Rattle.refile_command.specs.Gathers.{Gathers};
+ghost use Rattle.refile_plans.specs.Gathering.{all_begun};
+ghost use Rattle.refile_plans.specs.Gathers.{Gathers};
 
 use folder_files::Files;
 use mh_base::{FolderName, List};

@@ -3,8 +3,8 @@ ghost use Rattle.std.specs.Prelude.{◌≡◌};
 ghost use Rattle.file_plans.specs.Follows.{Follows, by_hand};
 ghost use Rattle.step_plans.specs.CommandFaults.{command_cause};
 ghost use Rattle.command_stages.specs.Chosen.{IsValue};
-ghost use Rattle.refile_command.specs.Rmm.{chosen_from, opened_removed, rmm as rmm_plan, said_removed};
-ghost use Rattle.refile_command.specs.RmmPledge.{PromisesSteps};
+ghost use Rattle.refile_plans.specs.Rmm.{chosen_from, opened_removed, rmm as rmm_plan, said_removed};
+ghost use Rattle.refile_plans.specs.RmmPledge.{PromisesSteps};
 
 use crate::RmmJob;
 use crate::removing::remove_marked;

@@ -4,8 +4,8 @@ ghost use Rattle.file_plans.specs.Plan.{Hand};
 ghost use Rattle.file_plans.specs.Follows.{Follows, by_hand};
 ghost use Rattle.file_plans.specs.Runs.{OfPlan};
 ghost use Rattle.step_plans.specs.CommandFaults.{command_cause};
-ghost use Rattle.refile_command.specs.Gathering.{all_finished, all_given_up};
-ghost use Rattle.refile_command.specs.Gathers.{EndsAll};
+ghost use Rattle.refile_plans.specs.Gathering.{all_finished, all_given_up};
+ghost use Rattle.refile_plans.specs.Gathers.{EndsAll};
 
 use file_plans::attempt_unlock;
 use folder_files::Files;

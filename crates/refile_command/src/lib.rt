@@ -3,7 +3,6 @@
 
 mod destinations;
 mod gathering;
-mod job;
 mod leaving;
 mod letting_go;
 mod moving;
@@ -12,6 +11,6 @@ mod removing;
 mod rooms;
 mod targets;
 
-pub use job::{RefileJob, RmmJob};
 pub use leaving::rmm;
+pub use refile_plans::{RefileJob, RmmJob};
 pub use refiling::refile;

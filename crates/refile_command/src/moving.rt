@@ -10,8 +10,8 @@ ghost use Rattle.step_plans.specs.Replacing.{synced};
 ghost use Rattle.sequence_commits.specs.Committing.{changed_sequences};
 ghost use Rattle.command_stages.specs.Endings.{of_plan};
 ghost use Rattle.message_moves.specs.Refiling.{messages_refiled};
-ghost use Rattle.refile_command.specs.Refile.{messages_left, messages_stay, moved_by};
-ghost use Rattle.refile_command.specs.Rmm.{withdrawn};
+ghost use Rattle.refile_plans.specs.Refile.{messages_left, messages_stay, moved_by};
+ghost use Rattle.refile_plans.specs.Rmm.{withdrawn};
 
 use crate::RefileJob;
 use crate::removing::withdrawal;

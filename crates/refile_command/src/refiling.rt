@@ -3,9 +3,9 @@ ghost use Rattle.std.specs.Prelude.{◌≡◌, map};
 ghost use Rattle.file_plans.specs.Follows.{Follows, by_hand};
 ghost use Rattle.step_plans.specs.CommandFaults.{command_cause};
 ghost use Rattle.command_stages.specs.Chosen.{IsValue};
-ghost use Rattle.refile_command.specs.Gathers.{WorksIf};
-ghost use Rattle.refile_command.specs.RefilePledge.{PromisesSteps};
-ghost use Rattle.refile_command.specs.Refile.{destination_of, opened_refiled, refile as refile_plan, refile_chosen, said_refiled};
+ghost use Rattle.refile_plans.specs.Gathers.{WorksIf};
+ghost use Rattle.refile_plans.specs.RefilePledge.{PromisesSteps};
+ghost use Rattle.refile_plans.specs.Refile.{destination_of, opened_refiled, refile as refile_plan, refile_chosen, said_refiled};
 
 use crate::RefileJob;
 use crate::destinations::destinations;

@@ -6,7 +6,7 @@ ghost use Rattle.mh_sequences.specs.Runs.{numbers_of};
 ghost use Rattle.mh_sequences.specs.declared.mark.Mark.TheVariants.{Withdraw};
 ghost use Rattle.step_plans.specs.Hands.{mail_place};
 ghost use Rattle.step_plans.specs.PlanFaults.{plan_cause};
-ghost use Rattle.refile_command.specs.Rmm.{all_removed, removed_safely, removed_marked};
+ghost use Rattle.refile_plans.specs.Rmm.{all_removed, removed_safely, removed_marked};
 
 use command_stages::numbers;
 use folder_files::{Files, Place};

@@ -3,7 +3,7 @@ ghost use Rattle.std.specs.Prelude.{◌+◌, ◌≡◌, ◌≤◌, ℕ, nat_le};
 ghost use Rattle.file_plans.specs.Follows.{Follows, State};
 ghost use Rattle.step_plans.specs.CommandFaults.{command_cause};
 ghost use Rattle.message_moves.specs.Copying.{highest_of};
-ghost use Rattle.refile_command.specs.Refile.{room_in};
+ghost use Rattle.refile_plans.specs.Refile.{room_in};
 ghost use Rattle.command_stages.specs.Endings.{if_room};
 
 use folder_files::Refusal;

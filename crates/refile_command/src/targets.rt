@@ -3,8 +3,8 @@ ghost use Rattle.std.specs.Prelude.{◌≡◌, ℕ, bytes_eq, IfOk, OnOk};
 ghost use Rattle.std.specs.List.{list_any};
 ghost use Rattle.file_plans.specs.Follows.{Follows, State};
 ghost use Rattle.step_plans.specs.CommandFaults.{command_cause};
-ghost use Rattle.refile_command.specs.Refile.{names_source as source_is_named, names_without, targets_of, unless_source};
-ghost use Rattle.refile_command.specs.Targets.{with_target};
+ghost use Rattle.refile_plans.specs.Refile.{names_source as source_is_named, names_without, targets_of, unless_source};
+ghost use Rattle.refile_plans.specs.Targets.{with_target};
 
 use crate::RefileJob;
 use folder_files::Refusal;

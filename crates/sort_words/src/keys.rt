@@ -9,7 +9,7 @@ use crate::table::{DATEFIELD, TEXTFIELD};
 use command_words::is_field_name;
 use mh_base::{Bytes, Text};
 use mh_words::{Item, ItemList};
-use sortm_command::SortKey;
+use sortm_plans::SortKey;
 use std::alloc::{AllocError, Global};
 
 fn bytes_of(alloc: Global, name: &Text) -> Result<Bytes, AllocError>

@@ -14,7 +14,7 @@ use command_words::{
 use mh_base::{FolderName, Text, TextList, WordWhy};
 use mh_profile::Entries;
 use mh_words::ItemList;
-use sortm_command::SortKey;
+use sortm_plans::SortKey;
 use std::alloc::{AllocError, Global};
 
 /// The words of `sortm`: the folder, where they name one; the messages' names; and by what messages are put in order.

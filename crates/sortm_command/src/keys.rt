@@ -3,7 +3,7 @@ ghost use Rattle.std.specs.Prelude.{◌≡◌, codes, IfOk};
 ghost use Rattle.mail_dates.specs.Reading.{date_in};
 ghost use Rattle.mail_headers.specs.Fields.{same_name};
 ghost use Rattle.message_order.specs.Texts.{key_of};
-ghost use Rattle.sortm_command.specs.Keys.{behind_replies, clock_of_date, date_key as date_key_of, key_by, text_key as text_key_of};
+ghost use Rattle.sortm_plans.specs.Keys.{behind_replies, clock_of_date, date_key as date_key_of, key_by, text_key as text_key_of};
 
 use mail_dates::MailDate;
 use mail_headers::{Message, unfold};

@@ -1,7 +1,6 @@
 //! `sortm`: messages of a folder change places, so that they stand in order.
 #![tactic(auto)]
 
-mod job;
 mod keys;
 mod marks;
 mod moving;
@@ -9,6 +8,6 @@ mod ordering;
 mod reading;
 mod sorting;
 
-pub use job::{SortJob, SortKey};
 pub use moving::{move_all, moves};
 pub use sorting::sortm;
+pub use sortm_plans::{SortJob, SortKey};

@@ -4,7 +4,7 @@ ghost use Rattle.mh_sequences.specs.Runs.{set_of};
 ghost use Rattle.mh_sequences.specs.Sequences.{AreSequences, told};
 ghost use Rattle.sequence_commits.specs.PlainMarks.{plain_mark};
 ghost use Rattle.sequence_commits.specs.RunsOfAll.{set_among};
-ghost use Rattle.sortm_command.specs.Marking.{pairs_of, set_again as set_again_of};
+ghost use Rattle.sortm_plans.specs.Marking.{pairs_of, set_again as set_again_of};
 
 use message_places::Move;
 use mh_base::{List, MsgNum};

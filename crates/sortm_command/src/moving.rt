@@ -3,16 +3,16 @@ ghost use Rattle.std.specs.Prelude.{◌≡◌, ◌++◌, ◌∷◌, [], map, IfO
 ghost use Rattle.file_plans.specs.Follows.{Follows, by_hand};
 ghost use Rattle.message_places.specs.Order.{moves_of};
 ghost use Rattle.message_places.specs.Places.{slots};
-ghost use Rattle.opened_folders.specs.Opening.{with_sequences};
+ghost use Rattle.opening_plans.specs.Opening.{with_sequences};
 ghost use Rattle.sequence_commits.specs.Committing.{changed_sequences};
 ghost use Rattle.sequence_commits.specs.Marking.{marked_by_all};
 ghost use Rattle.sequence_commits.specs.PlainMarks.{plain_mark};
 ghost use Rattle.step_plans.specs.Hands.{mail_place};
 ghost use Rattle.step_plans.specs.PlanFaults.{plan_cause};
-ghost use Rattle.sortm_command.specs.Marking.{gone_along};
-ghost use Rattle.sortm_command.specs.Moving.{marked_moved, moved_if, sequences_after};
-ghost use Rattle.sortm_command.specs.Sort.{places_changed};
-ghost use Rattle.refile_command.specs.Rmm.{withdrawn};
+ghost use Rattle.sortm_plans.specs.Marking.{gone_along};
+ghost use Rattle.sortm_plans.specs.Moving.{marked_moved, moved_if, sequences_after};
+ghost use Rattle.sortm_plans.specs.Sort.{places_changed};
+ghost use Rattle.refile_plans.specs.Rmm.{withdrawn};
 
 use crate::marks::{kept_marks, pairs, withdrawing};
 use folder_files::Files;

@@ -1,7 +1,7 @@
 // Messages in order.
 ghost use Rattle.std.specs.Prelude.{◌≡◌, IfOk, None, map};
 ghost use Rattle.std.specs.List.{zip};
-ghost use Rattle.sortm_command.specs.Ordered.{filled_behind, in_order as in_order_of, order_by_dates as order_of_dates, order_by_texts as order_of_texts};
+ghost use Rattle.sortm_plans.specs.Ordered.{filled_behind, in_order as in_order_of, order_by_dates as order_of_dates, order_by_texts as order_of_texts};
 
 use message_order::{filled_dates, in_order};
 use mh_base::{BytesList, List, MsgNum};

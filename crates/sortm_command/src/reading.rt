@@ -4,8 +4,8 @@ ghost use Rattle.mh_base.specs.Entries.{entry_text};
 ghost use Rattle.file_plans.specs.Plan.{Hand};
 ghost use Rattle.file_plans.specs.Follows.{State, Follows, by_hand};
 ghost use Rattle.step_plans.specs.CommandFaults.{command_cause};
-ghost use Rattle.sortm_command.specs.Keys.{date_key as date_key_of, text_key as text_key_of};
-ghost use Rattle.sortm_command.specs.Reading.{date_order_read, keys_read, message_by, message_read, order_read, text_order_read};
+ghost use Rattle.sortm_plans.specs.Keys.{date_key as date_key_of, text_key as text_key_of};
+ghost use Rattle.sortm_plans.specs.Reading.{date_order_read, keys_read, message_by, message_read, order_read, text_order_read};
 
 use crate::SortKey;
 use crate::keys::{date_key, text_key};

@@ -3,9 +3,9 @@ ghost use Rattle.std.specs.Prelude.{◌≡◌};
 ghost use Rattle.file_plans.specs.Follows.{Follows, by_hand};
 ghost use Rattle.step_plans.specs.CommandFaults.{command_cause};
 ghost use Rattle.command_stages.specs.Chosen.{IsValue};
-ghost use Rattle.sortm_command.specs.Sort.{chosen_from, chosen_sorted, opened_sorted, sortm as sortm_plan};
-ghost use Rattle.sortm_command.specs.SortAlone.{SortsIfUnfaulted};
-ghost use Rattle.sortm_command.specs.SortPledge.{PromisesSteps};
+ghost use Rattle.sortm_plans.specs.Sort.{chosen_from, chosen_sorted, opened_sorted, sortm as sortm_plan};
+ghost use Rattle.sortm_plans.specs.SortAlone.{SortsIfUnfaulted};
+ghost use Rattle.sortm_plans.specs.SortPledge.{PromisesSteps};
 
 use crate::SortJob;
 use crate::moving::{change_places, moves};

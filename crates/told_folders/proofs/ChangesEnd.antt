@@ -27,12 +27,12 @@ use Rattle.command_stages.specs.Chosen.{folder_with}
 use Rattle.command_stages.specs.Current.{made_current}
 use Rattle.command_stages.specs.Endings.{of_plan}
 use Rattle.mh_looks.proofs.Ending.{by_choice}
-use Rattle.opened_folders.specs.Endings.{IsRefusedBy, PutsNone, ShowsEnd}
-use Rattle.opened_folders.specs.Opening.{Opened, with_sequences}
-use Rattle.opened_folders.proofs.BeginState.{HasState, TakesNone, begin_state, locked_there, refused_there}
-use Rattle.opened_folders.proofs.CleanRuns.{Clean}
-use Rattle.opened_folders.proofs.SequencesEnd.{Left, changed_comes}
-use Rattle.opened_folders.proofs.WorkEnds.{Ends, EndsSo, begun_ends, comes_shown, current_beside, shown_beside}
+use Rattle.opening_plans.specs.Endings.{IsRefusedBy, PutsNone, ShowsEnd}
+use Rattle.opening_plans.specs.Opening.{Opened, with_sequences}
+use Rattle.opening_plans.proofs.BeginState.{HasState, TakesNone, begin_state, locked_there, refused_there}
+use Rattle.opening_plans.proofs.CleanRuns.{Clean}
+use Rattle.opening_plans.proofs.SequencesEnd.{Left, changed_comes}
+use Rattle.opening_plans.proofs.WorkEnds.{Ends, EndsSo, begun_ends, comes_shown, current_beside, shown_beside}
 use Rattle.told_folders.proofs.ChangesPledged.{lets}
 use Rattle.told_folders.specs.Answers.{change_answers}
 use Rattle.told_folders.specs.Plans.{chosen_changed, folder_changed, lines_said, opened_told}

@@ -16,19 +16,19 @@ use Rattle.sequence_commits.specs.Committing.{changed_sequences}
 use Rattle.sequence_commits.specs.RunsOfAll.{set_among}
 use Rattle.command_stages.specs.Current.{current_change, made_current}
 use Rattle.command_stages.specs.Endings.{of_plan}
-use Rattle.opened_folders.specs.FolderPledge.{told_within}
-use Rattle.opened_folders.specs.Opening.{Opened, with_sequences}
-use Rattle.opened_folders.proofs.AllMarks.{MindsAll}
-use Rattle.opened_folders.proofs.BegunSeen.{HasSeenBegun, NoneUnlinked}
-use Rattle.opened_folders.proofs.ChosenListed.{has_tested, words_listed}
-use Rattle.opened_folders.proofs.CommitMinds.{Facts, IsTold, Within, changed_meets}
-use Rattle.opened_folders.proofs.Meeting.{Meets, meets_end, meets_lifted, meets_more, meets_return, meets_say, meets_then}
-use Rattle.opened_folders.proofs.ToldMarks.{InListing, told_cur, told_listed, told_valid}
-use Rattle.opened_folders.proofs.WorkMinds.{Anyhow, current_meets, whole_meets}
+use Rattle.opening_plans.specs.FolderPledge.{told_within}
+use Rattle.opening_plans.specs.Opening.{Opened, with_sequences}
+use Rattle.opening_plans.proofs.AllMarks.{MindsAll}
+use Rattle.opening_plans.proofs.BegunSeen.{HasSeenBegun, NoneUnlinked}
+use Rattle.opening_plans.proofs.ChosenListed.{has_tested, words_listed}
+use Rattle.opening_plans.proofs.CommitMinds.{Facts, IsTold, Within, changed_meets}
+use Rattle.opening_plans.proofs.Meeting.{Meets, meets_end, meets_lifted, meets_more, meets_return, meets_say, meets_then}
+use Rattle.opening_plans.proofs.ToldMarks.{InListing, told_cur, told_listed, told_valid}
+use Rattle.opening_plans.proofs.WorkMinds.{Anyhow, current_meets, whole_meets}
 use Rattle.told_folders.specs.Plans.{chosen_changed, folder_changed, lines_said, opened_told}
 use Rattle.told_folders.specs.Pledge.{change_pledge}
 use Rattle.told_folders.specs.Tasks.{IsListed, IsOrderly, Task, chosen_from}
-use Rattle.opened_folders.proofs.ChosenListed.{has_ranged}
+use Rattle.opening_plans.proofs.ChosenListed.{has_ranged}
 
 module _ (run : ℕ) (path : List ℕ) (task : Task) (orderly : IsOrderly task) (ok : AreChanges (current_change task.folder)) where
   abbrev w : Pledge

@@ -22,13 +22,13 @@ use Rattle.step_plans.specs.CommandFaults.{of_sink}
 use Rattle.sequence_commits.specs.Committing.{changed_sequences}
 use Rattle.command_stages.specs.Current.{current_change, made_current}
 use Rattle.command_stages.specs.Endings.{of_plan}
-use Rattle.opened_folders.specs.Opening.{Opened, with_sequences}
-use Rattle.opened_folders.specs.Reads.{HaveSeen}
+use Rattle.opening_plans.specs.Opening.{Opened, with_sequences}
+use Rattle.opening_plans.specs.Reads.{HaveSeen}
 use Rattle.folder_files.specs.Commands.{Marking}
 use Rattle.folder_files.specs.declared.step.Step.{Step}
-use Rattle.opened_folders.proofs.EndedKept.{Still, keeps_more}
-use Rattle.opened_folders.proofs.FolderPledged.{HasBegun}
-use Rattle.opened_folders.proofs.WorkPledged.{LetsBegin, begun_keeps, committed_goes, current_goes, whenever}
+use Rattle.opening_plans.proofs.EndedKept.{Still, keeps_more}
+use Rattle.opening_plans.proofs.FolderPledged.{HasBegun}
+use Rattle.opening_plans.proofs.WorkPledged.{LetsBegin, begun_keeps, committed_goes, current_goes, whenever}
 use Rattle.file_plans.specs.Follows.{Follows, State}
 use Rattle.file_plans.specs.Rules.{IfOkay, Keeps}
 use Rattle.file_plans.specs.Runs.{Deed as Done}

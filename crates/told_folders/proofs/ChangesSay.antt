@@ -31,15 +31,15 @@ use Rattle.step_plans.specs.Settled.{AreSettled}
 use Rattle.sequence_commits.specs.Committing.{changed_sequences}
 use Rattle.command_stages.specs.Current.{made_current}
 use Rattle.command_stages.specs.Endings.{of_plan}
-use Rattle.opened_folders.specs.Ending.{ended, finished, given_up}
-use Rattle.opened_folders.specs.Endings.{IsToldBy}
-use Rattle.opened_folders.specs.FolderPledge.{folder_pledge}
-use Rattle.opened_folders.specs.Opening.{Opened, begun, with_sequences}
-use Rattle.opened_folders.specs.Reads.{HaveSeen}
-use Rattle.opened_folders.proofs.EndedKept.{keeps_more}
-use Rattle.opened_folders.proofs.FolderPledged.{HasBegun, begun_goes, seen_kept}
-use Rattle.opened_folders.proofs.Speaking.{Quiet, keeps_holding, quietly, said_did, said_more, silent_told, speaking, told_did}
-use Rattle.opened_folders.proofs.WorkPledged.{begins, committed_goes, current_goes, whenever}
+use Rattle.opening_plans.specs.Ending.{ended, finished, given_up}
+use Rattle.opening_plans.specs.Endings.{IsToldBy}
+use Rattle.opening_plans.specs.FolderPledge.{folder_pledge}
+use Rattle.opening_plans.specs.Opening.{Opened, begun, with_sequences}
+use Rattle.opening_plans.specs.Reads.{HaveSeen}
+use Rattle.opening_plans.proofs.EndedKept.{keeps_more}
+use Rattle.opening_plans.proofs.FolderPledged.{HasBegun, begun_goes, seen_kept}
+use Rattle.opening_plans.proofs.Speaking.{Quiet, keeps_holding, quietly, said_did, said_more, silent_told, speaking, told_did}
+use Rattle.opening_plans.proofs.WorkPledged.{begins, committed_goes, current_goes, whenever}
 use Rattle.told_folders.proofs.ChangesPledged.{lets}
 use Rattle.told_folders.specs.Answers.{HasChanged}
 use Rattle.told_folders.specs.Outcomes.{joined}

@@ -39,12 +39,12 @@ use Rattle.sequence_commits.specs.Committing.{changed_sequences}
 use Rattle.sequence_commits.specs.PrivateChanges.{private_changes}
 use Rattle.sequence_commits.proofs.ChangesTo.{are_changes}
 use Rattle.step_plans.specs.ContextCommit.{AreChanges}
-use Rattle.opened_folders.specs.BegunWork.{AreHomesAt, Homes, after_commits, current_work}
-use Rattle.opened_folders.specs.Kept.{Commits, Kept, sequences_kept}
-use Rattle.opened_folders.specs.Opening.{Opened, with_sequences}
-use Rattle.opened_folders.proofs.BegunWorks.{clear_context, clear_text}
-use Rattle.opened_folders.specs.BegunWork.{runs_in}
-use Rattle.opened_folders.specs.Kept.{kept_of}
+use Rattle.opening_plans.specs.BegunWork.{AreHomesAt, Homes, after_commits, current_work}
+use Rattle.opening_plans.specs.Kept.{Commits, Kept, sequences_kept}
+use Rattle.opening_plans.specs.Opening.{Opened, with_sequences}
+use Rattle.opening_plans.proofs.BegunWorks.{clear_context, clear_text}
+use Rattle.opening_plans.specs.BegunWork.{runs_in}
+use Rattle.opening_plans.specs.Kept.{kept_of}
 use Rattle.file_plans.specs.Contents.{folder_at}
 use Rattle.file_plans.specs.Mailboxes.{Folder as FolderValue}
 use Rattle.file_plans.proofs.Onward.{IsShort}
@@ -53,9 +53,9 @@ use Rattle.step_plans.proofs.Committed.{entries_at}
 use Rattle.command_stages.specs.Works.{readable}
 use Rattle.sequence_commits.specs.Cutting.{cut_to}
 use Rattle.sequence_commits.specs.Reading.{sequences_in}
-use Rattle.opened_folders.proofs.FolderGiven.{IsUntouched}
-use Rattle.opened_folders.proofs.KeptGiven.{Ends, Holds, IsClear, sequences_end}
-use Rattle.opened_folders.proofs.WorkGiven.{WorkEnds, changes_give, current_gives, lifted_gives, weaker}
+use Rattle.opening_plans.proofs.FolderGiven.{IsUntouched}
+use Rattle.opening_plans.proofs.KeptGiven.{Ends, Holds, IsClear, sequences_end}
+use Rattle.opening_plans.proofs.WorkGiven.{WorkEnds, changes_give, current_gives, lifted_gives, weaker}
 use Rattle.told_folders.specs.Outcomes.{changed_work, chosen_work, joined, listed_work, looked_work, opened_work, read_work, told_work}
 use Rattle.told_folders.specs.Plans.{chosen_changed, folder_changed, folder_looked, lines_said, opened_told}
 use Rattle.told_folders.specs.Tasks.{AreSome, IsOrderly, Task, checked, checked_by, chosen_from, listed_runs, sequences_listed, sequences_seen, unless_refused}

@@ -26,7 +26,7 @@ use Rattle.command_stages.specs.Endings.{of_plan}
 use Rattle.command_stages.specs.Listed.{folder_listed, names_by}
 use Rattle.command_stages.specs.Texts.{text_by, text_read, too_large}
 use Rattle.mh_looks.proofs.Ending.{comes_at, comes_recall}
-use Rattle.opened_folders.specs.Reads.{TellsText}
+use Rattle.opening_plans.specs.Reads.{TellsText}
 use Rattle.told_folders.proofs.Front.{looks, then_decided, then_read}
 use Rattle.mh_profile.specs.Reading.{entries_seen}
 

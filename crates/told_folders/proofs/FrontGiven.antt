@@ -26,8 +26,8 @@ use Rattle.command_stages.specs.Works.{Work, readable, refused_at}
 use Rattle.mh_looks.proofs.Folders.{FolderListed, IsAbsent, IsListed, Tells, folder_gives, messages_listed}
 use Rattle.mh_looks.proofs.Reading.{TextRead, after_read, text_gives}
 use Rattle.mh_looks.proofs.Scanning.{unreadable}
-use Rattle.opened_folders.specs.BegunWork.{runs_in}
-use Rattle.opened_folders.proofs.WorkGiven.{WorkEnds}
+use Rattle.opening_plans.specs.BegunWork.{runs_in}
+use Rattle.opening_plans.proofs.WorkGiven.{WorkEnds}
 use Rattle.told_folders.specs.Tasks.{listed_runs}
 use Rattle.told_folders.proofs.Front.{looks, then_decided, then_read}
 use Rattle.mh_profile.specs.Reading.{entries_seen}

@@ -30,10 +30,10 @@ use Rattle.command_stages.specs.Current.{made_current}
 use Rattle.command_stages.specs.Listed.{folder_listed, names_by}
 use Rattle.command_stages.specs.Texts.{text_read}
 use Rattle.mh_looks.specs.ScanPledge.{HasListed}
-use Rattle.opened_folders.specs.Endings.{IsToldBy}
-use Rattle.opened_folders.specs.Reads.{TellsText}
-use Rattle.opened_folders.proofs.EndedKept.{keeps_more}
-use Rattle.opened_folders.proofs.Speaking.{Quiet, keeps_both, quietly, silence, silent_told, speaking, text_silent}
+use Rattle.opening_plans.specs.Endings.{IsToldBy}
+use Rattle.opening_plans.specs.Reads.{TellsText}
+use Rattle.opening_plans.proofs.EndedKept.{keeps_more}
+use Rattle.opening_plans.proofs.Speaking.{Quiet, keeps_both, quietly, silence, silent_told, speaking, text_silent}
 use Rattle.told_folders.specs.Tasks.{Task}
 use Rattle.told_folders.proofs.ChangesPledged.{StillBy, noted_goes, notes_pledge}
 use Rattle.told_folders.proofs.Front.{looks, then_decided, then_read}

@@ -24,7 +24,7 @@ use Rattle.command_stages.specs.Chosen.{folder_with}
 use Rattle.command_stages.specs.Current.{made_current}
 use Rattle.command_stages.specs.Endings.{of_plan}
 use Rattle.mh_looks.proofs.Ending.{by_choice, comes_at}
-use Rattle.opened_folders.specs.Reads.{TellsText}
+use Rattle.opening_plans.specs.Reads.{TellsText}
 use Rattle.told_folders.proofs.ChangesEnd.{lines_come}
 use Rattle.told_folders.proofs.FrontComes.{IsUnmade, after_both, current_comes, front_comes, reading, unmade_both}
 use Rattle.told_folders.proofs.LooksEnd.{checked_so}

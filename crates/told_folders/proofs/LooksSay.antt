@@ -24,8 +24,8 @@ use Rattle.step_plans.proofs.Lasting.{KeptBy}
 use Rattle.step_plans.proofs.Ruling.{AreNumbered}
 use Rattle.command_stages.specs.Current.{made_current}
 use Rattle.mh_looks.specs.ScanPledge.{HasListed}
-use Rattle.opened_folders.proofs.CleanRuns.{unfailed_by}
-use Rattle.opened_folders.proofs.Speaking.{speaking}
+use Rattle.opening_plans.proofs.CleanRuns.{unfailed_by}
+use Rattle.opening_plans.proofs.Speaking.{speaking}
 use Rattle.told_folders.proofs.FrontComes.{reading}
 use Rattle.told_folders.proofs.FrontSays.{GoesOn, behind, both_clean, current_says, front_says, stops}
 use Rattle.told_folders.proofs.ChangesPledged.{notes_pledge}

@@ -1,18 +1,25 @@
 -- Messages of a folder that stand in its contents, and that words choose only such.
-use Rattle.std.proofs.Common.{◌≡◌, ◌∷◌, [], ℕ, Bool, true, false, List, Option, Some, None, Ok, refl, ◌∙◌}
-use Rattle.std.specs.Prelude.{decimal, is_some, if◌then◌else◌}
+use Rattle.std.proofs.Common.{◌≡◌, ◌∷◌, [], ℕ, Bool, true, false, List, Option, Some, None, Ok, length, refl, ◌∙◌}
+use Rattle.std.specs.Prelude.{decimal, is_some, nat_lt, if◌then◌else◌}
 use Rattle.mh_base.specs.Entries.{entry_text}
 use Rattle.mh_sequences.specs.Runs.{numbers_of}
 use Rattle.mh_sequences.specs.Sequences.{Marked}
 use Rattle.msg_ranges.specs.Selection.{marks_of}
 use Rattle.msg_ranges.proofs.Rising.{lists, first_listed, other_listed}
+use Rattle.folder_files.specs.Deeds.{Deed, did}
+use Rattle.folder_files.specs.Steps.{read_file_answer}
 use Rattle.folder_files.specs.declared.place.Place.{Place}
+use Rattle.folder_files.specs.declared.step.Answer.{Answer}
+use Rattle.folder_files.specs.declared.step.Answer.TheVariants as answer
+use Rattle.folder_files.specs.declared.step.Step.TheVariants as step
 use Rattle.file_plans.specs.Contents.{Contents, folder_at}
 use Rattle.file_plans.specs.Mailboxes.{is_message_number}
 use Rattle.file_plans.specs.Sightings.{has_number}
+use Rattle.step_plans.specs.ContextCommit.{LIMIT_BYTES}
 use Rattle.command_stages.specs.Chosen.{chosen_in, folder_with}
+use Rattle.mh_looks.proofs.Ending.{name_of}
 use Rattle.mh_looks.proofs.Folders.{Tells, messages_listed}
-use Rattle.opened_folders.proofs.ChosenListed.{has_tested, words_listed}
+use Rattle.opening_plans.proofs.ChosenListed.{has_tested, words_listed}
 use Rattle.told_folders.specs.Tasks.{listed_runs}
 
 -- a message that stands in the contents

@@ -30,8 +30,8 @@ use Rattle.step_plans.specs.declared.command_fault.CommandFault.{CommandFault}
 use Rattle.step_plans.specs.declared.command_fault.CommandFault.TheVariants as fault
 use Rattle.folder_files.specs.declared.refusal.Which.TheVariants.{Files, Out, Source}
 use Rattle.command_stages.specs.Works.{Work}
-use Rattle.opened_folders.specs.BegunWork.{AreHomesAt}
-use Rattle.opened_folders.proofs.WorkGiven.{WorkEnds}
+use Rattle.opening_plans.specs.BegunWork.{AreHomesAt}
+use Rattle.opening_plans.proofs.WorkGiven.{WorkEnds}
 use Rattle.told_folders.specs.ToldAlone.{ComesTo, HasReadContext, TellsAlone, TellsIfUnfaulted, TellsInStory, WorkOf}
 use Rattle.mh_base.specs.Folders.{is_folder_name}
 use Rattle.std.specs.Prelude.{true, ◌<◌, ◌^◌}
@@ -41,8 +41,8 @@ use Rattle.file_plans.specs.Giving.{Gives}
 use Rattle.file_plans.specs.Views.{by_view}
 use Rattle.step_plans.proofs.Committed.{entries_at}
 use Rattle.command_stages.specs.Texts.{Commanded}
-use Rattle.opened_folders.specs.BegunWork.{Homes}
-use Rattle.opened_folders.proofs.FolderGiven.{IsUntouched}
+use Rattle.opening_plans.specs.BegunWork.{Homes}
+use Rattle.opening_plans.proofs.FolderGiven.{IsUntouched}
 
 pub short_is : (o : Option (List ℕ)) → nat_lt LIMIT_BYTES (length (filled o)) ≡ false → IsShort LIMIT_BYTES o
 short_is None e = tt

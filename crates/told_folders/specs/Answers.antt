@@ -13,9 +13,9 @@ use Rattle.folder_files.specs.declared.step.Answer.TheVariants.{Names}
 use Rattle.folder_files.specs.declared.step.Step.TheVariants.{List as Lists}
 use Rattle.step_plans.specs.declared.command_fault.CommandFault.{CommandFault}
 use Rattle.step_plans.specs.declared.command_fault.CommandFault.TheVariants as command
-use Rattle.opened_folders.specs.Endings.{Answering}
-use Rattle.opened_folders.specs.FolderPledge.{told_within}
-use Rattle.opened_folders.specs.Reads.{HaveSeen, TellsText}
+use Rattle.opening_plans.specs.Endings.{Answering}
+use Rattle.opening_plans.specs.FolderPledge.{told_within}
+use Rattle.opening_plans.specs.Reads.{HaveSeen, TellsText}
 use Rattle.told_folders.specs.Outcomes.{joined}
 use Rattle.told_folders.specs.Pledge.{Changes}
 use Rattle.told_folders.specs.Tasks.{Task, chosen_from, listed_runs, sequences_seen}

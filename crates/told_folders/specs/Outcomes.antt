@@ -12,8 +12,8 @@ use Rattle.step_plans.specs.declared.command_fault.CommandFault.TheVariants as f
 use Rattle.sequence_commits.specs.Cutting.{cut_to}
 use Rattle.sequence_commits.specs.Reading.{sequences_in}
 use Rattle.command_stages.specs.Works.{Work, readable, refused_at}
-use Rattle.opened_folders.specs.BegunWork.{Homes, after_commits, begun_work, current_work, runs_in}
-use Rattle.opened_folders.specs.Kept.{Kept, kept_of, sequences_kept}
+use Rattle.opening_plans.specs.BegunWork.{Homes, after_commits, begun_work, current_work, runs_in}
+use Rattle.opening_plans.specs.Kept.{Kept, kept_of, sequences_kept}
 use Rattle.told_folders.specs.Tasks.{Task, checked, chosen_from}
 
 abbrev pub joined : List (List ℕ) → List ℕ

@@ -10,8 +10,8 @@ use Rattle.command_stages.specs.Current.{made_current}
 use Rattle.command_stages.specs.Endings.{of_plan}
 use Rattle.command_stages.specs.Listed.{folder_listed}
 use Rattle.command_stages.specs.Texts.{Commanded, text_read}
-use Rattle.opened_folders.specs.Ending.{ended}
-use Rattle.opened_folders.specs.Opening.{Opened, begun, with_sequences}
+use Rattle.opening_plans.specs.Ending.{ended}
+use Rattle.opening_plans.specs.Opening.{Opened, begun, with_sequences}
 use Rattle.told_folders.specs.Tasks.{Task, chosen_from, listed_runs, sequences_seen}
 use Rattle.mh_profile.specs.Reading.{entries_seen}
 

@@ -7,7 +7,7 @@ use Rattle.folder_files.specs.declared.place.Place.TheVariants.{Folder}
 use Rattle.step_plans.specs.ContextPledge.{MarksContext}
 use Rattle.step_plans.specs.Pledges.{Pledge}
 use Rattle.command_stages.specs.Current.{current_change}
-use Rattle.opened_folders.specs.FolderPledge.{folder_pledge}
+use Rattle.opening_plans.specs.FolderPledge.{folder_pledge}
 use Rattle.mh_looks.specs.ScanPledge.{HasListed}
 use Rattle.told_folders.specs.Tasks.{Task, chosen_from}
 

@@ -17,7 +17,7 @@ use Rattle.step_plans.specs.ContextCommit.{LIMIT_BYTES}
 use Rattle.step_plans.specs.declared.command_fault.CommandFault.{CommandFault}
 use Rattle.step_plans.specs.declared.command_fault.CommandFault.TheVariants as fault
 use Rattle.command_stages.specs.Works.{Work}
-use Rattle.opened_folders.specs.BegunWork.{AreHomesAt, Homes}
+use Rattle.opening_plans.specs.BegunWork.{AreHomesAt, Homes}
 
 -- what a command comes to by the entries of the context, by what is held aside in its folder, and by the mailbox
 abbrev pub WorkOf : Type 0

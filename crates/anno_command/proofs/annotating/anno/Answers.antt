@@ -1,9 +1,9 @@
 use Rattle.std.proofs.Common.{refl}
 use Rattle.file_plans.proofs.Following.{go, no_room, stop}
-use Rattle.opened_folders.proofs.EndingParts.{ends_so}
-use Rattle.anno_command.specs.Anno.{anno}
-use Rattle.anno_command.proofs.AnnoAlone.{anno_alone}
-use Rattle.anno_command.proofs.AnnoPledged.{anno_promises}
+use Rattle.opening_plans.proofs.EndingParts.{ends_so}
+use Rattle.anno_plans.specs.Anno.{anno}
+use Rattle.anno_plans.proofs.AnnoAlone.{anno_alone}
+use Rattle.anno_plans.proofs.AnnoPledged.{anno_promises}
 use Rattle.anno_command.proofs.annotating.anno.Goals as goal
 
 pub returns-in_err-place-clause-plan : goal.returns-in_err-place-clause-plan

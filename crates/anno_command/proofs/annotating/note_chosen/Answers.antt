@@ -6,7 +6,7 @@ use Rattle.step_plans.specs.PlanFaults.{plan_cause}
 use Rattle.command_stages.specs.Endings.{of_plan}
 use Rattle.command_stages.proofs.Causes.{plan_same}
 use Rattle.command_stages.proofs.Values.{error_chosen, value_off, value_on}
-use Rattle.anno_command.specs.Anno.{chosen_from, said_noted}
+use Rattle.anno_plans.specs.Anno.{chosen_from, said_noted}
 use Rattle.anno_command.proofs.annotating.note_chosen.Goals as goal
 
 pub returns-in_err-chosen-clause-plan : goal.returns-in_err-chosen-clause-plan

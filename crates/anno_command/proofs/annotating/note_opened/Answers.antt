@@ -1,5 +1,5 @@
 use Rattle.file_plans.proofs.Following.{go, stop}
-use Rattle.anno_command.specs.Anno.{opened_noted}
+use Rattle.anno_plans.specs.Anno.{opened_noted}
 use Rattle.anno_command.proofs.annotating.note_opened.Goals as goal
 
 pub returns-in_err-note_chosen-clause-plan : goal.returns-in_err-note_chosen-clause-plan

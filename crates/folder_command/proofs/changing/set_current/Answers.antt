@@ -3,7 +3,7 @@ use Rattle.file_plans.proofs.Following.{go_from, no_room, stop_from}
 use Rattle.command_stages.proofs.Causes.{plan_same}
 use Rattle.command_stages.proofs.Values.{value_off, value_on}
 use Rattle.sequence_commits.specs.Marking.{marked_by_all}
-use Rattle.opened_folders.proofs.OneStep.{done_as}
+use Rattle.opening_plans.proofs.OneStep.{done_as}
 use Rattle.told_folders.specs.Plans.{chosen_changed}
 use Rattle.told_folders.specs.Tasks.{chosen_from}
 use Rattle.folder_command.specs.Folder.{task_with, with_current}

@@ -1,5 +1,5 @@
 use Rattle.std.proofs.Common.{[], sym}
-use Rattle.inc_command.proofs.Rounds.{counted_all, counting_stops, first_enough, first_few, head_stops}
+use Rattle.inc_plans.proofs.Rounds.{counted_all, counting_stops, first_enough, first_few, head_stops}
 use Rattle.inc_command.proofs.counting.count_drop.Goals as goal
 
 pub returns-in_err-head : goal.returns-in_err-head

@@ -1,4 +1,4 @@
-use Rattle.inc_command.proofs.Rounds.{read_all, read_more, read_stops}
+use Rattle.inc_plans.proofs.Rounds.{read_all, read_more, read_stops}
 use Rattle.inc_command.proofs.counting.count_rest.Goals as goal
 
 pub returns-in_err-bytes : goal.returns-in_err-bytes

@@ -2,7 +2,7 @@ use Rattle.std.proofs.Common.{◌≡◌, ◌≤◌, ◌+◌, ◌-◌, ℕ, List,
 use Rattle.mbox_drop.specs.Counting.{HasCounted}
 use Rattle.file_plans.specs.Plan.{Hand}
 use Rattle.file_plans.specs.Follows.{by_hand}
-use Rattle.inc_command.proofs.Rounds.{HasRead}
+use Rattle.inc_plans.proofs.Rounds.{HasRead}
 use Rattle.inc_command.proofs.counting.count_rest.Given as goal
 
 abbrev pub invariant-loop-at : goal.invariant-loop-at

@@ -1,6 +1,6 @@
 use Rattle.command_stages.proofs.Causes.{stop_same}
 use Rattle.file_plans.proofs.Following.{go_from, stop_from}
-use Rattle.inc_command.specs.Inc.{drop_ended}
+use Rattle.inc_plans.specs.Inc.{drop_ended}
 use Rattle.inc_command.proofs.cut.cut_at.Goals as goal
 
 pub returns-in_err-cut : goal.returns-in_err-cut

@@ -4,7 +4,7 @@ use Rattle.file_plans.specs.declared.answers.DropCut.{DropCut}
 use Rattle.file_plans.specs.declared.answers.DropCut.TheVariants as drop_cut
 use Rattle.file_plans.proofs.Following.{done, refuses}
 use Rattle.step_plans.specs.CommandFaults.{command_cause}
-use Rattle.inc_command.specs.Inc.{cut_by}
+use Rattle.inc_plans.specs.Inc.{cut_by}
 use Rattle.inc_command.proofs.cut.cut_end.Goals as goal
 
 ends : (cut : DropCut) → (cut ≡ drop_cut.Done) ⊎ (cut ≡ drop_cut.Gone) → (run : ℕ) (x : State) → Follows run command_cause (cut_by cut) x x (Ok tt)

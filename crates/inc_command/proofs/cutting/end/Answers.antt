@@ -1,4 +1,4 @@
-use Rattle.inc_command.proofs.Cuts.{ends_err, ends_ok}
+use Rattle.inc_plans.proofs.Cuts.{ends_err, ends_ok}
 use Rattle.inc_command.proofs.cutting.end.Goals as goal
 
 pub returns-in-Ok : goal.returns-in-Ok

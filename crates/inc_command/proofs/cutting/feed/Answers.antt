@@ -1,4 +1,4 @@
-use Rattle.inc_command.proofs.Cuts.{feeds_err}
+use Rattle.inc_plans.proofs.Cuts.{feeds_err}
 use Rattle.inc_command.proofs.cutting.feed.Goals as goal
 
 pub returns-in-Err-clause-value : goal.returns-in-Err-clause-value

@@ -1,7 +1,7 @@
 use Rattle.std.proofs.Common.{length, refl}
 use Rattle.file_plans.proofs.Following.{done, go, refuses, stop}
-use Rattle.inc_command.specs.DropTaken.{drop_taken}
-use Rattle.inc_command.proofs.Tests.{alike, apart}
+use Rattle.inc_plans.specs.DropTaken.{drop_taken}
+use Rattle.inc_plans.proofs.Tests.{alike, apart}
 use Rattle.inc_command.proofs.drop.take_drop.Goals as goal
 
 pub returns-in_err-taken-clause-plan : goal.returns-in_err-taken-clause-plan

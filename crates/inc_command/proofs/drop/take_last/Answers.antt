@@ -1,9 +1,9 @@
 use Rattle.std.proofs.Common.{◌∙◌, ap, refl, Ok, Some, None}
 use Rattle.file_plans.proofs.Following.{done, no_room}
 use Rattle.command_stages.proofs.Values.{value_off, value_on}
-use Rattle.inc_command.specs.Cutting.{last_by}
-use Rattle.inc_command.specs.DropTaken.{ended_taken}
-use Rattle.inc_command.specs.Intake.{all_taken}
+use Rattle.inc_plans.specs.Cutting.{last_by}
+use Rattle.inc_plans.specs.DropTaken.{ended_taken}
+use Rattle.inc_plans.specs.Intake.{all_taken}
 use Rattle.inc_command.proofs.drop.take_last.Goals as goal
 
 pub returns-in_err-message-clause-plan : goal.returns-in_err-message-clause-plan

@@ -1,5 +1,5 @@
 use Rattle.file_plans.proofs.Following.{whole}
-use Rattle.inc_command.proofs.Pieces.{piece_goes, piece_refused, piece_stops}
+use Rattle.inc_plans.proofs.Pieces.{piece_goes, piece_refused, piece_stops}
 use Rattle.inc_command.proofs.drop.take_piece.Goals as goal
 
 pub returns-in_err-bytes-clause-takes : goal.returns-in_err-bytes-clause-takes

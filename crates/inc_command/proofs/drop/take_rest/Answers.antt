@@ -1,5 +1,5 @@
 use Rattle.std.proofs.Common.{refl, ◌∙◌}
-use Rattle.inc_command.proofs.Rest.{on_all, on_more, on_none, on_stop}
+use Rattle.inc_plans.proofs.Rest.{on_all, on_more, on_none, on_stop}
 use Rattle.inc_command.proofs.drop.take_rest.Goals as goal
 
 pub loop-at-init : goal.loop-at-init

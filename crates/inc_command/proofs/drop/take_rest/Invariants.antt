@@ -1,9 +1,9 @@
 use Rattle.std.proofs.Common.{◌≡◌, ◌≤◌, ◌-◌, []}
 use Rattle.mbox_drop.specs.Cutting.{HasTaken}
 use Rattle.file_plans.specs.Follows.{by_out}
-use Rattle.inc_command.specs.DropTaken.{where_of}
-use Rattle.inc_command.specs.Targets.{told_by}
-use Rattle.inc_command.proofs.Rest.{IsOn}
+use Rattle.inc_plans.specs.DropTaken.{where_of}
+use Rattle.inc_plans.specs.Targets.{told_by}
+use Rattle.inc_plans.proofs.Rest.{IsOn}
 use Rattle.inc_command.proofs.drop.take_rest.Given as goal
 
 abbrev pub invariant-loop-at : goal.invariant-loop-at

@@ -1,6 +1,6 @@
 use Rattle.std.proofs.Common.{length, min, refl}
 use Rattle.file_plans.proofs.Following.{done, refuses}
-use Rattle.inc_command.proofs.Tests.{alike, apart, below, not_below}
+use Rattle.inc_plans.proofs.Tests.{alike, apart, below, not_below}
 use Rattle.inc_command.proofs.head.head_of.Goals as goal
 
 pub returns-then-length-eq0-clause-plan : goal.returns-then-length-eq0-clause-plan

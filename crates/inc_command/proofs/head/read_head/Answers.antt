@@ -1,6 +1,6 @@
 use Rattle.command_stages.proofs.Causes.{stop_same}
 use Rattle.file_plans.proofs.Following.{go_from, stop_from}
-use Rattle.inc_command.specs.Counting.{head_read}
+use Rattle.inc_plans.specs.Counting.{head_read}
 use Rattle.inc_command.proofs.head.read_head.Goals as goal
 
 pub returns-in_err-piece-clause-plan : goal.returns-in_err-piece-clause-plan

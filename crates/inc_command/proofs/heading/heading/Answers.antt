@@ -1,5 +1,5 @@
 use Rattle.std.proofs.Common.{refl}
-use Rattle.inc_command.specs.Inc.{heading}
+use Rattle.inc_plans.specs.Inc.{heading}
 use Rattle.inc_command.proofs.heading.heading.Goals as goal
 
 pub returns : goal.returns

@@ -1,6 +1,6 @@
 use Rattle.std.proofs.Common.{refl}
 use Rattle.file_plans.proofs.Following.{done, no_room}
-use Rattle.inc_command.proofs.Telling.{told_line, told_not}
+use Rattle.inc_plans.proofs.Telling.{told_line, told_not}
 use Rattle.inc_command.proofs.heading.tell_heading.Goals as goal
 
 pub returns-then-silent : goal.returns-then-silent

@@ -1,5 +1,5 @@
 use Rattle.file_plans.proofs.Following.{done, go, stop}
-use Rattle.inc_command.specs.Inc.{room_counted}
+use Rattle.inc_plans.specs.Inc.{room_counted}
 use Rattle.inc_command.proofs.incorporating.count_with_room.Goals as goal
 
 pub returns-in_err-size : goal.returns-in_err-size

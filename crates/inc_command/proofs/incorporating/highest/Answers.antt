@@ -1,5 +1,5 @@
 use Rattle.std.proofs.Common.{◌∙◌}
-use Rattle.inc_command.proofs.NewMarks.{last_top, none_top}
+use Rattle.inc_plans.proofs.NewMarks.{last_top, none_top}
 use Rattle.inc_command.proofs.incorporating.highest.Goals as goal
 
 pub returns-in-Some-clause-value : goal.returns-in-Some-clause-value

@@ -1,9 +1,9 @@
 use Rattle.std.proofs.Common.{refl}
 use Rattle.file_plans.proofs.Following.{go, no_room, stop, whole}
-use Rattle.opened_folders.proofs.EndingParts.{ends_so}
-use Rattle.inc_command.specs.Inc.{inc}
-use Rattle.inc_command.proofs.IncPledged.{inc_promises}
-use Rattle.opened_folders.proofs.EndsBeside.{ends_whole}
+use Rattle.opening_plans.proofs.EndingParts.{ends_so}
+use Rattle.inc_plans.specs.Inc.{inc}
+use Rattle.inc_plans.proofs.IncPledged.{inc_promises}
+use Rattle.opening_plans.proofs.EndsBeside.{ends_whole}
 use Rattle.inc_command.proofs.incorporating.inc.Goals as goal
 
 pub returns-in_err-place-clause-plan : goal.returns-in_err-place-clause-plan

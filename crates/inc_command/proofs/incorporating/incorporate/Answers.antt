@@ -1,5 +1,5 @@
 use Rattle.file_plans.proofs.Following.{go, stop, whole}
-use Rattle.inc_command.specs.Inc.{opened_incorporated}
+use Rattle.inc_plans.specs.Inc.{opened_incorporated}
 use Rattle.inc_command.proofs.incorporating.incorporate.Goals as goal
 
 pub returns-in_err-size-clause-plan : goal.returns-in_err-size-clause-plan

@@ -3,8 +3,8 @@ use Rattle.file_plans.proofs.Following.{go_from, no_room, stop_from}
 use Rattle.command_stages.proofs.Causes.{plan_same}
 use Rattle.sequence_commits.specs.Marking.{marked_by_all}
 use Rattle.sequence_commits.proofs.PlainMarks.{all_plain}
-use Rattle.inc_command.specs.Asked.{asked}
-use Rattle.inc_command.specs.Inc.{new_marked, new_marks}
+use Rattle.inc_plans.specs.Asked.{asked}
+use Rattle.inc_plans.specs.Inc.{new_marked, new_marks}
 use Rattle.inc_command.proofs.incorporating.mark_new.Goals as goal
 
 pub returns-in_err-marks-clause-plan : goal.returns-in_err-marks-clause-plan

@@ -1,5 +1,5 @@
 use Rattle.file_plans.proofs.Following.{go, stop}
-use Rattle.inc_command.specs.Inc.{told_taken}
+use Rattle.inc_plans.specs.Inc.{told_taken}
 use Rattle.inc_command.proofs.incorporating.take_all.Goals as goal
 
 pub returns-in_err-tell_heading-clause-plan : goal.returns-in_err-tell_heading-clause-plan

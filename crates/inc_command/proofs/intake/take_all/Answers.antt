@@ -1,6 +1,6 @@
 use Rattle.std.proofs.Common.{refl, ◌∙◌}
 use Rattle.file_plans.proofs.Following.{no_room}
-use Rattle.inc_command.proofs.Takes.{none_left, one_less, take_next, take_none, take_stops}
+use Rattle.inc_plans.proofs.Takes.{none_left, one_less, take_next, take_none, take_stops}
 use Rattle.inc_command.proofs.intake.take_all.Goals as goal
 
 pub returns-in_err-number-clause-plan : goal.returns-in_err-number-clause-plan

@@ -3,9 +3,9 @@ use Rattle.std.specs.Vec.Iter.{into_iter_items, into_iter_len}
 use Rattle.file_plans.specs.Follows.{State, Follows, by_out}
 use Rattle.step_plans.specs.CommandFaults.{command_cause}
 use Rattle.step_plans.specs.declared.command_fault.CommandFault.{CommandFault}
-use Rattle.inc_command.specs.Intake.{all_taken}
-use Rattle.inc_command.specs.Targets.{told_by}
-use Rattle.inc_command.specs.declared.intake.Taken.{Taken}
+use Rattle.inc_plans.specs.Intake.{all_taken}
+use Rattle.inc_plans.specs.Targets.{told_by}
+use Rattle.inc_plans.specs.declared.taken.Taken.{Taken}
 use Rattle.inc_command.proofs.intake.take_all.Given as goal
 
 abbrev pub invariant-loop-message : goal.invariant-loop-message

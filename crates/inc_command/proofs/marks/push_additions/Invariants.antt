@@ -1,7 +1,7 @@
 use Rattle.std.proofs.Common.{◌≡◌, ◌++◌, drop}
 use Rattle.std.specs.Prelude.{map}
 use Rattle.sequence_commits.specs.PlainMarks.{plain_mark}
-use Rattle.inc_command.specs.Inc.{add_mark, add_marks}
+use Rattle.inc_plans.specs.Inc.{add_mark, add_marks}
 use Rattle.inc_command.proofs.marks.push_additions.Given as goal
 
 abbrev pub invariant-loop-name : goal.invariant-loop-name

@@ -1,6 +1,6 @@
 use Rattle.std.proofs.Common.{length, refl}
 use Rattle.file_plans.proofs.Following.{done, refuses}
-use Rattle.inc_command.proofs.Tests.{alike, apart}
+use Rattle.inc_plans.proofs.Tests.{alike, apart}
 use Rattle.inc_command.proofs.piece.piece_from.Goals as goal
 
 pub returns-then-len-asked-clause-plan : goal.returns-then-len-asked-clause-plan

@@ -1,5 +1,5 @@
 use Rattle.file_plans.proofs.Following.{done, go, stop, whole}
-use Rattle.inc_command.specs.Taking.{message_taken}
+use Rattle.inc_plans.specs.Taking.{message_taken}
 use Rattle.inc_command.proofs.taking.take.Goals as goal
 
 pub returns-in_err-number-clause-plan : goal.returns-in_err-number-clause-plan

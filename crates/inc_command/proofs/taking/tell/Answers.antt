@@ -1,6 +1,6 @@
 use Rattle.std.proofs.Common.{refl}
 use Rattle.file_plans.proofs.Following.{done, no_room}
-use Rattle.inc_command.proofs.Telling.{told_line, told_not}
+use Rattle.inc_plans.proofs.Telling.{told_line, told_not}
 use Rattle.inc_command.proofs.taking.tell.Goals as goal
 
 pub returns-then-target : goal.returns-then-target

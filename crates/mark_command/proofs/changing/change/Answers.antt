@@ -1,8 +1,8 @@
 use Rattle.std.proofs.Common.{refl}
 use Rattle.file_plans.proofs.Following.{go, no_room, stop, whole}
-use Rattle.opened_folders.proofs.EndingParts.{ends_so}
+use Rattle.opening_plans.proofs.EndingParts.{ends_so}
 use Rattle.told_folders.specs.Plans.{folder_changed}
-use Rattle.opened_folders.proofs.EndsBeside.{ends_whole}
+use Rattle.opening_plans.proofs.EndsBeside.{ends_whole}
 use Rattle.mark_command.proofs.changing.change.Goals as goal
 
 pub returns-in_err-place-clause-plan : goal.returns-in_err-place-clause-plan

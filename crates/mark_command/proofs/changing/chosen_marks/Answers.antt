@@ -1,7 +1,7 @@
 use Rattle.std.proofs.Common.{ap, ◌∙◌, subst}
 use Rattle.mh_sequences.specs.Runs.{AreRuns, numbers_of}
 use Rattle.mark_command.specs.Marking.{marks_for}
-use Rattle.opened_folders.proofs.Sets.{numbers_set}
+use Rattle.opening_plans.proofs.Sets.{numbers_set}
 use Rattle.mark_command.proofs.changing.chosen_marks.Goals as goal
 
 pub returns : goal.returns

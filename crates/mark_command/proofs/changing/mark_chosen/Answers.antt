@@ -2,7 +2,7 @@ use Rattle.std.proofs.Common.{◌≡◌, ap, refl, ◌∙◌}
 use Rattle.file_plans.proofs.Following.{go_from, no_room, stop_from}
 use Rattle.command_stages.proofs.Causes.{plan_same}
 use Rattle.sequence_commits.specs.Marking.{marked_by_all}
-use Rattle.opened_folders.proofs.OneStep.{done_as}
+use Rattle.opening_plans.proofs.OneStep.{done_as}
 use Rattle.told_folders.specs.Plans.{chosen_changed}
 use Rattle.told_folders.specs.Tasks.{chosen_from}
 use Rattle.mark_command.specs.Mark.{mark_task}

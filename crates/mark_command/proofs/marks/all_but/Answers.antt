@@ -1,6 +1,6 @@
 use Rattle.std.specs.Prelude.{◌&&◌, not}
 use Rattle.mh_sequences.specs.Runs.{has}
-use Rattle.opened_folders.proofs.Sets.{made_by}
+use Rattle.opening_plans.proofs.Sets.{made_by}
 use Rattle.mark_command.proofs.marks.all_but.Goals as goal
 
 pub returns : goal.returns

@@ -1,7 +1,7 @@
 use Rattle.file_plans.proofs.Following.{beside, go, stop, whole}
-use Rattle.mhbuild_command.specs.Building.{mhbuild}
-use Rattle.mhbuild_command.proofs.BuildPledged.{build_promises}
-use Rattle.mhbuild_command.proofs.BuiltAlone.{build_alone}
+use Rattle.mhbuild_plans.specs.Building.{mhbuild}
+use Rattle.mhbuild_plans.proofs.BuildPledged.{build_promises}
+use Rattle.mhbuild_plans.proofs.BuiltAlone.{build_alone}
 use Rattle.mhbuild_command.proofs.building.mhbuild.Goals as goal
 
 pub returns-in_err-text-clause-plan : goal.returns-in_err-text-clause-plan

@@ -1,5 +1,5 @@
 use Rattle.file_plans.proofs.Following.{lift_ok}
-use Rattle.mhbuild_command.proofs.Ends.{said_off}
+use Rattle.mhbuild_plans.proofs.Ends.{said_off}
 use Rattle.mhbuild_command.proofs.building.say_message.Goals as goal
 
 pub returns-in_err-say : goal.returns-in_err-say

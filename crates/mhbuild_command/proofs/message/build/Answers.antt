@@ -1,9 +1,9 @@
 use Rattle.std.proofs.Common.{refl}
 use Rattle.file_plans.proofs.Following.{go, no_room, stop}
 use Rattle.command_stages.proofs.Values.{value_off, value_on}
-use Rattle.mhbuild_command.specs.Building.{text_built}
-use Rattle.mhbuild_command.specs.Parsed.{parsed}
-use Rattle.mhbuild_command.proofs.Ends.{limit_ends}
+use Rattle.mhbuild_plans.specs.Building.{text_built}
+use Rattle.mhbuild_plans.specs.Parsed.{parsed}
+use Rattle.mhbuild_plans.proofs.Ends.{limit_ends}
 use Rattle.mhbuild_command.proofs.message.build.Goals as goal
 
 pub returns-in_err-draft : goal.returns-in_err-draft

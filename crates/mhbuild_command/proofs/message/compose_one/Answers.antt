@@ -1,4 +1,4 @@
-use Rattle.mhbuild_command.proofs.Composing.{if_message}
+use Rattle.mhbuild_plans.proofs.Composing.{if_message}
 use Rattle.mhbuild_command.proofs.message.compose_one.Goals as goal
 
 pub returns : goal.returns

@@ -1,9 +1,9 @@
 use Rattle.std.proofs.Common.{refl}
 use Rattle.file_plans.proofs.Following.{go, no_room, stop, whole}
 use Rattle.command_stages.proofs.Values.{seen_off, seen_on}
-use Rattle.mhlist_command.specs.Listing.{chosen_seen, mhlist}
-use Rattle.mhlist_command.proofs.ListAlone.{list_alone}
-use Rattle.mhlist_command.proofs.ListPledged.{list_promises}
+use Rattle.mhlist_plans.specs.Listing.{chosen_seen, mhlist}
+use Rattle.mhlist_plans.proofs.ListAlone.{list_alone}
+use Rattle.mhlist_plans.proofs.ListPledged.{list_promises}
 use Rattle.mhlist_command.proofs.looking.mhlist.Goals as goal
 use Rattle.mh_profile.specs.Reading.{entries_seen}
 

@@ -1,5 +1,5 @@
 use Rattle.file_plans.proofs.Following.{go, stop}
-use Rattle.mhlist_command.proofs.Turns.{turn, end}
+use Rattle.mhlist_plans.proofs.Turns.{turn, end}
 use Rattle.mhlist_command.proofs.rows.list_all.Goals as goal
 
 pub returns-in_err-list_one : goal.returns-in_err-list_one

@@ -3,7 +3,7 @@ use Rattle.file_plans.specs.Plan.{Hand}
 use Rattle.file_plans.specs.Follows.{State, Follows, by_out}
 use Rattle.step_plans.specs.CommandFaults.{command_cause}
 use Rattle.step_plans.specs.declared.command_fault.CommandFault.{CommandFault}
-use Rattle.mhlist_command.specs.Listing.{all_listed}
+use Rattle.mhlist_plans.specs.Listing.{all_listed}
 use Rattle.mhlist_command.proofs.rows.list_all.Given as goal
 
 abbrev pub invariant-loop-number : goal.invariant-loop-number

@@ -1,7 +1,7 @@
 use Rattle.std.proofs.Common.{refl}
 use Rattle.file_plans.proofs.Following.{go_from, stop_from, whole, no_room}
 use Rattle.command_stages.proofs.Causes.{stop_same}
-use Rattle.mhlist_command.specs.Listing.{one_listed}
+use Rattle.mhlist_plans.specs.Listing.{one_listed}
 use Rattle.mhlist_command.proofs.rows.list_one.Goals as goal
 
 pub returns-in_err-name : goal.returns-in_err-name

@@ -1,8 +1,8 @@
 use Rattle.std.proofs.Common.{ap, refl}
 use Rattle.file_plans.proofs.Following.{no_room, refuses, same_plan}
 use Rattle.part_rows.specs.PartViews.{view_of}
-use Rattle.mhstore_command.specs.Storing.{all_filed}
-use Rattle.mhstore_command.proofs.FilesOf.{files_are}
+use Rattle.mhstore_plans.specs.Storing.{all_filed}
+use Rattle.mhstore_plans.proofs.FilesOf.{files_are}
 use Rattle.mhstore_command.proofs.filing.store_message.Goals as goal
 
 pub returns-in_err-message-clause-plan : goal.returns-in_err-message-clause-plan

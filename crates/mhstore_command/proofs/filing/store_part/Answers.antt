@@ -1,6 +1,6 @@
 use Rattle.std.proofs.Common.{refl}
 use Rattle.file_plans.proofs.Following.{go, no_room, stop, whole}
-use Rattle.mhstore_command.specs.Storing.{one_filed}
+use Rattle.mhstore_plans.specs.Storing.{one_filed}
 use Rattle.mhstore_command.proofs.filing.store_part.Goals as goal
 
 pub returns-in_err-name-clause-plan : goal.returns-in_err-name-clause-plan

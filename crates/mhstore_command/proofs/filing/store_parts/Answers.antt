@@ -2,7 +2,7 @@ use Rattle.std.proofs.Common.{◌∙◌}
 use Rattle.file_plans.proofs.Following.{go, stop}
 use Rattle.part_rows.specs.FileNames.{file_of}
 use Rattle.part_rows.specs.PartViews.{view_of}
-use Rattle.mhstore_command.proofs.Turns.{filed_end, filed_turn}
+use Rattle.mhstore_plans.proofs.Turns.{filed_end, filed_turn}
 use Rattle.mhstore_command.proofs.filing.store_parts.Goals as goal
 
 pub returns-in_err-store_part-clause-plan : goal.returns-in_err-store_part-clause-plan

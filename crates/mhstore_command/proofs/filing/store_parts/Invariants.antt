@@ -4,7 +4,7 @@ use Rattle.step_plans.specs.CommandFaults.{command_cause}
 use Rattle.step_plans.specs.declared.command_fault.CommandFault.{CommandFault}
 use Rattle.part_rows.specs.FileNames.{file_of}
 use Rattle.part_rows.specs.PartViews.{view_of}
-use Rattle.mhstore_command.specs.Storing.{all_filed}
+use Rattle.mhstore_plans.specs.Storing.{all_filed}
 use Rattle.mhstore_command.proofs.filing.store_parts.Given as goal
 
 abbrev pub invariant-loop-part : goal.invariant-loop-part

@@ -1,5 +1,5 @@
 use Rattle.file_plans.proofs.Following.{go, stop}
-use Rattle.mhstore_command.specs.Files.{file_added}
+use Rattle.mhstore_plans.specs.Files.{file_added}
 use Rattle.mhstore_command.proofs.linking.add_file.Goals as goal
 
 pub returns-in_err-temp-clause-plan : goal.returns-in_err-temp-clause-plan

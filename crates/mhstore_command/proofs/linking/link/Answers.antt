@@ -1,6 +1,6 @@
 use Rattle.file_plans.proofs.Following.{go_from, stop_from}
 use Rattle.step_plans.proofs.Faulting.{stop_same}
-use Rattle.mhstore_command.specs.Files.{linked}
+use Rattle.mhstore_plans.specs.Files.{linked}
 use Rattle.mhstore_command.proofs.linking.link.Goals as goal
 
 pub returns-in_err-entered : goal.returns-in_err-entered

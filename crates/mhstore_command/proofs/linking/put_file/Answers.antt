@@ -1,5 +1,5 @@
 use Rattle.file_plans.proofs.Following.{done, go, stop}
-use Rattle.mhstore_command.specs.Files.{file_replaced}
+use Rattle.mhstore_plans.specs.Files.{file_replaced}
 use Rattle.mhstore_command.proofs.linking.put_file.Goals as goal
 
 pub returns-in_err-replace_file-clause-plan : goal.returns-in_err-replace_file-clause-plan

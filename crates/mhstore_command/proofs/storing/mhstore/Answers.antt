@@ -1,9 +1,9 @@
 use Rattle.std.proofs.Common.{refl}
 use Rattle.file_plans.proofs.Following.{go, no_room, stop, whole}
 use Rattle.command_stages.proofs.Values.{seen_off, seen_on}
-use Rattle.mhstore_command.specs.Storing.{chosen_seen, mhstore}
-use Rattle.mhstore_command.proofs.StoreAlone.{store_alone}
-use Rattle.mhstore_command.proofs.StorePledged.{store_promises}
+use Rattle.mhstore_plans.specs.Storing.{chosen_seen, mhstore}
+use Rattle.mhstore_plans.proofs.StoreAlone.{store_alone}
+use Rattle.mhstore_plans.proofs.StorePledged.{store_promises}
 use Rattle.mhstore_command.proofs.storing.mhstore.Goals as goal
 use Rattle.mh_profile.specs.Reading.{entries_seen}
 

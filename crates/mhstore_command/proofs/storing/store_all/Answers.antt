@@ -1,6 +1,6 @@
 use Rattle.std.proofs.Common.{◌∙◌}
 use Rattle.file_plans.proofs.Following.{go, stop}
-use Rattle.mhstore_command.proofs.Turns.{stored_end, stored_turn}
+use Rattle.mhstore_plans.proofs.Turns.{stored_end, stored_turn}
 use Rattle.mhstore_command.proofs.storing.store_all.Goals as goal
 
 pub returns-in_err-store_one-clause-plan : goal.returns-in_err-store_one-clause-plan

@@ -2,7 +2,7 @@ use Rattle.std.proofs.Common.{◌≡◌, Result, drop}
 use Rattle.file_plans.specs.Follows.{Follows, State, by_out}
 use Rattle.step_plans.specs.CommandFaults.{command_cause}
 use Rattle.step_plans.specs.declared.command_fault.CommandFault.{CommandFault}
-use Rattle.mhstore_command.specs.Storing.{all_stored}
+use Rattle.mhstore_plans.specs.Storing.{all_stored}
 use Rattle.mhstore_command.proofs.storing.store_all.Given as goal
 
 abbrev pub invariant-loop-number : goal.invariant-loop-number

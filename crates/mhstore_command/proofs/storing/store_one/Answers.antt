@@ -1,7 +1,7 @@
 use Rattle.std.proofs.Common.{refl}
 use Rattle.file_plans.proofs.Following.{go_from, stop_from, whole, no_room}
 use Rattle.command_stages.proofs.Causes.{stop_same}
-use Rattle.mhstore_command.specs.Storing.{one_stored}
+use Rattle.mhstore_plans.specs.Storing.{one_stored}
 use Rattle.mhstore_command.proofs.storing.store_one.Goals as goal
 
 pub returns-in_err-name-clause-plan : goal.returns-in_err-name-clause-plan

@@ -1,6 +1,6 @@
 use Rattle.std.proofs.Common.{refl}
 use Rattle.file_plans.proofs.Following.{no_room}
-use Rattle.opened_folders.proofs.FolderAlone.{begins_if}
+use Rattle.opening_plans.proofs.FolderAlone.{begins_if}
 use Rattle.opened_folders.proofs.beginning.begin.Goals as goal
 
 pub returns-in_err-duplicate-clause-plan : goal.returns-in_err-duplicate-clause-plan

@@ -1,5 +1,5 @@
 use Rattle.file_plans.proofs.Following.{go, stop}
-use Rattle.opened_folders.specs.Opening.{begun}
+use Rattle.opening_plans.specs.Opening.{begun}
 use Rattle.opened_folders.proofs.beginning.begin_at.Goals as goal
 
 pub returns-in_err-lock_folder-clause-plan : goal.returns-in_err-lock_folder-clause-plan

@@ -1,5 +1,5 @@
 use Rattle.file_plans.proofs.Following.{go, stop}
-use Rattle.opened_folders.specs.Opening.{locked_begun}
+use Rattle.opening_plans.specs.Opening.{locked_begun}
 use Rattle.opened_folders.proofs.beginning.begin_locked.Goals as goal
 
 pub returns-in_err-make_mail-clause-plan : goal.returns-in_err-make_mail-clause-plan

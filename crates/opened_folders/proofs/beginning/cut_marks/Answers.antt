@@ -1,8 +1,8 @@
 use Rattle.std.proofs.Common.{◌≡◌, refl, ap, ◌∙◌}
 use Rattle.file_plans.proofs.Following.{go, stop, no_room}
-use Rattle.opened_folders.specs.Existing.{numbers_settled}
-use Rattle.opened_folders.specs.Opening.{marks_cut, opened_of}
-use Rattle.opened_folders.proofs.OneStep.{done_as}
+use Rattle.opening_plans.specs.Existing.{numbers_settled}
+use Rattle.opening_plans.specs.Opening.{marks_cut, opened_of}
+use Rattle.opening_plans.proofs.OneStep.{done_as}
 use Rattle.sequence_commits.specs.Cutting.{cut_to}
 use Rattle.opened_folders.proofs.beginning.cut_marks.Goals as goal
 

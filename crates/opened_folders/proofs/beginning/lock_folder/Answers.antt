@@ -1,6 +1,6 @@
 use Rattle.file_plans.proofs.Following.{go_from, stop_from}
 use Rattle.step_plans.proofs.Faulting.{stop_same}
-use Rattle.opened_folders.specs.Opening.{folder_locked}
+use Rattle.opening_plans.specs.Opening.{folder_locked}
 use Rattle.opened_folders.proofs.beginning.lock_folder.Goals as goal
 
 pub returns-in_err-locking : goal.returns-in_err-locking

@@ -1,7 +1,7 @@
 use Rattle.std.proofs.Common.{refl}
 use Rattle.file_plans.proofs.Following.{go_from, stop_from, no_room}
 use Rattle.step_plans.proofs.Faulting.{stop_same}
-use Rattle.opened_folders.specs.Opening.{mail_made}
+use Rattle.opening_plans.specs.Opening.{mail_made}
 use Rattle.opened_folders.proofs.beginning.make_mail.Goals as goal
 
 pub returns-in_err-duplicate : goal.returns-in_err-duplicate

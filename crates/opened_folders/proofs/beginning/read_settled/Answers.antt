@@ -1,5 +1,5 @@
 use Rattle.file_plans.proofs.Following.{go, stop}
-use Rattle.opened_folders.specs.Opening.{settled_read}
+use Rattle.opening_plans.specs.Opening.{settled_read}
 use Rattle.opened_folders.proofs.beginning.read_settled.Goals as goal
 
 pub returns-in_err-clear-clause-plan : goal.returns-in_err-clear-clause-plan

@@ -1,5 +1,5 @@
 use Rattle.file_plans.proofs.Following.{done, go_from, stop_from}
-use Rattle.opened_folders.specs.Ending.{finished}
+use Rattle.opening_plans.specs.Ending.{finished}
 use Rattle.command_stages.proofs.Causes.{stop_same}
 use Rattle.opened_folders.proofs.ending.finish.Goals as goal
 

@@ -1,5 +1,5 @@
 use Rattle.file_plans.proofs.Following.{go_from, refuses, stop_from}
-use Rattle.opened_folders.specs.Ending.{given_up}
+use Rattle.opening_plans.specs.Ending.{given_up}
 use Rattle.command_stages.proofs.Causes.{stop_same}
 use Rattle.opened_folders.proofs.ending.give_up.Goals as goal
 

@@ -1,6 +1,6 @@
 use Rattle.std.proofs.Common.{refl, sym, ◌∙◌}
 use Rattle.held_messages.proofs.Upward.{below_first, below_second}
-use Rattle.opened_folders.proofs.ExistingNumbers.{one_tried, all_tried}
+use Rattle.opening_plans.proofs.ExistingNumbers.{one_tried, all_tried}
 use Rattle.opened_folders.proofs.existing.add_all_tried.Goals as goal
 
 pub loop-at-init : goal.loop-at-init

@@ -1,6 +1,6 @@
 use Rattle.std.proofs.Common.{◌≡◌, ◌≤◌, ◌||◌, ℕ, drop}
 use Rattle.mh_sequences.specs.Runs.{has}
-use Rattle.opened_folders.specs.Existing.{are_tried}
+use Rattle.opening_plans.specs.Existing.{are_tried}
 use Rattle.opened_folders.proofs.existing.add_all_tried.Given as goal
 
 abbrev pub invariant-loop-at : goal.invariant-loop-at

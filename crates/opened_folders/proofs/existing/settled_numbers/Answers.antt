@@ -1,4 +1,4 @@
-use Rattle.opened_folders.proofs.ExistingNumbers.{all_numbers}
+use Rattle.opening_plans.proofs.ExistingNumbers.{all_numbers}
 use Rattle.opened_folders.proofs.existing.settled_numbers.Goals as goal
 
 pub returns : goal.returns

@@ -2,8 +2,8 @@ use Rattle.std.proofs.Common.{refl}
 use Rattle.file_plans.proofs.Following.{go_from, lift_err, lift_ok, no_room, stop_from}
 use Rattle.step_plans.specs.PlanFaults.{plan_cause}
 use Rattle.step_plans.proofs.Faulting.{stop_same}
-use Rattle.opened_folders.specs.Making.{made_begun, once_made}
-use Rattle.opened_folders.proofs.Causes.{made_same}
+use Rattle.opening_plans.specs.Making.{made_begun, once_made}
+use Rattle.opening_plans.proofs.Causes.{made_same}
 use Rattle.opened_folders.proofs.making.begin_made.Goals as goal
 
 pub returns-in_err-place-clause-plan : goal.returns-in_err-place-clause-plan

@@ -1,4 +1,4 @@
-use Rattle.opened_folders.proofs.Sets.{made_from}
+use Rattle.opening_plans.proofs.Sets.{made_from}
 use Rattle.mh_base.proofs.NumberTests.{is_one}
 use Rattle.opened_folders.proofs.numbers.number_set.Goals as goal
 use Rattle.command_stages.proofs.Adding.{all_added, one_added}

@@ -1,8 +1,8 @@
 use Rattle.std.proofs.Common.{refl, ap, ◌∙◌}
 use Rattle.file_plans.proofs.Following.{go, stop, no_room}
 use Rattle.sequence_commits.specs.Reading.{sequences_in}
-use Rattle.opened_folders.specs.Opening.{marks_read}
-use Rattle.opened_folders.proofs.OneStep.{done_as, knows}
+use Rattle.opening_plans.specs.Opening.{marks_read}
+use Rattle.opening_plans.proofs.OneStep.{done_as, knows}
 use Rattle.opened_folders.proofs.reading.read_marks.Goals as goal
 
 pub returns-in_err-text-clause-plan : goal.returns-in_err-text-clause-plan

@@ -1,7 +1,7 @@
 use Rattle.std.proofs.Common.{refl}
 use Rattle.file_plans.proofs.Following.{go_from, stop_from, no_room}
 use Rattle.step_plans.proofs.Faulting.{stop_same}
-use Rattle.opened_folders.specs.Opening.{sequences_read}
+use Rattle.opening_plans.specs.Opening.{sequences_read}
 use Rattle.opened_folders.proofs.reading.read_text.Goals as goal
 
 pub returns-in_err-name : goal.returns-in_err-name

@@ -1,7 +1,7 @@
 use Rattle.std.proofs.Common.{refl}
 use Rattle.file_plans.proofs.Following.{go, no_room, stop, whole}
-use Rattle.opened_folders.proofs.EndingParts.{ends_so}
-use Rattle.opened_folders.proofs.EndsBeside.{ends_whole}
+use Rattle.opening_plans.proofs.EndingParts.{ends_so}
+use Rattle.opening_plans.proofs.EndsBeside.{ends_whole}
 use Rattle.pack_command.specs.Pack.{pack}
 use Rattle.pack_command.proofs.PackAlone.{pack_alone}
 use Rattle.pack_command.proofs.PackPledged.{pack_promises}

@@ -3,7 +3,7 @@ use Rattle.file_plans.proofs.Following.{lift_err, lift_ok, no_room}
 use Rattle.command_stages.proofs.Causes.{plan_same}
 use Rattle.sequence_commits.specs.Marking.{marked_by_all}
 use Rattle.sequence_commits.proofs.PlainMarks.{all_plain}
-use Rattle.pick_command.specs.Marking.{marked_for}
+use Rattle.pick_plans.specs.Marking.{marked_for}
 use Rattle.pick_command.proofs.changing.commit_found.Goals as goal
 
 pub returns-in_err-marks-clause-plan : goal.returns-in_err-marks-clause-plan

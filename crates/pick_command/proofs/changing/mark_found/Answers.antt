@@ -1,5 +1,5 @@
 use Rattle.file_plans.proofs.Following.{go, stop, whole}
-use Rattle.pick_command.specs.Pick.{found_marked}
+use Rattle.pick_plans.specs.Pick.{found_marked}
 use Rattle.pick_command.proofs.changing.mark_found.Goals as goal
 
 pub returns-in_err-commit_found-clause-plan : goal.returns-in_err-commit_found-clause-plan

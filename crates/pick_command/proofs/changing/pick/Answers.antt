@@ -1,6 +1,6 @@
-use Rattle.pick_command.specs.Pick.{pick}
-use Rattle.pick_command.proofs.PickAlone.{picks_alone}
-use Rattle.pick_command.proofs.PickPledged.{pick_promises}
+use Rattle.pick_plans.specs.Pick.{pick}
+use Rattle.pick_plans.proofs.PickAlone.{picks_alone}
+use Rattle.pick_plans.proofs.PickPledged.{pick_promises}
 use Rattle.pick_command.proofs.changing.pick.Goals as goal
 
 pub returns-in-Some-clause-plan : goal.returns-in-Some-clause-plan

@@ -1,6 +1,6 @@
 use Rattle.file_plans.proofs.Following.{go, stop}
 use Rattle.command_stages.proofs.Values.{value_off, value_on}
-use Rattle.pick_command.specs.Pick.{chosen_from, opened_picked}
+use Rattle.pick_plans.specs.Pick.{chosen_from, opened_picked}
 use Rattle.pick_command.proofs.changing.pick_opened.Goals as goal
 
 pub returns-in_err-numbers-clause-plan : goal.returns-in_err-numbers-clause-plan

@@ -1,5 +1,5 @@
 use Rattle.told_folders.proofs.Loops.{all_made}
-use Rattle.pick_command.specs.Lines.{number_line}
+use Rattle.pick_plans.specs.Lines.{number_line}
 use Rattle.pick_command.proofs.lines.number_lines.Goals as goal
 
 pub returns : goal.returns

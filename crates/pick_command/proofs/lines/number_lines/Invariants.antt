@@ -1,6 +1,6 @@
 use Rattle.std.proofs.Common.{◌≡◌, ◌++◌, drop}
 use Rattle.std.specs.Prelude.{map}
-use Rattle.pick_command.specs.Lines.{number_line}
+use Rattle.pick_plans.specs.Lines.{number_line}
 use Rattle.pick_command.proofs.lines.number_lines.Given as goal
 
 abbrev pub invariant-loop-number : goal.invariant-loop-number

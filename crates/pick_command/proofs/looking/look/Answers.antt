@@ -1,7 +1,7 @@
 use Rattle.std.proofs.Common.{refl}
 use Rattle.file_plans.proofs.Following.{go, no_room, stop, whole}
 use Rattle.command_stages.proofs.Values.{seen_off, seen_on}
-use Rattle.pick_command.specs.Pick.{chosen_seen, pick_looks}
+use Rattle.pick_plans.specs.Pick.{chosen_seen, pick_looks}
 use Rattle.pick_command.proofs.looking.look.Goals as goal
 use Rattle.mh_profile.specs.Reading.{entries_seen}
 

@@ -1,7 +1,7 @@
 use Rattle.std.proofs.Common.{◌≡◌, ◌++◌, drop}
 use Rattle.std.specs.Prelude.{map}
 use Rattle.sequence_commits.specs.PlainMarks.{plain_mark}
-use Rattle.pick_command.specs.Marking.{mark_with}
+use Rattle.pick_plans.specs.Marking.{mark_with}
 use Rattle.pick_command.proofs.marks.marks_on.Given as goal
 
 abbrev pub invariant-loop-name : goal.invariant-loop-name

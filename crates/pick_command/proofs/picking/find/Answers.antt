@@ -1,5 +1,5 @@
 use Rattle.file_plans.proofs.Following.{go, stop, whole}
-use Rattle.pick_command.specs.Pick.{some_found}
+use Rattle.pick_plans.specs.Pick.{some_found}
 use Rattle.pick_command.proofs.picking.find.Goals as goal
 
 pub returns-in_err-found : goal.returns-in_err-found

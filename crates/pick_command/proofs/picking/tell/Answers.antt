@@ -1,5 +1,5 @@
 use Rattle.file_plans.proofs.Following.{go, stop, whole}
-use Rattle.pick_command.specs.Pick.{found_told}
+use Rattle.pick_plans.specs.Pick.{found_told}
 use Rattle.pick_command.proofs.picking.tell.Goals as goal
 
 pub returns-in_err-say_if-clause-plan : goal.returns-in_err-say_if-clause-plan

@@ -1,6 +1,6 @@
 use Rattle.std.proofs.Common.{◌∙◌, refl, sym}
 use Rattle.file_plans.proofs.Following.{go, refuses, stop}
-use Rattle.pick_command.proofs.Loops.{none_found, some_there}
+use Rattle.pick_plans.proofs.Loops.{none_found, some_there}
 use Rattle.pick_command.proofs.picking.unless_none.Goals as goal
 
 pub returns-in_err-say_if : goal.returns-in_err-say_if

@@ -1,6 +1,6 @@
 use Rattle.std.proofs.Common.{refl}
 use Rattle.file_plans.proofs.Following.{go, no_room, stop}
-use Rattle.pick_command.proofs.Loops.{end, turn}
+use Rattle.pick_plans.proofs.Loops.{end, turn}
 use Rattle.pick_command.proofs.testing.test_all.Goals as goal
 
 pub returns-in_err-matches : goal.returns-in_err-matches

@@ -3,7 +3,7 @@ use Rattle.file_plans.specs.Plan.{Hand}
 use Rattle.file_plans.specs.Follows.{State, Follows, by_hand}
 use Rattle.step_plans.specs.CommandFaults.{command_cause}
 use Rattle.step_plans.specs.declared.command_fault.CommandFault.{CommandFault}
-use Rattle.pick_command.specs.Testing.{all_tested}
+use Rattle.pick_plans.specs.Testing.{all_tested}
 use Rattle.pick_command.proofs.testing.test_all.Given as goal
 
 abbrev pub invariant-loop-number : goal.invariant-loop-number

@@ -1,7 +1,7 @@
 use Rattle.std.proofs.Common.{refl}
 use Rattle.file_plans.proofs.Following.{go_from, no_room, stop_from}
 use Rattle.command_stages.proofs.Causes.{stop_same}
-use Rattle.pick_command.specs.Testing.{one_tested}
+use Rattle.pick_plans.specs.Testing.{one_tested}
 use Rattle.pick_command.proofs.testing.test_one.Goals as goal
 
 pub returns-in_err-name : goal.returns-in_err-name

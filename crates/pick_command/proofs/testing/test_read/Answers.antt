@@ -1,6 +1,6 @@
 use Rattle.std.proofs.Common.{refl}
 use Rattle.file_plans.proofs.Following.{no_room, refuses}
-use Rattle.opened_folders.proofs.OneStep.{done_as}
+use Rattle.opening_plans.proofs.OneStep.{done_as}
 use Rattle.pick_command.proofs.testing.test_read.Goals as goal
 
 pub returns-in_err-holds-in-Content : goal.returns-in_err-holds-in-Content

@@ -1,4 +1,4 @@
-use Rattle.refile_command.proofs.RoomLeft.{all_mapped, next_mapped}
+use Rattle.refile_plans.proofs.RoomLeft.{all_mapped, next_mapped}
 use Rattle.refile_command.proofs.destinations.destinations.Goals as goal
 
 pub loop-one-preserved : goal.loop-one-preserved

@@ -1,4 +1,4 @@
-use Rattle.refile_command.proofs.RoomLeft.{last_greatest, none_greatest}
+use Rattle.refile_plans.proofs.RoomLeft.{last_greatest, none_greatest}
 use Rattle.refile_command.proofs.destinations.greatest.Goals as goal
 
 pub returns-in-Some : goal.returns-in-Some

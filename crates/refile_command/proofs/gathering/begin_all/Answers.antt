@@ -1,7 +1,7 @@
 use Rattle.std.proofs.Common.{[], refl, ◌∙◌}
 use Rattle.file_plans.specs.Follows.{by_hand}
 use Rattle.step_plans.specs.declared.command_fault.CommandFault.TheVariants as fault
-use Rattle.refile_command.proofs.Gathered.{all_were, for_fault, no_more_room, none_more, one_begun}
+use Rattle.refile_plans.proofs.Gathered.{all_were, for_fault, no_more_room, none_more, one_begun}
 use Rattle.refile_command.proofs.gathering.begin_all.Goals as goal
 
 pub returns-in_err-one-clause-plan : goal.returns-in_err-one-clause-plan

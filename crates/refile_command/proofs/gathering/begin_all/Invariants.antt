@@ -4,7 +4,7 @@ use Rattle.file_plans.specs.Plan.{bind}
 use Rattle.step_plans.specs.CommandFaults.{command_cause}
 use Rattle.step_plans.specs.declared.command_fault.CommandFault.{CommandFault}
 use Rattle.command_stages.specs.Texts.{Commanded}
-use Rattle.refile_command.specs.Gathering.{Gathered, all_begun}
+use Rattle.refile_plans.specs.Gathering.{Gathered, all_begun}
 use Rattle.refile_command.proofs.gathering.begin_all.Given as goal
 
 abbrev pub invariant-loop-name : goal.invariant-loop-name

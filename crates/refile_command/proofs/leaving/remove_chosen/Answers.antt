@@ -6,7 +6,7 @@ use Rattle.step_plans.specs.PlanFaults.{plan_cause}
 use Rattle.command_stages.specs.Endings.{of_plan}
 use Rattle.command_stages.proofs.Causes.{plan_same}
 use Rattle.command_stages.proofs.Values.{error_chosen, value_off, value_on}
-use Rattle.refile_command.specs.Rmm.{chosen_from, said_removed}
+use Rattle.refile_plans.specs.Rmm.{chosen_from, said_removed}
 use Rattle.refile_command.proofs.leaving.remove_chosen.Goals as goal
 
 pub returns-in_err-chosen-clause-plan : goal.returns-in_err-chosen-clause-plan

@@ -1,5 +1,5 @@
 use Rattle.file_plans.proofs.Following.{go, stop}
-use Rattle.refile_command.specs.Rmm.{opened_removed}
+use Rattle.refile_plans.specs.Rmm.{opened_removed}
 use Rattle.refile_command.proofs.leaving.remove_opened.Goals as goal
 
 pub returns-in_err-remove_chosen-clause-plan : goal.returns-in_err-remove_chosen-clause-plan

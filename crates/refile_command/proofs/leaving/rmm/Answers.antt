@@ -1,8 +1,8 @@
 use Rattle.std.proofs.Common.{refl}
 use Rattle.file_plans.proofs.Following.{go, no_room, stop}
-use Rattle.opened_folders.proofs.EndingParts.{ends_so}
-use Rattle.refile_command.specs.Rmm.{rmm}
-use Rattle.refile_command.proofs.RmmPledged.{rmm_promises}
+use Rattle.opening_plans.proofs.EndingParts.{ends_so}
+use Rattle.refile_plans.specs.Rmm.{rmm}
+use Rattle.refile_plans.proofs.RmmPledged.{rmm_promises}
 use Rattle.refile_command.proofs.leaving.rmm.Goals as goal
 
 pub returns-in_err-place-clause-plan : goal.returns-in_err-place-clause-plan

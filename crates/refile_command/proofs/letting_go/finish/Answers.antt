@@ -1,5 +1,5 @@
 use Rattle.file_plans.proofs.Following.{go, stop}
-use Rattle.refile_command.specs.Gathering.{all_finished}
+use Rattle.refile_plans.specs.Gathering.{all_finished}
 use Rattle.refile_command.proofs.letting_go.finish.Goals as goal
 
 pub returns-in_err-end : goal.returns-in_err-end

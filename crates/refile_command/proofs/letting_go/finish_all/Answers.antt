@@ -1,5 +1,5 @@
 use Rattle.file_plans.proofs.Following.{go, stop}
-use Rattle.refile_command.proofs.LetGo.{all_let_go, next_let_go}
+use Rattle.refile_plans.proofs.LetGo.{all_let_go, next_let_go}
 use Rattle.refile_command.proofs.letting_go.finish_all.Goals as goal
 
 pub returns-in_err-end : goal.returns-in_err-end

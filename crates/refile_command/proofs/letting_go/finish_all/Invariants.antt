@@ -4,7 +4,7 @@ use Rattle.file_plans.specs.Follows.{Follows, State, by_hand}
 use Rattle.file_plans.specs.Plan.{Hand}
 use Rattle.step_plans.specs.CommandFaults.{command_cause}
 use Rattle.step_plans.specs.declared.command_fault.CommandFault.{CommandFault}
-use Rattle.refile_command.specs.Gathering.{all_finished}
+use Rattle.refile_plans.specs.Gathering.{all_finished}
 use Rattle.refile_command.proofs.letting_go.finish_all.Given as goal
 
 abbrev pub invariant-loop-one : goal.invariant-loop-one

@@ -1,6 +1,6 @@
 use Rattle.file_plans.proofs.Following.{go_from, stop_from}
 use Rattle.command_stages.proofs.Causes.{stop_same}
-use Rattle.refile_command.specs.Gathering.{all_given_up}
+use Rattle.refile_plans.specs.Gathering.{all_given_up}
 use Rattle.refile_command.proofs.letting_go.give_up.Goals as goal
 
 pub returns-in_err-attempt_unlock : goal.returns-in_err-attempt_unlock

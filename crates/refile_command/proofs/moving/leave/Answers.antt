@@ -1,5 +1,5 @@
 use Rattle.file_plans.proofs.Following.{go, stop}
-use Rattle.refile_command.specs.Refile.{messages_left}
+use Rattle.refile_plans.specs.Refile.{messages_left}
 use Rattle.refile_command.proofs.moving.leave.Goals as goal
 
 pub returns-in_err-refile_chosen-clause-plan : goal.returns-in_err-refile_chosen-clause-plan

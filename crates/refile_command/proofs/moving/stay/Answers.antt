@@ -1,6 +1,6 @@
 use Rattle.std.proofs.Common.{refl}
 use Rattle.file_plans.proofs.Following.{done, go, no_room, stop}
-use Rattle.refile_command.specs.Refile.{messages_stay}
+use Rattle.refile_plans.specs.Refile.{messages_stay}
 use Rattle.refile_command.proofs.moving.stay.Goals as goal
 
 pub returns-in_err-numbers-clause-plan : goal.returns-in_err-numbers-clause-plan

@@ -6,8 +6,8 @@ use Rattle.step_plans.specs.PlanFaults.{plan_cause}
 use Rattle.sequence_commits.specs.Marking.{marked_by_all}
 use Rattle.command_stages.specs.Endings.{of_plan}
 use Rattle.command_stages.proofs.Causes.{plan_same}
-use Rattle.refile_command.specs.Rmm.{withdrawn}
-use Rattle.refile_command.proofs.Loops.{withdraws}
+use Rattle.refile_plans.specs.Rmm.{withdrawn}
+use Rattle.refile_plans.proofs.Loops.{withdraws}
 use Rattle.refile_command.proofs.moving.withdraw.Goals as goal
 
 pub returns-in_err-folder-clause-plan : goal.returns-in_err-folder-clause-plan

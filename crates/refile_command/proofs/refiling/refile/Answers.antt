@@ -1,8 +1,8 @@
 use Rattle.std.proofs.Common.{refl}
 use Rattle.file_plans.proofs.Following.{go, no_room, stop}
-use Rattle.refile_command.specs.Refile.{refile}
-use Rattle.refile_command.proofs.RefileFollowed.{refiled_so, then_refiled}
-use Rattle.refile_command.proofs.RefilePledged.{refile_promises}
+use Rattle.refile_plans.specs.Refile.{refile}
+use Rattle.refile_plans.proofs.RefileFollowed.{refiled_so, then_refiled}
+use Rattle.refile_plans.proofs.RefilePledged.{refile_promises}
 use Rattle.refile_command.proofs.refiling.refile.Goals as goal
 
 pub returns-in_err-names-clause-plan : goal.returns-in_err-names-clause-plan

@@ -1,5 +1,5 @@
 use Rattle.file_plans.proofs.Following.{done, go, stop}
-use Rattle.refile_command.specs.Refile.{opened_refiled}
+use Rattle.refile_plans.specs.Refile.{opened_refiled}
 use Rattle.refile_command.proofs.refiling.refile_opened.Goals as goal
 
 pub returns-in_err-refile_said-clause-plan : goal.returns-in_err-refile_said-clause-plan

@@ -3,7 +3,7 @@ use Rattle.mh_sequences.specs.Runs.{numbers_of}
 use Rattle.file_plans.specs.Follows.{by_hand}
 use Rattle.file_plans.proofs.Following.{go, no_room, stop}
 use Rattle.command_stages.proofs.Values.{error_chosen, value_off, value_on}
-use Rattle.refile_command.specs.Refile.{refile_chosen, said_refiled}
+use Rattle.refile_plans.specs.Refile.{refile_chosen, said_refiled}
 use Rattle.refile_command.proofs.refiling.refile_said.Goals as goal
 
 pub returns-in_err-to-clause-plan : goal.returns-in_err-to-clause-plan

@@ -1,5 +1,5 @@
 use Rattle.file_plans.proofs.Following.{go, stop}
-use Rattle.refile_command.proofs.Loops.{end, turn}
+use Rattle.refile_plans.proofs.Loops.{end, turn}
 use Rattle.refile_command.proofs.removing.remove_all.Goals as goal
 
 pub returns-in_err-remove : goal.returns-in_err-remove

@@ -3,7 +3,7 @@ use Rattle.file_plans.specs.Plan.{Hand}
 use Rattle.file_plans.specs.Follows.{Follows, State, by_hand}
 use Rattle.step_plans.specs.PlanFaults.{plan_cause}
 use Rattle.step_plans.specs.declared.fault.PlanFault.{PlanFault}
-use Rattle.refile_command.specs.Rmm.{all_removed}
+use Rattle.refile_plans.specs.Rmm.{all_removed}
 use Rattle.refile_command.proofs.removing.remove_all.Given as goal
 
 abbrev pub invariant-loop-number : goal.invariant-loop-number

@@ -2,8 +2,8 @@ use Rattle.std.proofs.Common.{◌≡◌, ◌∙◌, ap, refl, subst}
 use Rattle.mh_sequences.specs.Runs.{AreRuns, numbers_of}
 use Rattle.file_plans.proofs.Following.{go, no_room, stop}
 use Rattle.sequence_commits.specs.Marking.{marked_by_all}
-use Rattle.refile_command.specs.Rmm.{removed_marked, withdrawn}
-use Rattle.refile_command.proofs.Loops.{withdraws}
+use Rattle.refile_plans.specs.Rmm.{removed_marked, withdrawn}
+use Rattle.refile_plans.proofs.Loops.{withdraws}
 use Rattle.refile_command.proofs.removing.remove_marked.Goals as goal
 
 pub returns-in_err-numbers-clause-plan : goal.returns-in_err-numbers-clause-plan

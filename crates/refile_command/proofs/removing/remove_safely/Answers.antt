@@ -1,6 +1,6 @@
 use Rattle.std.proofs.Common.{refl}
 use Rattle.file_plans.proofs.Following.{go, no_room, stop}
-use Rattle.refile_command.specs.Rmm.{removed_safely}
+use Rattle.refile_plans.specs.Rmm.{removed_safely}
 use Rattle.refile_command.proofs.removing.remove_safely.Goals as goal
 
 pub returns-in_err-name : goal.returns-in_err-name

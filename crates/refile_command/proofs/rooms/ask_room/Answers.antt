@@ -1,5 +1,5 @@
 use Rattle.file_plans.proofs.Following.{go, stop}
-use Rattle.refile_command.proofs.RoomLeft.{all_rooms, next_room}
+use Rattle.refile_plans.proofs.RoomLeft.{all_rooms, next_room}
 use Rattle.refile_command.proofs.rooms.ask_room.Goals as goal
 
 pub returns-in_err-ask_room_in : goal.returns-in_err-ask_room_in

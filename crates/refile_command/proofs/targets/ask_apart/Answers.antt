@@ -1,6 +1,6 @@
 use Rattle.std.proofs.Common.{refl, sym, ◌∙◌}
 use Rattle.file_plans.proofs.Following.{done, no_room, refuses, same_plan}
-use Rattle.refile_command.proofs.NamedTargets.{apart_is, not_apart}
+use Rattle.refile_plans.proofs.NamedTargets.{apart_is, not_apart}
 use Rattle.refile_command.proofs.targets.ask_apart.Goals as goal
 
 pub returns-in_err-duplicate : goal.returns-in_err-duplicate

@@ -1,5 +1,5 @@
 use Rattle.std.proofs.Common.{sym, ◌∙◌}
-use Rattle.refile_command.proofs.NamedTargets.{other_named}
+use Rattle.refile_plans.proofs.NamedTargets.{other_named}
 use Rattle.refile_command.proofs.targets.names_source.Goals as goal
 
 pub returns-else-same : goal.returns-else-same

@@ -1,6 +1,6 @@
 use Rattle.std.proofs.Common.{◌∷◌, ◌+◌, [], List, ℕ, drop, subst, sym}
-use Rattle.refile_command.specs.Targets.{with_target}
-use Rattle.refile_command.proofs.NamedTargets.{IsOnWay, all_gathered, begins_empty, next_at, next_name}
+use Rattle.refile_plans.specs.Targets.{with_target}
+use Rattle.refile_plans.proofs.NamedTargets.{IsOnWay, all_gathered, begins_empty, next_at, next_name}
 use Rattle.refile_command.proofs.targets.other_targets.Goals as goal
 
 pub loop-name-init : goal.loop-name-init

@@ -1,5 +1,5 @@
 use Rattle.std.proofs.Common.{◌∷◌, drop}
-use Rattle.refile_command.proofs.NamedTargets.{IsOnWay}
+use Rattle.refile_plans.proofs.NamedTargets.{IsOnWay}
 use Rattle.refile_command.proofs.targets.other_targets.Given as goal
 
 abbrev pub invariant-loop-name : goal.invariant-loop-name

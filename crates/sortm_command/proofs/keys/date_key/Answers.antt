@@ -1,7 +1,7 @@
 use Rattle.std.proofs.Common.{ap, sym, ◌∙◌}
 use Rattle.mail_dates.specs.Reading.{date_in}
 use Rattle.mail_headers.specs.Fields.{fields_of, first_value}
-use Rattle.sortm_command.specs.Keys.{clock_of_date, date_by, date_key}
+use Rattle.sortm_plans.specs.Keys.{clock_of_date, date_by, date_key}
 use Rattle.sortm_command.proofs.keys.date_key.Goals as goal
 
 pub returns-in_ok-text-in-Some : goal.returns-in_ok-text-in-Some

@@ -1,8 +1,8 @@
 use Rattle.std.proofs.Common.{◌≡◌, ℕ, List, ap, ◌∙◌}
 use Rattle.std.proofs.lemmas.Result.{IfOk-weaker}
 use Rattle.message_order.specs.Texts.{IsBehindReplies, key_of}
-use Rattle.sortm_command.specs.Keys.{behind_replies}
-use Rattle.sortm_command.proofs.Replies.{behind_is}
+use Rattle.sortm_plans.specs.Keys.{behind_replies}
+use Rattle.sortm_plans.proofs.Replies.{behind_is}
 use Rattle.sortm_command.proofs.keys.subject_key.Goals as goal
 
 pub returns : goal.returns

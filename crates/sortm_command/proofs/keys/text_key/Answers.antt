@@ -1,7 +1,7 @@
 use Rattle.std.proofs.Common.{ap, sym, ◌∙◌}
 use Rattle.std.specs.Prelude.{codes}
 use Rattle.mail_headers.specs.Fields.{fields_of, first_value, same_name}
-use Rattle.sortm_command.specs.Keys.{key_by, text_by, text_key}
+use Rattle.sortm_plans.specs.Keys.{key_by, text_by, text_key}
 use Rattle.sortm_command.proofs.keys.text_key.Goals as goal
 
 pub returns-in_ok-key-in-Some : goal.returns-in_ok-key-in-Some

@@ -1,7 +1,7 @@
 use Rattle.std.proofs.Common.{ap, ◌∙◌, map, take_all}
 use Rattle.mh_sequences.specs.Sequences.{told}
-use Rattle.sortm_command.specs.Marking.{set_again}
-use Rattle.sortm_command.proofs.Zipped.{map_twice}
+use Rattle.sortm_plans.specs.Marking.{set_again}
+use Rattle.sortm_plans.proofs.Zipped.{map_twice}
 use Rattle.sortm_command.proofs.marks.kept_marks.Goals as goal
 
 pub returns-clause-marks : goal.returns-clause-marks

@@ -1,5 +1,5 @@
 use Rattle.std.proofs.Common.{◌≡◌, ◌++◌, drop}
-use Rattle.sortm_command.specs.Marking.{pairs_of}
+use Rattle.sortm_plans.specs.Marking.{pairs_of}
 use Rattle.sortm_command.proofs.marks.pairs.Given as goal
 
 abbrev pub invariant-loop-i : goal.invariant-loop-i

@@ -1,8 +1,8 @@
 use Rattle.std.proofs.Common.{sym, ◌∙◌}
 use Rattle.file_plans.proofs.Following.{same_plan}
-use Rattle.opened_folders.proofs.OneStep.{done_as}
+use Rattle.opening_plans.proofs.OneStep.{done_as}
 use Rattle.step_plans.specs.Hands.{mail_place}
-use Rattle.sortm_command.proofs.MovesMade.{by_moves, by_none, none_after}
+use Rattle.sortm_plans.proofs.MovesMade.{by_moves, by_none, none_after}
 use Rattle.sortm_command.proofs.moving.move_all.Goals as goal
 
 pub returns-then-is_empty-clause-plan : goal.returns-then-is_empty-clause-plan

@@ -2,11 +2,11 @@ use Rattle.std.proofs.Common.{refl, sym, ap, ◌∙◌}
 use Rattle.file_plans.proofs.Following.{done, go, no_room, same_plan, stop}
 use Rattle.step_plans.specs.Hands.{mail_place}
 use Rattle.sequence_commits.specs.Committing.{changed_sequences}
-use Rattle.sortm_command.specs.Marking.{pairs_of}
-use Rattle.sortm_command.proofs.Restored.{moved_again}
-use Rattle.sortm_command.specs.Moving.{marked_moved}
+use Rattle.sortm_plans.specs.Marking.{pairs_of}
+use Rattle.sortm_plans.proofs.Restored.{moved_again}
+use Rattle.sortm_plans.specs.Moving.{marked_moved}
 use Rattle.sortm_command.proofs.moving.move_marked.Goals as goal
-use Rattle.refile_command.specs.Rmm.{withdrawn}
+use Rattle.refile_plans.specs.Rmm.{withdrawn}
 
 pub returns-in_err-marks-clause-plan : goal.returns-in_err-marks-clause-plan
 returns-in_err-marks-clause-plan g c = no_room _ c.from_residual.ensures refl

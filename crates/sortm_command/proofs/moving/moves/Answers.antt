@@ -1,5 +1,5 @@
 use Rattle.std.proofs.Common.{◌≤◌, subst}
-use Rattle.sortm_command.proofs.MovesMade.{all_gone}
+use Rattle.sortm_plans.proofs.MovesMade.{all_gone}
 use Rattle.sortm_command.proofs.moving.moves.Goals as goal
 
 pub returns : goal.returns

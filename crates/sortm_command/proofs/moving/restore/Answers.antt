@@ -4,7 +4,7 @@ use Rattle.mh_sequences.specs.declared.mark.Mark.TheVariants.{Move}
 use Rattle.sequence_commits.specs.Marking.{marked_by_all}
 use Rattle.sequence_commits.specs.PlainMarks.{plain_mark}
 use Rattle.sequence_commits.proofs.PlainMarks.{all_plain}
-use Rattle.sortm_command.proofs.Zipped.{map_more}
+use Rattle.sortm_plans.proofs.Zipped.{map_more}
 use Rattle.sortm_command.proofs.moving.restore.Goals as goal
 
 pub returns-in_err-push-clause-plan : goal.returns-in_err-push-clause-plan

@@ -2,9 +2,9 @@ use Rattle.std.proofs.Common.{◌≡◌, refl, ap, ◌∙◌}
 use Rattle.file_plans.proofs.Following.{no_room}
 use Rattle.sequence_commits.specs.Marking.{marked_by_all}
 use Rattle.sequence_commits.proofs.PlainMarks.{all_plain}
-use Rattle.sortm_command.proofs.Withdrawing.{one_withdrawn}
+use Rattle.sortm_plans.proofs.Withdrawing.{one_withdrawn}
 use Rattle.sortm_command.proofs.moving.withdraw.Goals as goal
-use Rattle.refile_command.specs.Rmm.{withdrawn}
+use Rattle.refile_plans.specs.Rmm.{withdrawn}
 
 pub returns-in_err-marks-clause-plan : goal.returns-in_err-marks-clause-plan
 returns-in_err-marks-clause-plan g c = no_room _ c.from_residual.ensures refl

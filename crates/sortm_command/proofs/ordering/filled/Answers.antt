@@ -2,8 +2,8 @@ use Rattle.std.proofs.Common.{◌≡◌}
 use Rattle.std.specs.Prelude.{None}
 use Rattle.std.proofs.lemmas.Result.{IfOk-weaker}
 use Rattle.message_order.specs.Dates.{AreFilled}
-use Rattle.sortm_command.specs.Ordered.{filled_behind}
-use Rattle.sortm_command.proofs.Filled.{filled_so}
+use Rattle.sortm_plans.specs.Ordered.{filled_behind}
+use Rattle.sortm_plans.proofs.Filled.{filled_so}
 use Rattle.sortm_command.proofs.ordering.filled.Goals as goal
 
 pub returns : goal.returns

@@ -1,7 +1,7 @@
 use Rattle.std.proofs.Common.{◌≡◌, refl, ap, ◌∙◌}
 use Rattle.std.proofs.lemmas.Result.{IfOk-weaker}
-use Rattle.sortm_command.specs.Ordered.{in_order, order_by_texts, text_cmp}
-use Rattle.sortm_command.proofs.Sorted.{same_order}
+use Rattle.sortm_plans.specs.Ordered.{in_order, order_by_texts, text_cmp}
+use Rattle.sortm_plans.proofs.Sorted.{same_order}
 use Rattle.sortm_command.proofs.ordering.order_by_texts.Goals as goal
 
 pub returns : goal.returns

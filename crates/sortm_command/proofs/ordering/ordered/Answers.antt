@@ -1,5 +1,5 @@
 use Rattle.std.proofs.Common.{sym, ◌∙◌}
-use Rattle.sortm_command.proofs.Sorted.{are_in_order}
+use Rattle.sortm_plans.proofs.Sorted.{are_in_order}
 use Rattle.sortm_command.proofs.ordering.ordered.Goals as goal
 
 pub returns : goal.returns

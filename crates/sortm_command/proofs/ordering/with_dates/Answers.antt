@@ -1,5 +1,5 @@
 use Rattle.std.proofs.Common.{◌≤◌, subst}
-use Rattle.sortm_command.proofs.Zipped.{all_zipped}
+use Rattle.sortm_plans.proofs.Zipped.{all_zipped}
 use Rattle.sortm_command.proofs.ordering.with_dates.Goals as goal
 
 pub returns : goal.returns

@@ -1,6 +1,6 @@
 use Rattle.std.proofs.Common.{arith, length, map}
 use Rattle.std.specs.Vec.Iter.{into_iter_items}
-use Rattle.sortm_command.proofs.Zipped.{one_less, zip_ended}
+use Rattle.sortm_plans.proofs.Zipped.{one_less, zip_ended}
 use Rattle.sortm_command.proofs.ordering.with_texts.Goals as goal
 
 pub loop-text-preserved : goal.loop-text-preserved

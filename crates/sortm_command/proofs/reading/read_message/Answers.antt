@@ -1,7 +1,7 @@
 use Rattle.std.proofs.Common.{refl}
 use Rattle.file_plans.proofs.Following.{go_from, no_room, stop_from}
 use Rattle.command_stages.proofs.Causes.{stop_same}
-use Rattle.sortm_command.specs.Reading.{message_read}
+use Rattle.sortm_plans.specs.Reading.{message_read}
 use Rattle.sortm_command.proofs.reading.read_message.Goals as goal
 
 pub returns-in_err-name : goal.returns-in_err-name

@@ -1,8 +1,8 @@
 use Rattle.std.proofs.Common.{refl}
 use Rattle.file_plans.proofs.Following.{go, no_room, stop}
-use Rattle.sortm_command.specs.Reading.{text_order_read}
+use Rattle.sortm_plans.specs.Reading.{text_order_read}
 use Rattle.sortm_command.proofs.reading.read_text_order.Goals as goal
-use Rattle.opened_folders.proofs.OneStep.{done_as}
+use Rattle.opening_plans.proofs.OneStep.{done_as}
 
 pub returns-in_err-texts : goal.returns-in_err-texts
 unfolding text_order_read

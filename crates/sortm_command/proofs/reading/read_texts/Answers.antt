@@ -1,6 +1,6 @@
 use Rattle.std.proofs.Common.{refl}
 use Rattle.file_plans.proofs.Following.{go, no_room, stop}
-use Rattle.sortm_command.proofs.Keyed.{end, turn}
+use Rattle.sortm_plans.proofs.Keyed.{end, turn}
 use Rattle.sortm_command.proofs.reading.read_texts.Goals as goal
 
 pub returns-in_err-message : goal.returns-in_err-message

@@ -3,8 +3,8 @@ use Rattle.file_plans.specs.Plan.{Hand}
 use Rattle.file_plans.specs.Follows.{State, Follows, by_hand}
 use Rattle.step_plans.specs.CommandFaults.{command_cause}
 use Rattle.step_plans.specs.declared.command_fault.CommandFault.{CommandFault}
-use Rattle.sortm_command.specs.Keys.{text_key}
-use Rattle.sortm_command.specs.Reading.{keys_read}
+use Rattle.sortm_plans.specs.Keys.{text_key}
+use Rattle.sortm_plans.specs.Reading.{keys_read}
 use Rattle.sortm_command.proofs.reading.read_texts.Given as goal
 
 abbrev pub invariant-loop-number : goal.invariant-loop-number

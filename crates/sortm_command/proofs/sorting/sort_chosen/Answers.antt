@@ -6,7 +6,7 @@ use Rattle.step_plans.specs.PlanFaults.{plan_cause}
 use Rattle.command_stages.specs.Endings.{of_plan}
 use Rattle.command_stages.proofs.Causes.{plan_same}
 use Rattle.command_stages.proofs.Values.{error_chosen, value_off, value_on}
-use Rattle.sortm_command.specs.Sort.{chosen_from, chosen_sorted}
+use Rattle.sortm_plans.specs.Sort.{chosen_from, chosen_sorted}
 use Rattle.sortm_command.proofs.sorting.sort_chosen.Goals as goal
 
 pub returns-in_err-chosen-clause-plan : goal.returns-in_err-chosen-clause-plan

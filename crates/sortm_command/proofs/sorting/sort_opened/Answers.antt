@@ -1,5 +1,5 @@
 use Rattle.file_plans.proofs.Following.{go, stop}
-use Rattle.sortm_command.specs.Sort.{opened_sorted}
+use Rattle.sortm_plans.specs.Sort.{opened_sorted}
 use Rattle.sortm_command.proofs.sorting.sort_opened.Goals as goal
 
 pub returns-in_err-sort_chosen-clause-plan : goal.returns-in_err-sort_chosen-clause-plan

@@ -1,9 +1,9 @@
 use Rattle.std.proofs.Common.{refl}
 use Rattle.file_plans.proofs.Following.{go, no_room, stop}
-use Rattle.opened_folders.proofs.EndingParts.{ends_so}
-use Rattle.sortm_command.specs.Sort.{sortm}
-use Rattle.sortm_command.proofs.SortAlone.{sortm_alone}
-use Rattle.sortm_command.proofs.SortPledged.{sortm_promises}
+use Rattle.opening_plans.proofs.EndingParts.{ends_so}
+use Rattle.sortm_plans.specs.Sort.{sortm}
+use Rattle.sortm_plans.proofs.SortAlone.{sortm_alone}
+use Rattle.sortm_plans.proofs.SortPledged.{sortm_promises}
 use Rattle.sortm_command.proofs.sorting.sortm.Goals as goal
 
 pub returns-in_err-place-clause-plan : goal.returns-in_err-place-clause-plan

@@ -1,5 +1,5 @@
 use Rattle.file_plans.specs.Sightings.{has_number}
-use Rattle.opened_folders.proofs.Sets.{made_from}
+use Rattle.opening_plans.proofs.Sets.{made_from}
 use Rattle.told_folders.proofs.reading.listed.Goals as goal
 
 pub returns : goal.returns

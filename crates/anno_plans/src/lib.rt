@@ -1,0 +1,6 @@
+//! What `anno` is to do, its plan, and what is proved of it.
+#![tactic(auto)]
+
+mod job;
+
+pub use job::AnnoJob;

@@ -1,0 +1,17 @@
+pub mod BuildEnds
+pub mod BuildGiven
+pub mod BuildMinds
+pub mod BuildPledged
+pub mod BuildSays
+pub mod BuiltAlone
+pub mod Composing
+pub mod Ends
+pub mod HeardBuild
+pub mod HeardGiven
+pub mod Heeding
+pub mod InputHeard
+pub mod NamedGiven
+pub mod PlacedEnds
+pub mod PlainBuild
+pub mod ReplacedGiven
+pub mod Unlocked
