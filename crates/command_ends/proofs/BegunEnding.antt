@@ -115,7 +115,7 @@ use Rattle.command_words.specs.declared.rmm.RmmWords.{RmmWords}
 use Rattle.sort_words.specs.SortWords.{sort_said}
 use Rattle.command_ends.specs.BegunCauses.{IsListOn, IsPickOn, IsStoreOn, ListsBy, PicksBy, ShowsAnnoWords, ShowsChangedTask, ShowsEarly, ShowsFault, ShowsIncJob, ShowsListWords, ShowsListingParts, ShowsMark, ShowsMarking, ShowsNamed, ShowsNoting, ShowsOnFolder, ShowsPacking, ShowsPick, ShowsPickJob, ShowsRemoving, ShowsRmm, ShowsSortWords, ShowsSorting, ShowsStoreWords, ShowsStoringParts, ShowsTask, ShowsTell, ShowsTelling, ShowsToldTask, StoresBy, TakesInBy, TellsNoneBy, TellsOnFolder, long_context, long_profile, wrong_stored}
 use Rattle.command_ends.specs.Causes.{ShowsCommandFault}
-use Rattle.command_line.specs.Command.{anno_begun, anno_by, anno_job, annotated_by, command, command_by, context_entered, folder_found, inc_begun, inc_by, mark_begun, mark_by, mark_job, pick_begun, pick_by, pick_job, picked_by, rmm_begun, rmm_by, rmm_job, word_by, pack_begun, pack_job, task_begun, tell_begun, tell_by, tell_job, list_begun, list_by, list_job, sort_begun, sort_by, sort_job, store_begun, store_by, store_job}
+use Rattle.command_line.specs.Command.{anno_begun, anno_job, annotated_by, by_words, command, command_by, context_entered, folder_begun, folder_found, inc_begun, list_begun, list_job, mark_begun, mark_job, pack_begun, pack_job, pick_begun, pick_job, picked_by, rmm_begun, rmm_job, sort_begun, sort_job, store_begun, store_job, task_begun, tell_begun, tell_job, word_by}
 use Rattle.command_line.specs.CommandNames.{shows_ends, command_of, named}
 use Rattle.command_line.specs.Incorporating.{IncAsked, job_by, job_writing}
 use Rattle.command_line.specs.Looking.{look_found, written_by}
@@ -896,57 +896,57 @@ module _ (run : ℕ) (few : run < 2 ^ 128) (caller : Caller) (words_ : List (Lis
       by_word word rest is_words None name begins = cc (begins)
       by_word word rest is_words (Some Inc) name begins = go (job_by caller profile (inc_said profile (map chars rest))) refl
         where
-          go : (r : Result IncAsked Ended) → job_by caller profile (inc_said profile (map chars rest)) ≡ r → Keeps Speech past fresh (inc_by run profile r) EndsBy
+          go : (r : Result IncAsked Ended) → job_by caller profile (inc_said profile (map chars rest)) ≡ r → Keeps Speech past fresh (by_words (inc_begun run (path_of profile)) r) EndsBy
           go (Ok asked) said = plain_keeps past fresh (inc_begun run path asked) (inc_begun_keeps word rest is_words name asked said past is clean silent)
           go (Err x) said = stops past fresh x silent
               (refused_shown a x past is (job_refuses caller profile (map chars rest) x said) (refused_by caller words_ a word rest is_words (Some Inc) name x.fault (refusal_of (job_by caller profile (inc_said profile (map chars rest))) x said)) clean)
       by_word word rest is_words (Some Scan) name begins = cc (begins)
       by_word word rest is_words (Some Mark) name begins = go (mark_said profile (map chars rest)) refl
         where
-          go : (r : Result MarkWords Ended) → mark_said profile (map chars rest) ≡ r → Keeps Speech past fresh (mark_by run profile r) EndsBy
+          go : (r : Result MarkWords Ended) → mark_said profile (map chars rest) ≡ r → Keeps Speech past fresh (by_words (mark_begun run profile) r) EndsBy
           go (Ok words) said = plain_keeps past fresh (mark_begun run profile words) (mark_begun_keeps word rest is_words name words said past is clean silent)
           go (Err x) said = stops past fresh x silent
               (refused_shown a x past is (mark_refuses profile (map chars rest) x said) (refused_by caller words_ a word rest is_words (Some Mark) name x.fault (refusal_of (mark_said profile (map chars rest)) x said)) clean)
       by_word word rest is_words (Some Pick) name begins = go (picked_by caller profile (map chars rest)) refl
         where
-          go : (r : Result PickWords Ended) → picked_by caller profile (map chars rest) ≡ r → Keeps Speech past fresh (pick_by run profile r) EndsBy
+          go : (r : Result PickWords Ended) → picked_by caller profile (map chars rest) ≡ r → Keeps Speech past fresh (by_words (pick_begun run profile) r) EndsBy
           go (Ok words) said = plain_keeps past fresh (pick_begun run profile words) (pick_begun_keeps word rest is_words name words said past is clean silent)
           go (Err x) said = stops past fresh x silent
               (refused_shown a x past is (pick_refuses caller.clock.moment caller.clock.offset profile (map chars rest) x said) (refused_by caller words_ a word rest is_words (Some Pick) name x.fault (refusal_of (picked_by caller profile (map chars rest)) x said)) clean)
       by_word word rest is_words (Some Refile) name begins = cc (begins)
       by_word word rest is_words (Some Rmm) name begins = go (rmm_said profile (map chars rest)) refl
         where
-          go : (r : Result RmmWords Ended) → rmm_said profile (map chars rest) ≡ r → Keeps Speech past fresh (rmm_by run profile r) EndsBy
+          go : (r : Result RmmWords Ended) → rmm_said profile (map chars rest) ≡ r → Keeps Speech past fresh (by_words (rmm_begun run profile) r) EndsBy
           go (Ok words) said = plain_keeps past fresh (rmm_begun run profile words) (rmm_begun_keeps word rest is_words name words said past is clean silent)
           go (Err x) said = stops past fresh x silent
               (refused_shown a x past is (rmm_refuses profile (map chars rest) x said) (refused_by caller words_ a word rest is_words (Some Rmm) name x.fault (refusal_of (rmm_said profile (map chars rest)) x said)) clean)
       by_word word rest is_words (Some FolderCommand) name begins = go (tell_said profile (map chars rest)) refl
         where
-          go : (r : Result FolderWords Ended) → tell_said profile (map chars rest) ≡ r → Keeps Speech past fresh (tell_by run profile r) EndsBy
+          go : (r : Result FolderWords Ended) → tell_said profile (map chars rest) ≡ r → Keeps Speech past fresh (by_words (folder_begun run profile) r) EndsBy
           go (Ok words) said = plain_keeps past fresh (task_begun run profile words words.pack) (task_begun_keeps word rest is_words name words said words.pack refl past is clean silent)
           go (Err x) said = stops past fresh x silent
               (refused_shown a x past is (tell_refuses profile (map chars rest) x said) (refused_by caller words_ a word rest is_words (Some FolderCommand) name x.fault (refusal_of (tell_said profile (map chars rest)) x said)) clean)
       by_word word rest is_words (Some Anno) name begins = go (annotated_by caller profile (map chars rest)) refl
         where
-          go : (r : Result AnnoWords Ended) → annotated_by caller profile (map chars rest) ≡ r → Keeps Speech past fresh (anno_by run profile r) EndsBy
+          go : (r : Result AnnoWords Ended) → annotated_by caller profile (map chars rest) ≡ r → Keeps Speech past fresh (by_words (anno_begun run profile) r) EndsBy
           go (Ok words) said = plain_keeps past fresh (anno_begun run profile words) (anno_begun_keeps word rest is_words name words said past is clean silent)
           go (Err x) said = stops past fresh x silent
               (refused_shown a x past is (anno_refuses caller.clock.moment caller.clock.offset profile (map chars rest) x said) (refused_by caller words_ a word rest is_words (Some Anno) name x.fault (refusal_of (annotated_by caller profile (map chars rest)) x said)) clean)
       by_word word rest is_words (Some Sortm) name begins = go (sort_said profile (map chars rest)) refl
         where
-          go : (r : Result SortWords Ended) → sort_said profile (map chars rest) ≡ r → Keeps Speech past fresh (sort_by run profile r) EndsBy
+          go : (r : Result SortWords Ended) → sort_said profile (map chars rest) ≡ r → Keeps Speech past fresh (by_words (sort_begun run profile) r) EndsBy
           go (Ok words) said = plain_keeps past fresh (sort_begun run profile words) (sort_begun_keeps word rest is_words name words said past is clean silent)
           go (Err x) said = stops past fresh x silent
               (refused_shown a x past is (sort_refuses profile (map chars rest) x said) (refused_by caller words_ a word rest is_words (Some Sortm) name x.fault (refusal_of (sort_said profile (map chars rest)) x said)) clean)
       by_word word rest is_words (Some Mhlist) name begins = go (list_said profile (map chars rest)) refl
         where
-          go : (r : Result ListWords Ended) → list_said profile (map chars rest) ≡ r → Keeps Speech past fresh (list_by run profile r) EndsBy
+          go : (r : Result ListWords Ended) → list_said profile (map chars rest) ≡ r → Keeps Speech past fresh (by_words (list_begun run profile) r) EndsBy
           go (Ok words) said = plain_keeps past fresh (list_begun run profile words) (list_begun_keeps word rest is_words name words said past is clean silent)
           go (Err x) said = stops past fresh x silent
               (refused_shown a x past is (list_words_refuse profile (map chars rest) x said) (refused_by caller words_ a word rest is_words (Some Mhlist) name x.fault (refusal_of (list_said profile (map chars rest)) x said)) clean)
       by_word word rest is_words (Some Mhstore) name begins = go (store_said profile (map chars rest)) refl
         where
-          go : (r : Result StoreWords Ended) → store_said profile (map chars rest) ≡ r → Keeps Speech past fresh (store_by run profile r) EndsBy
+          go : (r : Result StoreWords Ended) → store_said profile (map chars rest) ≡ r → Keeps Speech past fresh (by_words (store_begun run profile) r) EndsBy
           go (Ok words) said = plain_keeps past fresh (store_begun run profile words) (store_begun_keeps word rest is_words name words said past is clean silent)
           go (Err x) said = stops past fresh x silent
               (refused_shown a x past is (store_words_refuse profile (map chars rest) x said) (refused_by caller words_ a word rest is_words (Some Mhstore) name x.fault (refusal_of (store_said profile (map chars rest)) x said)) clean)

@@ -43,7 +43,7 @@ use Rattle.build_words.proofs.Said.{build_refuses, build_valid}
 use Rattle.command_words.specs.Ended.{plain}
 use Rattle.command_words.specs.declared.ended.Ended.{Ended}
 use Rattle.command_ends.specs.BuildCauses.{BuildsBy, IsBuildJob, SaysBuilt, ShowsBuildFault, ShowsBuilt, ShowsLongEntries, TellsBuilt, long_context_read, long_profile_read}
-use Rattle.command_line.specs.Command.{build_begun, build_by, build_job, command, command_by, context_entered, context_seen, word_by}
+use Rattle.command_line.specs.Command.{build_begun, build_job, by_words, command, command_by, context_entered, context_seen, word_by}
 use Rattle.command_line.specs.CommandNames.{command_of, named}
 use Rattle.command_line.specs.Profile.{entries_by, path_by, path_of, profile_name, text_of}
 use Rattle.command_ends.specs.WordCauses.{IsRefusedByWords}
@@ -249,10 +249,10 @@ module _ (run : ℕ) (few : run < 2 ^ 128) (caller : Caller) (words_ : List (Lis
         unlocked = refused_unlocked x.fault (build_refuses profile (map chars rest) x said);
       }
 
-      by_build : (word : List ℕ) (rest : List (List ℕ)) → words_ ≡ word ∷ rest → named word ≡ Some Mhbuild → Keeps Speech past fresh (build_by run profile (build_said profile (map chars rest))) EndsBuilt
+      by_build : (word : List ℕ) (rest : List (List ℕ)) → words_ ≡ word ∷ rest → named word ≡ Some Mhbuild → Keeps Speech past fresh (by_words (build_begun run profile) (build_said profile (map chars rest))) EndsBuilt
       by_build word rest is_words name = go (build_said profile (map chars rest)) refl
         where
-          go : (r : Result BuildWords Ended) → build_said profile (map chars rest) ≡ r → Keeps Speech past fresh (build_by run profile r) EndsBuilt
+          go : (r : Result BuildWords Ended) → build_said profile (map chars rest) ≡ r → Keeps Speech past fresh (by_words (build_begun run profile) r) EndsBuilt
           go (Ok words) said = plain_keeps past fresh (build_begun run profile words) (build_begun_keeps word rest is_words name words said past is clean silent)
           go (Err x) said = stops past fresh x silent (build_refused word rest is_words name x said)
 

@@ -37,7 +37,7 @@ use Rattle.command_words.specs.ScanWords.{scan_said}
 use Rattle.command_words.specs.declared.ended.Ended.{Ended}
 use Rattle.command_ends.specs.BegunCauses.{ShowsEarly, long_context, long_profile, wrong_stored}
 use Rattle.command_ends.specs.Causes.{IsAboveLimit, ShowsCommandFault, ShowsRefusal}
-use Rattle.command_line.specs.Command.{command, command_by, folder_found, job_of, no_command, scan_begun, scan_by, word_by}
+use Rattle.command_line.specs.Command.{by_words, command, command_by, folder_found, job_of, no_command, scan_begun, word_by}
 use Rattle.command_line.specs.CommandNames.{begins_folders, command_of, named}
 use Rattle.command_line.specs.Looking.{ScanAsked, look_found, scan_asked}
 use Rattle.command_line.specs.Profile.{entries_by, path_by, path_of, profile_name}
@@ -155,7 +155,7 @@ module _ (run : ℕ) (caller : Caller) (words_ : List (List ℕ)) where
 
     -- by what its words ask
     asked_comes : (value : Result ScanAsked Ended) → ((x : Ended) → value ≡ Err x → IsRefusal x.fault × IsRefusedByWords caller words_ x.fault (after_profile a))
-        → ((file : FilePath) → scan_file value ≡ Some file → words_file caller profile words_ ≡ Some file) → Comes (after_profile a) fresh (scan_by run profile value) CommandEnds
+        → ((file : FilePath) → scan_file value ≡ Some file → words_file caller profile words_ ≡ Some file) → Comes (after_profile a) fresh (by_words (scan_begun run profile) value) CommandEnds
     asked_comes (Ok words) refused file =
         comes_lifted (after_profile a) fresh plain (scan_begun run profile words) Faults CommandEnds (scan_begun_comes words file) (λ later j u q. tt) (λ later j e q. q)
     asked_comes (Err x) refused file = let s = refused x refl in comes_to (after_profile a) fresh (Err x) CommandEnds (words_show x.fault (after_profile a) s.0 s.1)

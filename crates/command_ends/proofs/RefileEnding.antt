@@ -38,7 +38,7 @@ use Rattle.command_words.specs.RefileWords.{refile_said}
 use Rattle.command_words.specs.declared.ended.Ended.{Ended}
 use Rattle.command_words.specs.declared.refile.RefileWords.{RefileWords}
 use Rattle.command_ends.specs.BegunCauses.{ShowsEarly, ShowsFault, ShowsNamed, ShowsOnFolder, ShowsRefileWords, ShowsRefiling}
-use Rattle.command_line.specs.Command.{command, command_by, folder_found, refile_begun, refile_by, refile_job, word_by}
+use Rattle.command_line.specs.Command.{by_words, command, command_by, folder_found, refile_begun, refile_job, word_by}
 use Rattle.command_line.specs.CommandNames.{command_of, named}
 use Rattle.command_line.specs.Profile.{entries_by, folder_of, path_of, profile_name}
 use Rattle.command_line.specs.declared.name.CommandName.TheVariants.{Refile}
@@ -174,10 +174,10 @@ module _ (run : ℕ) (few : run < 2 ^ 128) (caller : Caller) (words_ : List (Lis
           (refused_shown run few caller words_ a x past is (refile_refuses profile (map chars rest) x said) (refused_by caller words_ a word rest is_words (Some Refile) name x.fault (refusal_of (refile_said profile (map chars rest)) x said)) clean)
 
       -- the command by its words, refused or not
-      by_refile : (word : List ℕ) (rest : List (List ℕ)) → words_ ≡ word ∷ rest → named word ≡ Some Refile → Keeps Silence past fresh (refile_by run profile (refile_said profile (map chars rest))) EndsFirst
+      by_refile : (word : List ℕ) (rest : List (List ℕ)) → words_ ≡ word ∷ rest → named word ≡ Some Refile → Keeps Silence past fresh (by_words (refile_begun run profile) (refile_said profile (map chars rest))) EndsFirst
       by_refile word rest is_words name = go (refile_said profile (map chars rest)) refl
         where
-          go : (r : Result RefileWords Ended) → refile_said profile (map chars rest) ≡ r → Keeps Silence past fresh (refile_by run profile r) EndsFirst
+          go : (r : Result RefileWords Ended) → refile_said profile (map chars rest) ≡ r → Keeps Silence past fresh (by_words (refile_begun run profile) r) EndsFirst
           go (Ok words) said = plain_keeps past fresh (refile_begun run profile words) (refile_begun_keeps word rest is_words name words said past is clean silent)
           go (Err x) said = stops past fresh x silent (refile_refused word rest is_words name x said)
 

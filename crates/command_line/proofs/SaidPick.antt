@@ -12,7 +12,7 @@ use Rattle.pick_expr.specs.Whole.{expr_in}
 use Rattle.pick_expr.specs.declared.expr.Expr.{Expr}
 use Rattle.pick_expr.specs.declared.fault.ExprFault.{ExprFault}
 use Rattle.pick_expr.specs.declared.fault.ExprFault.TheVariants.{BadExpr, BadDate, Memory}
-use Rattle.pick_expr.proofs.WholeLemmas.{never_memory}
+use Rattle.pick_expr.proofs.ItemValues.{never_memory}
 use Rattle.command_words.specs.BadValues.{first_of, unless_bad}
 use Rattle.command_words.specs.FieldNames.{bad_names}
 use Rattle.command_words.specs.FolderWords.{folder_named, folders, one_folder, some_named}

@@ -94,16 +94,17 @@ job_of folder words profile spoken = record {
   spoken = spoken;
 }
 
+-- the work that words ask for, or the end that they come to
+abbrev pub by_words : {W : Type 0} → (W → Commanded Unit) → Result W Ended → Ending Unit
+by_words begun (Ok words) = lifted plain (begun words)
+by_words begun (Err e) = Return (Err e)
+
 -- the work of the command begins in it; of `scan` once what is written of messages is found
 unfoldable pub scan_begun : ℕ → List NamedValue → ScanAsked → Commanded Unit
 scan_begun run profile words = do
   folder ← folder_found profile words.folder
   spoken ← look_found words.telling
   scan run (path_of profile) (job_of folder words profile spoken)
-
-abbrev pub scan_by : ℕ → List NamedValue → Result ScanAsked Ended → Ending Unit
-scan_by run profile (Ok words) = lifted plain (scan_begun run profile words)
-scan_by run profile (Err e) = Return (Err e)
 
 abbrev pub mark_job : List ℕ → MarkWords → List NamedValue → MarkJob
 mark_job folder words profile =
@@ -121,10 +122,6 @@ unfoldable pub mark_begun : ℕ → List NamedValue → MarkWords → Commanded 
 mark_begun run profile words = do
   folder ← folder_found profile words.folder
   mark run (path_of profile) (mark_job folder words profile)
-
-abbrev pub mark_by : ℕ → List NamedValue → Result MarkWords Ended → Ending Unit
-mark_by run profile (Ok words) = lifted plain (mark_begun run profile words)
-mark_by run profile (Err e) = Return (Err e)
 
 -- what the words of `pick` say, whose dates are named by the caller's clock
 abbrev pub picked_by : Caller → List NamedValue → List (List ℕ) → Result PickWords Ended
@@ -146,10 +143,6 @@ pick_begun run profile words = do
   folder ← folder_found profile words.folder
   pick run (path_of profile) (pick_job folder words profile)
 
-abbrev pub pick_by : ℕ → List NamedValue → Result PickWords Ended → Ending Unit
-pick_by run profile (Ok words) = lifted plain (pick_begun run profile words)
-pick_by run profile (Err e) = Return (Err e)
-
 abbrev pub rmm_job : List ℕ → RmmWords → List NamedValue → RmmJob
 rmm_job folder words profile =
     record { folder = folder; specs = words.specs; unlink = words.unlink; negation = negation_of profile }
@@ -158,10 +151,6 @@ unfoldable pub rmm_begun : ℕ → List NamedValue → RmmWords → Commanded Un
 rmm_begun run profile words = do
   folder ← folder_found profile words.folder
   rmm run (path_of profile) (rmm_job folder words profile)
-
-abbrev pub rmm_by : ℕ → List NamedValue → Result RmmWords Ended → Ending Unit
-rmm_by run profile (Ok words) = lifted plain (rmm_begun run profile words)
-rmm_by run profile (Err e) = Return (Err e)
 
 abbrev pub tell_job : List ℕ → FolderWords → List NamedValue → FolderJob
 tell_job folder words profile = record { folder = folder; specs = words.specs; negation = negation_of profile }
@@ -185,9 +174,8 @@ unfoldable pub task_begun : ℕ → List NamedValue → FolderWords → Bool →
 task_begun run profile words true = pack_begun run profile words
 task_begun run profile words false = tell_begun run profile words
 
-abbrev pub tell_by : ℕ → List NamedValue → Result FolderWords Ended → Ending Unit
-tell_by run profile (Ok words) = lifted plain (task_begun run profile words words.pack)
-tell_by run profile (Err e) = Return (Err e)
+abbrev pub folder_begun : ℕ → List NamedValue → FolderWords → Commanded Unit
+folder_begun run profile words = task_begun run profile words words.pack
 
 -- what the words of `anno` say, whose lines have their date by the caller's clock
 abbrev pub annotated_by : Caller → List NamedValue → List (List ℕ) → Result AnnoWords Ended
@@ -202,10 +190,6 @@ anno_begun run profile words = do
   folder ← folder_found profile words.folder
   anno run (path_of profile) (anno_job folder words profile)
 
-abbrev pub anno_by : ℕ → List NamedValue → Result AnnoWords Ended → Ending Unit
-anno_by run profile (Ok words) = lifted plain (anno_begun run profile words)
-anno_by run profile (Err e) = Return (Err e)
-
 abbrev pub sort_job : List ℕ → SortWords → List NamedValue → SortJob
 sort_job folder words profile =
     record { folder = folder; specs = words.specs; key = words.key; negation = negation_of profile }
@@ -215,10 +199,6 @@ sort_begun run profile words = do
   folder ← folder_found profile words.folder
   sortm run (path_of profile) (sort_job folder words profile)
 
-abbrev pub sort_by : ℕ → List NamedValue → Result SortWords Ended → Ending Unit
-sort_by run profile (Ok words) = lifted plain (sort_begun run profile words)
-sort_by run profile (Err e) = Return (Err e)
-
 abbrev pub list_job : List ℕ → ListWords → List NamedValue → ListJob
 list_job folder words profile =
     record { folder = folder; specs = words.specs; parts = words.parts; negation = negation_of profile }
@@ -227,10 +207,6 @@ unfoldable pub list_begun : ℕ → List NamedValue → ListWords → Commanded 
 list_begun run profile words = do
   folder ← folder_found profile words.folder
   mhlist run (path_of profile) (list_job folder words profile)
-
-abbrev pub list_by : ℕ → List NamedValue → Result ListWords Ended → Ending Unit
-list_by run profile (Ok words) = lifted plain (list_begun run profile words)
-list_by run profile (Err e) = Return (Err e)
 
 abbrev pub store_job : List ℕ → StoreWords → List NamedValue → StoreJob
 store_job folder words profile =
@@ -247,10 +223,6 @@ store_begun run profile words = do
   folder ← folder_found profile words.folder
   mhstore run (path_of profile) (store_job folder words profile)
 
-abbrev pub store_by : ℕ → List NamedValue → Result StoreWords Ended → Ending Unit
-store_by run profile (Ok words) = lifted plain (store_begun run profile words)
-store_by run profile (Err e) = Return (Err e)
-
 -- the draft that the words name, and what forwards messages by the entries of the context and of the profile
 abbrev pub build_job : BuildWords → List NamedValue → List NamedValue → BuildJob
 build_job words context profile =
@@ -264,10 +236,6 @@ unfoldable pub build_begun : ℕ → List NamedValue → BuildWords → Commande
 build_begun run profile words = do
   entered ← context_entered (Mail (path_of profile))
   Recall (λ h. mhbuild run (path_of profile) (build_job words (entries_seen h.context) profile))
-
-abbrev pub build_by : ℕ → List NamedValue → Result BuildWords Ended → Ending Unit
-build_by run profile (Ok words) = lifted plain (build_begun run profile words)
-build_by run profile (Err e) = Return (Err e)
 
 -- the source is the folder that is acted on, and becomes the current one where the words name it
 abbrev pub refile_job : List ℕ → RefileWords → List NamedValue → RefileJob
@@ -286,20 +254,12 @@ refile_begun run profile words = do
   folder ← folder_found profile words.source
   refile run (path_of profile) (refile_job folder words profile)
 
-abbrev pub refile_by : ℕ → List NamedValue → Result RefileWords Ended → Ending Unit
-refile_by run profile (Ok words) = lifted plain (refile_begun run profile words)
-refile_by run profile (Err e) = Return (Err e)
-
 -- the context is read, what is written of messages is found, and new mail is taken in
 unfoldable pub inc_begun : ℕ → List ℕ → IncAsked → Commanded Unit
 inc_begun run path asked = do
   entered ← context_entered (Mail path)
   spoken ← look_found asked.telling
   inc run path (job_writing asked spoken)
-
-abbrev pub inc_by : ℕ → List NamedValue → Result IncAsked Ended → Ending Unit
-inc_by run profile (Ok asked) = lifted plain (inc_begun run (path_of profile) asked)
-inc_by run profile (Err e) = Return (Err e)
 
 -- a word that names no command that there is
 abbrev pub no_command : Option (List ℕ) → Ended
@@ -309,19 +269,28 @@ no_command word = wrong_word (record { place = 0; why = NoCommand }) word
 abbrev pub word_by : ℕ → Caller → List NamedValue → List ℕ → List (List ℕ) → Option CommandName → Ending Unit
 word_by run caller profile word words None = Return (Err (no_command (Some word)))
 word_by run caller profile word words (Some Inc) =
-    inc_by run profile (job_by caller profile (inc_said profile (map chars words)))
+    by_words (inc_begun run (path_of profile)) (job_by caller profile (inc_said profile (map chars words)))
 word_by run caller profile word words (Some Scan) =
-    scan_by run profile (scan_asked caller (scan_said profile (map chars words)))
-word_by run caller profile word words (Some Mark) = mark_by run profile (mark_said profile (map chars words))
-word_by run caller profile word words (Some Pick) = pick_by run profile (picked_by caller profile (map chars words))
-word_by run caller profile word words (Some Refile) = refile_by run profile (refile_said profile (map chars words))
-word_by run caller profile word words (Some Rmm) = rmm_by run profile (rmm_said profile (map chars words))
-word_by run caller profile word words (Some FolderCommand) = tell_by run profile (tell_said profile (map chars words))
-word_by run caller profile word words (Some Anno) = anno_by run profile (annotated_by caller profile (map chars words))
-word_by run caller profile word words (Some Sortm) = sort_by run profile (sort_said profile (map chars words))
-word_by run caller profile word words (Some Mhlist) = list_by run profile (list_said profile (map chars words))
-word_by run caller profile word words (Some Mhstore) = store_by run profile (store_said profile (map chars words))
-word_by run caller profile word words (Some Mhbuild) = build_by run profile (build_said profile (map chars words))
+    by_words (scan_begun run profile) (scan_asked caller (scan_said profile (map chars words)))
+word_by run caller profile word words (Some Mark) =
+    by_words (mark_begun run profile) (mark_said profile (map chars words))
+word_by run caller profile word words (Some Pick) =
+    by_words (pick_begun run profile) (picked_by caller profile (map chars words))
+word_by run caller profile word words (Some Refile) =
+    by_words (refile_begun run profile) (refile_said profile (map chars words))
+word_by run caller profile word words (Some Rmm) = by_words (rmm_begun run profile) (rmm_said profile (map chars words))
+word_by run caller profile word words (Some FolderCommand) =
+    by_words (folder_begun run profile) (tell_said profile (map chars words))
+word_by run caller profile word words (Some Anno) =
+    by_words (anno_begun run profile) (annotated_by caller profile (map chars words))
+word_by run caller profile word words (Some Sortm) =
+    by_words (sort_begun run profile) (sort_said profile (map chars words))
+word_by run caller profile word words (Some Mhlist) =
+    by_words (list_begun run profile) (list_said profile (map chars words))
+word_by run caller profile word words (Some Mhstore) =
+    by_words (store_begun run profile) (store_said profile (map chars words))
+word_by run caller profile word words (Some Mhbuild) =
+    by_words (build_begun run profile) (build_said profile (map chars words))
 
 abbrev pub command_by : ℕ → Caller → List NamedValue → List (List ℕ) → Ending Unit
 command_by run caller profile [] = Return (Err (no_command None))

@@ -7,7 +7,7 @@ ghost use Rattle.file_plans.specs.Follows.{Follows, by_hand};
 ghost use Rattle.step_plans.specs.CommandFaults.{command_cause};
 ghost use Rattle.command_words.specs.Ended.{ended_cause};
 ghost use Rattle.command_words.specs.Results.{IsSaid};
-ghost use Rattle.command_line.specs.Command.{anno_begun, anno_by, annotated_by};
+ghost use Rattle.command_line.specs.Command.{anno_begun, annotated_by, by_words};
 ghost use Rattle.command_line.specs.Profile.{path_of};
 
 use crate::Caller;
@@ -67,7 +67,7 @@ pub(crate) fn run_anno<F: Files>(
 ) -> Result<(), Ended>
     ensures { (left : Kept)
         × Follows run ended_cause
-        (anno_by run profile.now (annotated_by caller.now profile.now (map chars (map string_bytes words.now))))
+        (by_words (anno_begun run profile.now) (annotated_by caller.now profile.now (map chars (map string_bytes words.now))))
         (by_hand fresh (F.state files.old)) (by_hand left (F.state files.new)) result }
 {
     let words = words_of(alloc, profile, caller, words)?;

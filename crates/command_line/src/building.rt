@@ -7,7 +7,7 @@ ghost use Rattle.file_plans.specs.Follows.{Follows, all};
 ghost use Rattle.step_plans.specs.CommandFaults.{command_cause};
 ghost use Rattle.command_words.specs.Ended.{ended_cause};
 ghost use Rattle.build_words.specs.BuildWords.{build_said};
-ghost use Rattle.command_line.specs.Command.{build_begun, build_by, build_job as build_job_of};
+ghost use Rattle.command_line.specs.Command.{build_begun, build_job as build_job_of, by_words};
 ghost use Rattle.command_line.specs.Profile.{path_of};
 ghost use Rattle.mh_profile.specs.Reading.{entries_seen};
 
@@ -74,7 +74,7 @@ pub(crate) fn run_mhbuild<F: Files, I: Source, O: Sink>(
 ) -> Result<(), Ended>
     ensures { (left : Kept)
         × Follows run ended_cause
-        (build_by run profile.now (build_said profile.now (map chars (map string_bytes words.now))))
+        (by_words (build_begun run profile.now) (build_said profile.now (map chars (map string_bytes words.now))))
         (all fresh (F.state files.old) (I.state input.old) (O.state out.old))
         (all left (F.state files.new) (I.state input.new) (O.state out.new)) result }
 {

@@ -9,9 +9,9 @@ ghost use Rattle.command_words.specs.Ended.{ended_cause};
 ghost use Rattle.command_words.specs.IncWords.{inc_said};
 ghost use Rattle.command_words.specs.Results.{IsNamed};
 ghost use Rattle.command_line.specs.Looking.{IsNamedAs, IsSaidAs};
-ghost use Rattle.command_line.specs.Command.{inc_begun, inc_by};
+ghost use Rattle.command_line.specs.Command.{by_words, inc_begun};
 ghost use Rattle.command_line.specs.Incorporating.{delivered as delivered_of, drop_of, inc_asked_of, inc_job as inc_job_of, job_by};
-ghost use Rattle.command_line.specs.Profile.{folder_of};
+ghost use Rattle.command_line.specs.Profile.{folder_of, path_of};
 
 use crate::Caller;
 use crate::current::enter_context;
@@ -162,7 +162,7 @@ pub(crate) fn run_inc<F: Files, O: Sink>(
 ) -> Result<(), Ended>
     ensures { (left : Kept)
         × Follows run ended_cause
-        (inc_by run profile.now
+        (by_words (inc_begun run (path_of profile.now))
         (job_by caller.now profile.now (inc_said profile.now (map chars (map string_bytes words.now)))))
         (by_out fresh (F.state files.old) (O.state out.old))
         (by_out left (F.state files.new) (O.state out.new)) result }

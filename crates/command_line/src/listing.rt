@@ -6,7 +6,7 @@ ghost use Rattle.file_plans.specs.Plan.{Hand as Kept, fresh};
 ghost use Rattle.file_plans.specs.Follows.{Follows, by_out};
 ghost use Rattle.step_plans.specs.CommandFaults.{command_cause};
 ghost use Rattle.command_words.specs.Ended.{ended_cause};
-ghost use Rattle.command_line.specs.Command.{list_begun, list_by};
+ghost use Rattle.command_line.specs.Command.{by_words, list_begun};
 ghost use Rattle.command_line.specs.Profile.{path_of};
 ghost use Rattle.list_words.specs.ListWords.{list_said};
 
@@ -56,7 +56,7 @@ pub(crate) fn run_mhlist<F: Files, O: Sink>(
 ) -> Result<(), Ended>
     ensures { (left : Kept)
         × Follows run ended_cause
-        (list_by run profile.now (list_said profile.now (map chars (map string_bytes words.now))))
+        (by_words (list_begun run profile.now) (list_said profile.now (map chars (map string_bytes words.now))))
         (by_out fresh (F.state files.old) (O.state out.old))
         (by_out left (F.state files.new) (O.state out.new)) result }
 {

@@ -7,7 +7,7 @@ ghost use Rattle.file_plans.specs.Follows.{Follows, by_out};
 ghost use Rattle.step_plans.specs.CommandFaults.{command_cause};
 ghost use Rattle.command_words.specs.Ended.{ended_cause};
 ghost use Rattle.command_words.specs.MarkWords.{mark_said};
-ghost use Rattle.command_line.specs.Command.{mark_begun, mark_by};
+ghost use Rattle.command_line.specs.Command.{by_words, mark_begun};
 ghost use Rattle.command_line.specs.Profile.{path_of};
 
 use crate::current::enter_folder;
@@ -58,7 +58,7 @@ pub(crate) fn run_mark<F: Files, O: Sink>(
 ) -> Result<(), Ended>
     ensures { (left : Kept)
         × Follows run ended_cause
-        (mark_by run profile.now (mark_said profile.now (map chars (map string_bytes words.now))))
+        (by_words (mark_begun run profile.now) (mark_said profile.now (map chars (map string_bytes words.now))))
         (by_out fresh (F.state files.old) (O.state out.old))
         (by_out left (F.state files.new) (O.state out.new)) result }
 {

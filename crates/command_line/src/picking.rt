@@ -7,7 +7,7 @@ ghost use Rattle.file_plans.specs.Follows.{Follows, by_out};
 ghost use Rattle.step_plans.specs.CommandFaults.{command_cause};
 ghost use Rattle.command_words.specs.Ended.{ended_cause};
 ghost use Rattle.command_words.specs.Results.{IsSaid};
-ghost use Rattle.command_line.specs.Command.{pick_begun, pick_by, picked_by};
+ghost use Rattle.command_line.specs.Command.{by_words, pick_begun, picked_by};
 ghost use Rattle.command_line.specs.Profile.{path_of};
 
 use crate::Caller;
@@ -72,7 +72,7 @@ pub(crate) fn run_pick<F: Files, O: Sink>(
 ) -> Result<(), Ended>
     ensures { (left : Kept)
         × Follows run ended_cause
-        (pick_by run profile.now (picked_by caller.now profile.now (map chars (map string_bytes words.now))))
+        (by_words (pick_begun run profile.now) (picked_by caller.now profile.now (map chars (map string_bytes words.now))))
         (by_out fresh (F.state files.old) (O.state out.old))
         (by_out left (F.state files.new) (O.state out.new)) result }
 {

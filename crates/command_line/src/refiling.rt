@@ -7,7 +7,7 @@ ghost use Rattle.file_plans.specs.Follows.{Follows, by_hand};
 ghost use Rattle.step_plans.specs.CommandFaults.{command_cause};
 ghost use Rattle.command_words.specs.Ended.{ended_cause};
 ghost use Rattle.command_words.specs.RefileWords.{refile_said};
-ghost use Rattle.command_line.specs.Command.{refile_begun, refile_by};
+ghost use Rattle.command_line.specs.Command.{by_words, refile_begun};
 ghost use Rattle.command_line.specs.Profile.{path_of};
 
 use crate::current::enter_folder;
@@ -55,7 +55,7 @@ pub(crate) fn run_refile<F: Files>(
 ) -> Result<(), Ended>
     ensures { (left : Kept)
         × Follows run ended_cause
-        (refile_by run profile.now (refile_said profile.now (map chars (map string_bytes words.now))))
+        (by_words (refile_begun run profile.now) (refile_said profile.now (map chars (map string_bytes words.now))))
         (by_hand fresh (F.state files.old)) (by_hand left (F.state files.new)) result }
 {
     let words = refile_words(alloc, profile, words)?;

@@ -7,7 +7,7 @@ ghost use Rattle.file_plans.specs.Follows.{Follows, by_out};
 ghost use Rattle.step_plans.specs.CommandFaults.{command_cause};
 ghost use Rattle.command_words.specs.Ended.{ended_cause};
 ghost use Rattle.command_words.specs.ScanWords.{scan_said};
-ghost use Rattle.command_line.specs.Command.{scan_begun, scan_by};
+ghost use Rattle.command_line.specs.Command.{by_words, scan_begun};
 ghost use Rattle.command_line.specs.Looking.{asked_of, IsSaidAs, scan_asked};
 ghost use Rattle.command_line.specs.Profile.{path_of};
 
@@ -86,7 +86,7 @@ pub(crate) fn run_scan<F: Files, O: Sink>(
 ) -> Result<(), Ended>
     ensures { (left : Kept)
         × Follows run ended_cause
-        (scan_by run profile.now
+        (by_words (scan_begun run profile.now)
         (scan_asked caller.now (scan_said profile.now (map chars (map string_bytes words.now)))))
         (by_out fresh (F.state files.old) (O.state out.old))
         (by_out left (F.state files.new) (O.state out.new)) result }

@@ -6,7 +6,7 @@ ghost use Rattle.file_plans.specs.Plan.{Hand as Kept, fresh};
 ghost use Rattle.file_plans.specs.Follows.{Follows, by_hand};
 ghost use Rattle.step_plans.specs.CommandFaults.{command_cause};
 ghost use Rattle.command_words.specs.Ended.{ended_cause};
-ghost use Rattle.command_line.specs.Command.{sort_begun, sort_by};
+ghost use Rattle.command_line.specs.Command.{by_words, sort_begun};
 ghost use Rattle.command_line.specs.Profile.{path_of};
 ghost use Rattle.sort_words.specs.SortWords.{sort_said};
 
@@ -52,7 +52,7 @@ pub(crate) fn run_sortm<F: Files>(
 ) -> Result<(), Ended>
     ensures { (left : Kept)
         × Follows run ended_cause
-        (sort_by run profile.now (sort_said profile.now (map chars (map string_bytes words.now))))
+        (by_words (sort_begun run profile.now) (sort_said profile.now (map chars (map string_bytes words.now))))
         (by_hand fresh (F.state files.old)) (by_hand left (F.state files.new)) result }
 {
     let words = sort_words(alloc, profile, words)?;

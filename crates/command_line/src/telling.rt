@@ -7,7 +7,7 @@ ghost use Rattle.file_plans.specs.Follows.{Follows, by_out};
 ghost use Rattle.step_plans.specs.CommandFaults.{command_cause};
 ghost use Rattle.command_words.specs.Ended.{ended_cause};
 ghost use Rattle.command_words.specs.TellWords.{tell_said};
-ghost use Rattle.command_line.specs.Command.{pack_begun, task_begun, tell_begun, tell_by};
+ghost use Rattle.command_line.specs.Command.{by_words, folder_begun, pack_begun, task_begun, tell_begun};
 ghost use Rattle.command_line.specs.Profile.{path_of};
 
 use crate::current::enter_folder;
@@ -95,7 +95,7 @@ pub(crate) fn run_folder<F: Files, O: Sink>(
 ) -> Result<(), Ended>
     ensures { (left : Kept)
         × Follows run ended_cause
-        (tell_by run profile.now (tell_said profile.now (map chars (map string_bytes words.now))))
+        (by_words (folder_begun run profile.now) (tell_said profile.now (map chars (map string_bytes words.now))))
         (by_out fresh (F.state files.old) (O.state out.old))
         (by_out left (F.state files.new) (O.state out.new)) result }
 {

@@ -97,7 +97,7 @@ use Rattle.mhbuild_plans.proofs.HeardGiven.{given_gives}
 use Rattle.store_words.specs.StoreWords.{store_said}
 use Rattle.store_words.specs.declared.words.StoreWords.{StoreWords}
 use Rattle.store_words.proofs.Said.{store_refuses, store_valid}
-use Rattle.command_line.specs.Command.{anno_begun, anno_by, anno_job, annotated_by, build_job, context_seen, context_entered, folder_found, inc_begun, inc_by, job_of, mark_job, scan_begun, scan_by, mark_begun, mark_by, pick_begun, pick_by, pick_job, picked_by, refile_begun, refile_by, refile_job, rmm_begun, rmm_by, rmm_job, pack_begun, pack_job, task_begun, tell_begun, tell_by, tell_job, list_begun, list_by, list_job, sort_begun, sort_by, sort_job, store_begun, store_by, store_job}
+use Rattle.command_line.specs.Command.{anno_begun, anno_job, annotated_by, build_job, by_words, context_entered, context_seen, folder_begun, folder_found, inc_begun, job_of, list_begun, list_job, mark_begun, mark_job, pack_begun, pack_job, pick_begun, pick_job, picked_by, refile_begun, refile_job, rmm_begun, rmm_job, scan_begun, sort_begun, sort_job, store_begun, store_job, task_begun, tell_begun, tell_job}
 use Rattle.command_line.specs.CommandNames.{begins_folders, command_of, makes_folders, named, stores_files}
 use Rattle.command_line.specs.Incorporating.{IncAsked, job_by, job_writing}
 use Rattle.command_outcomes.specs.Outcomes.{anno_words_work, annos, FolderWork, inc_job_work, incs, plainly, of_stage, in_folder, with_context, scans, scan_words_work, on_folder, writing, written_there, marks, mark_words_work, picks, pick_words_work, refiles, refile_words_work, rmms, rmm_words_work, word_work, named_work, with_profile, work_by, work_of, alone_meeting, build_words_work, builds, packs, tasks, tell_words_work, tells, list_words_work, lists, sort_words_work, sorts, store_words_work, stores}
@@ -594,7 +594,7 @@ module _ (alone : Bool) (run : ℕ) (c : Contents) (few : run < 2 ^ 128) (homes 
 
   -- the words of the commands
   module _ (profile : List NamedValue) (z : View) (same : z.contents ≡ c) (unmet : (p : Place) (x : List ℕ) → z.met p x ≡ false) (begun : IsBegun z) where
-    scan_words_give : (value : Result ScanAsked Ended) → ((e : Ended) → value ≡ Err e → IsRefusal e.fault) → Gives (by_view alone) z fresh (scan_words_work box profile value).text (scan_by run profile value) (CommandEnds alone (scan_words_work box profile value))
+    scan_words_give : (value : Result ScanAsked Ended) → ((e : Ended) → value ≡ Err e → IsRefusal e.fault) → Gives (by_view alone) z fresh (scan_words_work box profile value).text (by_words (scan_begun run profile) value) (CommandEnds alone (scan_words_work box profile value))
     unfolding Gives lifted mailbox_in
     scan_words_give (Ok words) r =
         gives_bind (by_view alone) z fresh (scan_words_work box profile (Ok words)).text (scan_begun run profile words) (λ q. Return (converted plain q)) (ScanEnds alone (stage alone c profile words.folder z fresh same (λ beside. begun) (scans box profile words)))
@@ -604,7 +604,7 @@ module _ (alone : Bool) (run : ℕ) (c : Contents) (few : run < 2 ^ 128) (homes 
     scan_words_give (Err e) r = let is = r e refl in plain_refused alone c e is.0 z fresh [] is.1 refl same
 
     mark_words_true : AreAllHomes run c → (value : Result MarkWords Ended) → ((words : MarkWords) → value ≡ Ok words → IsValid words.folder) → ((e : Ended) → value ≡ Err e → IsRefusal e.fault)
-        → Gives (by_view true) z fresh (mark_words_work (alone_meeting run) box profile value).text (mark_by run profile value) (CommandEnds true (mark_words_work (alone_meeting run) box profile value))
+        → Gives (by_view true) z fresh (mark_words_work (alone_meeting run) box profile value).text (by_words (mark_begun run profile) value) (CommandEnds true (mark_words_work (alone_meeting run) box profile value))
     unfolding Gives lifted mailbox_in
     mark_words_true there (Ok words) valid r =
         gives_bind (by_view true) z fresh (mark_words_work (alone_meeting run) box profile (Ok words)).text (mark_begun run profile words) (λ q. Return (converted plain q)) (WorkEnds (stage true c profile words.folder z fresh same (λ e. begun) (marks (alone_meeting run) box profile words)))
@@ -613,13 +613,13 @@ module _ (alone : Bool) (run : ℕ) (c : Contents) (few : run < 2 ^ 128) (homes 
         (λ y j left q e. mark_ends (stage true c profile words.folder z fresh same (λ e. begun) (marks (alone_meeting run) box profile words)) y j left q e)
     mark_words_true there (Err e) valid r = let is = r e refl in plain_refused true c e is.0 z fresh [] is.1 refl same
 
-    mark_words_give : alone ≡ true → (words : List (List ℕ)) → Gives (by_view alone) z fresh (mark_words_work (alone_meeting run) box profile (mark_said profile words)).text (mark_by run profile (mark_said profile words)) (CommandEnds alone (mark_words_work (alone_meeting run) box profile (mark_said profile words)))
+    mark_words_give : alone ≡ true → (words : List (List ℕ)) → Gives (by_view alone) z fresh (mark_words_work (alone_meeting run) box profile (mark_said profile words)).text (by_words (mark_begun run profile) (mark_said profile words)) (CommandEnds alone (mark_words_work (alone_meeting run) box profile (mark_said profile words)))
     mark_words_give only words =
-        subst (λ b. Gives (by_view b) z fresh (mark_words_work (alone_meeting run) box profile (mark_said profile words)).text (mark_by run profile (mark_said profile words)) (CommandEnds b (mark_words_work (alone_meeting run) box profile (mark_said profile words)))) (sym only)
+        subst (λ b. Gives (by_view b) z fresh (mark_words_work (alone_meeting run) box profile (mark_said profile words)).text (by_words (mark_begun run profile) (mark_said profile words)) (CommandEnds b (mark_words_work (alone_meeting run) box profile (mark_said profile words)))) (sym only)
         (mark_words_true (homes only) (mark_said profile words) (λ said e. mark_valid profile words said e) (λ e is. mark_refuses profile words e is))
 
     tell_words_true : AreAllHomes run c → (value : Result FolderWords Ended) → ((words : FolderWords) → value ≡ Ok words → IsValid words.folder) → ((e : Ended) → value ≡ Err e → IsRefusal e.fault)
-        → Gives (by_view true) z fresh (tell_words_work (alone_meeting run) box profile value).text (tell_by run profile value) (CommandEnds true (tell_words_work (alone_meeting run) box profile value))
+        → Gives (by_view true) z fresh (tell_words_work (alone_meeting run) box profile value).text (by_words (folder_begun run profile) value) (CommandEnds true (tell_words_work (alone_meeting run) box profile value))
     unfolding Gives lifted mailbox_in
     tell_words_true there (Ok words) valid r = by_task words.pack
       where
@@ -631,13 +631,13 @@ module _ (alone : Bool) (run : ℕ) (c : Contents) (few : run < 2 ^ 128) (homes 
             (λ y j left q e. mark_ends (stage true c profile words.folder z fresh same (λ e. begun) (tasks (alone_meeting run) box profile words b)) y j left q e)
     tell_words_true there (Err e) valid r = let is = r e refl in plain_refused true c e is.0 z fresh [] is.1 refl same
 
-    tell_words_give : alone ≡ true → (words : List (List ℕ)) → Gives (by_view alone) z fresh (tell_words_work (alone_meeting run) box profile (tell_said profile words)).text (tell_by run profile (tell_said profile words)) (CommandEnds alone (tell_words_work (alone_meeting run) box profile (tell_said profile words)))
+    tell_words_give : alone ≡ true → (words : List (List ℕ)) → Gives (by_view alone) z fresh (tell_words_work (alone_meeting run) box profile (tell_said profile words)).text (by_words (folder_begun run profile) (tell_said profile words)) (CommandEnds alone (tell_words_work (alone_meeting run) box profile (tell_said profile words)))
     tell_words_give only words =
-        subst (λ b. Gives (by_view b) z fresh (tell_words_work (alone_meeting run) box profile (tell_said profile words)).text (tell_by run profile (tell_said profile words)) (CommandEnds b (tell_words_work (alone_meeting run) box profile (tell_said profile words)))) (sym only)
+        subst (λ b. Gives (by_view b) z fresh (tell_words_work (alone_meeting run) box profile (tell_said profile words)).text (by_words (folder_begun run profile) (tell_said profile words)) (CommandEnds b (tell_words_work (alone_meeting run) box profile (tell_said profile words)))) (sym only)
         (tell_words_true (homes only) (tell_said profile words) (λ said e. tell_words_valid profile words said e) (λ e is. tell_refuses profile words e is))
 
     pick_words_true : AreAllHomes run c → (value : Result PickWords Ended) → ((words : PickWords) → value ≡ Ok words → IsValid words.folder) → ((e : Ended) → value ≡ Err e → IsRefusal e.fault)
-        → Gives (by_view true) z fresh (pick_words_work (alone_meeting run) box profile value).text (pick_by run profile value) (CommandEnds true (pick_words_work (alone_meeting run) box profile value))
+        → Gives (by_view true) z fresh (pick_words_work (alone_meeting run) box profile value).text (by_words (pick_begun run profile) value) (CommandEnds true (pick_words_work (alone_meeting run) box profile value))
     unfolding Gives lifted mailbox_in
     pick_words_true there (Ok words) valid r =
         gives_bind (by_view true) z fresh (pick_words_work (alone_meeting run) box profile (Ok words)).text (pick_begun run profile words) (λ q. Return (converted plain q)) (WorkEnds (stage true c profile words.folder z fresh same (λ e. begun) (picks (alone_meeting run) box profile words)))
@@ -646,13 +646,13 @@ module _ (alone : Bool) (run : ℕ) (c : Contents) (few : run < 2 ^ 128) (homes 
         (λ y j left q e. mark_ends (stage true c profile words.folder z fresh same (λ e. begun) (picks (alone_meeting run) box profile words)) y j left q e)
     pick_words_true there (Err e) valid r = let is = r e refl in plain_refused true c e is.0 z fresh [] is.1 refl same
 
-    pick_words_give : alone ≡ true → (caller : Caller) (words : List (List ℕ)) → Gives (by_view alone) z fresh (pick_words_work (alone_meeting run) box profile (picked_by caller profile words)).text (pick_by run profile (picked_by caller profile words)) (CommandEnds alone (pick_words_work (alone_meeting run) box profile (picked_by caller profile words)))
+    pick_words_give : alone ≡ true → (caller : Caller) (words : List (List ℕ)) → Gives (by_view alone) z fresh (pick_words_work (alone_meeting run) box profile (picked_by caller profile words)).text (by_words (pick_begun run profile) (picked_by caller profile words)) (CommandEnds alone (pick_words_work (alone_meeting run) box profile (picked_by caller profile words)))
     pick_words_give only caller words =
-        subst (λ b. Gives (by_view b) z fresh (pick_words_work (alone_meeting run) box profile (picked_by caller profile words)).text (pick_by run profile (picked_by caller profile words)) (CommandEnds b (pick_words_work (alone_meeting run) box profile (picked_by caller profile words)))) (sym only)
+        subst (λ b. Gives (by_view b) z fresh (pick_words_work (alone_meeting run) box profile (picked_by caller profile words)).text (by_words (pick_begun run profile) (picked_by caller profile words)) (CommandEnds b (pick_words_work (alone_meeting run) box profile (picked_by caller profile words)))) (sym only)
         (pick_words_true (homes only) (picked_by caller profile words) (λ said e. pick_valid caller.clock.moment caller.clock.offset profile words said e) (λ e is. pick_refuses caller.clock.moment caller.clock.offset profile words e is))
 
     rmm_words_true : AreAllHomes run c → (value : Result RmmWords Ended) → ((words : RmmWords) → value ≡ Ok words → IsValid words.folder) → ((e : Ended) → value ≡ Err e → IsRefusal e.fault)
-        → Gives (by_view true) z fresh (rmm_words_work (alone_meeting run) box profile value).text (rmm_by run profile value) (CommandEnds true (rmm_words_work (alone_meeting run) box profile value))
+        → Gives (by_view true) z fresh (rmm_words_work (alone_meeting run) box profile value).text (by_words (rmm_begun run profile) value) (CommandEnds true (rmm_words_work (alone_meeting run) box profile value))
     unfolding Gives lifted mailbox_in
     rmm_words_true there (Ok words) valid r =
         gives_bind (by_view true) z fresh (rmm_words_work (alone_meeting run) box profile (Ok words)).text (rmm_begun run profile words) (λ q. Return (converted plain q)) (WorkEnds (stage true c profile words.folder z fresh same (λ e. begun) (rmms (alone_meeting run) box profile words)))
@@ -661,13 +661,13 @@ module _ (alone : Bool) (run : ℕ) (c : Contents) (few : run < 2 ^ 128) (homes 
         (λ y j left q e. mark_ends (stage true c profile words.folder z fresh same (λ e. begun) (rmms (alone_meeting run) box profile words)) y j left q e)
     rmm_words_true there (Err e) valid r = let is = r e refl in plain_refused true c e is.0 z fresh [] is.1 refl same
 
-    rmm_words_give : alone ≡ true → (words : List (List ℕ)) → Gives (by_view alone) z fresh (rmm_words_work (alone_meeting run) box profile (rmm_said profile words)).text (rmm_by run profile (rmm_said profile words)) (CommandEnds alone (rmm_words_work (alone_meeting run) box profile (rmm_said profile words)))
+    rmm_words_give : alone ≡ true → (words : List (List ℕ)) → Gives (by_view alone) z fresh (rmm_words_work (alone_meeting run) box profile (rmm_said profile words)).text (by_words (rmm_begun run profile) (rmm_said profile words)) (CommandEnds alone (rmm_words_work (alone_meeting run) box profile (rmm_said profile words)))
     rmm_words_give only words =
-        subst (λ b. Gives (by_view b) z fresh (rmm_words_work (alone_meeting run) box profile (rmm_said profile words)).text (rmm_by run profile (rmm_said profile words)) (CommandEnds b (rmm_words_work (alone_meeting run) box profile (rmm_said profile words)))) (sym only)
+        subst (λ b. Gives (by_view b) z fresh (rmm_words_work (alone_meeting run) box profile (rmm_said profile words)).text (by_words (rmm_begun run profile) (rmm_said profile words)) (CommandEnds b (rmm_words_work (alone_meeting run) box profile (rmm_said profile words)))) (sym only)
         (rmm_words_true (homes only) (rmm_said profile words) (λ said e. rmm_words_valid profile words said e) (λ e is. rmm_refuses profile words e is))
 
     anno_words_true : AreAllHomes run c → (value : Result AnnoWords Ended) → ((words : AnnoWords) → value ≡ Ok words → IsValid words.folder) → ((e : Ended) → value ≡ Err e → IsRefusal e.fault)
-        → Gives (by_view true) z fresh (anno_words_work (alone_meeting run) box profile value).text (anno_by run profile value) (CommandEnds true (anno_words_work (alone_meeting run) box profile value))
+        → Gives (by_view true) z fresh (anno_words_work (alone_meeting run) box profile value).text (by_words (anno_begun run profile) value) (CommandEnds true (anno_words_work (alone_meeting run) box profile value))
     unfolding Gives lifted mailbox_in
     anno_words_true there (Ok words) valid r =
         gives_bind (by_view true) z fresh (anno_words_work (alone_meeting run) box profile (Ok words)).text (anno_begun run profile words) (λ q. Return (converted plain q)) (WorkEnds (stage true c profile words.folder z fresh same (λ e. begun) (annos (alone_meeting run) box profile words)))
@@ -676,13 +676,13 @@ module _ (alone : Bool) (run : ℕ) (c : Contents) (few : run < 2 ^ 128) (homes 
         (λ y j left q e. mark_ends (stage true c profile words.folder z fresh same (λ e. begun) (annos (alone_meeting run) box profile words)) y j left q e)
     anno_words_true there (Err e) valid r = let is = r e refl in plain_refused true c e is.0 z fresh [] is.1 refl same
 
-    anno_words_give : alone ≡ true → (caller : Caller) (words : List (List ℕ)) → Gives (by_view alone) z fresh (anno_words_work (alone_meeting run) box profile (annotated_by caller profile words)).text (anno_by run profile (annotated_by caller profile words)) (CommandEnds alone (anno_words_work (alone_meeting run) box profile (annotated_by caller profile words)))
+    anno_words_give : alone ≡ true → (caller : Caller) (words : List (List ℕ)) → Gives (by_view alone) z fresh (anno_words_work (alone_meeting run) box profile (annotated_by caller profile words)).text (by_words (anno_begun run profile) (annotated_by caller profile words)) (CommandEnds alone (anno_words_work (alone_meeting run) box profile (annotated_by caller profile words)))
     anno_words_give only caller words =
-        subst (λ b. Gives (by_view b) z fresh (anno_words_work (alone_meeting run) box profile (annotated_by caller profile words)).text (anno_by run profile (annotated_by caller profile words)) (CommandEnds b (anno_words_work (alone_meeting run) box profile (annotated_by caller profile words)))) (sym only)
+        subst (λ b. Gives (by_view b) z fresh (anno_words_work (alone_meeting run) box profile (annotated_by caller profile words)).text (by_words (anno_begun run profile) (annotated_by caller profile words)) (CommandEnds b (anno_words_work (alone_meeting run) box profile (annotated_by caller profile words)))) (sym only)
         (anno_words_true (homes only) (annotated_by caller profile words) (λ said e. anno_valid caller.clock.moment caller.clock.offset profile words said e) (λ e is. anno_refuses caller.clock.moment caller.clock.offset profile words e is))
 
     sort_words_true : AreAllHomes run c → (value : Result SortWords Ended) → ((words : SortWords) → value ≡ Ok words → IsValid words.folder) → ((e : Ended) → value ≡ Err e → IsRefusal e.fault)
-        → Gives (by_view true) z fresh (sort_words_work (alone_meeting run) box profile value).text (sort_by run profile value) (CommandEnds true (sort_words_work (alone_meeting run) box profile value))
+        → Gives (by_view true) z fresh (sort_words_work (alone_meeting run) box profile value).text (by_words (sort_begun run profile) value) (CommandEnds true (sort_words_work (alone_meeting run) box profile value))
     unfolding Gives lifted mailbox_in
     sort_words_true there (Ok words) valid r =
         gives_bind (by_view true) z fresh (sort_words_work (alone_meeting run) box profile (Ok words)).text (sort_begun run profile words) (λ q. Return (converted plain q)) (WorkEnds (stage true c profile words.folder z fresh same (λ e. begun) (sorts (alone_meeting run) box profile words)))
@@ -691,13 +691,13 @@ module _ (alone : Bool) (run : ℕ) (c : Contents) (few : run < 2 ^ 128) (homes 
         (λ y j left q e. mark_ends (stage true c profile words.folder z fresh same (λ e. begun) (sorts (alone_meeting run) box profile words)) y j left q e)
     sort_words_true there (Err e) valid r = let is = r e refl in plain_refused true c e is.0 z fresh [] is.1 refl same
 
-    sort_words_give : alone ≡ true → (caller : Caller) (words : List (List ℕ)) → Gives (by_view alone) z fresh (sort_words_work (alone_meeting run) box profile (sort_said profile words)).text (sort_by run profile (sort_said profile words)) (CommandEnds alone (sort_words_work (alone_meeting run) box profile (sort_said profile words)))
+    sort_words_give : alone ≡ true → (caller : Caller) (words : List (List ℕ)) → Gives (by_view alone) z fresh (sort_words_work (alone_meeting run) box profile (sort_said profile words)).text (by_words (sort_begun run profile) (sort_said profile words)) (CommandEnds alone (sort_words_work (alone_meeting run) box profile (sort_said profile words)))
     sort_words_give only caller words =
-        subst (λ b. Gives (by_view b) z fresh (sort_words_work (alone_meeting run) box profile (sort_said profile words)).text (sort_by run profile (sort_said profile words)) (CommandEnds b (sort_words_work (alone_meeting run) box profile (sort_said profile words)))) (sym only)
+        subst (λ b. Gives (by_view b) z fresh (sort_words_work (alone_meeting run) box profile (sort_said profile words)).text (by_words (sort_begun run profile) (sort_said profile words)) (CommandEnds b (sort_words_work (alone_meeting run) box profile (sort_said profile words)))) (sym only)
         (sort_words_true (homes only) (sort_said profile words) (λ said e. sort_valid profile words said e) (λ e is. sort_refuses profile words e is))
 
     list_words_true : AreAllHomes run c → (value : Result ListWords Ended) → ((words : ListWords) → value ≡ Ok words → IsValid words.folder) → ((e : Ended) → value ≡ Err e → IsRefusal e.fault)
-        → Gives (by_view true) z fresh (list_words_work box profile value).text (list_by run profile value) (CommandEnds true (list_words_work box profile value))
+        → Gives (by_view true) z fresh (list_words_work box profile value).text (by_words (list_begun run profile) value) (CommandEnds true (list_words_work box profile value))
     unfolding Gives lifted mailbox_in
     list_words_true there (Ok words) valid r =
         gives_bind (by_view true) z fresh (list_words_work box profile (Ok words)).text (list_begun run profile words) (λ q. Return (converted plain q)) (WorkEnds (stage true c profile words.folder z fresh same (λ e. begun) (lists box profile words)))
@@ -706,13 +706,13 @@ module _ (alone : Bool) (run : ℕ) (c : Contents) (few : run < 2 ^ 128) (homes 
         (λ y j left q e. mark_ends (stage true c profile words.folder z fresh same (λ e. begun) (lists box profile words)) y j left q e)
     list_words_true there (Err e) valid r = let is = r e refl in plain_refused true c e is.0 z fresh [] is.1 refl same
 
-    list_words_give : alone ≡ true → (caller : Caller) (words : List (List ℕ)) → Gives (by_view alone) z fresh (list_words_work box profile (list_said profile words)).text (list_by run profile (list_said profile words)) (CommandEnds alone (list_words_work box profile (list_said profile words)))
+    list_words_give : alone ≡ true → (caller : Caller) (words : List (List ℕ)) → Gives (by_view alone) z fresh (list_words_work box profile (list_said profile words)).text (by_words (list_begun run profile) (list_said profile words)) (CommandEnds alone (list_words_work box profile (list_said profile words)))
     list_words_give only caller words =
-        subst (λ b. Gives (by_view b) z fresh (list_words_work box profile (list_said profile words)).text (list_by run profile (list_said profile words)) (CommandEnds b (list_words_work box profile (list_said profile words)))) (sym only)
+        subst (λ b. Gives (by_view b) z fresh (list_words_work box profile (list_said profile words)).text (by_words (list_begun run profile) (list_said profile words)) (CommandEnds b (list_words_work box profile (list_said profile words)))) (sym only)
         (list_words_true (homes only) (list_said profile words) (λ said e. list_valid profile words said e) (λ e is. list_refuses profile words e is))
 
     store_words_true : HasClearWork run c → (value : Result StoreWords Ended) → ((words : StoreWords) → value ≡ Ok words → IsValid words.folder) → ((e : Ended) → value ≡ Err e → IsRefusal e.fault)
-        → Gives (by_view true) z fresh (store_words_work box profile value).text (store_by run profile value) (CommandEnds true (store_words_work box profile value))
+        → Gives (by_view true) z fresh (store_words_work box profile value).text (by_words (store_begun run profile) value) (CommandEnds true (store_words_work box profile value))
     unfolding Gives lifted mailbox_in
     store_words_true clear (Ok words) valid r =
         gives_bind (by_view true) z fresh (store_words_work box profile (Ok words)).text (store_begun run profile words) (λ q. Return (converted plain q)) (WorkEnds (stage true c profile words.folder z fresh same (λ e. begun) (stores box profile words)))
@@ -721,9 +721,9 @@ module _ (alone : Bool) (run : ℕ) (c : Contents) (few : run < 2 ^ 128) (homes 
         (λ y j left q e. mark_ends (stage true c profile words.folder z fresh same (λ e. begun) (stores box profile words)) y j left q e)
     store_words_true clear (Err e) valid r = let is = r e refl in plain_refused true c e is.0 z fresh [] is.1 refl same
 
-    store_words_give : alone ≡ true → HasClearWork run c → (caller : Caller) (words : List (List ℕ)) → Gives (by_view alone) z fresh (store_words_work box profile (store_said profile words)).text (store_by run profile (store_said profile words)) (CommandEnds alone (store_words_work box profile (store_said profile words)))
+    store_words_give : alone ≡ true → HasClearWork run c → (caller : Caller) (words : List (List ℕ)) → Gives (by_view alone) z fresh (store_words_work box profile (store_said profile words)).text (by_words (store_begun run profile) (store_said profile words)) (CommandEnds alone (store_words_work box profile (store_said profile words)))
     store_words_give only clear caller words =
-        subst (λ b. Gives (by_view b) z fresh (store_words_work box profile (store_said profile words)).text (store_by run profile (store_said profile words)) (CommandEnds b (store_words_work box profile (store_said profile words)))) (sym only)
+        subst (λ b. Gives (by_view b) z fresh (store_words_work box profile (store_said profile words)).text (by_words (store_begun run profile) (store_said profile words)) (CommandEnds b (store_words_work box profile (store_said profile words)))) (sym only)
         (store_words_true clear (store_said profile words) (λ said e. store_valid profile words said e) (λ e is. store_refuses profile words e is))
 
     build_words_true : HasClearWork run c → (heard : Heard) (value : Result BuildWords Ended) → ((words : BuildWords) → value ≡ Ok words → IsDraft words.draft) → ((e : Ended) → value ≡ Err e → IsRefusal e.fault)
@@ -743,7 +743,7 @@ module _ (alone : Bool) (run : ℕ) (c : Contents) (few : run < 2 ^ 128) (homes 
         (build_words_true clear heard (build_said profile words) (λ said e. build_valid profile words said e) (λ e is. build_refuses profile words e is))
 
     refile_words_true : IsBare c → (value : Result RefileWords Ended) → ((words : RefileWords) → value ≡ Ok words → IsValid words.source) → ((e : Ended) → value ≡ Err e → IsRefusal e.fault)
-        → Gives (by_view true) z fresh (refile_words_work (alone_meeting run) box profile value).text (refile_by run profile value) (CommandEnds true (refile_words_work (alone_meeting run) box profile value))
+        → Gives (by_view true) z fresh (refile_words_work (alone_meeting run) box profile value).text (by_words (refile_begun run profile) value) (CommandEnds true (refile_words_work (alone_meeting run) box profile value))
     unfolding Gives lifted mailbox_in
     refile_words_true bare (Ok words) valid r =
         gives_bind (by_view true) z fresh (refile_words_work (alone_meeting run) box profile (Ok words)).text (refile_begun run profile words) (λ q. Return (converted plain q)) (WorkEnds (stage true c profile words.source z fresh same (λ e. begun) (refiles (alone_meeting run) box profile words)))
@@ -752,13 +752,13 @@ module _ (alone : Bool) (run : ℕ) (c : Contents) (few : run < 2 ^ 128) (homes 
         (λ y j left q e. mark_ends (stage true c profile words.source z fresh same (λ e. begun) (refiles (alone_meeting run) box profile words)) y j left q e)
     refile_words_true bare (Err e) valid r = let is = r e refl in plain_refused true c e is.0 z fresh [] is.1 refl same
 
-    refile_words_give : alone ≡ true → IsBare c → (words : List (List ℕ)) → Gives (by_view alone) z fresh (refile_words_work (alone_meeting run) box profile (refile_said profile words)).text (refile_by run profile (refile_said profile words)) (CommandEnds alone (refile_words_work (alone_meeting run) box profile (refile_said profile words)))
+    refile_words_give : alone ≡ true → IsBare c → (words : List (List ℕ)) → Gives (by_view alone) z fresh (refile_words_work (alone_meeting run) box profile (refile_said profile words)).text (by_words (refile_begun run profile) (refile_said profile words)) (CommandEnds alone (refile_words_work (alone_meeting run) box profile (refile_said profile words)))
     refile_words_give only bare words =
-        subst (λ b. Gives (by_view b) z fresh (refile_words_work (alone_meeting run) box profile (refile_said profile words)).text (refile_by run profile (refile_said profile words)) (CommandEnds b (refile_words_work (alone_meeting run) box profile (refile_said profile words)))) (sym only)
+        subst (λ b. Gives (by_view b) z fresh (refile_words_work (alone_meeting run) box profile (refile_said profile words)).text (by_words (refile_begun run profile) (refile_said profile words)) (CommandEnds b (refile_words_work (alone_meeting run) box profile (refile_said profile words)))) (sym only)
         (refile_words_true bare (refile_said profile words) (λ said e. (refile_words_valid profile words said e).0) (λ e is. refile_refuses profile words e is))
 
     inc_words_true : IsBare c → (value : Result IncAsked Ended) → ((asked : IncAsked) → value ≡ Ok asked → is_folder_name asked.folder ≡ true) → ((e : Ended) → value ≡ Err e → IsRefusal e.fault)
-        → Gives (by_view true) z fresh (inc_job_work (alone_meeting run) box profile value).text (inc_by run profile value) (CommandEnds true (inc_job_work (alone_meeting run) box profile value))
+        → Gives (by_view true) z fresh (inc_job_work (alone_meeting run) box profile value).text (by_words (inc_begun run (path_of profile)) value) (CommandEnds true (inc_job_work (alone_meeting run) box profile value))
     unfolding Gives lifted mailbox_in
     inc_words_true bare (Ok asked) valid r =
         gives_bind (by_view true) z fresh (inc_job_work (alone_meeting run) box profile (Ok asked)).text (inc_begun run (path_of profile) asked) (λ q. Return (converted plain q)) (WorkEnds (inc_stage run c few bare profile asked (valid asked refl) z fresh same unmet begun))
@@ -768,9 +768,9 @@ module _ (alone : Bool) (run : ℕ) (c : Contents) (few : run < 2 ^ 128) (homes 
     inc_words_true bare (Err e) valid r = let is = r e refl in plain_refused true c e is.0 z fresh [] is.1 refl same
 
     inc_words_give : alone ≡ true → IsBare c → (caller : Caller) (words : List (List ℕ))
-        → Gives (by_view alone) z fresh (inc_job_work (alone_meeting run) box profile (job_by caller profile (inc_said profile words))).text (inc_by run profile (job_by caller profile (inc_said profile words))) (CommandEnds alone (inc_job_work (alone_meeting run) box profile (job_by caller profile (inc_said profile words))))
+        → Gives (by_view alone) z fresh (inc_job_work (alone_meeting run) box profile (job_by caller profile (inc_said profile words))).text (by_words (inc_begun run (path_of profile)) (job_by caller profile (inc_said profile words))) (CommandEnds alone (inc_job_work (alone_meeting run) box profile (job_by caller profile (inc_said profile words))))
     inc_words_give only bare caller words =
-        subst (λ b. Gives (by_view b) z fresh (inc_job_work (alone_meeting run) box profile (job_by caller profile (inc_said profile words))).text (inc_by run profile (job_by caller profile (inc_said profile words))) (CommandEnds b (inc_job_work (alone_meeting run) box profile (job_by caller profile (inc_said profile words))))) (sym only)
+        subst (λ b. Gives (by_view b) z fresh (inc_job_work (alone_meeting run) box profile (job_by caller profile (inc_said profile words))).text (by_words (inc_begun run (path_of profile)) (job_by caller profile (inc_said profile words))) (CommandEnds b (inc_job_work (alone_meeting run) box profile (job_by caller profile (inc_said profile words))))) (sym only)
         (inc_words_true bare (job_by caller profile (inc_said profile words)) (λ job e. job_valid caller profile words job e) (λ e is. job_refuses caller profile words e is))
 
     by_word : (heard : Heard) (caller : Caller) (word : List ℕ) (words : List (List ℕ)) (name : Option CommandName) → (begins_folders name ≡ true → alone ≡ true) → (makes_folders name ≡ true → IsBare c) → (stores_files name ≡ true → HasClearWork run c) → Gives (by_view alone) z fresh (word_work (alone_meeting run) heard box caller profile word words name).text (word_given heard run caller profile word words name) (CommandEnds alone (word_work (alone_meeting run) heard box caller profile word words name))

@@ -21,7 +21,7 @@ use Rattle.mhbuild_plans.specs.declared.job.BuildJob.{BuildJob}
 use Rattle.mhbuild_plans.proofs.HeardBuild.{mhbuild_given, mhbuild_heeds}
 use Rattle.mhbuild_plans.proofs.Heeding.{Heeds, bind_assoc, heeds_bind, heeds_recall, heeds_same, plain_heeds}
 use Rattle.mhbuild_plans.proofs.PlainBuild.{plain_text_read}
-use Rattle.command_line.specs.Command.{build_begun, build_by, build_job, command, command_by, context_entered, context_seen, no_command, word_by}
+use Rattle.command_line.specs.Command.{build_begun, build_job, by_words, command, command_by, context_entered, context_seen, no_command, word_by}
 use Rattle.command_line.specs.CommandNames.{command_of, named}
 use Rattle.command_line.specs.Profile.{path_of, profile_name}
 use Rattle.command_line.specs.declared.name.CommandName.{CommandName}
@@ -108,7 +108,7 @@ module _ (run : ℕ) (profile : List NamedValue) (words : BuildWords) where
       (heeds_bind IsNotDone entered (λ r. bind (after next r) ended) (λ heard r. bind (after (next_given heard) r) ended) (plain_entered (Mail (path_of profile))) by_entered)
 
 module _ (run : ℕ) (caller : Caller) where
-  by_said : (profile : List NamedValue) (value : Result BuildWords Ended) → Heeds IsNotDone (build_by run profile value) (λ heard. build_given_by heard run profile value)
+  by_said : (profile : List NamedValue) (value : Result BuildWords Ended) → Heeds IsNotDone (by_words (build_begun run profile) value) (λ heard. build_given_by heard run profile value)
   by_said profile (Ok words) = build_heeds run profile words
   by_said profile (Err e) = plain_heeds IsNotDone (Return (Err e)) (plain_return (Err e))
 

@@ -39,7 +39,7 @@ use Rattle.message_lines.specs.Finding.{file_read, format_by}
 use Rattle.message_lines.specs.MessageText.{Writing, formed}
 use Rattle.mh_looks.specs.Scan.{shown_by, one_shown, all_shown, ordered, chosen_by, lined_by, scan}
 use Rattle.mh_looks.specs.ScanJob.{ScanJob}
-use Rattle.command_line.specs.Command.{command, command_by, context_entered, context_seen, folder_found, job_of, no_command, scan_begun, scan_by, word_by}
+use Rattle.command_line.specs.Command.{by_words, command, command_by, context_entered, context_seen, folder_found, job_of, no_command, scan_begun, word_by}
 use Rattle.command_line.specs.CommandNames.{begins_folders, command_of, named}
 use Rattle.command_line.specs.Profile.{folder_of, path_of, profile_name}
 use Rattle.command_line.specs.declared.name.CommandName.{CommandName}
@@ -166,7 +166,7 @@ unfolding scan_begun
 begun_nothing run profile words = asks_then IsUnlinked (folder_found profile words.folder) _ (found_nothing profile words.folder) (λ folder.
     asks_then IsUnlinked (look_found words.telling) _ (look_nothing words.telling) (λ spoken. scan_nothing run (path_of profile) (job_of folder words profile spoken)))
 
-by_nothing : (run : ℕ) (profile : List NamedValue) (value : Result ScanAsked Ended) → LinksNothing (scan_by run profile value)
+by_nothing : (run : ℕ) (profile : List NamedValue) (value : Result ScanAsked Ended) → LinksNothing (by_words (scan_begun run profile) value)
 by_nothing run profile (Ok words) = asks_lifted IsUnlinked plain (scan_begun run profile words) (begun_nothing run profile words)
 by_nothing run profile (Err e) = asks_none IsUnlinked (Err e)
 

@@ -34,7 +34,7 @@ use Rattle.anno_plans.proofs.AnnoPledged.{anno_keeps}
 use Rattle.anno_words.specs.declared.words.AnnoWords.{AnnoWords}
 use Rattle.command_words.specs.declared.ended.Ended.{Ended}
 use Rattle.command_words.proofs.SaidFolder.{IsValid}
-use Rattle.command_line.specs.Command.{anno_by, anno_job}
+use Rattle.command_line.specs.Command.{anno_begun, anno_job, by_words}
 use Rattle.command_pledges.specs.CommandMarks.{IsTextName}
 use Rattle.command_pledges.specs.CommandPledge.{anno_on_named, annos_pledge}
 use Rattle.command_line.specs.Profile.{entries_by, folder_of, path_of, profile_name}
@@ -78,9 +78,9 @@ module _ (run : ℕ) (few : run < 2 ^ 128) (profile : List NamedValue) (h : Hand
         (anno_meets run few path job notes (current_valid folder valid) own (knowing es h) plain (none_read profile folder c d)))
 
   abbrev anno_plan : Answer → AnnoWords → Plan (Result Unit Ended)
-  anno_plan b words = Ask profile_step (λ c. rest_by (context_step profile) (anno_by run profile (Ok words)) (anno_onward run profile (Ok words)) b)
+  anno_plan b words = Ask profile_step (λ c. rest_by (context_step profile) (by_words (anno_begun run profile) (Ok words)) (anno_onward run profile (Ok words)) b)
 
-  pub anno_minding : (b : Answer) (value : Result AnnoWords Ended) → ((words : AnnoWords) → value ≡ Ok words → (are_annotations words.lines ≡ true) × (IsValid words.folder × HasChars words.folder)) → Minding run Taken h (Ask profile_step (λ c. rest_by (context_step profile) (anno_by run profile value) (anno_onward run profile value) b))
+  pub anno_minding : (b : Answer) (value : Result AnnoWords Ended) → ((words : AnnoWords) → value ≡ Ok words → (are_annotations words.lines ≡ true) × (IsValid words.folder × HasChars words.folder)) → Minding run Taken h (Ask profile_step (λ c. rest_by (context_step profile) (by_words (anno_begun run profile) value) (anno_onward run profile value) b))
   unfolding anno_onward
   anno_minding b (Err e) valid = record {
     pledge = annos_pledge run profile (entries_by b) (Err e);

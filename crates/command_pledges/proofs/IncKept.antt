@@ -40,7 +40,7 @@ use Rattle.inc_plans.proofs.IncPledged.{inc_keeps}
 use Rattle.command_words.specs.Ended.{ended_cause, plain}
 use Rattle.command_words.specs.IncWords.{inc_said}
 use Rattle.command_words.specs.declared.ended.Ended.{Ended}
-use Rattle.command_line.specs.Command.{command, inc_by, word_by}
+use Rattle.command_line.specs.Command.{by_words, command, inc_begun, word_by}
 use Rattle.command_pledges.specs.CommandMarks.{IsTextName}
 use Rattle.command_line.specs.CommandNames.{named}
 use Rattle.command_pledges.specs.CommandPledge.{TellsAsked, asked_pledge, incs_pledge}
@@ -95,7 +95,7 @@ module _ (run : ℕ) (few : run < 2 ^ 128) (profile : List NamedValue) (h : Hand
         (λ e spoken written here. taken_keeps c d es e spoken written here)
 
   minding : (b : Answer) (value : Result IncAsked Ended) → ((asked : IncAsked) → value ≡ Ok asked → (is_folder_name asked.folder ≡ true) × IsTextName asked.folder)
-      → Minding run NothingMore h (Ask profile_step (λ c. rest_by (context_step profile) (inc_by run profile value) (inc_onward run profile value) b))
+      → Minding run NothingMore h (Ask profile_step (λ c. rest_by (context_step profile) (by_words (inc_begun run (path_of profile)) value) (inc_onward run profile value) b))
   unfolding inc_onward
   minding b (Err e) valid = record {
     pledge = incs_pledge run profile (Err e);

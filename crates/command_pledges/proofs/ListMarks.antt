@@ -15,7 +15,7 @@ use Rattle.command_pledges.proofs.MindsMarks.{minds_sequences}
 use Rattle.command_line.proofs.SaidFolder.{acted_valid}
 use Rattle.mhlist_plans.specs.ListPledge.{list_pledge, task_of}
 use Rattle.list_words.specs.declared.words.ListWords.{ListWords}
-use Rattle.command_line.specs.Command.{list_by, list_job}
+use Rattle.command_line.specs.Command.{by_words, list_begun, list_job}
 use Rattle.command_pledges.specs.CommandPledge.{list_on_named, lists_pledge}
 use Rattle.command_line.specs.Profile.{entries_by, folder_of, path_of}
 use Rattle.command_line.proofs.FolderChars.{HasChars}
@@ -35,9 +35,9 @@ module _ (run : ℕ) (few : run < 2 ^ 128) (profile : List NamedValue) (h : Hand
   NoMore own s = Unit {0}
 
   abbrev list_plan : Answer → ListWords → Plan (Result Unit Ended)
-  list_plan b words = Ask profile_step (λ c. rest_by (context_step profile) (list_by run profile (Ok words)) (list_onward run profile (Ok words)) b)
+  list_plan b words = Ask profile_step (λ c. rest_by (context_step profile) (by_words (list_begun run profile) (Ok words)) (list_onward run profile (Ok words)) b)
 
-  pub list_minding : (b : Answer) (value : Result ListWords Ended) → ((words : ListWords) → value ≡ Ok words → IsValid words.folder × HasChars words.folder) → Minding run NoMore h (Ask profile_step (λ c. rest_by (context_step profile) (list_by run profile value) (list_onward run profile value) b))
+  pub list_minding : (b : Answer) (value : Result ListWords Ended) → ((words : ListWords) → value ≡ Ok words → IsValid words.folder × HasChars words.folder) → Minding run NoMore h (Ask profile_step (λ c. rest_by (context_step profile) (by_words (list_begun run profile) value) (list_onward run profile value) b))
   list_minding b (Err e) valid = record {
     pledge = lists_pledge run profile (entries_by b) (Err e);
     run_is = refl;

@@ -67,7 +67,7 @@ use Rattle.list_words.specs.ListWords.{list_said}
 use Rattle.store_words.proofs.Said.{store_valid}
 use Rattle.store_words.specs.StoreWords.{store_said}
 use Rattle.sort_words.specs.SortWords.{sort_said}
-use Rattle.command_line.specs.Command.{annotated_by, command, mark_by, mark_job, picked_by, rmm_by, rmm_job, word_by, tell_by, tell_job}
+use Rattle.command_line.specs.Command.{annotated_by, by_words, command, folder_begun, mark_begun, mark_job, picked_by, rmm_begun, rmm_job, tell_job, word_by}
 use Rattle.command_pledges.specs.CommandMarks.{IsTextName, KeepsCommandMarks, KeepsWhere}
 use Rattle.command_line.specs.CommandNames.{begins_folders, command_of, named}
 use Rattle.command_pledges.specs.CommandPledge.{marks_pledge, on_named, rmm_on_named, rmms_pledge, task_pledge, tell_on_named, tells_pledge}
@@ -137,9 +137,9 @@ module _ (run : ℕ) (few : run < 2 ^ 128) (profile : List NamedValue) (h : Hand
         (set_keeps marking marks_ordered real text es c d sound)
 
   abbrev mark_plan : Answer → MarkWords → Plan (Result Unit Ended)
-  mark_plan b words = Ask profile_step (λ c. rest_by (context_step profile) (mark_by run profile (Ok words)) (mark_onward run profile (Ok words)) b)
+  mark_plan b words = Ask profile_step (λ c. rest_by (context_step profile) (by_words (mark_begun run profile) (Ok words)) (mark_onward run profile (Ok words)) b)
 
-  mark_minding : (b : Answer) (value : Result MarkWords Ended) → ((words : MarkWords) → value ≡ Ok words → IsValid words.folder × HasChars words.folder) → Minding run NoMore h (Ask profile_step (λ c. rest_by (context_step profile) (mark_by run profile value) (mark_onward run profile value) b))
+  mark_minding : (b : Answer) (value : Result MarkWords Ended) → ((words : MarkWords) → value ≡ Ok words → IsValid words.folder × HasChars words.folder) → Minding run NoMore h (Ask profile_step (λ c. rest_by (context_step profile) (by_words (mark_begun run profile) value) (mark_onward run profile value) b))
   unfolding mark_onward
   mark_minding b (Err e) valid = record {
     pledge = marks_pledge run profile (entries_by b) (Err e);
@@ -206,7 +206,7 @@ module _ (run : ℕ) (few : run < 2 ^ 128) (profile : List NamedValue) (h : Hand
         set_by [] word rest e k = cc (e)
         set_by (x ∷ xs) word rest e k = k
 
-  tell_minding : (b : Answer) (value : Result FolderWords Ended) → ((words : FolderWords) → value ≡ Ok words → IsValid words.folder × HasChars words.folder) → Minding run NoMore h (Ask profile_step (λ c. rest_by (context_step profile) (tell_by run profile value) (tell_onward run profile value) b))
+  tell_minding : (b : Answer) (value : Result FolderWords Ended) → ((words : FolderWords) → value ≡ Ok words → IsValid words.folder × HasChars words.folder) → Minding run NoMore h (Ask profile_step (λ c. rest_by (context_step profile) (by_words (folder_begun run profile) value) (tell_onward run profile value) b))
   unfolding tell_onward
   tell_minding b (Err e) valid = record {
     pledge = tells_pledge run profile (entries_by b) (Err e);
@@ -276,9 +276,9 @@ module _ (run : ℕ) (few : run < 2 ^ 128) (profile : List NamedValue) (h : Hand
         (rmm_meets run path rmm_job_ (current_valid folder valid) (acts (two_readings profile c d)) (knowing es h) (none_read profile folder c d)))
 
   abbrev rmm_plan : Answer → RmmWords → Plan (Result Unit Ended)
-  rmm_plan b words = Ask profile_step (λ c. rest_by (context_step profile) (rmm_by run profile (Ok words)) (rmm_onward run profile (Ok words)) b)
+  rmm_plan b words = Ask profile_step (λ c. rest_by (context_step profile) (by_words (rmm_begun run profile) (Ok words)) (rmm_onward run profile (Ok words)) b)
 
-  rmm_minding : (b : Answer) (value : Result RmmWords Ended) → ((words : RmmWords) → value ≡ Ok words → IsValid words.folder × HasChars words.folder) → Minding run Unheld h (Ask profile_step (λ c. rest_by (context_step profile) (rmm_by run profile value) (rmm_onward run profile value) b))
+  rmm_minding : (b : Answer) (value : Result RmmWords Ended) → ((words : RmmWords) → value ≡ Ok words → IsValid words.folder × HasChars words.folder) → Minding run Unheld h (Ask profile_step (λ c. rest_by (context_step profile) (by_words (rmm_begun run profile) value) (rmm_onward run profile value) b))
   unfolding rmm_onward
   rmm_minding b (Err e) valid = record {
     pledge = rmms_pledge run profile (entries_by b) (Err e);

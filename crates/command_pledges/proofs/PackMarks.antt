@@ -29,7 +29,7 @@ use Rattle.pack_command.proofs.PackMinds.{pack_meets}
 use Rattle.pack_command.proofs.PackPledged.{pack_keeps}
 use Rattle.command_words.specs.declared.ended.Ended.{Ended}
 use Rattle.command_words.specs.declared.folder.FolderWords.{FolderWords}
-use Rattle.command_line.specs.Command.{pack_job, tell_by}
+use Rattle.command_line.specs.Command.{by_words, folder_begun, pack_job}
 use Rattle.command_pledges.specs.CommandMarks.{IsTextName}
 use Rattle.command_line.specs.Profile.{entries_by, folder_of, path_of, profile_name}
 use Rattle.command_line.proofs.FirstReadings.{context_step, profile_step, two_readings}
@@ -39,7 +39,7 @@ use Rattle.command_pledges.proofs.Pledging.{context_keeps, known_sound, on_conte
 use Rattle.command_pledges.proofs.TwoAnswers.{keeps_after, rest_by}
 
 abbrev pub tell_plan : ℕ → List NamedValue → Answer → FolderWords → Plan (Result Unit Ended)
-tell_plan run profile b words = Ask profile_step (λ c. rest_by (context_step profile) (tell_by run profile (Ok words)) (tell_onward run profile (Ok words)) b)
+tell_plan run profile b words = Ask profile_step (λ c. rest_by (context_step profile) (by_words (folder_begun run profile) (Ok words)) (tell_onward run profile (Ok words)) b)
 
 module _ (run : ℕ) (few : run < 2 ^ 128) (profile : List NamedValue) (h : Hand) where
   abbrev path : List ℕ

@@ -35,7 +35,7 @@ use Rattle.pick_plans.proofs.PickPledged.{pick_keeps}
 use Rattle.command_words.specs.declared.ended.Ended.{Ended}
 use Rattle.command_words.specs.declared.pick.PickWords.{PickWords}
 use Rattle.command_words.proofs.SaidFolder.{IsValid}
-use Rattle.command_line.specs.Command.{pick_by, pick_job}
+use Rattle.command_line.specs.Command.{by_words, pick_begun, pick_job}
 use Rattle.command_pledges.specs.CommandMarks.{IsTextName}
 use Rattle.command_pledges.specs.CommandPledge.{pick_on_named, picks_pledge}
 use Rattle.command_line.specs.Profile.{entries_by, folder_of, path_of, profile_name}
@@ -110,9 +110,9 @@ module _ (run : ℕ) (few : run < 2 ^ 128) (profile : List NamedValue) (h : Hand
     picks_keep is c d sound = subst (λ o. Keeps (rules_of changes_pledge) (two_readings profile c d) (knowing es h) (pick_by_marks run path job o) (IfOkay Any)) (sym is) (marks_keep c d sound)
 
   abbrev pick_plan : Answer → PickWords → Plan (Result Unit Ended)
-  pick_plan b words = Ask profile_step (λ c. rest_by (context_step profile) (pick_by run profile (Ok words)) (pick_onward run profile (Ok words)) b)
+  pick_plan b words = Ask profile_step (λ c. rest_by (context_step profile) (by_words (pick_begun run profile) (Ok words)) (pick_onward run profile (Ok words)) b)
 
-  pub pick_minding : (b : Answer) (value : Result PickWords Ended) → ((words : PickWords) → value ≡ Ok words → IsValid words.folder × HasChars words.folder) → Minding run NothingMore h (Ask profile_step (λ c. rest_by (context_step profile) (pick_by run profile value) (pick_onward run profile value) b))
+  pub pick_minding : (b : Answer) (value : Result PickWords Ended) → ((words : PickWords) → value ≡ Ok words → IsValid words.folder × HasChars words.folder) → Minding run NothingMore h (Ask profile_step (λ c. rest_by (context_step profile) (by_words (pick_begun run profile) value) (pick_onward run profile value) b))
   unfolding pick_onward
   pick_minding b (Err e) valid = record {
     pledge = picks_pledge run profile (entries_by b) (Err e);

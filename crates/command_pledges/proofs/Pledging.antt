@@ -86,7 +86,7 @@ use Rattle.refile_plans.specs.declared.job.RefileJob.{RefileJob}
 use Rattle.refile_plans.proofs.RefileMoved.{HasHeldNone}
 use Rattle.refile_plans.proofs.RefilePledged.{EndsRefiled, refile_keeps}
 use Rattle.refile_plans.proofs.RmmPledged.{rmm_keeps}
-use Rattle.command_line.specs.Command.{anno_begun, anno_by, anno_job, annotated_by, build_begun, build_by, build_job, command, command_by, context_entered, context_seen, folder_found, inc_begun, inc_by, job_of, list_begun, list_by, list_job, mark_begun, mark_by, mark_job, no_command, pack_begun, pack_job, pick_begun, pick_by, pick_job, picked_by, refile_begun, refile_by, refile_job, rmm_begun, rmm_by, rmm_job, scan_begun, scan_by, sort_begun, sort_by, sort_job, store_begun, store_by, store_job, task_begun, tell_begun, tell_by, tell_job, word_by}
+use Rattle.command_line.specs.Command.{anno_begun, anno_job, annotated_by, build_begun, build_job, by_words, command, command_by, context_entered, context_seen, folder_begun, folder_found, inc_begun, job_of, list_begun, list_job, mark_begun, mark_job, no_command, pack_begun, pack_job, pick_begun, pick_job, picked_by, refile_begun, refile_job, rmm_begun, rmm_job, scan_begun, sort_begun, sort_job, store_begun, store_job, task_begun, tell_begun, tell_job, word_by}
 use Rattle.command_line.specs.CommandNames.{command_of, named}
 use Rattle.command_pledges.specs.CommandPledge.{IsDone, KeepsPledge, TellsAsked, anno_on_named, annos_pledge, asked_pledge, builds_pledge, command_pledge, incs_pledge, list_on_named, lists_pledge, marks_pledge, on_named, pick_on_named, picks_pledge, refile_on_named, refiles_pledge, rmm_on_named, rmms_pledge, sort_on_named, sorts_pledge, store_on_named, stores_pledge, task_pledge, tell_on_named, tells_pledge, word_pledge}
 use Rattle.build_words.specs.BuildWords.{build_said}
@@ -172,12 +172,12 @@ module _ (run : ℕ) (profile : List NamedValue) where
   abbrev pub store_acts : StoreWords → List ℕ → Commanded Unit
   store_acts words folder = mhstore run (path_of profile) (store_job folder words profile)
 
-  unfoldable pub scan_onward : (value : Result ScanAsked Ended) → Onward (context_step profile) (scan_by run profile value)
+  unfoldable pub scan_onward : (value : Result ScanAsked Ended) → Onward (context_step profile) (by_words (scan_begun run profile) value)
   unfolding scan_begun
   scan_onward (Ok words) = inr (λ b. on_context profile words.folder (scan_acts words) (reading_of b), context_asked profile words.folder (scan_acts words))
   scan_onward (Err e) = inl (Err e, refl)
 
-  unfoldable pub mark_onward : (value : Result MarkWords Ended) → Onward (context_step profile) (mark_by run profile value)
+  unfoldable pub mark_onward : (value : Result MarkWords Ended) → Onward (context_step profile) (by_words (mark_begun run profile) value)
   unfolding mark_begun
   mark_onward (Ok words) = inr (λ b. on_context profile words.folder (mark_acts words) (reading_of b), context_asked profile words.folder (mark_acts words))
   mark_onward (Err e) = inl (Err e, refl)
@@ -187,41 +187,41 @@ module _ (run : ℕ) (profile : List NamedValue) where
   task_asked words true = context_asked profile words.folder pack_acts
   task_asked words false = context_asked profile words.folder (tell_acts words)
 
-  unfoldable pub tell_onward : (value : Result FolderWords Ended) → Onward (context_step profile) (tell_by run profile value)
+  unfoldable pub tell_onward : (value : Result FolderWords Ended) → Onward (context_step profile) (by_words (folder_begun run profile) value)
   tell_onward (Ok words) = inr (λ b. on_context profile words.folder (task_acts words words.pack) (reading_of b), task_asked words words.pack)
   tell_onward (Err e) = inl (Err e, refl)
 
-  unfoldable pub pick_onward : (value : Result PickWords Ended) → Onward (context_step profile) (pick_by run profile value)
+  unfoldable pub pick_onward : (value : Result PickWords Ended) → Onward (context_step profile) (by_words (pick_begun run profile) value)
   unfolding pick_begun
   pick_onward (Ok words) = inr (λ b. on_context profile words.folder (pick_acts words) (reading_of b), context_asked profile words.folder (pick_acts words))
   pick_onward (Err e) = inl (Err e, refl)
 
-  unfoldable pub refile_onward : (value : Result RefileWords Ended) → Onward (context_step profile) (refile_by run profile value)
+  unfoldable pub refile_onward : (value : Result RefileWords Ended) → Onward (context_step profile) (by_words (refile_begun run profile) value)
   unfolding refile_begun
   refile_onward (Ok words) = inr (λ b. on_context profile words.source (refile_acts words) (reading_of b), context_asked profile words.source (refile_acts words))
   refile_onward (Err e) = inl (Err e, refl)
 
-  unfoldable pub rmm_onward : (value : Result RmmWords Ended) → Onward (context_step profile) (rmm_by run profile value)
+  unfoldable pub rmm_onward : (value : Result RmmWords Ended) → Onward (context_step profile) (by_words (rmm_begun run profile) value)
   unfolding rmm_begun
   rmm_onward (Ok words) = inr (λ b. on_context profile words.folder (rmm_acts words) (reading_of b), context_asked profile words.folder (rmm_acts words))
   rmm_onward (Err e) = inl (Err e, refl)
 
-  unfoldable pub anno_onward : (value : Result AnnoWords Ended) → Onward (context_step profile) (anno_by run profile value)
+  unfoldable pub anno_onward : (value : Result AnnoWords Ended) → Onward (context_step profile) (by_words (anno_begun run profile) value)
   unfolding anno_begun
   anno_onward (Ok words) = inr (λ b. on_context profile words.folder (anno_acts words) (reading_of b), context_asked profile words.folder (anno_acts words))
   anno_onward (Err e) = inl (Err e, refl)
 
-  unfoldable pub sort_onward : (value : Result SortWords Ended) → Onward (context_step profile) (sort_by run profile value)
+  unfoldable pub sort_onward : (value : Result SortWords Ended) → Onward (context_step profile) (by_words (sort_begun run profile) value)
   unfolding sort_begun
   sort_onward (Ok words) = inr (λ b. on_context profile words.folder (sort_acts words) (reading_of b), context_asked profile words.folder (sort_acts words))
   sort_onward (Err e) = inl (Err e, refl)
 
-  unfoldable pub list_onward : (value : Result ListWords Ended) → Onward (context_step profile) (list_by run profile value)
+  unfoldable pub list_onward : (value : Result ListWords Ended) → Onward (context_step profile) (by_words (list_begun run profile) value)
   unfolding list_begun
   list_onward (Ok words) = inr (λ b. on_context profile words.folder (list_acts words) (reading_of b), context_asked profile words.folder (list_acts words))
   list_onward (Err e) = inl (Err e, refl)
 
-  unfoldable pub store_onward : (value : Result StoreWords Ended) → Onward (context_step profile) (store_by run profile value)
+  unfoldable pub store_onward : (value : Result StoreWords Ended) → Onward (context_step profile) (by_words (store_begun run profile) value)
   unfolding store_begun
   store_onward (Ok words) = inr (λ b. on_context profile words.folder (store_acts words) (reading_of b), context_asked profile words.folder (store_acts words))
   store_onward (Err e) = inl (Err e, refl)
@@ -229,12 +229,12 @@ module _ (run : ℕ) (profile : List NamedValue) where
   abbrev pub build_acts : BuildWords → Commanded Unit
   build_acts words = Recall (λ h. mhbuild run (path_of profile) (build_job words (entries_seen h.context) profile))
 
-  unfoldable pub build_onward : (value : Result BuildWords Ended) → Onward (context_step profile) (build_by run profile value)
+  unfoldable pub build_onward : (value : Result BuildWords Ended) → Onward (context_step profile) (by_words (build_begun run profile) value)
   unfolding build_begun
   build_onward (Ok words) = inr (λ b. on_entries (build_acts words) (reading_of b), entries_asked profile (build_acts words))
   build_onward (Err e) = inl (Err e, refl)
 
-  unfoldable pub inc_onward : (value : Result IncAsked Ended) → Onward (context_step profile) (inc_by run profile value)
+  unfoldable pub inc_onward : (value : Result IncAsked Ended) → Onward (context_step profile) (by_words (inc_begun run (path_of profile)) value)
   unfolding inc_begun
   inc_onward (Ok asked) = inr (λ b. on_entries (inc_acts asked) (reading_of b), entries_asked profile (inc_acts asked))
   inc_onward (Err e) = inl (Err e, refl)
@@ -343,7 +343,7 @@ module _ (run : ℕ) (few : run < 2 ^ 128) (profile : List NamedValue) (h : Hand
           (scan_goes run few path (acts then_) j (job_of folder words profile spoken) (acted_valid words.folder es profile folder valid is)))
 
   scan_words_keep : (b : Answer) (value : Result ScanAsked Ended) → ((words : ScanAsked) → value ≡ Ok words → IsValid words.folder)
-      → Keeps (rules_of look) [] h (Ask profile_step (λ c. rest_by (context_step profile) (scan_by run profile value) (scan_onward run profile value) b)) (IfOkay (Finished (Some Scan) path))
+      → Keeps (rules_of look) [] h (Ask profile_step (λ c. rest_by (context_step profile) (by_words (scan_begun run profile) value) (scan_onward run profile value) b)) (IfOkay (Finished (Some Scan) path))
   unfolding scan_onward
   scan_words_keep b (Ok words) valid =
       keeps_after look Home (Mail path) profile_name context_name LIMIT_BYTES h (on_context profile words.folder (scan_acts run profile words) (reading_of b)) (IfOkay (Finished (Some Scan) path))
@@ -371,7 +371,7 @@ module _ (run : ℕ) (few : run < 2 ^ 128) (profile : List NamedValue) (h : Hand
     marked_at is = subst (λ v. MarkKeeps (on_named run profile words v)) (sym is) marked_so
 
   pub mark_words_keep : (b : Answer) (value : Result MarkWords Ended)
-      → Keeps (rules_of (marks_pledge run profile (entries_by b) value)) [] h (Ask profile_step (λ c. rest_by (context_step profile) (mark_by run profile value) (mark_onward run profile value) b)) (IfOkay (Finished (Some Mark) path))
+      → Keeps (rules_of (marks_pledge run profile (entries_by b) value)) [] h (Ask profile_step (λ c. rest_by (context_step profile) (by_words (mark_begun run profile) value) (mark_onward run profile value) b)) (IfOkay (Finished (Some Mark) path))
   unfolding mark_onward
   mark_words_keep b (Ok words) =
       keeps_after w Home (Mail path) profile_name context_name LIMIT_BYTES h (on_context profile words.folder (mark_acts run profile words) (reading_of b)) (IfOkay (Finished (Some Mark) path))
@@ -406,7 +406,7 @@ module _ (run : ℕ) (few : run < 2 ^ 128) (profile : List NamedValue) (h : Hand
     told_at is = subst (λ v. TaskKeeps words.pack (tell_on_named run profile words v)) (sym is) (task_so words.pack)
 
   pub tell_words_keep : (b : Answer) (value : Result FolderWords Ended)
-      → Keeps (rules_of (tells_pledge run profile (entries_by b) value)) [] h (Ask profile_step (λ c. rest_by (context_step profile) (tell_by run profile value) (tell_onward run profile value) b)) (IfOkay (Finished (Some FolderCommand) path))
+      → Keeps (rules_of (tells_pledge run profile (entries_by b) value)) [] h (Ask profile_step (λ c. rest_by (context_step profile) (by_words (folder_begun run profile) value) (tell_onward run profile value) b)) (IfOkay (Finished (Some FolderCommand) path))
   unfolding tell_onward
   tell_words_keep b (Ok words) =
       keeps_after w Home (Mail path) profile_name context_name LIMIT_BYTES h (on_context profile words.folder (task_acts run profile words words.pack) (reading_of b)) (IfOkay (Finished (Some FolderCommand) path))
@@ -437,7 +437,7 @@ module _ (run : ℕ) (few : run < 2 ^ 128) (profile : List NamedValue) (h : Hand
     picked_at is = subst (λ v. PickKeeps (pick_on_named run profile words v)) (sym is) picked_so
 
   pub pick_words_keep : (b : Answer) (value : Result PickWords Ended)
-      → Keeps (rules_of (picks_pledge run profile (entries_by b) value)) [] h (Ask profile_step (λ c. rest_by (context_step profile) (pick_by run profile value) (pick_onward run profile value) b)) (IfOkay (Finished (Some Pick) path))
+      → Keeps (rules_of (picks_pledge run profile (entries_by b) value)) [] h (Ask profile_step (λ c. rest_by (context_step profile) (by_words (pick_begun run profile) value) (pick_onward run profile value) b)) (IfOkay (Finished (Some Pick) path))
   unfolding pick_onward
   pick_words_keep b (Ok words) =
       keeps_after w Home (Mail path) profile_name context_name LIMIT_BYTES h (on_context profile words.folder (pick_acts run profile words) (reading_of b)) (IfOkay (Finished (Some Pick) path))
@@ -467,7 +467,7 @@ module _ (run : ℕ) (few : run < 2 ^ 128) (profile : List NamedValue) (h : Hand
     removed_at is = subst (λ v. RmmKeeps (rmm_on_named run profile words v)) (sym is) removed_so
 
   pub rmm_words_keep : (b : Answer) (value : Result RmmWords Ended)
-      → Keeps (rules_of (rmms_pledge run profile (entries_by b) value)) [] h (Ask profile_step (λ c. rest_by (context_step profile) (rmm_by run profile value) (rmm_onward run profile value) b)) (IfOkay (Finished (Some Rmm) path))
+      → Keeps (rules_of (rmms_pledge run profile (entries_by b) value)) [] h (Ask profile_step (λ c. rest_by (context_step profile) (by_words (rmm_begun run profile) value) (rmm_onward run profile value) b)) (IfOkay (Finished (Some Rmm) path))
   unfolding rmm_onward
   rmm_words_keep b (Ok words) =
       keeps_after w Home (Mail path) profile_name context_name LIMIT_BYTES h (on_context profile words.folder (rmm_acts run profile words) (reading_of b)) (IfOkay (Finished (Some Rmm) path))
@@ -497,7 +497,7 @@ module _ (run : ℕ) (few : run < 2 ^ 128) (profile : List NamedValue) (h : Hand
     noted_at is = subst (λ v. AnnoKeeps (anno_on_named run profile words v)) (sym is) noted_so
 
   pub anno_words_keep : (b : Answer) (value : Result AnnoWords Ended) → ((words : AnnoWords) → value ≡ Ok words → are_annotations words.lines ≡ true)
-      → Keeps (rules_of (annos_pledge run profile (entries_by b) value)) [] h (Ask profile_step (λ c. rest_by (context_step profile) (anno_by run profile value) (anno_onward run profile value) b)) (IfOkay (Finished (Some Anno) path))
+      → Keeps (rules_of (annos_pledge run profile (entries_by b) value)) [] h (Ask profile_step (λ c. rest_by (context_step profile) (by_words (anno_begun run profile) value) (anno_onward run profile value) b)) (IfOkay (Finished (Some Anno) path))
   unfolding anno_onward
   anno_words_keep b (Ok words) notes =
       keeps_after w Home (Mail path) profile_name context_name LIMIT_BYTES h (on_context profile words.folder (anno_acts run profile words) (reading_of b)) (IfOkay (Finished (Some Anno) path))
@@ -527,7 +527,7 @@ module _ (run : ℕ) (few : run < 2 ^ 128) (profile : List NamedValue) (h : Hand
     sorted_at is = subst (λ v. SortKeeps (sort_on_named run profile words v)) (sym is) sorted_so
 
   pub sort_words_keep : (b : Answer) (value : Result SortWords Ended)
-      → Keeps (rules_of (sorts_pledge run profile (entries_by b) value)) [] h (Ask profile_step (λ c. rest_by (context_step profile) (sort_by run profile value) (sort_onward run profile value) b)) (IfOkay (Finished (Some Sortm) path))
+      → Keeps (rules_of (sorts_pledge run profile (entries_by b) value)) [] h (Ask profile_step (λ c. rest_by (context_step profile) (by_words (sort_begun run profile) value) (sort_onward run profile value) b)) (IfOkay (Finished (Some Sortm) path))
   unfolding sort_onward
   sort_words_keep b (Ok words) =
       keeps_after w Home (Mail path) profile_name context_name LIMIT_BYTES h (on_context profile words.folder (sort_acts run profile words) (reading_of b)) (IfOkay (Finished (Some Sortm) path))
@@ -557,7 +557,7 @@ module _ (run : ℕ) (few : run < 2 ^ 128) (profile : List NamedValue) (h : Hand
     listed_at is = subst (λ v. ListKeeps (list_on_named run profile words v)) (sym is) listed_so
 
   pub list_words_keep : (b : Answer) (value : Result ListWords Ended)
-      → Keeps (rules_of (lists_pledge run profile (entries_by b) value)) [] h (Ask profile_step (λ c. rest_by (context_step profile) (list_by run profile value) (list_onward run profile value) b)) (IfOkay (Finished (Some Mhlist) path))
+      → Keeps (rules_of (lists_pledge run profile (entries_by b) value)) [] h (Ask profile_step (λ c. rest_by (context_step profile) (by_words (list_begun run profile) value) (list_onward run profile value) b)) (IfOkay (Finished (Some Mhlist) path))
   unfolding list_onward
   list_words_keep b (Ok words) =
       keeps_after w Home (Mail path) profile_name context_name LIMIT_BYTES h (on_context profile words.folder (list_acts run profile words) (reading_of b)) (IfOkay (Finished (Some Mhlist) path))
@@ -587,7 +587,7 @@ module _ (run : ℕ) (few : run < 2 ^ 128) (profile : List NamedValue) (h : Hand
     stored_at is = subst (λ v. StoreKeeps (store_on_named run profile words v)) (sym is) stored_so
 
   pub store_words_keep : (b : Answer) (value : Result StoreWords Ended)
-      → Keeps (rules_of (stores_pledge run profile (entries_by b) value)) [] h (Ask profile_step (λ c. rest_by (context_step profile) (store_by run profile value) (store_onward run profile value) b)) (IfOkay (Finished (Some Mhstore) path))
+      → Keeps (rules_of (stores_pledge run profile (entries_by b) value)) [] h (Ask profile_step (λ c. rest_by (context_step profile) (by_words (store_begun run profile) value) (store_onward run profile value) b)) (IfOkay (Finished (Some Mhstore) path))
   unfolding store_onward
   store_words_keep b (Ok words) =
       keeps_after w Home (Mail path) profile_name context_name LIMIT_BYTES h (on_context profile words.folder (store_acts run profile words) (reading_of b)) (IfOkay (Finished (Some Mhstore) path))
@@ -617,7 +617,7 @@ module _ (run : ℕ) (few : run < 2 ^ 128) (profile : List NamedValue) (h : Hand
         (mhbuild_done c d) (build_keeps run few path building valid (two_readings profile c d) (knowing (entries_by b) h) (known_sound build_w (acts (two_readings profile c d)) h (entries_by b) sound))
 
   pub build_words_keep : (b : Answer) (value : Result BuildWords Ended) → ((words : BuildWords) → value ≡ Ok words → IsDraft words.draft)
-      → Keeps (rules_of (builds_pledge run profile (entries_by b) value)) [] h (Ask profile_step (λ c. rest_by (context_step profile) (build_by run profile value) (build_onward run profile value) b)) (IfOkay (Finished (Some Mhbuild) path))
+      → Keeps (rules_of (builds_pledge run profile (entries_by b) value)) [] h (Ask profile_step (λ c. rest_by (context_step profile) (by_words (build_begun run profile) value) (build_onward run profile value) b)) (IfOkay (Finished (Some Mhbuild) path))
   unfolding build_onward
   build_words_keep b (Ok words) valid =
       keeps_after (build_w words (valid words refl) b) Home (Mail path) profile_name context_name LIMIT_BYTES h (on_entries (build_acts run profile words) (reading_of b)) (IfOkay (Finished (Some Mhbuild) path))
@@ -643,7 +643,7 @@ module _ (run : ℕ) (few : run < 2 ^ 128) (profile : List NamedValue) (h : Hand
     refiled_at is = subst (λ v. RefileKeeps (refile_on_named run profile words v)) (sym is) refiled_so
 
   pub refile_words_keep : (b : Answer) (value : Result RefileWords Ended)
-      → Keeps (rules_of (refiles_pledge run profile (entries_by b) value)) [] h (Ask profile_step (λ c. rest_by (context_step profile) (refile_by run profile value) (refile_onward run profile value) b)) (IfOkay (Finished (Some Refile) path))
+      → Keeps (rules_of (refiles_pledge run profile (entries_by b) value)) [] h (Ask profile_step (λ c. rest_by (context_step profile) (by_words (refile_begun run profile) value) (refile_onward run profile value) b)) (IfOkay (Finished (Some Refile) path))
   unfolding refile_onward
   refile_words_keep b (Ok words) =
       keeps_after w Home (Mail path) profile_name context_name LIMIT_BYTES h (on_context profile words.source (refile_acts run profile words) (reading_of b)) (IfOkay (Finished (Some Refile) path))
@@ -660,7 +660,7 @@ module _ (run : ℕ) (few : run < 2 ^ 128) (profile : List NamedValue) (h : Hand
   inc_done past settled later j (Err e) f = tt
 
   pub inc_job_keeps : (b : Answer) (value : Result IncAsked Ended)
-      → Keeps (rules_of (incs_pledge run profile value)) [] h (Ask profile_step (λ c. rest_by (context_step profile) (inc_by run profile value) (inc_onward run profile value) b)) (IfOkay (Finished (Some Inc) path))
+      → Keeps (rules_of (incs_pledge run profile value)) [] h (Ask profile_step (λ c. rest_by (context_step profile) (by_words (inc_begun run (path_of profile)) value) (inc_onward run profile value) b)) (IfOkay (Finished (Some Inc) path))
   unfolding inc_onward
   inc_job_keeps b (Ok asked) =
       keeps_after w Home (Mail path) profile_name context_name LIMIT_BYTES h (on_entries (inc_acts run profile asked) (reading_of b)) (IfOkay (Finished (Some Inc) path))

@@ -35,7 +35,7 @@ use Rattle.refile_plans.proofs.RefilePledged.{EndsRefiled, refile_keeps}
 use Rattle.command_words.specs.declared.ended.Ended.{Ended}
 use Rattle.command_words.specs.declared.refile.RefileWords.{RefileWords}
 use Rattle.command_words.proofs.SaidFolder.{IsValid}
-use Rattle.command_line.specs.Command.{refile_by, refile_job}
+use Rattle.command_line.specs.Command.{by_words, refile_begun, refile_job}
 use Rattle.command_pledges.specs.CommandMarks.{IsTextName}
 use Rattle.command_pledges.specs.CommandPledge.{refile_on_named, refiles_pledge}
 use Rattle.command_line.specs.Profile.{entries_by, folder_of, path_of, profile_name}
@@ -107,9 +107,9 @@ module _ (run : ℕ) (few : run < 2 ^ 128) (profile : List NamedValue) (h : Hand
         (refile_meets run few path job (current_valid folder valid) (told_apart job text targets) own (knowing es h) plain (λ n k. none_read profile n c d)))
 
   abbrev refile_plan : Answer → RefileWords → Plan (Result Unit Ended)
-  refile_plan b words = Ask profile_step (λ c. rest_by (context_step profile) (refile_by run profile (Ok words)) (refile_onward run profile (Ok words)) b)
+  refile_plan b words = Ask profile_step (λ c. rest_by (context_step profile) (by_words (refile_begun run profile) (Ok words)) (refile_onward run profile (Ok words)) b)
 
-  pub refile_minding : (b : Answer) (value : Result RefileWords Ended) → ((words : RefileWords) → value ≡ Ok words → IsValid words.source × HasAllChars words) → Minding run Taken h (Ask profile_step (λ c. rest_by (context_step profile) (refile_by run profile value) (refile_onward run profile value) b))
+  pub refile_minding : (b : Answer) (value : Result RefileWords Ended) → ((words : RefileWords) → value ≡ Ok words → IsValid words.source × HasAllChars words) → Minding run Taken h (Ask profile_step (λ c. rest_by (context_step profile) (by_words (refile_begun run profile) value) (refile_onward run profile value) b))
   unfolding refile_onward
   refile_minding b (Err e) valid = record {
     pledge = refiles_pledge run profile (entries_by b) (Err e);

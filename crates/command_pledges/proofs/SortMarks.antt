@@ -32,7 +32,7 @@ use Rattle.sortm_plans.proofs.SortPledged.{sortm_keeps}
 use Rattle.sort_words.specs.declared.words.SortWords.{SortWords}
 use Rattle.command_words.specs.declared.ended.Ended.{Ended}
 use Rattle.command_words.proofs.SaidFolder.{IsValid}
-use Rattle.command_line.specs.Command.{sort_by, sort_job}
+use Rattle.command_line.specs.Command.{by_words, sort_begun, sort_job}
 use Rattle.command_pledges.specs.CommandMarks.{IsTextName}
 use Rattle.command_pledges.specs.CommandPledge.{sort_on_named, sorts_pledge}
 use Rattle.command_line.specs.Profile.{entries_by, folder_of, path_of, profile_name}
@@ -77,9 +77,9 @@ module _ (run : ℕ) (few : run < 2 ^ 128) (profile : List NamedValue) (h : Hand
         (sortm_meets run few path job (current_valid folder valid) own (knowing es h) (none_read profile folder c d)))
 
   abbrev sort_plan : Answer → SortWords → Plan (Result Unit Ended)
-  sort_plan b words = Ask profile_step (λ c. rest_by (context_step profile) (sort_by run profile (Ok words)) (sort_onward run profile (Ok words)) b)
+  sort_plan b words = Ask profile_step (λ c. rest_by (context_step profile) (by_words (sort_begun run profile) (Ok words)) (sort_onward run profile (Ok words)) b)
 
-  pub sort_minding : (b : Answer) (value : Result SortWords Ended) → ((words : SortWords) → value ≡ Ok words → IsValid words.folder × HasChars words.folder) → Minding run NoMore h (Ask profile_step (λ c. rest_by (context_step profile) (sort_by run profile value) (sort_onward run profile value) b))
+  pub sort_minding : (b : Answer) (value : Result SortWords Ended) → ((words : SortWords) → value ≡ Ok words → IsValid words.folder × HasChars words.folder) → Minding run NoMore h (Ask profile_step (λ c. rest_by (context_step profile) (by_words (sort_begun run profile) value) (sort_onward run profile value) b))
   unfolding sort_onward
   sort_minding b (Err e) valid = record {
     pledge = sorts_pledge run profile (entries_by b) (Err e);

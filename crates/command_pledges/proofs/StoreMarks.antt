@@ -24,7 +24,7 @@ use Rattle.mhstore_plans.specs.declared.job.StoreJob.{StoreJob}
 use Rattle.command_line.proofs.SaidFolder.{acted_valid}
 use Rattle.mhstore_plans.specs.StorePledge.{store_pledge}
 use Rattle.store_words.specs.declared.words.StoreWords.{StoreWords}
-use Rattle.command_line.specs.Command.{store_by, store_job}
+use Rattle.command_line.specs.Command.{by_words, store_begun, store_job}
 use Rattle.command_pledges.specs.CommandPledge.{store_on_named, stores_pledge}
 use Rattle.command_line.specs.Profile.{entries_by, folder_of, path_of}
 use Rattle.command_line.proofs.FolderChars.{HasChars}
@@ -68,9 +68,9 @@ module _ (run : ℕ) (few : run < 2 ^ 128) (profile : List NamedValue) (h : Hand
   NoMore own s = Unit {0}
 
   abbrev store_plan : Answer → StoreWords → Plan (Result Unit Ended)
-  store_plan b words = Ask profile_step (λ c. rest_by (context_step profile) (store_by run profile (Ok words)) (store_onward run profile (Ok words)) b)
+  store_plan b words = Ask profile_step (λ c. rest_by (context_step profile) (by_words (store_begun run profile) (Ok words)) (store_onward run profile (Ok words)) b)
 
-  pub store_minding : (b : Answer) (value : Result StoreWords Ended) → ((words : StoreWords) → value ≡ Ok words → IsValid words.folder × HasChars words.folder) → Minding run NoMore h (Ask profile_step (λ c. rest_by (context_step profile) (store_by run profile value) (store_onward run profile value) b))
+  pub store_minding : (b : Answer) (value : Result StoreWords Ended) → ((words : StoreWords) → value ≡ Ok words → IsValid words.folder × HasChars words.folder) → Minding run NoMore h (Ask profile_step (λ c. rest_by (context_step profile) (by_words (store_begun run profile) value) (store_onward run profile value) b))
   store_minding b (Err e) valid = record {
     pledge = stores_pledge run profile (entries_by b) (Err e);
     run_is = refl;

@@ -11,7 +11,7 @@ use Rattle.mail_headers.specs.Unfolding.{is_edge}
 use Rattle.mh_base.specs.Folders.{is_folder_name, is_folder_text, is_folder_byte, has_folder_length, has_good_ends, is_no_context, is_segment, segments}
 use Rattle.mh_profile.specs.Names.{IsFieldName}
 use Rattle.mh_profile.specs.Values.{IsUnfolded, is_no_feed}
-use Rattle.mh_profile.proofs.UnfoldingLemmas.{bare_value}
+use Rattle.mh_profile.proofs.OneLineValues.{bare_value}
 use Rattle.step_plans.specs.ContextCommit.{AreChanges}
 use Rattle.command_stages.specs.Current.{current_name, current_change}
 

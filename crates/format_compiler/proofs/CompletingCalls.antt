@@ -13,7 +13,7 @@ use Rattle.format_compiler.proofs.Completing.{at_once, carried, Carries, made, m
 use Rattle.format_compiler.proofs.CompletingArguments.{argued, argument_ends, none_read, some_argument, some_call, some_reads}
 use Rattle.format_compiler.proofs.CompletingNames.{Begun, begun_among, name_reads, own_name_reads}
 use Rattle.format_compiler.proofs.CompletingSources.{argument_seen, InnerSeen, Worse}
-use Rattle.format_compiler.proofs.PartLemmas.{all, by_parts, EachIs, StopsHere}
+use Rattle.format_compiler.proofs.TwoParts.{all, by_parts, EachIs, StopsHere}
 
 -- an argument is read behind this name, which is that of the function
 abbrev pub IsReadBefore : Bool → List ℕ → Function → Type 0

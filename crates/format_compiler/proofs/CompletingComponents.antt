@@ -4,7 +4,7 @@ use Rattle.std.proofs.lemmas.List.{append_assoc}
 use Rattle.format_compiler.specs.Calls.{closed_component_in}
 use Rattle.format_compiler.specs.Components.{braced, component_in, is_name_character}
 use Rattle.format_compiler.proofs.Completing.{closed_seen, either_seen, equal, Reads, Seen}
-use Rattle.format_compiler.proofs.PartLemmas.{by_parts, EachIs, each_more, far}
+use Rattle.format_compiler.proofs.TwoParts.{by_parts, EachIs, each_more, far}
 
 name_reads : (n : ℕ) (name : List ℕ) → EachIs is_name_character (n ∷ name) → Reads component_in ((n ∷ name) ++ 125 ∷ []) (n ∷ name)
 name_reads n name each whole rest =

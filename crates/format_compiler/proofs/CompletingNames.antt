@@ -8,7 +8,7 @@ use Rattle.format_compiler.specs.declared.function.Function.TheVariants.{Msg, Si
 use Rattle.format_compiler.specs.Calls.{fitting, function_by, function_in, is_in_name}
 use Rattle.format_compiler.specs.Functions.{every_function, function_named, has_result, name_of}
 use Rattle.format_compiler.specs.Unfinished.{begins_name_among, is_begun_by, IsAll}
-use Rattle.format_compiler.proofs.PartLemmas.{each, EachIs, far}
+use Rattle.format_compiler.proofs.TwoParts.{each, EachIs, far}
 
 -- the table has each function under its name, which ends where it should
 pub record IsNamed (f : Function) : Type 0 where

@@ -6,7 +6,7 @@ use Rattle.format_compiler.specs.Arguments.{is_literal, literal_in, number_by, n
 use Rattle.format_compiler.specs.Reading.{before, Read, ◌>>=◌, then_character}
 use Rattle.format_compiler.specs.Unfinished.{begins_number, IsAll}
 use Rattle.format_compiler.proofs.Completing.{equal, Reads, Seen}
-use Rattle.format_compiler.proofs.PartLemmas.{all, by_parts, EachIs, each_more, far, StopsHere}
+use Rattle.format_compiler.proofs.TwoParts.{all, by_parts, EachIs, each_more, far, StopsHere}
 
 abbrev pub spaced_literal : List ℕ → List ℕ → Read (List ℕ)
 spaced_literal whole text = spaced_literal_in text

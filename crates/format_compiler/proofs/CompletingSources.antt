@@ -14,7 +14,7 @@ use Rattle.format_compiler.proofs.Completing.{carried, Carries, closed, closed_s
 use Rattle.format_compiler.proofs.CompletingArguments.{argued, called_made, none_read, once}
 use Rattle.format_compiler.proofs.CompletingComponents.{closed_component_seen}
 use Rattle.format_compiler.proofs.CompletingNumbers.{BadNumber, NumberEnds, spaced_literal, spaced_literal_seen, spaced_number, spaced_number_seen}
-use Rattle.format_compiler.proofs.PartLemmas.{by_parts, EachIs, far, StopsHere}
+use Rattle.format_compiler.proofs.TwoParts.{by_parts, EachIs, far, StopsHere}
 
 -- what stands behind spaces, read in this way
 abbrev pub spaced : (List ℕ → List ℕ → Read Front) → (List ℕ → List ℕ → Read Call) → List ℕ → List ℕ → Read Call

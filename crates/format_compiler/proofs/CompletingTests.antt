@@ -18,7 +18,7 @@ use Rattle.format_compiler.specs.Words.{call_test_in, component_test_in, printed
 use Rattle.format_compiler.proofs.Completing.{at_once, equal, made, Mends, Passes, Seen, seen_at, seen_behind}
 use Rattle.format_compiler.proofs.CompletingCalls.{BadCall, call_seen}
 use Rattle.format_compiler.proofs.CompletingComponents.{component_seen}
-use Rattle.format_compiler.proofs.PartLemmas.{all, by_parts, EachIs, each_more, far, StopsHere}
+use Rattle.format_compiler.proofs.TwoParts.{all, by_parts, EachIs, each_more, far, StopsHere}
 use Rattle.mh_base.specs.Characters.{is_digit}
 
 abbrev pub test_read : ℕ → List ℕ → List ℕ → Read Test

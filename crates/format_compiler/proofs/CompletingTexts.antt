@@ -17,9 +17,9 @@ use Rattle.format_compiler.specs.Words.{behind_word, escape_in, Open, percent_in
 use Rattle.format_compiler.proofs.Completing.{carried, Carries, equal, Mends, mends_behind, Reads, Taken, taken_behind}
 use Rattle.format_compiler.proofs.CompletingTests.{BadWord}
 use Rattle.format_compiler.proofs.CompletingWords.{LongSeen, percent_read, percent_seen, word_read}
-use Rattle.format_compiler.proofs.GrammarLemmas.{some_format}
+use Rattle.format_compiler.proofs.WholeTexts.{some_format}
 use Rattle.format_compiler.proofs.NoneBegins.{never_format}
-use Rattle.format_compiler.proofs.StandLemmas.{nothing_stands, stand_more}
+use Rattle.format_compiler.proofs.StandingWords.{nothing_stands, stand_more}
 
 behind_sign : (o : Open) (c : ℕ) (text : List ℕ) → (c == 37) ≡ true → Carries (λ x. x) (percent_read o) (word_read o) (c ∷ []) → (here : Read Word) → LongSeen (BadWord (c ∷ text) (37 ∷ text)) (percent_read o) text here
     → LongSeen (BadWord (c ∷ text) (c ∷ text)) (word_read o) (c ∷ text) here

@@ -11,7 +11,7 @@ use Rattle.format_compiler.specs.Unfinished.{CallEndsInNone, else_if_test, if_te
 use Rattle.format_compiler.specs.Words.{behind_line, else_if_in, if_in, is_in_line, is_inside, mark_in, may_choose, Open, percent_in, printed_in, room_in, test_in, word_in}
 use Rattle.format_compiler.proofs.Completing.{at_once, Carries, equal, made, made_same, Mends, read_at, Reads, Seen, seen_behind, Taken}
 use Rattle.format_compiler.proofs.CompletingTests.{BadWord, printed_read, printed_seen, test_read, test_seen}
-use Rattle.format_compiler.proofs.PartLemmas.{by_parts, EachIs, far, StopsHere}
+use Rattle.format_compiler.proofs.TwoParts.{by_parts, EachIs, far, StopsHere}
 use Rattle.format_compiler.proofs.SteadyWords.{comment}
 
 abbrev pub percent_read : Open → List ℕ → List ℕ → Read Word

@@ -22,9 +22,9 @@ use Rattle.format_compiler.specs.Widths.{digit_value, width_of}
 use Rattle.format_compiler.specs.Words.{behind_line, else_if_in, if_in, is_inside, mark_in, may_choose, Open, percent_in, printed_by, printed_in, room_in, sized_by, test_in, word_in}
 use Rattle.format_compiler.proofs.Completing.{equal}
 use Rattle.format_compiler.proofs.CompletingWords.{from_bar, from_bar_end, from_bracket, from_question, from_semicolon}
-use Rattle.format_compiler.proofs.PartLemmas.{each, EachIs, far}
-use Rattle.format_compiler.proofs.StandLemmas.{rest_stands}
-use Rattle.format_compiler.proofs.SteadyLemmas.{front_in_keeps, function_keeps, grown, Keeps, KeepsBy}
+use Rattle.format_compiler.proofs.TwoParts.{each, EachIs, far}
+use Rattle.format_compiler.proofs.StandingWords.{rest_stands}
+use Rattle.format_compiler.proofs.Steady.{front_in_keeps, function_keeps, grown, Keeps, KeepsBy}
 use Rattle.format_compiler.proofs.SteadyWords.{all_front, left_false, none_of, stand_longer}
 use Rattle.mh_base.specs.Characters.{is_digit}
 

@@ -19,8 +19,8 @@ use Rattle.format_compiler.specs.Grammar.{Format}
 use Rattle.format_compiler.specs.Reading.{Read, ◌>>=◌}
 use Rattle.format_compiler.specs.Widths.{begins_width, width_of}
 use Rattle.format_compiler.specs.Words.{behind_line, behind_word, call_test_in, component_test_in, else_if_in, escape_in, if_in, is_in_line, is_inside, mark_in, may_choose, Open, percent_in, printed_by, printed_call_in, printed_component_in, printed_in, room_in, sized_by, test_in, word_in}
-use Rattle.format_compiler.proofs.StandLemmas.{nothing_stands, wrong_none}
-use Rattle.format_compiler.proofs.SteadyLemmas.{call_keeps, component_keeps, either_keeps, front_keeps, Keeps, same, then_keeps, wrong_keeps}
+use Rattle.format_compiler.proofs.StandingWords.{nothing_stands, wrong_none}
+use Rattle.format_compiler.proofs.Steady.{call_keeps, component_keeps, either_keeps, front_keeps, Keeps, same, then_keeps, wrong_keeps}
 use Rattle.mh_base.specs.Characters.{is_digit}
 
 -- a reading and then something made of it

@@ -1,8 +1,8 @@
-mod IndexLemmas
-mod LazyLemmas
-pub mod LineLemmas
-pub mod RunLemmas
-pub mod SearchLemmas
-pub mod StepLemmas
-pub mod TextLemmas
-pub mod WidthLemmas
+mod FirstFields
+pub mod FormatLines
+pub mod HeldStates
+pub mod KeptWidths
+mod LazyStates
+pub mod RunCode
+pub mod Searching
+pub mod TextCalls

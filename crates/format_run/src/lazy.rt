@@ -97,7 +97,7 @@ impl LazyState {
         }
     }
 
-    #[tactic(auto, using(crate::proofs::LazyLemmas::some_word))]
+    #[tactic(auto, using(crate::proofs::LazyStates::some_word))]
     fn has_text(&self) -> bool
         ensures { result ≡ not (is_empty_of (meant self.now).text) }
     {

@@ -31,7 +31,7 @@ use Rattle.step_plans.proofs.Written.{Adds, goes_at, lock_held}
 use Rattle.held_messages.specs.declared.held.HeldPair.{HeldPair}
 use Rattle.held_messages.specs.HeldPairs.{held_name, top_after}
 use Rattle.held_messages.specs.Settle.{given_at, given_up, given_from, homed, all_homed, dropped_one, dropped, last_put, synced_at, dropped_for_good, dropped_safely, settled_by, settle}
-use Rattle.held_messages.proofs.PairLemmas.{IsPair, ArePairs}
+use Rattle.held_messages.proofs.ListedPairs.{IsPair, ArePairs}
 use Rattle.held_messages.proofs.Linking.{IsEnd, held_is}
 
 -- the pledge lets what is held aside in this place be put back, and go there once it was made safe under its number

@@ -22,7 +22,7 @@ use Rattle.file_plans.proofs.Viewing.{unlink_view, sync_folder_view}
 use Rattle.held_messages.specs.declared.held.HeldPair.{HeldPair}
 use Rattle.held_messages.specs.HeldPairs.{held_name, home_of, top_after, is_end, homes, numbers_in}
 use Rattle.held_messages.specs.Settle.{homed, all_homed, dropped_one, dropped, or_before, last_put, synced_at, dropped_for_good, dropped_safely, settled_by, settle, given_in, linked_in, dropped_of, dropped_in, settled_in}
-use Rattle.held_messages.proofs.PairLemmas.{IsPair, ArePairs, IsApart, AreApart}
+use Rattle.held_messages.proofs.ListedPairs.{IsPair, ArePairs, IsApart, AreApart}
 use Rattle.held_messages.proofs.Linking.{Quits, number_apart, held_apart, same_decimal, AreListed, AreUnread, SeesOthers, IsEnd, with_end, WentHome, Homed, Has, homed_gives}
 
 -- one end for each pair, each a number of messages where it is one

@@ -11,7 +11,7 @@ use Rattle.mh_base.specs.declared.entry.Entry.{Entry}
 use Rattle.mh_base.specs.declared.entry.Entry.TheVariants.{Number, Backup, Held, Temp, Sequences, LockFile, Other}
 use Rattle.held_messages.specs.declared.held.HeldPair.{HeldPair}
 use Rattle.held_messages.specs.HeldPairs.{is_pair, has_pair, is_before, AreInOrder, inserted, with_kind, held_pairs, pair_in, alone, is_at}
-use Rattle.held_messages.proofs.PairLemmas.{earlier, earlier_on, has_inserted, ordered, pairs_ordered}
+use Rattle.held_messages.proofs.ListedPairs.{earlier, earlier_on, has_inserted, ordered, pairs_ordered}
 use Rattle.held_messages.proofs.Unique.{one_list, rest_ordered, without_next}
 
 before_at : (a : HeldPair) (hs : List HeldPair) → AreInOrder (a ∷ hs) → (j : ℕ) (d : HeldPair) → j < length hs → is_before a (get_or hs j d) ≡ true

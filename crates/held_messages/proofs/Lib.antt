@@ -2,9 +2,9 @@ pub mod GivingBack
 pub mod Homecoming
 pub mod Inserting
 pub mod Linking
+pub mod ListedPairs
 pub mod LoneSettling
 pub mod Numbers
-pub mod PairLemmas
 pub mod Restored
 pub mod Shown
 pub mod Telling

@@ -27,7 +27,7 @@ use Rattle.file_plans.proofs.Showing.{foreign, is_number_of}
 use Rattle.file_plans.proofs.Viewing.{link_view}
 use Rattle.held_messages.specs.declared.held.HeldPair.{HeldPair}
 use Rattle.held_messages.specs.HeldPairs.{held_name, home_of}
-use Rattle.held_messages.proofs.PairLemmas.{IsPair, held_kind}
+use Rattle.held_messages.proofs.ListedPairs.{IsPair, held_kind}
 use Rattle.held_messages.specs.Settle.{given_at, given_up, homed, given_in}
 
 pub held_is : (h : HeldPair) → IsPair h → is_held (kind_of (held_name h)) ≡ true

@@ -27,7 +27,7 @@ use Rattle.held_messages.specs.HeldPairs.{held_pairs, settled, with_folder_chang
 use Rattle.held_messages.specs.Highest.{highest}
 use Rattle.held_messages.specs.Settle.{Settled, put_back}
 use Rattle.held_messages.specs.SettledAlone.{IsPutBack, SettlesAlone, SettlesInStory, SettlesIfUnfaulted}
-use Rattle.held_messages.proofs.PairLemmas.{are_apart, are_pairs, pairs_listed, pairs_ordered}
+use Rattle.held_messages.proofs.ListedPairs.{are_apart, are_pairs, pairs_listed, pairs_ordered}
 use Rattle.held_messages.proofs.Restored.{IsRestored, Restores, put_back_gives}
 use Rattle.held_messages.proofs.Shown.{shows_settled}
 use Rattle.held_messages.proofs.Telling.{folder_holds, folder_top}

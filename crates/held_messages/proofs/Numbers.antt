@@ -7,7 +7,7 @@ use Rattle.folder_files.proofs.Names.{both, or_left, or_last, or_case, num_itsel
 use Rattle.held_messages.specs.Highest.{IsTop}
 use Rattle.held_messages.specs.declared.held.HeldPair.{HeldPair}
 use Rattle.held_messages.specs.HeldPairs.{is_pair, has_pair, AreHeld, home_of, top_after, homes, is_end, given_home, settled, is_in_ends, top_all}
-use Rattle.held_messages.proofs.PairLemmas.{IsPair, ArePairs, IsApart, AreApart, same_name}
+use Rattle.held_messages.proofs.ListedPairs.{IsPair, ArePairs, IsApart, AreApart, same_name}
 use Rattle.held_messages.proofs.Homecoming.{AreEnds}
 
 abbrev pub AllHeld : Folder → List HeldPair → Type 0

@@ -24,7 +24,7 @@ use Rattle.held_messages.specs.HeldPairs.{held_pairs, homes, numbers_in}
 use Rattle.held_messages.specs.Highest.{highest}
 use Rattle.held_messages.specs.Settle as plans
 use Rattle.held_messages.specs.Settle.{names_by, put_back, settle, settled_in, settled_of}
-use Rattle.held_messages.proofs.PairLemmas.{ArePairs, are_apart, are_pairs, pairs_listed, pairs_ordered}
+use Rattle.held_messages.proofs.ListedPairs.{ArePairs, are_apart, are_pairs, pairs_listed, pairs_ordered}
 use Rattle.held_messages.proofs.Linking.{Quits, AreListed, AreUnread, Has}
 use Rattle.held_messages.proofs.Homecoming.{AreEnds, AllThere, WentAll, Settled, settle_gives}
 use Rattle.held_messages.proofs.Telling.{Lists, TellsHeld, all_there, all_unread, folder_taken, held_told, highest_small, list_tells, lists_listed, sight_of, taken_in}

@@ -18,7 +18,7 @@ use Rattle.file_plans.proofs.Showing.{is_number_of, number_ok, numbered_same, fo
 use Rattle.held_messages.specs.declared.held.HeldPair.{HeldPair}
 use Rattle.held_messages.specs.HeldPairs.{held_name, is_pair, given_home, settled, with_folder_changed}
 use Rattle.held_messages.specs.Settle.{given_in, linked_in, dropped_in, settled_in}
-use Rattle.held_messages.proofs.PairLemmas.{IsPair, ArePairs, IsApart, AreApart, same_name}
+use Rattle.held_messages.proofs.ListedPairs.{IsPair, ArePairs, IsApart, AreApart, same_name}
 use Rattle.held_messages.proofs.Linking.{IsEnd, number_apart, held_apart}
 use Rattle.held_messages.proofs.Homecoming.{AreEnds}
 

@@ -25,7 +25,7 @@ use Rattle.file_plans.proofs.Showing.{is_number_of, number_kind, number_ok}
 use Rattle.held_messages.specs.declared.held.HeldPair.{HeldPair}
 use Rattle.held_messages.specs.HeldPairs.{held_name, held_pairs, AreHeld}
 use Rattle.held_messages.specs.Settle.{given_in, linked_in, dropped_of, dropped_in, settled_in}
-use Rattle.held_messages.proofs.PairLemmas.{IsPair, ArePairs, IsListedPair, All, has_held, pairs_ordered}
+use Rattle.held_messages.proofs.ListedPairs.{IsPair, ArePairs, IsListedPair, All, has_held, pairs_ordered}
 use Rattle.held_messages.proofs.Linking.{IsEnd, AreListed, AreUnread, held_is}
 use Rattle.held_messages.proofs.Homecoming.{AreEnds, AllThere, AreTaken}
 

@@ -5,7 +5,7 @@ use Rattle.file_plans.specs.Mailboxes.{Folder}
 use Rattle.folder_files.proofs.Names.{not_both, both, or_left, or_case, num_itself}
 use Rattle.held_messages.specs.declared.held.HeldPair.{HeldPair}
 use Rattle.held_messages.specs.HeldPairs.{is_pair, has_pair, is_before, AreInOrder, AreHeld}
-use Rattle.held_messages.proofs.PairLemmas.{earlier, neither, not_itself, earlier_on}
+use Rattle.held_messages.proofs.ListedPairs.{earlier, neither, not_itself, earlier_on}
 
 abbrev Same : List HeldPair → List HeldPair → Type 0
 Same hs ks = (r n : ℕ) → has_pair r n hs ≡ has_pair r n ks

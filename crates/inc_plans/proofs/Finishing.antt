@@ -9,7 +9,7 @@ use Rattle.mbox_drop.specs.Readings.{Reading, read, reading, took, unread}
 use Rattle.mbox_drop.specs.declared.place.Turn.{Turn}
 use Rattle.mbox_drop.specs.declared.place.Turn.TheVariants.{Begins, Empties, Joins, Passes}
 use Rattle.mbox_drop.proofs.Cuttings.{sound}
-use Rattle.mbox_drop.proofs.ReadingLemmas.{read-append}
+use Rattle.mbox_drop.proofs.KnownBytes.{read-append}
 use Rattle.inc_plans.specs.Cutting.{given_by, if_drop, last_by, last_in, new_in, short_last, short_only, unless_lost}
 use Rattle.inc_plans.specs.DropTaken.{listed}
 

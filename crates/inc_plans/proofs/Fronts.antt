@@ -18,7 +18,7 @@ use Rattle.mbox_drop.specs.declared.place.Stage.TheVariants.{Unread, NoDrop, Beg
 use Rattle.mbox_drop.specs.declared.place.Turn.{Turn}
 use Rattle.mbox_drop.specs.declared.place.Turn.TheVariants.{Joins, Empties, Begins, Passes}
 use Rattle.mbox_drop.proofs.Cuttings.{lost, sound}
-use Rattle.mbox_drop.proofs.ReadingLemmas.{IsLost, IsStart, Knows, Staged, knows, read-append, staged}
+use Rattle.mbox_drop.proofs.KnownBytes.{IsLost, IsStart, Knows, Staged, knows, read-append, staged}
 use Rattle.mbox_drop.proofs.Sectioning.{split, text_of, more, whole, broken, grows}
 use Rattle.inc_plans.specs.Cutting.{given_by, if_drop, last_by, last_in, new_in, short_last, short_only, unless_lost}
 

@@ -1,3 +1,3 @@
-pub mod ColumnLemmas
-mod DecimalLemmas
-pub mod LongestLemmas
+pub mod FittingColumns
+pub mod LongestFronts
+mod PrintedNumbers

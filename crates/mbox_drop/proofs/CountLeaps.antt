@@ -6,7 +6,7 @@ use Rattle.mbox_drop.specs.Places.{is_middle}
 use Rattle.mbox_drop.specs.Leaping.{HasNoEnd, IsLeap}
 use Rattle.mbox_drop.specs.Readings.{Reading, at, read, unread, reading}
 use Rattle.mbox_drop.specs.Counting.{grown_by, Counts}
-use Rattle.mbox_drop.proofs.ReadingLemmas.{read-append}
+use Rattle.mbox_drop.proofs.KnownBytes.{read-append}
 use Rattle.mbox_drop.proofs.Counts.{reading_sized, CountsOn}
 use Rattle.mbox_drop.proofs.Leaps.{read_plain, is_middle-place}
 use Rattle.mbox_drop.specs.declared.counter.DropCounter.{DropCounter}

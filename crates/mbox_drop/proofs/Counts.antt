@@ -10,7 +10,7 @@ use Rattle.mbox_drop.specs.Readings.{Reading, at, took, read, unread, reading}
 use Rattle.std.specs.Option.{option_or}
 use Rattle.mbox_drop.specs.Long.{first_long, long_of}
 use Rattle.mbox_drop.specs.Counting.{counted, Counts, HasCounted}
-use Rattle.mbox_drop.proofs.ReadingLemmas.{is_begun_at, Staged, staged, messages-none, read-push, Knows, IsBegun, knows}
+use Rattle.mbox_drop.proofs.KnownBytes.{is_begun_at, Staged, staged, messages-none, read-push, Knows, IsBegun, knows}
 use Rattle.mbox_drop.specs.declared.counter.DropCounter.{DropCounter}
 use Rattle.mbox_drop.specs.declared.place.Match.TheVariants.{Nothing, F, Fr, Fro, From}
 use Rattle.mbox_drop.specs.declared.place.DropState.{DropState}

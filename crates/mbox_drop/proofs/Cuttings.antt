@@ -14,7 +14,7 @@ use Rattle.mbox_drop.specs.declared.place.Stage.TheVariants.{Begun}
 use Rattle.mbox_drop.specs.Giving.{IsKept, Holds, ReadsParts, GivesParts}
 use Rattle.mbox_drop.specs.Cutting.{HasTaken, Feeds, IsLast, Ends}
 use Rattle.mbox_drop.proofs.Sectioning.{text_of}
-use Rattle.mbox_drop.proofs.ReadingLemmas.{read-append, is_begun, read_begun, Knows, IsBegun, knows, is_begun_at}
+use Rattle.mbox_drop.proofs.KnownBytes.{read-append, is_begun, read_begun, Knows, IsBegun, knows, is_begun_at}
 use Rattle.mbox_drop.proofs.Partings.{Passed, passed, ready_at, sought, after_found}
 use Rattle.mbox_drop.proofs.Slicing.{after, read-after, ended-take}
 use Rattle.mbox_drop.specs.declared.cutter.DropCutter.{DropCutter}

@@ -2,9 +2,9 @@ pub mod CountLeaps
 pub mod Counts
 pub mod Cuttings
 pub mod Finds
+pub mod KnownBytes
 pub mod Leaps
 pub mod Partings
 pub mod PartsLoop
-pub mod ReadingLemmas
 pub mod Sectioning
 pub mod Slicing

@@ -7,7 +7,7 @@ use Rattle.mbox_drop.specs.Readings.{Reading, at, took, read}
 use Rattle.mbox_drop.specs.Parting.{opened_reading, IsWhole, IsOpen}
 use Rattle.mbox_drop.specs.Finding.{found, found_by, skipped, IsWithin}
 use Rattle.mbox_drop.proofs.Sectioning.{split, more, whole, broken, grows}
-use Rattle.mbox_drop.proofs.ReadingLemmas.{read-turn}
+use Rattle.mbox_drop.proofs.KnownBytes.{read-turn}
 use Rattle.mbox_drop.proofs.Finds.{found-cut}
 use Rattle.mbox_drop.specs.declared.place.Match.{Match}
 use Rattle.mbox_drop.specs.declared.place.Match.TheVariants.{Nothing, F, Fr, Fro, From}

@@ -10,7 +10,7 @@ use Rattle.mbox_drop.specs.Readings.{Reading, at, took, read, all_of}
 use Rattle.mbox_drop.specs.Parting.{opened_reading, IsWhole, IsOpen}
 use Rattle.mbox_drop.specs.Text.{text_with}
 use Rattle.mbox_drop.proofs.Counts.{read_sized}
-use Rattle.mbox_drop.proofs.ReadingLemmas.{begun, messages-none}
+use Rattle.mbox_drop.proofs.KnownBytes.{begun, messages-none}
 use Rattle.mbox_drop.specs.declared.place.Match.TheVariants.{Nothing, F, Fr, Fro, From}
 use Rattle.mbox_drop.specs.declared.place.DropState.{DropState}
 use Rattle.mbox_drop.specs.declared.place.DropState.TheVariants.{First, Lost, Separator, Start, Return, Middle, Blank}

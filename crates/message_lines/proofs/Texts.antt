@@ -5,7 +5,7 @@ use Rattle.format_compiler.specs.declared.instruction.Instruction.{Instruction}
 use Rattle.format_compiler.specs.Code.{code_of, IsCodeOf}
 use Rattle.format_compiler.specs.Grammar.{Format}
 use Rattle.format_run.specs.Running.{line_by}
-use Rattle.format_run.proofs.LineLemmas.{line_meant}
+use Rattle.format_run.proofs.FormatLines.{line_meant}
 use Rattle.message_lines.specs.MessageText.{coded, formed, Sight, viewed}
 use Rattle.message_lines.specs.declared.standing.Standing.{Standing}
 

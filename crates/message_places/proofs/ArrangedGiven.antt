@@ -14,7 +14,7 @@ use Rattle.held_messages.specs.Settle.{dropped, dropped_in, linked_in, settled_i
 use Rattle.held_messages.specs.declared.held.HeldPair.{HeldPair}
 use Rattle.held_messages.proofs.Homecoming.{AllThere, AreEnds, Dropped, Steps, dropped_gives, dropped_place, linked_held, linked_place, synced_is}
 use Rattle.held_messages.proofs.Linking.{AreListed, AreUnread, Has}
-use Rattle.held_messages.proofs.PairLemmas.{ArePairs}
+use Rattle.held_messages.proofs.ListedPairs.{ArePairs}
 use Rattle.message_places.specs.Arranging.{all_dropped, all_given, all_taken, arranged, aside_name, dropped_for_good, dropped_safely, let_go_after, let_go_by}
 use Rattle.message_places.specs.Places.{AreDistinct, AreMsgNums, froms, is_in, slots}
 use Rattle.message_places.specs.declared.moves.Move.{Move}

@@ -6,7 +6,7 @@ use Rattle.mh_base.specs.Numbers.{IsMsgNum}
 use Rattle.mh_base.specs.declared.entry.Entry.TheVariants.{Held}
 use Rattle.folder_files.proofs.Names.{bytes_false, bytes_self, bytes_true, num_apart, num_same, or_case, or_false, or_last, or_left}
 use Rattle.held_messages.specs.declared.held.HeldPair.{HeldPair}
-use Rattle.held_messages.proofs.PairLemmas.{AreApart, ArePairs, IsApart, held_kind}
+use Rattle.held_messages.proofs.ListedPairs.{AreApart, ArePairs, IsApart, held_kind}
 use Rattle.message_places.specs.Arranging.{aside_name}
 use Rattle.message_places.specs.Places.{AreDistinct, AreMsgNums, is_in}
 use Rattle.message_places.proofs.NumberLists.{in_head, in_tail, num_turned}

@@ -23,7 +23,7 @@ use Rattle.held_messages.specs.Settle.{given_at, given_from, given_in, given_up,
 use Rattle.held_messages.specs.declared.held.HeldPair.{HeldPair}
 use Rattle.held_messages.proofs.Homecoming.{AllThere, AreEnds, all_given}
 use Rattle.held_messages.proofs.Linking.{AreListed, AreUnread, Has, Homed, Quits, SeesOthers, WentHome, is_so, not_linked_exists, number_apart, same_decimal, up_gives}
-use Rattle.held_messages.proofs.PairLemmas.{ArePairs, IsApart, IsPair}
+use Rattle.held_messages.proofs.ListedPairs.{ArePairs, IsApart, IsPair}
 use Rattle.message_puts.specs.Putting.{number_got}
 use Rattle.message_places.specs.Arranging as plan
 use Rattle.message_places.specs.Places.{AreDistinct, AreMsgNums, froms, is_in, slots}

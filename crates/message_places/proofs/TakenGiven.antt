@@ -25,7 +25,7 @@ use Rattle.step_plans.specs.declared.fault.PlanFault.{PlanFault}
 use Rattle.message_moves.specs.Moving.{number_taken}
 use Rattle.held_messages.proofs.Homecoming.{Steps}
 use Rattle.held_messages.proofs.Linking.{AreListed, Quits, held_apart, held_unnumbered, number_apart, same_decimal}
-use Rattle.held_messages.proofs.PairLemmas.{IsPair}
+use Rattle.held_messages.proofs.ListedPairs.{IsPair}
 use Rattle.message_places.specs.Arranging.{all_taken, aside_name}
 use Rattle.message_places.specs.Places.{AreDistinct, AreMsgNums, is_in}
 use Rattle.message_places.proofs.AsideNames.{aside_of, names_differ, names_none, names_one}

@@ -1,7 +1,7 @@
-pub mod EntryNames
-mod RunDigits
-mod TextLemmas
 pub mod Decimals
 pub mod EntryKinds
+pub mod EntryNames
 pub mod NumberTests
 pub mod Prefixes
+mod RunDigits
+mod Texts

@@ -1,10 +1,10 @@
-pub mod EntryLemmas
-pub mod FieldLemmas
-pub mod KeyLemmas
-pub mod LineLemmas
-mod MapLemmas
-mod NameKeyLemmas
-pub mod PrintLemmas
-mod ReadLemmas
-pub mod UnfoldingLemmas
-pub mod ValidLemmas
+pub mod EntryLists
+pub mod FieldEntries
+pub mod FoldedLines
+mod KeySets
+mod KeyedEntries
+pub mod Keys
+mod LineByLine
+pub mod OneLineValues
+pub mod PrintedBack
+pub mod ValidEntries

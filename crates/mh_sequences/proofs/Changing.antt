@@ -10,7 +10,7 @@ use Rattle.mh_sequences.specs.Runs.{has}
 use Rattle.mh_sequences.specs.Sequences.{Sequence, Precedes, AreSequences, runs_of, public_of, member}
 use Rattle.mh_sequences.specs.Placing.{alone}
 use Rattle.mh_sequences.specs.Changes.{change_of, IsChanged, IsEach, IsAllChanged}
-use Rattle.mh_sequences.proofs.PlaceLemmas.{absent}
+use Rattle.mh_sequences.proofs.NamePlaces.{absent}
 use Rattle.mh_sequences.proofs.Placing.{tells, in_front, alone_valid, precedes_alone, runs_alone, public_alone}
 
 module _ (f : (ℕ → Bool) → ℕ → Bool) (none : (n : ℕ) → f (has []) n ≡ false) where

@@ -14,7 +14,7 @@ use Rattle.mh_sequences.specs.FieldNames.{is_name_in}
 use Rattle.mh_sequences.specs.Reading.{has_field}
 use Rattle.mh_sequences.proofs.Bools.{or_group, or_swap}
 use Rattle.mh_sequences.proofs.Mentioning.{same_turned}
-use Rattle.mh_sequences.proofs.PlaceLemmas.{same_by, same_is}
+use Rattle.mh_sequences.proofs.NamePlaces.{same_by, same_is}
 
 abbrev pub by_bytes : Vec ℕ Global → Vec ℕ Global → Ordering
 by_bytes x y = slice_cmp nat_cmp x.items y.items

@@ -14,12 +14,12 @@ use Rattle.mh_profile.specs.Names.{IsFieldName}
 use Rattle.mh_profile.specs.Values.{is_no_feed}
 use Rattle.mh_profile.specs.Validity.{IsEntry}
 use Rattle.mh_profile.specs.Printing.{printed_entry, printed}
-use Rattle.mh_profile.proofs.PrintLemmas.{field_here, line_is, starts, body_clean}
-use Rattle.mh_profile.proofs.UnfoldingLemmas.{value_read}
+use Rattle.mh_profile.proofs.PrintedBack.{field_here, line_is, starts, body_clean}
+use Rattle.mh_profile.proofs.OneLineValues.{value_read}
 use Rattle.mh_sequences.specs.Names.{is_seq_name, begins_with_letter}
 use Rattle.mh_sequences.specs.Lists.{lists}
 use Rattle.mh_sequences.specs.Reading.{lists_public, has_field}
-use Rattle.mh_sequences.proofs.NameLemmas.{name_bytes, name_starts, low}
+use Rattle.mh_sequences.proofs.AsciiNames.{name_bytes, name_starts, low}
 
 -- each has a field's name and a value on one line
 abbrev pub AllEntries : List NamedValue → Type 0

@@ -9,7 +9,7 @@ use Rattle.mh_sequences.specs.Marks.{set_to}
 use Rattle.mh_sequences.specs.Sequences.{Sequence, AreSequences, marked_of, runs_of, public_of, member}
 use Rattle.mh_sequences.specs.Placing.{placed}
 use Rattle.mh_sequences.specs.Changes.{IsJoined}
-use Rattle.mh_sequences.proofs.PlaceLemmas.{same_is}
+use Rattle.mh_sequences.proofs.NamePlaces.{same_is}
 use Rattle.mh_sequences.proofs.Placing.{tells, told_placed, runs_alone, public_alone}
 
 module _ (name : List ℕ) (numbers : List Run) (how : Join) (public : Option Bool) (p : Bool) (runs : List Run) (old new : List Sequence) (cur : Option ℕ) (h : AreSequences old) (set : (n : ℕ) → has runs n ≡ joins how (member old name n) (has numbers n)) (state : p ≡ set_to public (public_of old name)) (e : new ≡ placed name p runs old) where

@@ -1,28 +1,28 @@
-mod Ends
 pub mod Adding
+pub mod AsciiNames
 pub mod Bools
 pub mod Changing
-pub mod ContextLemmas
+pub mod ContextEntries
 pub mod Counting
-pub mod EntryLemmas
+mod Ends
 pub mod FieldNaming
 pub mod FieldsBack
-pub mod GatherLemmas
+pub mod Gathered
 pub mod Joined
 pub mod Joining
 pub mod ListText
 pub mod Mentioning
-pub mod NameLemmas
+pub mod NamePlaces
 pub mod OneRun
+pub mod OrderedRuns
 pub mod Piling
-pub mod PlaceLemmas
 pub mod Placing
-pub mod PrintingLemmas
+pub mod PrintedTexts
+pub mod PrivateNames
 pub mod ReadBack
 pub mod Removing
-pub mod RunLemmas
 pub mod Same
 pub mod Searching
-pub mod SlotLemmas
+pub mod SlotRuns
 pub mod Stretches
 pub mod Suffixes

@@ -15,8 +15,8 @@ use Rattle.mail_headers.specs.Unfolding.{is_edge}
 use Rattle.mh_base.specs.Numbers.{IsMsgNum, number_of, in_range}
 use Rattle.mh_base.proofs.Decimals.{decimal_of_some, decimal_of_none}
 use Rattle.mh_profile.specs.Values.{IsUnfolded, is_no_feed}
-use Rattle.mh_profile.proofs.UnfoldingLemmas.{bare_value}
-use Rattle.mh_profile.proofs.PrintLemmas.{all_append}
+use Rattle.mh_profile.proofs.OneLineValues.{bare_value}
+use Rattle.mh_profile.proofs.PrintedBack.{all_append}
 use Rattle.mh_sequences.specs.declared.run.Run.{Run}
 use Rattle.mh_sequences.specs.Runs.{AreRuns, AreRunsFrom, has}
 use Rattle.mh_sequences.specs.Lists.{items, between, up_to, alone_or, is_no_dash, run_in, run_has, lists}

@@ -16,7 +16,7 @@ use Rattle.mh_sequences.specs.Runs.{AreRuns, inside, has}
 use Rattle.mh_sequences.specs.Mentions.{given, AreNoted, IsMention, IsMentioned}
 use Rattle.mh_sequences.specs.Reading.{attribute, lists_public, lists_private, IsContextNoted, IsPlaceNoted, IsPublicPart}
 use Rattle.mh_sequences.proofs.Bools.{or_nothing, same_test}
-use Rattle.mh_sequences.proofs.PlaceLemmas.{same_is, same_self}
+use Rattle.mh_sequences.proofs.NamePlaces.{same_is, same_self}
 use Rattle.mh_sequences.proofs.Piling.{each_run, run_here, past}
 
 pub same_turned : (a b : List ℕ) → bytes_eq a b ≡ bytes_eq b a

@@ -11,7 +11,7 @@ use Rattle.mh_sequences.specs.Names.{is_seq_name}
 use Rattle.mh_sequences.specs.Runs.{AreRuns, has}
 use Rattle.mh_sequences.specs.Sequences.{Sequence, Precedes, AreSequences, told_of, order}
 use Rattle.mh_sequences.specs.Placing.{alone, by_order, placed}
-use Rattle.mh_sequences.proofs.PlaceLemmas.{same_by, same_is, before_all, absent}
+use Rattle.mh_sequences.proofs.NamePlaces.{same_by, same_is, before_all, absent}
 use Rattle.mh_sequences.proofs.Bools.{choose, either_way, swapped, shadowed}
 
 -- what is told of the sequence alone

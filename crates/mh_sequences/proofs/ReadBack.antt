@@ -9,7 +9,7 @@ use Rattle.mail_headers.specs.Fields.{fields_of}
 use Rattle.mail_headers.specs.Unfolding.{unfolded}
 use Rattle.mh_base.specs.Numbers.{IsMsgNum}
 use Rattle.mh_profile.specs.declared.named_value.NamedValue.{NamedValue}
-use Rattle.mh_profile.proofs.UnfoldingLemmas.{value_read}
+use Rattle.mh_profile.proofs.OneLineValues.{value_read}
 use Rattle.mh_sequences.specs.Names.{is_seq_name, is_reserved}
 use Rattle.mh_sequences.specs.Runs.{has}
 use Rattle.mh_sequences.specs.Lists.{items, is_listed, lists}
@@ -17,11 +17,11 @@ use Rattle.mh_sequences.specs.Printing.{is_shown, is_private, is_before_cur, ent
 use Rattle.mh_sequences.specs.Reading.{attribute, suffix, lists_public, lists_private, has_field, cur_in, first_or, IsReading}
 use Rattle.mh_sequences.specs.Sequences.{Sequence, Precedes, AreSequences, Marked, runs_of, public_of, member}
 use Rattle.mh_sequences.proofs.Bools.{or_nothing}
-use Rattle.mh_sequences.proofs.EntryLemmas.{name_between}
+use Rattle.mh_sequences.proofs.PrivateNames.{name_between}
 use Rattle.mh_sequences.proofs.FieldsBack.{AllEntries, shown, fields_printed, lists_shown, names_shown, field_name}
 use Rattle.mh_sequences.proofs.ListText.{lists_back, list_unfolded, number_unfolded, number_item, number_read, number_run}
-use Rattle.mh_sequences.proofs.NameLemmas.{name_free}
-use Rattle.mh_sequences.proofs.PlaceLemmas.{same_is, same_by}
+use Rattle.mh_sequences.proofs.AsciiNames.{name_free}
+use Rattle.mh_sequences.proofs.NamePlaces.{same_is, same_by}
 use Rattle.mh_sequences.proofs.Mentioning.{same_turned}
 
 -- no sequence is named as the current message is

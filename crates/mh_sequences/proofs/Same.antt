@@ -11,7 +11,7 @@ use Rattle.mh_sequences.specs.declared.run.Run.{Run}
 use Rattle.mh_sequences.specs.Runs.{AreRuns, AreRunsFrom, inside, has}
 use Rattle.mh_sequences.specs.Sequences.{Sequence, IsSequence, Precedes, AreSequences, Marked, told_of, runs_of, public_of, member, order}
 use Rattle.mh_sequences.specs.Reading.{IsReading}
-use Rattle.mh_sequences.proofs.PlaceLemmas.{same_is, same_self, same_by, before_all, absent}
+use Rattle.mh_sequences.proofs.NamePlaces.{same_is, same_self, same_by, before_all, absent}
 use Rattle.mh_sequences.proofs.Removing.{has_below}
 
 first_there : (r : Run) (rs : List Run) → r.from ≤ r.to → has (r ∷ rs) r.from ≡ true

@@ -13,7 +13,7 @@ use Rattle.std.proofs.lemmas.Map.Text.{is_eq-slice_cmp}
 use Rattle.mh_sequences.specs.declared.user.User.{User}
 use Rattle.mh_sequences.specs.Sequences.{Sequence, told, Precedes, AreSequences, runs_of, public_of, order}
 use Rattle.mh_sequences.specs.Placing.{alone, by_order, placed, stands_before, IsAt, IsBefore}
-use Rattle.mh_sequences.proofs.PlaceLemmas.{IsPassed, same_by, same_is, same_self, found_here, stopped_here, all_told, item_at, value_at, told_length}
+use Rattle.mh_sequences.proofs.NamePlaces.{IsPassed, same_by, same_is, same_self, found_here, stopped_here, all_told, item_at, value_at, told_length}
 
 less_is : (o : Ordering) → is_lt o ≡ true → o ≡ Less
 less_is Less e = refl

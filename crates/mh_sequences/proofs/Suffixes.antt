@@ -7,7 +7,7 @@ use Rattle.std.specs.Str.{encode_utf8_all}
 use Rattle.std.proofs.lemmas.Bool.{and_from, and_parts, le-leb, ltb-true, ne_eqb}
 use Rattle.mail_headers.specs.Lines.{is_name_byte}
 use Rattle.mh_sequences.specs.Reading.{escape, is_plain, suffix}
-use Rattle.mh_sequences.proofs.ContextLemmas.{clean_both}
+use Rattle.mh_sequences.proofs.ContextEntries.{clean_both}
 
 name_byte_at : (b : ℕ) → 33 ≤ b → b ≤ 126 → (b ≡ 58 → ⊥) → is_name_byte b ≡ true
 name_byte_at b low high apart = and_from (nat_le 33 b && nat_le b 126) (not (b == 58)) (and_from (nat_le 33 b) (nat_le b 126) (le-leb 33 b low) (le-leb b 126 high)) (ap not (ne_eqb b 58 apart))

@@ -10,12 +10,12 @@ use Rattle.std.proofs.lemmas.Str.Parse.{digit_from_value}
 use Rattle.mh_base.specs.Numbers.{IsMsgNum, number_of, decimal_of, in_range}
 use Rattle.mh_base.proofs.Decimals.{decimal_of_is}
 use Rattle.mh_sequences.specs.Names.{is_seq_name, begins_with_letter}
-use Rattle.mh_sequences.proofs.NameLemmas.{name_bytes, name_starts, low, judged}
+use Rattle.mh_sequences.proofs.AsciiNames.{name_bytes, name_starts, low, judged}
 use Rattle.mh_sequences.proofs.Bools.{choose}
 use Rattle.std.proofs.lemmas.Bool.Decides.{nat_tests}
 use Rattle.std.specs.Str.{chars, encode_utf8_all, IsUtf8}
 use Rattle.std.proofs.lemmas.Str.{encodes-chars}
-use Rattle.mh_sequences.proofs.PlaceLemmas.{same_is}
+use Rattle.mh_sequences.proofs.NamePlaces.{same_is}
 use Rattle.msg_ranges.proofs.Cutting.{stands}
 use Rattle.mh_base.specs.Characters.{is_digit}
 

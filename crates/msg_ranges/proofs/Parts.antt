@@ -7,7 +7,7 @@ use Rattle.mh_base.specs.Numbers.{IsMsgNum, number_of}
 use Rattle.mh_sequences.specs.Names.{is_seq_name}
 use Rattle.mh_sequences.proofs.Bools.{choose}
 use Rattle.mh_sequences.proofs.ListText.{number_read}
-use Rattle.mh_sequences.proofs.PlaceLemmas.{same_is}
+use Rattle.mh_sequences.proofs.NamePlaces.{same_is}
 use Rattle.msg_ranges.specs.declared.counts.Counted.{Counted}
 use Rattle.msg_ranges.specs.declared.spec.Base.{Base}
 use Rattle.msg_ranges.specs.declared.spec.Base.TheVariants.{Number, First, Last, Cur, Prev, Next}

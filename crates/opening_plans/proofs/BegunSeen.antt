@@ -40,7 +40,7 @@ use Rattle.marks_law.specs.Minding.{Sees, listed}
 use Rattle.held_messages.specs.HeldPairs.{held_pairs}
 use Rattle.held_messages.specs.Highest.{highest}
 use Rattle.held_messages.specs.Settle.{Settled, names_by, put_back, settle, settled_of}
-use Rattle.held_messages.proofs.PairLemmas.{are_pairs, pairs_listed}
+use Rattle.held_messages.proofs.ListedPairs.{are_pairs, pairs_listed}
 use Rattle.held_messages.proofs.Telling.{highest_small}
 use Rattle.held_messages.proofs.Tops.{highest_above}
 use Rattle.sequence_marks.specs.SequenceMarks.{private_marks}

@@ -54,7 +54,7 @@ use Rattle.opening_plans.proofs.SettledShown.{context_same, entries_same, held_a
 use Rattle.std.specs.List.{list_all}
 use Rattle.mail_headers.specs.Lines.{is_name_byte}
 use Rattle.mh_sequences.specs.Reading.{suffix}
-use Rattle.mh_sequences.proofs.ContextLemmas.{valid_entries}
+use Rattle.mh_sequences.proofs.ContextEntries.{valid_entries}
 use Rattle.sequence_commits.proofs.ChangesTo.{are_changes}
 use Rattle.sequence_commits.proofs.CutOnce.{cut_valid}
 

@@ -12,7 +12,7 @@ use Rattle.mh_profile.specs.Reading.{entries_in, entries_seen}
 use Rattle.mh_sequences.specs.Printing.{private_entries, text_of}
 use Rattle.mh_sequences.specs.Reading.{attribute, suffix}
 use Rattle.mh_sequences.specs.Sequences.{AreSequences, Marked, member}
-use Rattle.mh_sequences.proofs.ContextLemmas.{valid_entries}
+use Rattle.mh_sequences.proofs.ContextEntries.{valid_entries}
 use Rattle.mh_sequences.proofs.Suffixes.{suffix_clean}
 use Rattle.folder_files.specs.Careful.{HasLock}
 use Rattle.folder_files.specs.Deeds.{Deed, WasDone, did}

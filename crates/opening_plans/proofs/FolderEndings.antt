@@ -11,7 +11,7 @@ use Rattle.mh_sequences.specs.Names.{is_seq_name}
 use Rattle.mh_sequences.specs.Printing.{is_private, private_entries, private_entry}
 use Rattle.mh_sequences.specs.Reading.{attribute, escape, suffix}
 use Rattle.mh_sequences.specs.Sequences.{AreSequences, Sequence}
-use Rattle.mh_sequences.proofs.NameLemmas.{low, name_bytes}
+use Rattle.mh_sequences.proofs.AsciiNames.{low, name_bytes}
 use Rattle.mh_sequences.proofs.ListText.{to_dash}
 use Rattle.folder_files.proofs.Names.{bytes_self}
 use Rattle.sequence_commits.specs.FolderEntries.{from_dash, is_of_folder}

@@ -40,7 +40,7 @@ use Rattle.held_messages.specs.Highest.{highest}
 use Rattle.held_messages.specs.Settle.{Settled, linked_in, put_back, settled_in}
 use Rattle.held_messages.proofs.Homecoming.{AreEnds, dropped_place, linked_place}
 use Rattle.held_messages.proofs.Linking.{Has}
-use Rattle.held_messages.proofs.PairLemmas.{are_pairs, pairs_listed}
+use Rattle.held_messages.proofs.ListedPairs.{are_pairs, pairs_listed}
 use Rattle.held_messages.proofs.Restored.{IsRestored, Misses, Restores, put_back_gives}
 use Rattle.held_messages.proofs.Telling.{TellsHeld, plain_settled, taken_in}
 use Rattle.sequence_commits.specs.Committing.{cut_committed}

@@ -39,7 +39,7 @@ use Rattle.held_messages.specs.HeldPairs.{held_pairs}
 use Rattle.held_messages.specs.Highest.{highest}
 use Rattle.held_messages.specs.Settle.{Settled, names_by, put_back, settle, settled_of}
 use Rattle.held_messages.proofs.GivingBack.{Settles, settle_goes}
-use Rattle.held_messages.proofs.PairLemmas.{are_pairs, pairs_listed}
+use Rattle.held_messages.proofs.ListedPairs.{are_pairs, pairs_listed}
 use Rattle.held_messages.proofs.Telling.{highest_small}
 use Rattle.sequence_marks.specs.SequenceMarks.{says_public}
 use Rattle.sequence_commits.specs.Committing.{cut_committed}

@@ -8,9 +8,9 @@ use Rattle.mh_profile.specs.Names.{is_attribute, same_entry}
 use Rattle.mh_profile.specs.Printing.{printed}
 use Rattle.mh_profile.specs.Reading.{entries_in}
 use Rattle.mh_profile.specs.Validity.{AreEntries, has_name}
-use Rattle.mh_profile.proofs.EntryLemmas.{entries_filtered, entries_with}
-use Rattle.mh_profile.proofs.PrintLemmas.{reads_back}
-use Rattle.mh_profile.proofs.ValidLemmas.{entries_valid}
+use Rattle.mh_profile.proofs.EntryLists.{entries_filtered, entries_with}
+use Rattle.mh_profile.proofs.PrintedBack.{reads_back}
+use Rattle.mh_profile.proofs.ValidEntries.{entries_valid}
 use Rattle.mh_sequences.specs.Lists.{lists}
 use Rattle.mh_sequences.specs.Names.{is_seq_name}
 use Rattle.mh_sequences.specs.Printing.{private_entries, text_of}

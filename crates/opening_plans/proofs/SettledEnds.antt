@@ -32,7 +32,7 @@ use Rattle.held_messages.specs.HeldPairs.{held_name, held_pairs, top_after}
 use Rattle.held_messages.specs.Highest.{highest}
 use Rattle.held_messages.specs.Settle.{Settled, all_homed, dropped, dropped_for_good, dropped_safely, given_at, given_from, given_up, homed, last_put, names_by, or_before, put_back, settle, settled_by, settled_of, synced_at}
 use Rattle.held_messages.specs.declared.held.HeldPair.{HeldPair}
-use Rattle.held_messages.proofs.PairLemmas.{All, AreApart, ArePairs, IsApart, IsListedPair, IsPair, are_apart, are_pairs, held_kind, pairs_listed, pairs_ordered}
+use Rattle.held_messages.proofs.ListedPairs.{All, AreApart, ArePairs, IsApart, IsListedPair, IsPair, are_apart, are_pairs, held_kind, pairs_listed, pairs_ordered}
 use Rattle.opening_plans.specs.Endings.{Answering, IsLastName, IsMetIn, IsMeddledIn, PutsBackups, PutsName, ShowsInFolder, last_gone, met_gone, plainly}
 use Rattle.opening_plans.specs.Existing.{are_tried, exists_in}
 use Rattle.opening_plans.proofs.CleanRuns.{Clean, clean_more, comes_both, comes_link}

@@ -33,7 +33,7 @@ use Rattle.held_messages.specs.HeldPairs.{held_name, top_after}
 use Rattle.held_messages.specs.Settle.{all_homed, dropped, dropped_for_good, dropped_safely, given_at, given_from, given_up, homed, last_put, settle, settled_by, synced_at}
 use Rattle.held_messages.specs.declared.held.HeldPair.{HeldPair}
 use Rattle.held_messages.proofs.Linking.{held_is}
-use Rattle.held_messages.proofs.PairLemmas.{ArePairs, IsPair, held_kind}
+use Rattle.held_messages.proofs.ListedPairs.{ArePairs, IsPair, held_kind}
 use Rattle.opening_plans.specs.Existing.{are_tried, is_between, is_tried}
 use Rattle.opening_plans.proofs.AllMarks.{MindsAll, drop_minds, look_minds, plain_minds}
 use Rattle.opening_plans.proofs.FolderSeen.{LetGo, Quiet, WasListed, quiet_lock, quiet_sees, quiet_unlinked}

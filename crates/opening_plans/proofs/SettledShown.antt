@@ -24,7 +24,7 @@ use Rattle.held_messages.specs.Highest.{IsTop, highest}
 use Rattle.held_messages.specs.Settle.{Settled, settled_in}
 use Rattle.held_messages.proofs.Homecoming.{AreEnds}
 use Rattle.held_messages.proofs.Numbers.{folder_all_held, settled_numbers}
-use Rattle.held_messages.proofs.PairLemmas.{AreApart, ArePairs, are_apart, are_pairs, pairs_listed, pairs_ordered}
+use Rattle.held_messages.proofs.ListedPairs.{AreApart, ArePairs, are_apart, are_pairs, pairs_listed, pairs_ordered}
 use Rattle.held_messages.proofs.Shown.{shows_settled}
 use Rattle.held_messages.proofs.Telling.{TellsHeld, folder_holds, folder_top, highest_small, plain_settled, taken_in}
 use Rattle.held_messages.proofs.Tops.{list_told}

@@ -7,7 +7,7 @@ use Rattle.mh_profile.specs.Names.{is_attribute, same_entry}
 use Rattle.mh_profile.specs.Printing.{printed}
 use Rattle.mh_profile.specs.Reading.{entries_in}
 use Rattle.mh_profile.specs.Validity.{AreEntries, has_name}
-use Rattle.mh_profile.proofs.ValidLemmas.{entries_valid}
+use Rattle.mh_profile.proofs.ValidEntries.{entries_valid}
 use Rattle.mail_headers.specs.Fields.{same_name}
 use Rattle.mh_sequences.specs.Lists.{lists}
 use Rattle.mh_sequences.specs.Names.{is_seq_name}

@@ -5,7 +5,7 @@ use Rattle.std.proofs.lemmas.Bool.Decides.{nat_tests}
 use Rattle.held_messages.specs.declared.held.HeldPair.{HeldPair}
 use Rattle.held_messages.specs.HeldPairs.{home_of, homes, is_end, is_in_ends, top_after}
 use Rattle.held_messages.proofs.Numbers.{TopOf, end_small, top_step}
-use Rattle.held_messages.proofs.PairLemmas.{ArePairs}
+use Rattle.held_messages.proofs.ListedPairs.{ArePairs}
 use Rattle.opening_plans.specs.Existing.{are_tried, is_between, is_tried}
 
 -- one message: what was tried is its end, or was there

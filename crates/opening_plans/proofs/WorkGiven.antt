@@ -10,7 +10,7 @@ use Rattle.mh_sequences.specs.Reading.{suffix}
 use Rattle.mh_sequences.specs.Runs.{AreRuns, has}
 use Rattle.mh_sequences.specs.Sequences.{AreSequences, Marked}
 use Rattle.mh_sequences.specs.declared.run.Run.{Run}
-use Rattle.mh_sequences.proofs.ContextLemmas.{valid_entries}
+use Rattle.mh_sequences.proofs.ContextEntries.{valid_entries}
 use Rattle.folder_files.specs.declared.place.Place.{Place}
 use Rattle.folder_files.specs.declared.place.Place.TheVariants.{Folder, Mail}
 use Rattle.folder_files.specs.declared.refusal.Refusal.{Refusal}

@@ -5,7 +5,7 @@ use Rattle.std.specs.Str.{encode_utf8_all}
 use Rattle.std.proofs.lemmas.Str.{encodes-append}
 use Rattle.line_rows.specs.Columns.{Kept, columns_of, empty_line, fit, with_more}
 use Rattle.line_rows.specs.Fields.{field}
-use Rattle.line_rows.proofs.ColumnLemmas.{field_held, field_wide}
+use Rattle.line_rows.proofs.FittingColumns.{field_held, field_wide}
 use Rattle.part_rows.specs.declared.columns.Columns.{Columns}
 use Rattle.part_rows.specs.Rows.{right, row_of}
 

@@ -1,16 +1,16 @@
-mod ByteLemmas
-mod ClassLemmas
-mod DateLemmas
-mod ElementLemmas
-mod FinishLemmas
-pub mod FitLemmas
-mod GrammarLemmas
-mod LineLemmas
-mod MaskLemmas
-pub mod PickLemmas
-mod PlaceLemmas
-mod ProgressLemmas
-mod RefusalLemmas
-mod RestingLemmas
-mod ValueLemmas
-pub mod WholeLemmas
+mod BodyLines
+mod ByteSets
+mod ClassMembers
+mod Days
+mod ElementSteps
+pub mod FittingPieces
+mod ItemByItem
+pub mod ItemValues
+mod LineEnds
+mod MaskSteps
+mod OneBit
+mod PassedBytes
+pub mod Picks
+mod ReaderFaults
+mod WordPlaces
+mod WordValues

@@ -1,1 +1,1 @@
-pub mod DoingLemmas
+pub mod WhatFormatsDo

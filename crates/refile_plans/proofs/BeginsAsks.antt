@@ -31,7 +31,7 @@ use Rattle.held_messages.specs.HeldPairs.{held_name, held_pairs, inserted, is_be
 use Rattle.held_messages.specs.Highest.{highest}
 use Rattle.held_messages.specs.Settle.{Settled, all_homed, dropped, dropped_for_good, dropped_one, dropped_safely, given_at, given_from, given_up, homed, last_put, linked, names_by, put_back, settle, settled_by}
 use Rattle.held_messages.specs.declared.held.HeldPair.{HeldPair}
-use Rattle.held_messages.proofs.PairLemmas.{ArePairs, IsPair, are_pairs, pairs_listed}
+use Rattle.held_messages.proofs.ListedPairs.{ArePairs, IsPair, are_pairs, pairs_listed}
 use Rattle.sequence_commits.specs.Committing.{changed_sequences}
 use Rattle.sequence_commits.specs.Cutting.{cut_to}
 use Rattle.sequence_commits.proofs.AsksSequences.{asks_sequences}

@@ -20,7 +20,7 @@ use Rattle.file_plans.proofs.Showing.{context_no_number, foreign, is_number_of, 
 use Rattle.step_plans.specs.ContextCommit.{context_name}
 use Rattle.held_messages.specs.HeldPairs.{held_name, is_pair, with_folder_changed}
 use Rattle.held_messages.specs.declared.held.HeldPair.{HeldPair}
-use Rattle.held_messages.proofs.PairLemmas.{same_name}
+use Rattle.held_messages.proofs.ListedPairs.{same_name}
 use Rattle.held_messages.proofs.Shown.{shows_folder}
 use Rattle.message_moves.specs.RefiledAlone.{copied_in, next_of}
 use Rattle.message_moves.specs.declared.destination.Destination.{Destination}

@@ -8,7 +8,7 @@ use Rattle.mh_sequences.specs.Printing.{private_entries, text_of}
 use Rattle.mh_sequences.specs.Reading.{attribute, suffix}
 use Rattle.mh_sequences.specs.Sequences.{AreSequences, Marked}
 use Rattle.mh_sequences.specs.declared.run.Run.{Run}
-use Rattle.mh_sequences.proofs.ContextLemmas.{valid_entries}
+use Rattle.mh_sequences.proofs.ContextEntries.{valid_entries}
 use Rattle.mh_sequences.proofs.Suffixes.{suffix_clean}
 use Rattle.folder_files.specs.Deeds.{Deed, did}
 use Rattle.folder_files.specs.declared.place.Place.{Place}

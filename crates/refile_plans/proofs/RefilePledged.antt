@@ -39,7 +39,7 @@ use Rattle.step_plans.proofs.Stepping.{goes_end, goes_on, goes_return, goes_stop
 use Rattle.step_plans.proofs.Written.{goes_at}
 use Rattle.held_messages.specs.HeldPairs.{held_name}
 use Rattle.held_messages.specs.declared.held.HeldPair.{HeldPair}
-use Rattle.held_messages.proofs.PairLemmas.{IsPair, held_kind}
+use Rattle.held_messages.proofs.ListedPairs.{IsPair, held_kind}
 use Rattle.sequence_commits.proofs.SequencesPledged.{LeavesText, sequences_name}
 use Rattle.command_stages.specs.Endings.{of_plan, if_room}
 use Rattle.command_stages.specs.Texts.{Commanded}

@@ -22,7 +22,7 @@ among_names (s ∷ ss) t n valid m = by (bytes_eq t s.name) refl m (among_names 
     or_true false = refl
 
     by : (b : Bool) → bytes_eq t s.name ≡ b → has (if b then s.runs else runs_of ss t) n ≡ true → (member ss t n ≡ true → is_named (names_of ss) t ≡ true) → (is_seq_name s.name && bytes_eq t s.name) || is_named (names_of ss) t ≡ true
-    by true e m rest = ap (λ b. (is_seq_name s.name && b) || is_named (names_of ss) t) e ∙ ap (λ b. (b && true) || is_named (names_of ss) t) (ap is_seq_name (sym (Rattle.mh_sequences.proofs.PlaceLemmas.same_is t s.name e)) ∙ valid)
+    by true e m rest = ap (λ b. (is_seq_name s.name && b) || is_named (names_of ss) t) e ∙ ap (λ b. (b && true) || is_named (names_of ss) t) (ap is_seq_name (sym (Rattle.mh_sequences.proofs.NamePlaces.same_is t s.name e)) ∙ valid)
     by false e m rest = ap (λ b. (is_seq_name s.name && bytes_eq t s.name) || b) (rest m) ∙ or_true (is_seq_name s.name && bytes_eq t s.name)
 
 pub cut_valid : (listing : List Run) (m : Marked) → AreSequences (cut_to listing m).users

@@ -4,7 +4,7 @@ use Rattle.std.specs.Prelude.{◌&&◌, bytes_eq}
 use Rattle.std.proofs.lemmas.Bool.{and_left, and_right, and_parts}
 use Rattle.std.proofs.lemmas.List.{drop_all}
 use Rattle.mh_profile.specs.declared.named_value.NamedValue.{NamedValue}
-use Rattle.mh_sequences.proofs.PlaceLemmas.{same_is, same_self}
+use Rattle.mh_sequences.proofs.NamePlaces.{same_is, same_self}
 use Rattle.sequence_commits.specs.Telling.{same_entries}
 
 -- one entry is another

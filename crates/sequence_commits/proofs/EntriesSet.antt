@@ -6,7 +6,7 @@ use Rattle.mh_profile.specs.declared.named_value.NamedValue.{NamedValue}
 use Rattle.mh_profile.specs.Changes.{value_of, with_entry}
 use Rattle.mh_profile.specs.Names.{same_entry}
 use Rattle.mh_profile.specs.Validity.{IsEntry, has_name}
-use Rattle.mh_profile.proofs.KeyLemmas.{same_sym, same_as}
+use Rattle.mh_profile.proofs.Keys.{same_sym, same_as}
 use Rattle.mh_sequences.proofs.Bools.{or_swap, or_group, or_nothing}
 use Rattle.sequence_commits.specs.FolderEntries.{set_all}
 

@@ -9,7 +9,7 @@ use Rattle.mh_sequences.specs.Runs.{AreRuns, has}
 use Rattle.mh_sequences.specs.Sequences.{Sequence, AreSequences, runs_of, public_of, member}
 use Rattle.mh_sequences.specs.declared.run.Run.{Run}
 use Rattle.mh_sequences.proofs.Bools.{same_test}
-use Rattle.mh_sequences.proofs.PlaceLemmas.{same_is}
+use Rattle.mh_sequences.proofs.NamePlaces.{same_is}
 use Rattle.mh_sequences.proofs.Placing.{told_placed, placed_valid, runs_alone, public_alone}
 use Rattle.mh_sequences.proofs.Same.{same_sequences}
 use Rattle.sequence_commits.specs.RunsOfAll.{runs_of_all}

@@ -11,7 +11,7 @@ use Rattle.mh_sequences.specs.Marks.{IsMarked, marked, marked_public, moved}
 use Rattle.mh_sequences.specs.Names.{is_seq_name}
 use Rattle.mh_sequences.specs.Runs.{AreRuns, has}
 use Rattle.mh_sequences.specs.Sequences.{AreSequences, Marked, Sequence, member, public_of}
-use Rattle.mh_sequences.proofs.PlaceLemmas.{same_is}
+use Rattle.mh_sequences.proofs.NamePlaces.{same_is}
 use Rattle.sequence_commits.specs.Marking.{AreTargets, IsValidMark, names_of, name_in_mark, marked_by, marked_by_all}
 use Rattle.sequence_commits.specs.Together.{sequences_of}
 use Rattle.sequence_commits.proofs.CutOnce.{among_names, member_within}

@@ -12,7 +12,7 @@ use Rattle.mh_sequences.specs.Lists.{lists}
 use Rattle.mh_sequences.specs.Names.{is_seq_name}
 use Rattle.mh_sequences.specs.Reading.{attribute, has_field, lists_private, lists_public, suffix, IsReading}
 use Rattle.mh_sequences.specs.Sequences.{AreSequences, Marked}
-use Rattle.mh_sequences.proofs.PlaceLemmas.{same_is, same_self}
+use Rattle.mh_sequences.proofs.NamePlaces.{same_is, same_self}
 use Rattle.mh_sequences.proofs.Same.{one_reading}
 use Rattle.sequence_commits.specs.Reading.{inner_name, names_in, lists_either, sequences_in}
 use Rattle.sequence_commits.proofs.Gathering.{is_named, sequences_valid, numbers_together, public_together}

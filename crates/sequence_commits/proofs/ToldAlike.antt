@@ -6,7 +6,7 @@ use Rattle.mh_base.specs.Numbers.{IsMsgNum}
 use Rattle.mh_sequences.specs.Printing.{private_entries, text_of}
 use Rattle.mh_sequences.specs.Reading.{suffix, IsReading}
 use Rattle.mh_sequences.specs.Sequences.{AreSequences, Marked}
-use Rattle.mh_sequences.proofs.PlaceLemmas.{same_is, same_self}
+use Rattle.mh_sequences.proofs.NamePlaces.{same_is, same_self}
 use Rattle.mh_sequences.proofs.ReadBack.{reads_back}
 use Rattle.mh_sequences.proofs.Same.{one_reading}
 use Rattle.sequence_commits.specs.Telling.{same_entries, same_told}

@@ -16,7 +16,7 @@ use Rattle.file_plans.proofs.Showing.{number_ok, numbered_same}
 use Rattle.step_plans.specs.ContextCommit.{context_name}
 use Rattle.held_messages.specs.HeldPairs.{with_folder_changed}
 use Rattle.held_messages.proofs.Linking.{held_apart, number_apart}
-use Rattle.held_messages.proofs.PairLemmas.{same_name}
+use Rattle.held_messages.proofs.ListedPairs.{same_name}
 use Rattle.held_messages.proofs.Shown.{shows_folder}
 use Rattle.message_places.specs.Arranging.{aside_name}
 use Rattle.message_places.specs.Places.{AreDistinct, AreMsgNums, is_in}

@@ -14,7 +14,7 @@ use Rattle.step_plans.specs.ContextCommit.{LIMIT_BYTES}
 use Rattle.step_plans.proofs.Lasting.{KeptBy}
 use Rattle.held_messages.specs.HeldPairs.{held_name}
 use Rattle.held_messages.specs.declared.held.HeldPair.{HeldPair}
-use Rattle.held_messages.proofs.PairLemmas.{IsPair, held_kind}
+use Rattle.held_messages.proofs.ListedPairs.{IsPair, held_kind}
 use Rattle.sequence_commits.proofs.SequencesPledged.{sequences_name}
 use Rattle.message_moves.proofs.MoveCopied.{SparesHeld}
 use Rattle.message_moves.proofs.RefilePledged.{AllSpared}

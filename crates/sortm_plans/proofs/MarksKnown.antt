@@ -7,12 +7,12 @@ use Rattle.mh_base.proofs.EntryKinds.{kind_of-entry_text}
 use Rattle.mh_profile.specs.Printing.{printed}
 use Rattle.mh_profile.specs.Reading.{entries_in, entries_seen}
 use Rattle.mh_profile.specs.declared.named_value.NamedValue.{NamedValue}
-use Rattle.mh_profile.proofs.ValidLemmas.{entries_valid}
+use Rattle.mh_profile.proofs.ValidEntries.{entries_valid}
 use Rattle.mh_sequences.specs.Names.{is_seq_name}
 use Rattle.mh_sequences.specs.Printing.{private_entries, text_of}
 use Rattle.mh_sequences.specs.Reading.{attribute, lists_private, suffix}
 use Rattle.mh_sequences.specs.Sequences.{AreSequences, Marked, member}
-use Rattle.mh_sequences.proofs.ContextLemmas.{valid_entries}
+use Rattle.mh_sequences.proofs.ContextEntries.{valid_entries}
 use Rattle.mh_sequences.proofs.Suffixes.{suffix_clean}
 use Rattle.folder_files.specs.Careful.{HasLock}
 use Rattle.folder_files.specs.Deeds.{Deed, WasDone, did, last, still}

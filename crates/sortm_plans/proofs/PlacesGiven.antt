@@ -22,7 +22,7 @@ use Rattle.held_messages.specs.HeldPairs.{held_name, with_folder_changed}
 use Rattle.held_messages.specs.Settle.{dropped_in, given_in, linked_in, settled_in}
 use Rattle.held_messages.specs.declared.held.HeldPair.{HeldPair}
 use Rattle.held_messages.proofs.Homecoming.{AreEnds, dropped_place, linked_place}
-use Rattle.held_messages.proofs.PairLemmas.{ArePairs, IsPair, held_kind}
+use Rattle.held_messages.proofs.ListedPairs.{ArePairs, IsPair, held_kind}
 use Rattle.opening_plans.proofs.KeptGiven.{IsClear}
 use Rattle.message_places.specs.Arranging.{arranged}
 use Rattle.message_places.specs.Places.{AreDistinct, AreMsgNums, froms, is_in, rearranged, slots}

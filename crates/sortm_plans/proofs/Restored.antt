@@ -9,7 +9,7 @@ use Rattle.mh_sequences.specs.Sequences.{AreSequences, Marked, Sequence, member,
 use Rattle.mh_sequences.specs.declared.mark.Mark.{Mark}
 use Rattle.mh_sequences.specs.declared.mark.Mark.TheVariants.{Move as Moves, Withdraw}
 use Rattle.mh_sequences.specs.declared.mark.Pair.{Pair}
-use Rattle.mh_sequences.proofs.PlaceLemmas.{absent, same_is}
+use Rattle.mh_sequences.proofs.NamePlaces.{absent, same_is}
 use Rattle.mh_sequences.proofs.Same.{same_sequences}
 use Rattle.sequence_commits.specs.Marking.{marked_by, marked_by_all}
 use Rattle.sequence_commits.specs.RunsOfAll.{set_among}

@@ -5,10 +5,10 @@ use Rattle.mh_profile.specs.declared.named_value.NamedValue.{NamedValue}
 use Rattle.mh_profile.specs.Printing.{printed}
 use Rattle.mh_profile.specs.Reading.{entries_in, listed, first_of_each}
 use Rattle.mh_profile.specs.Validity.{AreEntries}
-use Rattle.mh_profile.proofs.LineLemmas.{no_lines}
-use Rattle.mh_profile.proofs.EntryLemmas.{entries_with, entries_filtered}
-use Rattle.mh_profile.proofs.PrintLemmas.{reads_back}
-use Rattle.mh_profile.proofs.ValidLemmas.{entries_valid}
+use Rattle.mh_profile.proofs.FoldedLines.{no_lines}
+use Rattle.mh_profile.proofs.EntryLists.{entries_with, entries_filtered}
+use Rattle.mh_profile.proofs.PrintedBack.{reads_back}
+use Rattle.mh_profile.proofs.ValidEntries.{entries_valid}
 use Rattle.mh_profile.specs.Names.{same_entry}
 use Rattle.folder_files.specs.Steps.{read_file_answer}
 use Rattle.folder_files.specs.declared.place.Place.{Place}

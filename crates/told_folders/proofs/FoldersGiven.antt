@@ -33,7 +33,7 @@ use Rattle.command_stages.specs.Works.{refused_at}
 use Rattle.mh_looks.proofs.Scanning.{refuses}
 use Rattle.mh_sequences.specs.Printing.{private_entries}
 use Rattle.mh_sequences.specs.Runs.{numbers_of}
-use Rattle.mh_sequences.proofs.ContextLemmas.{valid_entries}
+use Rattle.mh_sequences.proofs.ContextEntries.{valid_entries}
 use Rattle.msg_ranges.specs.Selection.{marks_of}
 use Rattle.sequence_commits.specs.Committing.{changed_sequences}
 use Rattle.sequence_commits.specs.PrivateChanges.{private_changes}

@@ -6,7 +6,7 @@ use Rattle.file_plans.proofs.Following.{no_room, lift_ok}
 use Rattle.step_plans.specs.CommandFaults.{command_cause}
 use Rattle.command_words.specs.Ended.{plain, ended_cause}
 use Rattle.command_words.specs.MarkWords.{mark_said}
-use Rattle.command_line.specs.Command.{mark_begun, mark_by}
+use Rattle.command_line.specs.Command.{by_words, mark_begun}
 use Rattle.command_line.proofs.Plans.{ends_off, plain_same, refused_words, words_on}
 use Rattle.command_line.proofs.Refusals.{mark_refuses}
 use Rattle.command_line.proofs.marking.run_mark.Goals as goal
@@ -14,7 +14,7 @@ use Rattle.command_line.proofs.marking.run_mark.Goals as goal
 pub returns-in_err-words : goal.returns-in_err-words
 returns-in_err-words g c = (
   fresh,
-  refused_words (mark_by c.args.run c.args.profile.now) (mark_said c.args.profile.now (map chars (map string_bytes c.args.words.now))) _ _ (λ f. refl)
+  refused_words (by_words (mark_begun c.args.run c.args.profile.now)) (mark_said c.args.profile.now (map chars (map string_bytes c.args.words.now))) _ _ (λ f. refl)
       (λ f is. mark_refuses c.args.profile.now (map chars (map string_bytes c.args.words.now)) f is) c.in_err-words.ensures c.from_residual.ensures,
 )
 
@@ -24,13 +24,13 @@ returns-in_err-path g c = (fresh, no_room _ c.from_residual-in_err-path.ensures 
 pub returns-in_err-begin_mark : goal.returns-in_err-begin_mark
 returns-in_err-begin_mark g c = (
   c.begin_mark.new.hand.kept,
-  words_on (mark_by c.args.run c.args.profile.now) (mark_said c.args.profile.now (map chars (map string_bytes c.args.words.now))) c.in_ok-words.words c.in_ok-words.ensures
+  words_on (by_words (mark_begun c.args.run c.args.profile.now)) (mark_said c.args.profile.now (map chars (map string_bytes c.args.words.now))) c.in_ok-words.words c.in_ok-words.ensures
       (ends_off plain _ plain_same (rw (c.new-hand.ensures.run, c.new-hand.ensures.kept) at c.in_err-begin_mark.ensures) c.from_residual-in_err-begin_mark.ensures),
 )
 
 pub returns : goal.returns
 returns g c = (
   c.begin_mark.new.hand.kept,
-  words_on (mark_by c.args.run c.args.profile.now) (mark_said c.args.profile.now (map chars (map string_bytes c.args.words.now))) c.in_ok-words.words c.in_ok-words.ensures
+  words_on (by_words (mark_begun c.args.run c.args.profile.now)) (mark_said c.args.profile.now (map chars (map string_bytes c.args.words.now))) c.in_ok-words.words c.in_ok-words.ensures
       (lift_ok c.args.run command_cause ended_cause plain (mark_begun c.args.run c.args.profile.now c.in_ok-words.words) _ _ tt (rw (c.new-hand.ensures.run, c.new-hand.ensures.kept) at c.in_ok-begin_mark.ensures)),
 )

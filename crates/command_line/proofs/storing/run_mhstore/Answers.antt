@@ -6,7 +6,7 @@ use Rattle.file_plans.proofs.Following.{no_room, lift_ok}
 use Rattle.step_plans.specs.CommandFaults.{command_cause}
 use Rattle.command_words.specs.Ended.{plain, ended_cause}
 use Rattle.store_words.specs.StoreWords.{store_said}
-use Rattle.command_line.specs.Command.{store_begun, store_by}
+use Rattle.command_line.specs.Command.{by_words, store_begun}
 use Rattle.command_line.proofs.Plans.{ends_off, plain_same, refused_words, words_on}
 use Rattle.store_words.proofs.Said.{store_refuses}
 use Rattle.command_line.proofs.storing.run_mhstore.Goals as goal
@@ -14,7 +14,7 @@ use Rattle.command_line.proofs.storing.run_mhstore.Goals as goal
 pub returns-in_err-words : goal.returns-in_err-words
 returns-in_err-words g c = (
   fresh,
-  refused_words (store_by c.args.run c.args.profile.now) (store_said c.args.profile.now (map chars (map string_bytes c.args.words.now))) _ _ (λ f. refl)
+  refused_words (by_words (store_begun c.args.run c.args.profile.now)) (store_said c.args.profile.now (map chars (map string_bytes c.args.words.now))) _ _ (λ f. refl)
       (λ f is. store_refuses c.args.profile.now (map chars (map string_bytes c.args.words.now)) f is) c.in_err-words.ensures c.from_residual.ensures,
 )
 
@@ -24,13 +24,13 @@ returns-in_err-path g c = (fresh, no_room _ c.from_residual-in_err-path.ensures 
 pub returns-in_err-begin_mhstore : goal.returns-in_err-begin_mhstore
 returns-in_err-begin_mhstore g c = (
   c.begin_mhstore.new.hand.kept,
-  words_on (store_by c.args.run c.args.profile.now) (store_said c.args.profile.now (map chars (map string_bytes c.args.words.now))) c.in_ok-words.words c.in_ok-words.ensures
+  words_on (by_words (store_begun c.args.run c.args.profile.now)) (store_said c.args.profile.now (map chars (map string_bytes c.args.words.now))) c.in_ok-words.words c.in_ok-words.ensures
       (ends_off plain _ plain_same (rw (c.new-hand.ensures.run, c.new-hand.ensures.kept) at c.in_err-begin_mhstore.ensures) c.from_residual-in_err-begin_mhstore.ensures),
 )
 
 pub returns : goal.returns
 returns g c = (
   c.begin_mhstore.new.hand.kept,
-  words_on (store_by c.args.run c.args.profile.now) (store_said c.args.profile.now (map chars (map string_bytes c.args.words.now))) c.in_ok-words.words c.in_ok-words.ensures
+  words_on (by_words (store_begun c.args.run c.args.profile.now)) (store_said c.args.profile.now (map chars (map string_bytes c.args.words.now))) c.in_ok-words.words c.in_ok-words.ensures
       (lift_ok c.args.run command_cause ended_cause plain (store_begun c.args.run c.args.profile.now c.in_ok-words.words) _ _ tt (rw (c.new-hand.ensures.run, c.new-hand.ensures.kept) at c.in_ok-begin_mhstore.ensures)),
 )

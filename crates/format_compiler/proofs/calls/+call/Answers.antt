@@ -2,7 +2,7 @@ use Rattle.std.proofs.Common.{List, ℕ, Ok, Result, sym, subst, ap, ◌∙◌}
 use Rattle.format_compiler.specs.declared.call.Call.{Call}
 use Rattle.format_compiler.specs.Fronts.{front_of}
 use Rattle.format_compiler.specs.Outcomes.{Gives}
-use Rattle.format_compiler.proofs.CallLemmas.{call_around, call_stops}
+use Rattle.format_compiler.proofs.Calling.{call_around, call_stops}
 use Rattle.format_compiler.proofs.calls.+call.Goals as goal
 
 pub returns-in-Ok-clause-given : goal.returns-in-Ok-clause-given

@@ -1,8 +1,8 @@
 use Rattle.std.proofs.Common.{ap, ◌∙◌}
 use Rattle.format_compiler.specs.Texts.{characters_in}
-use Rattle.format_compiler.proofs.CompileLemmas.{beyond, none, refused}
+use Rattle.format_compiler.proofs.TextPrograms.{beyond, none, refused}
 use Rattle.format_compiler.proofs.CompletingTexts.{front_begins}
-use Rattle.format_compiler.proofs.FormatOfLemmas.{compiled, is_read}
+use Rattle.format_compiler.proofs.Denoting.{compiled, is_read}
 use Rattle.format_compiler.proofs.compiling.compile.Goals as goal
 
 pub returns-clause-refused : goal.returns-clause-refused

@@ -1,6 +1,6 @@
 use Rattle.std.proofs.Common.{sym, ◌∙◌, ap}
 use Rattle.std.specs.Str.{chars}
-use Rattle.format_compiler.proofs.CompileLemmas.{all_characters}
+use Rattle.format_compiler.proofs.TextPrograms.{all_characters}
 use Rattle.format_compiler.proofs.compiling.decode.Goals as goal
 
 pub returns-in_ok-characters_of-in-Ok-clause-characters : goal.returns-in_ok-characters_of-in-Ok-clause-characters

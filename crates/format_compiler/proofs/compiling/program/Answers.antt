@@ -1,4 +1,4 @@
-use Rattle.format_compiler.proofs.CompileLemmas.{program_alone, program_of}
+use Rattle.format_compiler.proofs.TextPrograms.{program_alone, program_of}
 use Rattle.format_compiler.proofs.compiling.program.Goals as goal
 
 pub returns-clause-whole : goal.returns-clause-whole

@@ -1,7 +1,7 @@
 use Rattle.std.proofs.Common.{arith, ◌∙◌, ap}
 use Rattle.format_compiler.specs.Linkers.{links_of}
 use Rattle.format_compiler.specs.Linking.{linked_all, no_links}
-use Rattle.format_compiler.proofs.LinkLemmas.{all_linked, one_linked}
+use Rattle.format_compiler.proofs.LinkedWords.{all_linked, one_linked}
 use Rattle.format_compiler.proofs.linking.link_words.Goals as goal
 
 pub loop-word-preserved : goal.loop-word-preserved

@@ -1,4 +1,4 @@
-use Rattle.format_compiler.proofs.StandLemmas.{stood}
+use Rattle.format_compiler.proofs.StandingWords.{stood}
 use Rattle.format_compiler.proofs.reading.read_words.Goals as goal
 
 pub loop-rest-preserved : goal.loop-rest-preserved

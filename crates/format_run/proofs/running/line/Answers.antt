@@ -2,11 +2,11 @@ use Rattle.std.proofs.Common.{ap, sym, subst, ◌∙◌, arith}
 use Rattle.format_run.specs.declared.state.LineState.{LineState}
 use Rattle.line_rows.specs.Columns.{IsLongestFit}
 use Rattle.format_run.specs.Meaning.{written_by}
-use Rattle.line_rows.proofs.LongestLemmas.{longest_fit}
+use Rattle.line_rows.proofs.LongestFronts.{longest_fit}
 use Rattle.format_run.specs.Lazy.{meant}
 use Rattle.format_run.specs.Running.{run}
-use Rattle.format_run.proofs.LineLemmas.{line_shown}
-use Rattle.format_run.proofs.WidthLemmas.{run_wide}
+use Rattle.format_run.proofs.FormatLines.{line_shown}
+use Rattle.format_run.proofs.KeptWidths.{run_wide}
 use Rattle.format_run.proofs.running.line.Goals as goal
 
 pub returns-clause-meaning : goal.returns-clause-meaning

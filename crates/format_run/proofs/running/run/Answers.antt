@@ -2,7 +2,7 @@ use Rattle.std.proofs.Common.{ap, sym, ◌∙◌}
 use Rattle.std.proofs.lemmas.List.{nil_from_length}
 use Rattle.format_run.specs.Lazy.{meant}
 use Rattle.format_run.specs.Running.{run}
-use Rattle.format_run.proofs.RunLemmas.{ran_out, skipping}
+use Rattle.format_run.proofs.RunCode.{ran_out, skipping}
 use Rattle.format_run.proofs.running.run.Goals as goal
 
 pub loop-instruction-preserved : goal.loop-instruction-preserved

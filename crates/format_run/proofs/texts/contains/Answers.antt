@@ -1,5 +1,5 @@
 use Rattle.std.proofs.Common.{◌∙◌}
-use Rattle.format_run.proofs.SearchLemmas.{found}
+use Rattle.format_run.proofs.Searching.{found}
 use Rattle.format_run.proofs.texts.contains.Goals as goal
 
 pub returns : goal.returns

@@ -1,7 +1,7 @@
 use Rattle.std.proofs.Common.{◌-◌, w64, arith, ap, sym, ◌∙◌, refl}
 use Rattle.std.specs.Prelude.{pos}
 use Rattle.std.proofs.lemmas.Int.{to_z_pos}
-use Rattle.format_run.proofs.TextLemmas.{digit_more, digits_out, digits_stop}
+use Rattle.format_run.proofs.TextCalls.{digit_more, digits_out, digits_stop}
 use Rattle.format_run.proofs.texts.leading_digits.Goals as goal
 
 pub returns-then-not-is_digit : goal.returns-then-not-is_digit

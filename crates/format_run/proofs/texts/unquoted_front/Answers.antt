@@ -1,7 +1,7 @@
 use Rattle.std.proofs.Common.{◌∷◌, ap, ◌∙◌}
 use Rattle.std.proofs.lemmas.List.{nil_from_length}
 use Rattle.format_run.specs.Texts.{unquoted}
-use Rattle.format_run.proofs.TextLemmas.{backslash_alone, backslash_dropped, other_stays, quote_dropped, unquoted_nothing}
+use Rattle.format_run.proofs.TextCalls.{backslash_alone, backslash_dropped, other_stays, quote_dropped, unquoted_nothing}
 use Rattle.format_run.proofs.texts.unquoted_front.Goals as goal
 
 pub returns-in-None-clause-value : goal.returns-in-None-clause-value

@@ -1,5 +1,5 @@
 use Rattle.std.proofs.Common.{ap, take, ◌∙◌}
-use Rattle.format_run.proofs.TextLemmas.{front_of}
+use Rattle.format_run.proofs.TextCalls.{front_of}
 use Rattle.format_run.proofs.values.body_front.Goals as goal
 
 pub returns : goal.returns

@@ -1,8 +1,8 @@
 use Rattle.std.proofs.Common.{ap, w64, ◌∙◌}
 use Rattle.std.proofs.lemmas.Int.{to_z-of_z}
 use Rattle.line_rows.specs.Decimals.{sign_len}
-use Rattle.line_rows.proofs.ColumnLemmas.{on_ok, three_more, two_more_as}
-use Rattle.line_rows.proofs.DecimalLemmas.{sign_put, spaces_put, zeros_put}
+use Rattle.line_rows.proofs.FittingColumns.{on_ok, three_more, two_more_as}
+use Rattle.line_rows.proofs.PrintedNumbers.{sign_put, spaces_put, zeros_put}
 use Rattle.line_rows.proofs.decimals.put_filled.Goals as goal
 
 pub split_at-requires : goal.split_at-requires

@@ -1,6 +1,6 @@
 use Rattle.std.proofs.Common.{arith}
-use Rattle.line_rows.proofs.ColumnLemmas.{on_ok, two_more_as}
-use Rattle.line_rows.proofs.DecimalLemmas.{last_cut}
+use Rattle.line_rows.proofs.FittingColumns.{on_ok, two_more_as}
+use Rattle.line_rows.proofs.PrintedNumbers.{last_cut}
 use Rattle.line_rows.proofs.decimals.put_last.Goals as goal
 
 pub returns : goal.returns

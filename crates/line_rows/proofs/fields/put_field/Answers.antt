@@ -1,8 +1,8 @@
 use Rattle.std.proofs.Common.{ap, ◌∙◌}
 use Rattle.mail_text.specs.Stripping.{stripped}
 use Rattle.line_rows.specs.Columns.{empty_line, with_more}
-use Rattle.line_rows.proofs.ColumnLemmas.{on_ok}
-use Rattle.line_rows.proofs.DecimalLemmas.{field_put}
+use Rattle.line_rows.proofs.FittingColumns.{on_ok}
+use Rattle.line_rows.proofs.PrintedNumbers.{field_put}
 use Rattle.line_rows.proofs.fields.put_field.Goals as goal
 
 pub returns : goal.returns

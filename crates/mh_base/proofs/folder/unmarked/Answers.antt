@@ -1,6 +1,6 @@
 use Rattle.std.proofs.Common.{lit<}
 use Rattle.std.proofs.lemmas.Str.Pattern.{strip_prefix_char}
-use Rattle.mh_base.proofs.TextLemmas.{plus_off, no_plus_first, stripped, unstripped}
+use Rattle.mh_base.proofs.Texts.{plus_off, no_plus_first, stripped, unstripped}
 use Rattle.mh_base.proofs.folder.unmarked.Goals as goal
 
 pub returns-in-Some : goal.returns-in-Some

@@ -1,6 +1,6 @@
 use Rattle.std.proofs.Common.{◌∙◌, ap}
 use Rattle.mail_headers.specs.Fields.{fields_of}
-use Rattle.mh_profile.proofs.LineLemmas.{first_of}
+use Rattle.mh_profile.proofs.FoldedLines.{first_of}
 use Rattle.mh_profile.proofs.lines.field_of.Goals as goal
 
 pub returns : goal.returns

@@ -1,4 +1,4 @@
-use Rattle.mh_profile.proofs.FieldLemmas.{entry_valid}
+use Rattle.mh_profile.proofs.FieldEntries.{entry_valid}
 use Rattle.mh_profile.proofs.lines.read_entry.Goals as goal
 
 pub returns-in_ok-entry-in-Some-clause-valid : goal.returns-in_ok-entry-in-Some-clause-valid

@@ -1,4 +1,4 @@
-use Rattle.mh_profile.proofs.UnfoldingLemmas.{last_test, some_edge, some_feed}
+use Rattle.mh_profile.proofs.OneLineValues.{last_test, some_edge, some_feed}
 use Rattle.mh_profile.proofs.valid.is_unfolded.Goals as goal
 
 pub returns-then-not-is_one_line : goal.returns-then-not-is_one_line

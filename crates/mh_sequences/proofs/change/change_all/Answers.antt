@@ -3,7 +3,7 @@ use Rattle.mh_sequences.specs.declared.user.User.{User}
 use Rattle.mh_sequences.specs.Changes.{change_of}
 use Rattle.mh_sequences.specs.Sequences.{told}
 use Rattle.mh_sequences.proofs.Changing.{IsSoFar, one_kept, ended}
-use Rattle.mh_sequences.proofs.PlaceLemmas.{item_at}
+use Rattle.mh_sequences.proofs.NamePlaces.{item_at}
 use Rattle.mh_sequences.proofs.change.change_all.Goals as goal
 
 pub loop-user-preserved : goal.loop-user-preserved

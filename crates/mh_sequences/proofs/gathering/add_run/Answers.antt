@@ -1,7 +1,7 @@
 use Rattle.std.proofs.Common.{map, refl}
 use Rattle.mh_sequences.specs.Placing.{IsAt, IsBefore}
 use Rattle.mh_sequences.specs.Sequences.{told}
-use Rattle.mh_sequences.proofs.GatherLemmas.{added_there, added_new}
+use Rattle.mh_sequences.proofs.Gathered.{added_there, added_new}
 use Rattle.mh_sequences.proofs.gathering.add_run.Goals as goal
 
 pub returns-in_ok-insert_run-in-At : goal.returns-in_ok-insert_run-in-At

@@ -3,7 +3,7 @@ use Rattle.std.specs.List.Sorted.{IsPermutation}
 use Rattle.mh_sequences.specs.FieldNames.{is_name_in}
 use Rattle.mh_sequences.specs.Sequences.{told}
 use Rattle.mh_sequences.specs.Mentions.{IsRunAdded}
-use Rattle.mh_sequences.proofs.GatherLemmas.{all_gathered, gather_begun, mention_gathered, mention_here}
+use Rattle.mh_sequences.proofs.Gathered.{all_gathered, gather_begun, mention_gathered, mention_here}
 use Rattle.mh_sequences.proofs.gathering.gather.Goals as goal
 
 pub loop-mention-init : goal.loop-mention-init

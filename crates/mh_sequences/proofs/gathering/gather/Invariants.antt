@@ -1,7 +1,7 @@
 use Rattle.std.proofs.Common.{drop, map}
 use Rattle.mh_sequences.specs.FieldNames.{is_name_in}
 use Rattle.mh_sequences.specs.Sequences.{told}
-use Rattle.mh_sequences.proofs.GatherLemmas.{IsGatheredSoFar}
+use Rattle.mh_sequences.proofs.Gathered.{IsGatheredSoFar}
 use Rattle.mh_sequences.proofs.gathering.gather.Given as goal
 
 abbrev pub invariant-loop-mention : goal.invariant-loop-mention

@@ -1,4 +1,4 @@
-use Rattle.mh_sequences.proofs.PrintingLemmas.{private_more}
+use Rattle.mh_sequences.proofs.PrintedTexts.{private_more}
 use Rattle.mh_sequences.proofs.printing.private_list.Goals as goal
 
 pub loop-user-preserved : goal.loop-user-preserved

@@ -1,4 +1,4 @@
-use Rattle.mh_sequences.proofs.PrintingLemmas.{line_more}
+use Rattle.mh_sequences.proofs.PrintedTexts.{line_more}
 use Rattle.mh_sequences.proofs.printing.put_lines.Goals as goal
 
 pub loop-user-preserved : goal.loop-user-preserved

@@ -1,6 +1,6 @@
 use Rattle.std.proofs.Common.{◌≡◌, Some, None}
 use Rattle.mh_profile.specs.Changes.{value_of}
-use Rattle.mh_sequences.proofs.EntryLemmas.{entry_with, entry_without}
+use Rattle.mh_sequences.proofs.PrivateNames.{entry_with, entry_without}
 use Rattle.mh_sequences.proofs.reading.entry_at.Goals as goal
 
 pub returns-in-Some-2 : goal.returns-in-Some-2

@@ -1,6 +1,6 @@
 use Rattle.std.proofs.Common.{◌≡◌, ◌++◌, ◌∙◌, ap}
 use Rattle.std.specs.Prelude.{codes}
-use Rattle.mh_sequences.proofs.EntryLemmas.{name_between, other_end, front_is, end_is}
+use Rattle.mh_sequences.proofs.PrivateNames.{name_between, other_end, front_is, end_is}
 use Rattle.mh_sequences.proofs.reading.private_name.Goals as goal
 
 pub returns-in-Some-strip_suffix : goal.returns-in-Some-strip_suffix

@@ -2,7 +2,7 @@ use Rattle.std.specs.Prelude.{nat_lt}
 use Rattle.std.proofs.Common.{rules}
 use Rattle.std.proofs.lemmas.List.Sorted.{IsPartitionPoint-from_clause, IsPartitionedBy-ltb}
 use Rattle.mh_sequences.specs.declared.run.Run.{Run}
-use Rattle.mh_sequences.proofs.RunLemmas.{runs_rise, point_is_prefix}
+use Rattle.mh_sequences.proofs.OrderedRuns.{runs_rise, point_is_prefix}
 use Rattle.mh_sequences.proofs.runs.before.Goals as goal
 
 pub returns-clause-value : goal.returns-clause-value

@@ -3,7 +3,7 @@ use Rattle.mh_sequences.specs.Placing.{IsAt, IsBefore}
 use Rattle.mh_sequences.specs.Names.{is_seq_name}
 use Rattle.mh_sequences.specs.Sequences.{told, AreSequences}
 use Rattle.mh_sequences.proofs.Placing.{placed_valid}
-use Rattle.mh_sequences.proofs.PlaceLemmas.{put_none, put_there, put_new}
+use Rattle.mh_sequences.proofs.NamePlaces.{put_none, put_there, put_new}
 use Rattle.mh_sequences.proofs.sequences.put.Goals as goal
 
 pub returns-in-At-clause-ok : goal.returns-in-At-clause-ok

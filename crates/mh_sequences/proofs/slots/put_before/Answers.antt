@@ -1,5 +1,5 @@
 use Rattle.std.proofs.Common.{◌+◌, ◌-◌, refl, arith}
-use Rattle.mh_sequences.proofs.SlotLemmas.{put_ahead}
+use Rattle.mh_sequences.proofs.SlotRuns.{put_ahead}
 use Rattle.mh_sequences.proofs.slots.put_before.Goals as goal
 
 pub returns-clause-runs : goal.returns-clause-runs

@@ -1,5 +1,5 @@
 use Rattle.std.proofs.lemmas.Str.Pattern.{strip_prefix_char}
-use Rattle.mh_words.proofs.TextLemmas.{marked}
+use Rattle.mh_words.proofs.Texts.{marked}
 use Rattle.mh_words.proofs.form.after_mark.Goals as goal
 
 pub returns : goal.returns

@@ -1,4 +1,4 @@
-use Rattle.mh_words.proofs.TextLemmas.{blank}
+use Rattle.mh_words.proofs.Texts.{blank}
 use Rattle.mh_words.proofs.form.is_blank.Goals as goal
 
 pub returns : goal.returns

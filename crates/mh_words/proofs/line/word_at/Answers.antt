@@ -1,4 +1,4 @@
-use Rattle.mh_words.proofs.LineLemmas.{in_back}
+use Rattle.mh_words.proofs.TwoLists.{in_back}
 use Rattle.mh_words.proofs.line.word_at.Goals as goal
 
 pub returns-else-place-line-clause-word : goal.returns-else-place-line-clause-word

@@ -2,7 +2,7 @@ use Rattle.std.proofs.Common.{length, refl}
 use Rattle.std.specs.Str.{chars}
 use Rattle.std.proofs.lemmas.Option.{slice_get_read}
 use Rattle.mh_words.specs.Switches.{IsAt}
-use Rattle.mh_words.proofs.LookupLemmas.{none_more, longer_more, unlike_more, found_all, begins_itself_at}
+use Rattle.mh_words.proofs.Lookups.{none_more, longer_more, unlike_more, found_all, begins_itself_at}
 use Rattle.mh_words.proofs.lookup.find_switch.Goals as goal
 use Rattle.mh_words.proofs.lookup.find_switch.Goals.{in-Longer, in-Unlike}
 

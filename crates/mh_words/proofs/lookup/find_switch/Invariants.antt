@@ -1,5 +1,5 @@
 use Rattle.std.specs.Str.{chars}
-use Rattle.mh_words.proofs.LookupLemmas.{NoneIsFull, IsSoFar}
+use Rattle.mh_words.proofs.Lookups.{NoneIsFull, IsSoFar}
 use Rattle.mh_words.proofs.lookup.find_switch.Given as goal
 
 abbrev pub invariant-loop-index : goal.invariant-loop-index

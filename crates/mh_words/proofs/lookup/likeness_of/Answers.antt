@@ -1,4 +1,4 @@
-use Rattle.mh_words.proofs.TextLemmas.{begins_by_bytes, goes_on}
+use Rattle.mh_words.proofs.Texts.{begins_by_bytes, goes_on}
 use Rattle.mh_words.proofs.lookup.likeness_of.Goals as goal
 
 pub returns-in-None : goal.returns-in-None

@@ -1,7 +1,7 @@
 use Rattle.std.specs.Str.{chars}
 use Rattle.std.proofs.lemmas.Result.{err_from_is_err_and}
 use Rattle.mh_words.specs.Lines.{words_of}
-use Rattle.mh_words.proofs.StepLemmas.{component_step, component_stops}
+use Rattle.mh_words.proofs.OneStep.{component_step, component_stops}
 use Rattle.mh_words.proofs.reading.read_component.Goals as goal
 
 pub returns-in_err-value-clause-step : goal.returns-in_err-value-clause-step

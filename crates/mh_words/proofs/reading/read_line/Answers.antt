@@ -1,6 +1,6 @@
 use Rattle.std.proofs.lemmas.Result.{err_from_is_err_and}
 use Rattle.mh_words.specs.Lines.{words_of}
-use Rattle.mh_words.proofs.OutcomeLemmas.{reads_more, fails_more, reads_all, step_fault}
+use Rattle.mh_words.proofs.OneOutcome.{reads_more, fails_more, reads_all, step_fault}
 use Rattle.mh_words.proofs.reading.read_line.Goals as goal
 
 pub returns-in_err-taken : goal.returns-in_err-taken

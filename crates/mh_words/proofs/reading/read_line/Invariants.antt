@@ -1,6 +1,6 @@
 use Rattle.std.proofs.Common.{◌-◌, length}
 use Rattle.mh_words.specs.Lines.{words_of}
-use Rattle.mh_words.proofs.OutcomeLemmas.{CompletesReads, CompletesFails}
+use Rattle.mh_words.proofs.OneOutcome.{CompletesReads, CompletesFails}
 use Rattle.mh_words.proofs.reading.read_line.Given as goal
 
 -- whatever completes the rest completes the whole

@@ -2,7 +2,7 @@ use Rattle.std.proofs.Common.{refl}
 use Rattle.std.specs.Str.{chars}
 use Rattle.std.proofs.lemmas.Result.{err_from_is_err_and}
 use Rattle.mh_words.specs.Lines.{words_of}
-use Rattle.mh_words.proofs.StepLemmas.{flag_step, value_step, value_stops, unknown_stops, ambiguous_stops}
+use Rattle.mh_words.proofs.OneStep.{flag_step, value_step, value_stops, unknown_stops, ambiguous_stops}
 use Rattle.mh_words.proofs.reading.read_switch.Goals as goal
 
 pub returns-in_err-value-in-One-default-Value-clause-step : goal.returns-in_err-value-in-One-default-Value-clause-step

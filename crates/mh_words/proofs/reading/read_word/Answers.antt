@@ -1,6 +1,6 @@
 use Rattle.std.proofs.Common.{refl}
 use Rattle.mh_words.specs.Lines.{words_of}
-use Rattle.mh_words.proofs.StepLemmas.{folder_step, message_step, dash_stops}
+use Rattle.mh_words.proofs.OneStep.{folder_step, message_step, dash_stops}
 use Rattle.mh_words.proofs.reading.read_word.Goals as goal
 
 pub returns-in_ok-duplicate-in-Folder-clause-step : goal.returns-in_ok-duplicate-in-Folder-clause-step

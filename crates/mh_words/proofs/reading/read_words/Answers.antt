@@ -1,9 +1,9 @@
 use Rattle.std.proofs.Common.{◌++◌}
 use Rattle.std.proofs.lemmas.Result.{err_from_is_err_and}
-use Rattle.mh_words.proofs.ItemLemmas.{items_of}
-use Rattle.mh_words.proofs.OutcomeLemmas.{fault_admits, fault_fails}
-use Rattle.mh_words.proofs.ReadingLemmas.{reads_same, reads_fails}
-use Rattle.mh_words.proofs.WholeLemmas.{whole_is, whole_read}
+use Rattle.mh_words.proofs.TableItems.{items_of}
+use Rattle.mh_words.proofs.OneOutcome.{fault_admits, fault_fails}
+use Rattle.mh_words.proofs.OneReading.{reads_same, reads_fails}
+use Rattle.mh_words.proofs.IsReading.{whole_is, whole_read}
 use Rattle.mh_words.proofs.reading.read_words.Goals as goal
 
 pub returns-in_err-items-clause-admits : goal.returns-in_err-items-clause-admits

@@ -3,7 +3,7 @@ use Rattle.std.specs.Str.{chars}
 use Rattle.std.proofs.lemmas.Bool.{false_from_ne_true}
 use Rattle.msg_ranges.proofs.Digits.{read_name}
 use Rattle.mh_sequences.specs.Names.{is_seq_name}
-use Rattle.mh_sequences.proofs.NameLemmas.{is_text, plain_chars}
+use Rattle.mh_sequences.proofs.AsciiNames.{is_text, plain_chars}
 use Rattle.msg_ranges.proofs.forms.sequence.Goals as goal
 
 pub returns-in_default : goal.returns-in_default

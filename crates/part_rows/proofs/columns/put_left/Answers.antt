@@ -1,6 +1,6 @@
 use Rattle.std.proofs.Common.{ap, ◌∙◌}
 use Rattle.line_rows.specs.Columns.{with_more}
-use Rattle.line_rows.proofs.ColumnLemmas.{on_ok}
+use Rattle.line_rows.proofs.FittingColumns.{on_ok}
 use Rattle.part_rows.proofs.Encoding.{left_put}
 use Rattle.part_rows.proofs.columns.put_left.Goals as goal
 

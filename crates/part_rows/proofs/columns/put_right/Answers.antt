@@ -1,5 +1,5 @@
 use Rattle.std.proofs.Common.{◌∙◌}
-use Rattle.line_rows.proofs.ColumnLemmas.{on_ok}
+use Rattle.line_rows.proofs.FittingColumns.{on_ok}
 use Rattle.part_rows.proofs.Encoding.{right_put}
 use Rattle.part_rows.proofs.columns.put_right.Goals as goal
 

@@ -1,6 +1,6 @@
 use Rattle.std.proofs.Common.{◌+◌, ◌-◌, get_or, length, take, drop, refl, sym, ◌∙◌}
 use Rattle.std.proofs.lemmas.List.{take_rest}
-use Rattle.pick_expr.proofs.ClassLemmas.{all_read, more_read}
+use Rattle.pick_expr.proofs.ClassMembers.{all_read, more_read}
 use Rattle.pick_expr.proofs.class.read_members.Goals as goal
 
 pub returns-then-closes : goal.returns-then-closes

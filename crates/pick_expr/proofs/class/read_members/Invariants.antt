@@ -1,5 +1,5 @@
 use Rattle.std.proofs.Common.{◌-◌, length}
-use Rattle.pick_expr.proofs.ClassLemmas.{AreRead}
+use Rattle.pick_expr.proofs.ClassMembers.{AreRead}
 use Rattle.pick_expr.proofs.class.read_members.Given as goal
 
 abbrev pub invariant-loop-at : goal.invariant-loop-at

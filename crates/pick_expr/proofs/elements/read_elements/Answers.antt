@@ -1,7 +1,7 @@
 use Rattle.std.proofs.Common.{ℕ, List, ◌+◌, ◌-◌, ◌<◌, get_or, length, take, drop, refl, sym, ◌∙◌, arith}
 use Rattle.std.proofs.lemmas.List.{take_rest}
 use Rattle.pick_expr.specs.Reading.{element_in}
-use Rattle.pick_expr.proofs.ElementLemmas.{anchored, ended, more_read, none_taken, one_taken, too_many, wrong}
+use Rattle.pick_expr.proofs.ElementSteps.{anchored, ended, more_read, none_taken, one_taken, too_many, wrong}
 use Rattle.pick_expr.proofs.elements.read_elements.Goals as goal
 
 pub returns-then-is_anchor-clause-elements : goal.returns-then-is_anchor-clause-elements

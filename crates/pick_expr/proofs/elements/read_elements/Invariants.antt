@@ -1,5 +1,5 @@
 use Rattle.std.proofs.Common.{◌-◌, length}
-use Rattle.pick_expr.proofs.ElementLemmas.{AreRead}
+use Rattle.pick_expr.proofs.ElementSteps.{AreRead}
 use Rattle.pick_expr.proofs.elements.read_elements.Given as goal
 
 abbrev pub invariant-loop-at : goal.invariant-loop-at

@@ -1,9 +1,9 @@
 use Rattle.std.proofs.Common.{FitsSigned, w32, w64}
 use Rattle.std.proofs.lemmas.Int.{to_z-of_z}
 use Rattle.pick_expr.specs.Signs.{day_of, today_at}
-use Rattle.pick_expr.proofs.DateLemmas.{is_today_at}
-use Rattle.pick_expr.proofs.RefusalLemmas.{read_ok, read_err}
-use Rattle.pick_expr.proofs.WholeLemmas.{expr_is}
+use Rattle.pick_expr.proofs.Days.{is_today_at}
+use Rattle.pick_expr.proofs.ReaderFaults.{read_ok, read_err}
+use Rattle.pick_expr.proofs.ItemValues.{expr_is}
 use Rattle.pick_expr.proofs.expr.read_expr.Goals as goal
 
 pub returns-clause-expression : goal.returns-clause-expression

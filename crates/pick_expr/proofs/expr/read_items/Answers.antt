@@ -1,5 +1,5 @@
 use Rattle.pick_expr.specs.Signs.{day_of}
-use Rattle.pick_expr.proofs.ProgressLemmas.{end_ok, end_err, fault_next, is_on_next}
+use Rattle.pick_expr.proofs.ItemByItem.{end_ok, end_err, fault_next, is_on_next}
 use Rattle.pick_expr.proofs.expr.read_items.Goals as goal
 
 pub returns-in-Err-clause-err : goal.returns-in-Err-clause-err

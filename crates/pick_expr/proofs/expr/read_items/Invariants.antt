@@ -1,7 +1,7 @@
 use Rattle.std.proofs.Common.{ℤ}
 use Rattle.mail_dates.specs.Picking.{IsToday}
 use Rattle.pick_expr.specs.Signs.{day_of}
-use Rattle.pick_expr.proofs.ProgressLemmas.{IsOn}
+use Rattle.pick_expr.proofs.ItemByItem.{IsOn}
 use Rattle.pick_expr.proofs.expr.read_items.Given as goal
 
 abbrev pub invariant-loop-item : goal.invariant-loop-item

@@ -1,6 +1,6 @@
 use Rattle.std.proofs.Common.{◌-◌, true, false, length, get_or, refl, sym, ◌∙◌, arith}
 use Rattle.pick_expr.specs.Finishing.{finishes}
-use Rattle.pick_expr.proofs.FinishLemmas.{found_first, found_more, found_on, found_passed}
+use Rattle.pick_expr.proofs.LineEnds.{found_first, found_more, found_on, found_passed}
 use Rattle.pick_expr.proofs.finding.found.Goals as goal
 
 pub loop-at-init : goal.loop-at-init

@@ -1,5 +1,5 @@
 use Rattle.std.proofs.Common.{false}
-use Rattle.pick_expr.proofs.FinishLemmas.{IsFound}
+use Rattle.pick_expr.proofs.LineEnds.{IsFound}
 use Rattle.pick_expr.proofs.finding.found.Given as goal
 
 abbrev pub invariant-loop-at : goal.invariant-loop-at

@@ -1,5 +1,5 @@
 use Rattle.std.proofs.Common.{◌-◌, get_or, refl, arith}
-use Rattle.pick_expr.proofs.FinishLemmas.{started_first, started_more}
+use Rattle.pick_expr.proofs.LineEnds.{started_first, started_more}
 use Rattle.pick_expr.proofs.finding.reaches_start.Goals as goal
 
 pub loop-at-init : goal.loop-at-init

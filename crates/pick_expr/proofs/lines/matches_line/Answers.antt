@@ -1,7 +1,7 @@
 use Rattle.std.proofs.Common.{◌≡◌, ◌+◌, ◌<◌, length, take, sym, ap, ◌∙◌, arith}
 use Rattle.pick_expr.specs.Finishing.{is_match}
 use Rattle.pick_expr.specs.Lines.{without_return}
-use Rattle.pick_expr.proofs.LineLemmas.{end_line, feed_at, found_line, more_lines, no_line}
+use Rattle.pick_expr.proofs.BodyLines.{end_line, feed_at, found_line, more_lines, no_line}
 use Rattle.pick_expr.proofs.lines.matches_line.Goals as goal
 
 pub returns-then-len-rest : goal.returns-then-len-rest

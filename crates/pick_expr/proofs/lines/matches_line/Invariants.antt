@@ -1,6 +1,6 @@
 use Rattle.std.proofs.Common.{◌-◌, length}
 use Rattle.pick_expr.specs.Finishing.{is_match}
-use Rattle.pick_expr.proofs.LineLemmas.{IsOnLine}
+use Rattle.pick_expr.proofs.BodyLines.{IsOnLine}
 use Rattle.pick_expr.proofs.lines.matches_line.Given as goal
 
 abbrev pub invariant-loop-at : goal.invariant-loop-at

@@ -2,7 +2,7 @@ use Rattle.std.proofs.Common.{◌∷◌, [], List, length, sym, ap, ◌∙◌, a
 use Rattle.std.proofs.lemmas.List.{length-append}
 use Rattle.pick_expr.specs.declared.places.Places.{Places}
 use Rattle.pick_expr.specs.Masks.{AreMasks}
-use Rattle.pick_expr.proofs.MaskLemmas.{masks_more, no_masks}
+use Rattle.pick_expr.proofs.MaskSteps.{masks_more, no_masks}
 use Rattle.pick_expr.proofs.masks.all_masks.Goals as goal
 
 pub loop-byte-init : goal.loop-byte-init

@@ -1,5 +1,5 @@
 use Rattle.std.proofs.Common.{◌-◌, arith}
-use Rattle.pick_expr.proofs.MaskLemmas.{mask_all, mask_first, mask_more}
+use Rattle.pick_expr.proofs.MaskSteps.{mask_all, mask_first, mask_more}
 use Rattle.pick_expr.proofs.masks.mask.Goals as goal
 
 pub loop-at-init : goal.loop-at-init

@@ -1,4 +1,4 @@
-use Rattle.pick_expr.proofs.MaskLemmas.{IsMaskFrom}
+use Rattle.pick_expr.proofs.MaskSteps.{IsMaskFrom}
 use Rattle.pick_expr.proofs.masks.mask.Given as goal
 
 abbrev pub invariant-loop-at : goal.invariant-loop-at

@@ -1,4 +1,4 @@
-use Rattle.pick_expr.proofs.FinishLemmas.{IsLast}
+use Rattle.pick_expr.proofs.LineEnds.{IsLast}
 use Rattle.pick_expr.proofs.matching.last_places.Given as goal
 
 abbrev pub invariant-loop-at : goal.invariant-loop-at

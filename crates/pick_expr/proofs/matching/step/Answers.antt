@@ -1,5 +1,5 @@
 use Rattle.std.proofs.Common.{◌-◌, arith}
-use Rattle.pick_expr.proofs.FinishLemmas.{stepped_all, stepped_more}
+use Rattle.pick_expr.proofs.LineEnds.{stepped_all, stepped_more}
 use Rattle.pick_expr.proofs.matching.step.Goals as goal
 
 pub loop-at-preserved : goal.loop-at-preserved

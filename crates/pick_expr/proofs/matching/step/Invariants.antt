@@ -1,4 +1,4 @@
-use Rattle.pick_expr.proofs.FinishLemmas.{IsStepped}
+use Rattle.pick_expr.proofs.LineEnds.{IsStepped}
 use Rattle.pick_expr.proofs.matching.step.Given as goal
 
 abbrev pub invariant-loop-at : goal.invariant-loop-at

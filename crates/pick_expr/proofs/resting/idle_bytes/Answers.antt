@@ -1,5 +1,5 @@
 use Rattle.std.proofs.Common.{◌∙◌, refl, arith, length-set}
-use Rattle.pick_expr.proofs.RestingLemmas.{none_idle, idle_more}
+use Rattle.pick_expr.proofs.PassedBytes.{none_idle, idle_more}
 use Rattle.pick_expr.proofs.resting.idle_bytes.Goals as goal
 
 pub loop-byte-init : goal.loop-byte-init

@@ -1,7 +1,7 @@
 use Rattle.std.proofs.Common.{ap, ◌∙◌, FitsSigned, w32, w64, rules, Some, None}
 use Rattle.std.proofs.lemmas.Int.{to_z-of_z}
 use Rattle.std.specs.Str.{encode_utf8_all}
-use Rattle.pick_expr.proofs.DateLemmas.{picks}
+use Rattle.pick_expr.proofs.Days.{picks}
 use Rattle.pick_expr.proofs.sign.clock_in.Goals as goal
 
 pub returns-in-Ok : goal.returns-in-Ok

@@ -1,5 +1,5 @@
 use Rattle.pick_expr.specs.Picks.{picks}
-use Rattle.pick_expr.proofs.ValueLemmas.{result_holds}
+use Rattle.pick_expr.proofs.WordValues.{result_holds}
 use Rattle.pick_expr.proofs.truth.holds.Goals as goal
 
 pub returns-clause-tree : goal.returns-clause-tree

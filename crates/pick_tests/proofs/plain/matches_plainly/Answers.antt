@@ -1,6 +1,6 @@
 use Rattle.std.proofs.Common.{sym, ◌∙◌}
 use Rattle.pick_expr.specs.Finishing.{finishes, found_by}
-use Rattle.pick_expr.proofs.FitLemmas.{matches_start, matches_anywhere}
+use Rattle.pick_expr.proofs.FittingPieces.{matches_start, matches_anywhere}
 use Rattle.pick_tests.proofs.plain.matches_plainly.Goals as goal
 
 pub returns-then-is_from_start : goal.returns-then-is_from_start

@@ -1,5 +1,5 @@
 use Rattle.plain_lines.specs.Trees.{format_of}
-use Rattle.plain_lines.proofs.DoingLemmas.{line_done}
+use Rattle.plain_lines.proofs.WhatFormatsDo.{line_done}
 use Rattle.plain_lines.proofs.plain.plain_line.Goals as goal
 
 pub returns : goal.returns

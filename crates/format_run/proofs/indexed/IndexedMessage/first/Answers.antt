@@ -1,5 +1,5 @@
 use Rattle.std.proofs.Common.{◌∙◌}
-use Rattle.format_run.proofs.IndexLemmas.{indexed, met, none_met, passed}
+use Rattle.format_run.proofs.FirstFields.{indexed, met, none_met, passed}
 use Rattle.format_run.proofs.indexed.IndexedMessage.first.Goals as goal
 
 pub returns-then-eq_ignore_ascii_case : goal.returns-then-eq_ignore_ascii_case

@@ -1,6 +1,6 @@
 use Rattle.std.proofs.Common.{ap, ◌∙◌}
 use Rattle.format_run.specs.Lazy.{meant}
-use Rattle.format_run.proofs.LazyLemmas.{on_ok, print_meant}
+use Rattle.format_run.proofs.LazyStates.{on_ok, print_meant}
 use Rattle.format_run.proofs.lazy.LazyState.print_text.Goals as goal
 
 pub returns : goal.returns

@@ -1,5 +1,5 @@
 use Rattle.std.proofs.Common.{sym}
-use Rattle.line_rows.proofs.ColumnLemmas.{copy_more, more_none}
+use Rattle.line_rows.proofs.FittingColumns.{copy_more, more_none}
 use Rattle.line_rows.proofs.row.Row.fill.Goals as goal
 
 pub loop-init : goal.loop-init

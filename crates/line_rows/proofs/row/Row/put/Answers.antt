@@ -1,6 +1,6 @@
 use Rattle.std.proofs.Common.{◌∷◌, [], sym, ap, ◌∙◌}
 use Rattle.line_rows.specs.Columns.{Kept}
-use Rattle.line_rows.proofs.ColumnLemmas.{character_cut, character_held, put_shut}
+use Rattle.line_rows.proofs.FittingColumns.{character_cut, character_held, put_shut}
 use Rattle.line_rows.proofs.row.Row.put.Goals as goal
 
 pub returns-then-self : goal.returns-then-self

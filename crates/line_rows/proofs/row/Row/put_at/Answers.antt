@@ -1,6 +1,6 @@
 use Rattle.std.proofs.Common.{[], ◌∷◌, sym, ap, ◌∙◌}
 use Rattle.line_rows.specs.Columns.{with_more}
-use Rattle.line_rows.proofs.ColumnLemmas.{more_none, on_ok, two_more_as}
+use Rattle.line_rows.proofs.FittingColumns.{more_none, on_ok, two_more_as}
 use Rattle.mail_text.proofs.Lining.{gap_written, plain_written, spaced_written}
 use Rattle.line_rows.proofs.row.Row.put_at.Goals as goal
 

@@ -1,5 +1,5 @@
 use Rattle.std.proofs.Common.{sym}
-use Rattle.line_rows.proofs.ColumnLemmas.{item_more, more_none}
+use Rattle.line_rows.proofs.FittingColumns.{item_more, more_none}
 use Rattle.line_rows.proofs.row.Row.put_bytes.Goals as goal
 
 pub loop-byte-init : goal.loop-byte-init

@@ -4,7 +4,7 @@ use Rattle.std.proofs.lemmas.Iterator.{YieldsList-from_chars}
 use Rattle.std.proofs.lemmas.Iterator.Consumers.{YieldsList-end, YieldsList-so_far}
 use Rattle.std.proofs.lemmas.List.{map-id, take-append-drop}
 use Rattle.line_rows.specs.Columns.{Kept, with_more}
-use Rattle.line_rows.proofs.ColumnLemmas.{character_more, closed_more, more_none}
+use Rattle.line_rows.proofs.FittingColumns.{character_more, closed_more, more_none}
 use Rattle.line_rows.proofs.row.Row.put_str.Goals as goal
 
 pub loop-c-init : goal.loop-c-init

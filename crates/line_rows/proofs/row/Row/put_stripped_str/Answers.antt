@@ -7,7 +7,7 @@ use Rattle.mail_text.specs.declared.stripping.Spot.TheVariants.{Front}
 use Rattle.mail_text.specs.OneLine.{line_from, spot_behind, spot_from, written}
 use Rattle.mail_text.proofs.Lining.{line_both, line_last, line_none, line_stripped, spot_last, spot_none}
 use Rattle.line_rows.specs.Columns.{Kept, with_more}
-use Rattle.line_rows.proofs.ColumnLemmas.{closed_more, more_none, two_more_as}
+use Rattle.line_rows.proofs.FittingColumns.{closed_more, more_none, two_more_as}
 use Rattle.line_rows.proofs.row.Row.put_stripped_str.Goals as goal
 
 pub loop-c-init : goal.loop-c-init

@@ -1,7 +1,7 @@
 use Rattle.std.proofs.Common.{sym, ap, ◌∙◌, length}
 use Rattle.mbox_drop.specs.Drops.{is_drop, messages}
 use Rattle.mbox_drop.specs.declared.place.Stage.TheVariants.{Unread, NoDrop}
-use Rattle.mbox_drop.proofs.ReadingLemmas.{staged, is_begun_at, messages-none, is_drop-none}
+use Rattle.mbox_drop.proofs.KnownBytes.{staged, is_begun_at, messages-none, is_drop-none}
 use Rattle.mbox_drop.proofs.Counts.{counted_end}
 use Rattle.mbox_drop.proofs.counter.DropCounter.end.Goals as goal
 

@@ -1,7 +1,7 @@
 use Rattle.std.proofs.Common.{ap, ◌∙◌}
 use Rattle.mbox_drop.specs.Places.{ended}
 use Rattle.mbox_drop.specs.declared.place.Stage.TheVariants.{Unread, NoDrop}
-use Rattle.mbox_drop.proofs.ReadingLemmas.{staged}
+use Rattle.mbox_drop.proofs.KnownBytes.{staged}
 use Rattle.mbox_drop.proofs.Cuttings.{ends_last}
 use Rattle.mbox_drop.proofs.cutter.DropCutter.end.Goals as goal
 

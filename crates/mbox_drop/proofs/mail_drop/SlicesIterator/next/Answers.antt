@@ -1,7 +1,7 @@
 use Rattle.std.proofs.Common.{◌≡◌, [], ◌∷◌, length, take, sym, ap, ◌∙◌, rules}
 use Rattle.mbox_drop.specs.Drops.{messages}
 use Rattle.mbox_drop.specs.Text.{text_with}
-use Rattle.mbox_drop.proofs.ReadingLemmas.{messages-none}
+use Rattle.mbox_drop.proofs.KnownBytes.{messages-none}
 use Rattle.mbox_drop.proofs.Slicing.{messages-whole, messages-open}
 use Rattle.mbox_drop.proofs.mail_drop.SlicesIterator.next.Goals as goal
 

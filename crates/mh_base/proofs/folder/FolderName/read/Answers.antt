@@ -1,6 +1,6 @@
 use Rattle.std.proofs.Common.{◌≡◌, sym, ◌∙◌, ap}
 use Rattle.mh_base.specs.Folders.{without_plus}
-use Rattle.mh_base.proofs.TextLemmas.{judged}
+use Rattle.mh_base.proofs.Texts.{judged}
 use Rattle.mh_base.proofs.folder.FolderName.read.Goals as goal
 
 pub returns-then-not-is_folder-clause-refused : goal.returns-then-not-is_folder-clause-refused

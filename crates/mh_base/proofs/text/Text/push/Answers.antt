@@ -1,6 +1,6 @@
 use Rattle.std.specs.String.{string_bytes}
 use Rattle.std.proofs.lemmas.Str.{IsUtf8-string_bytes}
-use Rattle.mh_base.proofs.TextLemmas.{pushed}
+use Rattle.mh_base.proofs.Texts.{pushed}
 use Rattle.mh_base.proofs.text.Text.push.Goals as goal
 
 pub returns-clause-ok : goal.returns-clause-ok

@@ -2,7 +2,7 @@ use Rattle.std.proofs.Common.{◌≡◌, ap, sym, ◌∙◌}
 use Rattle.std.specs.Option.{option_map}
 use Rattle.mh_profile.specs.Changes.{value_of}
 use Rattle.mh_profile.specs.Names.{key_of}
-use Rattle.mh_profile.proofs.MapLemmas.{value_by_key}
+use Rattle.mh_profile.proofs.KeyedEntries.{value_by_key}
 use Rattle.mh_profile.proofs.entries.Entries.get.Goals as goal
 
 pub returns-in-Some : goal.returns-in-Some

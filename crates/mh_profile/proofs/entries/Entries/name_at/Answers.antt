@@ -1,5 +1,5 @@
 use Rattle.std.proofs.Common.{ap, sym, ◌∙◌, map, slice_get}
-use Rattle.mh_profile.proofs.MapLemmas.{name_there}
+use Rattle.mh_profile.proofs.KeyedEntries.{name_there}
 use Rattle.mh_profile.proofs.entries.Entries.name_at.Goals as goal
 
 pub returns-in-Some : goal.returns-in-Some

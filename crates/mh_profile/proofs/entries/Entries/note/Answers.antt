@@ -3,8 +3,8 @@ use Rattle.std.specs.Map.{values_of}
 use Rattle.mh_profile.specs.Changes.{noted}
 use Rattle.mh_profile.specs.Names.{key_of}
 use Rattle.mh_profile.specs.Validity.{AreEntries, has_name}
-use Rattle.mh_profile.proofs.EntryLemmas.{entries_more, noted_new, noted_there}
-use Rattle.mh_profile.proofs.MapLemmas.{added_keyed, added_values, has_by_key}
+use Rattle.mh_profile.proofs.EntryLists.{entries_more, noted_new, noted_there}
+use Rattle.mh_profile.proofs.KeyedEntries.{added_keyed, added_values, has_by_key}
 use Rattle.mh_profile.proofs.entries.Entries.note.Goals as goal
 
 pub returns-then-contains_key : goal.returns-then-contains_key

@@ -2,7 +2,7 @@ use Rattle.std.proofs.Common.{◌≡◌, ◌++◌, [], ap, append-nil, subst, sy
 use Rattle.mh_profile.specs.Printing.{printed}
 use Rattle.mh_profile.specs.Reading.{entries_in}
 use Rattle.mh_profile.specs.Validity.{AreEntries}
-use Rattle.mh_profile.proofs.PrintLemmas.{reads_back}
+use Rattle.mh_profile.proofs.PrintedBack.{reads_back}
 use Rattle.mh_profile.proofs.entries.Entries.print.Goals as goal
 
 pub returns-clause-reads_back : goal.returns-clause-reads_back

@@ -1,8 +1,8 @@
 use Rattle.std.proofs.Common.{◌<◌, None, Some, length, ap, subst, sym, ◌∙◌}
 use Rattle.mh_profile.specs.Lines.{folded_lines}
 use Rattle.mh_profile.specs.Reading.{IsEntryOf, entries_in, listed}
-use Rattle.mh_profile.proofs.EntryLemmas.{more_of, more_of-none}
-use Rattle.mh_profile.proofs.ReadLemmas.{ended, fewer, some_left, step_none, step_some}
+use Rattle.mh_profile.proofs.EntryLists.{more_of, more_of-none}
+use Rattle.mh_profile.proofs.LineByLine.{ended, fewer, some_left, step_none, step_some}
 use Rattle.mh_profile.proofs.entries.Entries.read.Goals as goal
 
 pub loop-rest-init : goal.loop-rest-init

@@ -1,7 +1,7 @@
 use Rattle.std.proofs.Common.{◌≡◌, length}
 use Rattle.mh_profile.specs.Lines.{folded_lines}
 use Rattle.mh_profile.specs.Reading.{entries_in, listed}
-use Rattle.mh_profile.proofs.EntryLemmas.{more_of}
+use Rattle.mh_profile.proofs.EntryLists.{more_of}
 use Rattle.mh_profile.proofs.entries.Entries.read.Given as goal
 
 abbrev pub invariant-loop-rest : goal.invariant-loop-rest

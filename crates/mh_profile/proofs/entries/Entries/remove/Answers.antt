@@ -3,8 +3,8 @@ use Rattle.std.specs.Map.{values_of}
 use Rattle.mh_profile.specs.Changes.{without}
 use Rattle.mh_profile.specs.Names.{key_of}
 use Rattle.mh_profile.specs.Validity.{AreEntries}
-use Rattle.mh_profile.proofs.EntryLemmas.{entries_filtered}
-use Rattle.mh_profile.proofs.MapLemmas.{removed_keyed, removed_values}
+use Rattle.mh_profile.proofs.EntryLists.{entries_filtered}
+use Rattle.mh_profile.proofs.KeyedEntries.{removed_keyed, removed_values}
 use Rattle.mh_profile.proofs.entries.Entries.remove.Goals as goal
 
 pub invariant_of-self : goal.invariant_of-self

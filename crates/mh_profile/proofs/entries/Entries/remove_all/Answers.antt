@@ -5,8 +5,8 @@ use Rattle.indexmap.proofs.CallerLemmas.{filter-RetainsPairs}
 use Rattle.mh_profile.specs.Changes.{without_all}
 use Rattle.mh_profile.specs.NameKeys.{has_key, is_named}
 use Rattle.mh_profile.specs.Validity.{AreEntries}
-use Rattle.mh_profile.proofs.EntryLemmas.{entries_filtered}
-use Rattle.mh_profile.proofs.NameKeyLemmas.{all_at_once, left_keyed, left_values}
+use Rattle.mh_profile.proofs.EntryLists.{entries_filtered}
+use Rattle.mh_profile.proofs.KeySets.{all_at_once, left_keyed, left_values}
 use Rattle.mh_profile.proofs.entries.Entries.remove_all.Goals as goal
 
 pub invariant_of-self : goal.invariant_of-self

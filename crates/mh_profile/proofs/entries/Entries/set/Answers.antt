@@ -3,8 +3,8 @@ use Rattle.std.specs.Map.{values_of}
 use Rattle.mh_profile.specs.Changes.{with_entry}
 use Rattle.mh_profile.specs.Names.{key_of}
 use Rattle.mh_profile.specs.Validity.{AreEntries, has_name}
-use Rattle.mh_profile.proofs.EntryLemmas.{entries_with, with_entry-absent}
-use Rattle.mh_profile.proofs.MapLemmas.{added_keyed, added_values, has_by_key, set_keyed, set_values}
+use Rattle.mh_profile.proofs.EntryLists.{entries_with, with_entry-absent}
+use Rattle.mh_profile.proofs.KeyedEntries.{added_keyed, added_values, has_by_key, set_keyed, set_values}
 use Rattle.mh_profile.proofs.entries.Entries.set.Goals as goal
 
 pub invariant_of-self : goal.invariant_of-self

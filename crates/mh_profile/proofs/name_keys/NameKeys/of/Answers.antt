@@ -3,7 +3,7 @@ use Rattle.std.specs.Prelude.{◌||◌}
 use Rattle.std.proofs.lemmas.List.{at_drop_more}
 use Rattle.mh_profile.specs.NameKeys.{has_key, is_named}
 use Rattle.mh_profile.specs.Names.{key_of}
-use Rattle.mh_profile.proofs.NameKeyLemmas.{key_more}
+use Rattle.mh_profile.proofs.KeySets.{key_more}
 use Rattle.mh_profile.proofs.name_keys.NameKeys.of.Goals as goal
 
 pub loop-name-preserved : goal.loop-name-preserved

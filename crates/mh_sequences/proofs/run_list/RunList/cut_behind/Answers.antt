@@ -1,5 +1,5 @@
 use Rattle.std.proofs.Common.{◌+◌, ◌++◌, take, drop, refl, arith, ◌∙◌, ap}
-use Rattle.mh_sequences.proofs.SlotLemmas.{cut_after}
+use Rattle.mh_sequences.proofs.SlotRuns.{cut_after}
 use Rattle.mh_sequences.proofs.run_list.RunList.cut_behind.Goals as goal
 
 pub returns-clause-runs : goal.returns-clause-runs

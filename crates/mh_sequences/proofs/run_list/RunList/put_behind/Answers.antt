@@ -1,6 +1,6 @@
 use Rattle.std.proofs.Common.{◌+◌, ◌∷◌, ◌++◌, take, drop, refl, arith, ◌∙◌, ap}
 use Rattle.mh_sequences.proofs.Bools.{ok_then}
-use Rattle.mh_sequences.proofs.SlotLemmas.{put_after}
+use Rattle.mh_sequences.proofs.SlotRuns.{put_after}
 use Rattle.mh_sequences.proofs.run_list.RunList.put_behind.Goals as goal
 
 pub returns-clause-ok : goal.returns-clause-ok

@@ -1,7 +1,7 @@
 use Rattle.std.proofs.Common.{sym, ◌∙◌, subst}
 use Rattle.std.specs.Prelude.{IsTrue}
 use Rattle.mh_sequences.specs.Names.{is_seq_name}
-use Rattle.mh_sequences.proofs.NameLemmas.{plain}
+use Rattle.mh_sequences.proofs.AsciiNames.{plain}
 use Rattle.mh_sequences.proofs.seq_name.SeqName.bytes.Goals as goal
 
 pub returns-clause-value : goal.returns-clause-value

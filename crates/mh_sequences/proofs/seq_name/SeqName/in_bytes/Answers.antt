@@ -2,7 +2,7 @@ use Rattle.std.proofs.Common.{◌≡◌, ap, sym, ◌∙◌, true}
 use Rattle.std.specs.Str.{chars}
 use Rattle.std.proofs.lemmas.Bool.{false_from_ne_true}
 use Rattle.mh_sequences.specs.Names.{is_seq_name}
-use Rattle.mh_sequences.proofs.NameLemmas.{plain_chars, is_text}
+use Rattle.mh_sequences.proofs.AsciiNames.{plain_chars, is_text}
 use Rattle.mh_sequences.proofs.seq_name.SeqName.in_bytes.Goals as goal
 
 pub returns-in_default : goal.returns-in_default

@@ -1,6 +1,6 @@
 use Rattle.std.proofs.Common.{ap, sym, ◌∙◌}
 use Rattle.mh_sequences.specs.Names.{is_seq_name}
-use Rattle.mh_sequences.proofs.NameLemmas.{judged}
+use Rattle.mh_sequences.proofs.AsciiNames.{judged}
 use Rattle.mh_sequences.proofs.seq_name.SeqName.read.Goals as goal
 
 pub returns-then-not-is_name-clause-refused : goal.returns-then-not-is_name-clause-refused

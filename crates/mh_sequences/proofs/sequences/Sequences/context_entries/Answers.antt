@@ -5,7 +5,7 @@ use Rattle.mh_profile.specs.Validity.{IsEntry}
 use Rattle.mh_sequences.specs.Printing.{private_entries}
 use Rattle.mh_sequences.specs.Sequences.{AreSequences, told}
 use Rattle.mh_sequences.proofs.Bools.{of_one}
-use Rattle.mh_sequences.proofs.ContextLemmas.{valid_entries}
+use Rattle.mh_sequences.proofs.ContextEntries.{valid_entries}
 use Rattle.mh_sequences.proofs.sequences.Sequences.context_entries.Goals as goal
 
 pub returns-clause-valid : goal.returns-clause-valid

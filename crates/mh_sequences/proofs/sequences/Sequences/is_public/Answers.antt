@@ -1,7 +1,7 @@
 use Rattle.std.proofs.Common.{map, sym, ◌∙◌, ap}
 use Rattle.mh_sequences.specs.Placing.{IsAt}
 use Rattle.mh_sequences.specs.Sequences.{told, public_of}
-use Rattle.mh_sequences.proofs.PlaceLemmas.{at_place}
+use Rattle.mh_sequences.proofs.NamePlaces.{at_place}
 use Rattle.mh_sequences.proofs.sequences.Sequences.is_public.Goals as goal
 
 pub returns-in-At : goal.returns-in-At

@@ -1,5 +1,5 @@
 use Rattle.std.proofs.Common.{map, sym, ◌∙◌, ap, slice_get}
-use Rattle.mh_sequences.proofs.PlaceLemmas.{name_looked_up}
+use Rattle.mh_sequences.proofs.NamePlaces.{name_looked_up}
 use Rattle.mh_sequences.proofs.sequences.Sequences.name_at.Goals as goal
 
 pub returns-in-Some : goal.returns-in-Some

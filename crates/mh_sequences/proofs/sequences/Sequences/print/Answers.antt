@@ -3,7 +3,7 @@ use Rattle.mh_profile.specs.declared.named_value.NamedValue.{NamedValue}
 use Rattle.mh_sequences.specs.Printing.{private_entries, HasJust}
 use Rattle.mh_sequences.specs.Reading.{suffix, IsReading}
 use Rattle.mh_sequences.proofs.Bools.{if_ok_then}
-use Rattle.mh_sequences.proofs.ContextLemmas.{reads_with}
+use Rattle.mh_sequences.proofs.ContextEntries.{reads_with}
 use Rattle.mh_sequences.proofs.sequences.Sequences.print.Goals as goal
 
 pub returns-clause-reads_back : goal.returns-clause-reads_back

@@ -1,7 +1,7 @@
 use Rattle.std.proofs.Common.{◌==◌, ap, sym, ◌∙◌}
 use Rattle.std.specs.List.{list_any}
 use Rattle.pick_expr.specs.Places.{in_halves}
-use Rattle.pick_expr.proofs.ByteLemmas.{in_every}
+use Rattle.pick_expr.proofs.ByteSets.{in_every}
 use Rattle.pick_expr.proofs.byte_set.ByteSet.has.Goals as goal
 
 pub returns : goal.returns

@@ -1,6 +1,6 @@
 use Rattle.std.proofs.Common.{◌==◌, ◌||◌, sym, ◌∙◌}
 use Rattle.pick_expr.specs.Places.{in_halves}
-use Rattle.pick_expr.proofs.ByteLemmas.{with_upper}
+use Rattle.pick_expr.proofs.ByteSets.{with_upper}
 use Rattle.pick_expr.proofs.halves.Halves.with_folded.Goals as goal
 
 pub returns-then-is_ascii_lowercase : goal.returns-then-is_ascii_lowercase

@@ -1,6 +1,6 @@
 use Rattle.std.proofs.Common.{◌==◌, ◌||◌, ap, ◌∙◌, arith}
 use Rattle.pick_expr.specs.Places.{in_halves}
-use Rattle.pick_expr.proofs.ByteLemmas.{range_more, range_all}
+use Rattle.pick_expr.proofs.ByteSets.{range_more, range_all}
 use Rattle.pick_expr.proofs.halves.Halves.with_range.Goals as goal
 
 pub loop-byte-preserved : goal.loop-byte-preserved

@@ -1,6 +1,6 @@
 use Rattle.std.proofs.Common.{◌&&◌, ◌||◌, ◌∙◌, ap, arith}
 use Rattle.pick_expr.specs.Places.{has_place}
-use Rattle.pick_expr.proofs.MaskLemmas.{step_masked}
+use Rattle.pick_expr.proofs.MaskSteps.{step_masked}
 use Rattle.pick_expr.proofs.masks.Masks.step.Goals as goal
 
 pub returns-then-byte_at-len : goal.returns-then-byte_at-len

@@ -1,7 +1,7 @@
 use Rattle.std.proofs.Common.{◌≡◌, ◌↔◌, true, ap, ◌∙◌, subst}
 use Rattle.pick_expr.specs.Finishing.{finishes, found_by, is_match}
 use Rattle.pick_expr.specs.Fitting.{Shape, Matches}
-use Rattle.pick_expr.proofs.FitLemmas.{matches_start, matches_anywhere, match_start, match_anywhere}
+use Rattle.pick_expr.proofs.FittingPieces.{matches_start, matches_anywhere, match_start, match_anywhere}
 use Rattle.pick_expr.proofs.pattern.Pattern.matches.Goals as goal
 
 pub returns-then-self-clause-fits : goal.returns-then-self-clause-fits

@@ -1,4 +1,4 @@
-use Rattle.pick_expr.proofs.PlaceLemmas.{in_both}
+use Rattle.pick_expr.proofs.OneBit.{in_both}
 use Rattle.pick_expr.proofs.places.Places.and.Goals as goal
 
 pub returns : goal.returns

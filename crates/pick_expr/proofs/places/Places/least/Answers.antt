@@ -1,5 +1,5 @@
 use Rattle.std.proofs.Common.{refl, arith}
-use Rattle.pick_expr.proofs.PlaceLemmas.{below_least}
+use Rattle.pick_expr.proofs.OneBit.{below_least}
 use Rattle.pick_expr.proofs.places.Places.least.Goals as goal
 
 pub returns : goal.returns

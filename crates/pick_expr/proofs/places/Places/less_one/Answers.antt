@@ -1,4 +1,4 @@
-use Rattle.pick_expr.proofs.PlaceLemmas.{one_less}
+use Rattle.pick_expr.proofs.OneBit.{one_less}
 use Rattle.pick_expr.proofs.places.Places.less_one.Goals as goal
 
 pub returns : goal.returns

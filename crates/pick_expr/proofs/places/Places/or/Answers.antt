@@ -1,4 +1,4 @@
-use Rattle.pick_expr.proofs.PlaceLemmas.{in_either}
+use Rattle.pick_expr.proofs.OneBit.{in_either}
 use Rattle.pick_expr.proofs.places.Places.or.Goals as goal
 
 pub returns : goal.returns

@@ -1,4 +1,4 @@
-use Rattle.pick_expr.proofs.PlaceLemmas.{placed}
+use Rattle.pick_expr.proofs.OneBit.{placed}
 use Rattle.pick_expr.proofs.places.Places.with.Goals as goal
 
 pub returns : goal.returns

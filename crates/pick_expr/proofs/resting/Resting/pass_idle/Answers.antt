@@ -1,5 +1,5 @@
 use Rattle.std.proofs.Common.{◌-◌, drop, get_or, refl, arith}
-use Rattle.pick_expr.proofs.RestingLemmas.{passes_more}
+use Rattle.pick_expr.proofs.PassedBytes.{passes_more}
 use Rattle.pick_expr.proofs.resting.Resting.pass_idle.Goals as goal
 
 pub loop-at-preserved : goal.loop-at-preserved

@@ -9,9 +9,9 @@ use Rattle.mh_profile.specs.declared.named_value.NamedValue.{NamedValue}
 use Rattle.mh_profile.specs.Lines.{folded_lines}
 use Rattle.mh_profile.specs.Reading.{entry_of, listed, IsEntryOf}
 use Rattle.mh_profile.specs.Changes.{noted}
-use Rattle.mh_profile.proofs.LineLemmas.{cut_line, lone_field, no_lines}
+use Rattle.mh_profile.proofs.FoldedLines.{cut_line, lone_field, no_lines}
 use Rattle.mail_headers.proofs.Folding.{folded_len-some}
-use Rattle.mh_profile.proofs.EntryLemmas.{more_of, more_of-noted, more_of-end}
+use Rattle.mh_profile.proofs.EntryLists.{more_of, more_of-noted, more_of-end}
 
 pub some_left : (n : ℕ) → n == 0 ≡ false → 0 < n
 some_left n e = let other = eqb-false n 0 e in omega arith

@@ -17,7 +17,7 @@ use Rattle.pick_expr.specs.Refusals.{AreNone, BeginExpression, IsReadAs, IsRefus
 use Rattle.mh_words.specs.declared.item.Item.{Item}
 use Rattle.pick_expr.specs.Signs.{Day, Placed, place_of, sign_of, signs_in, with_sign}
 use Rattle.pick_expr.specs.Steps.{Spot, step, may_end, at_start}
-use Rattle.pick_expr.proofs.GrammarLemmas.{then_ends, passes, is_either, is_passed}
+use Rattle.pick_expr.proofs.WordPlaces.{then_ends, passes, is_either, is_passed}
 
 -- the spot behind words that can stand
 abbrev pub then_goes : (Spot → Option Spot) → Option Spot → Option Spot

@@ -3,7 +3,7 @@ use Rattle.std.proofs.Common.{◌≡◌, ◌≤◌, ◌<◌, ◌-◌, ℕ, zero,
 use Rattle.std.specs.Prelude.{nat_le}
 use Rattle.std.proofs.lemmas.Bool.Decides.{nat_tests}
 use Rattle.line_rows.specs.Columns.{IsLongestFit, columns_in, columns_of, fit}
-use Rattle.line_rows.proofs.ColumnLemmas.{columns_cons, fit_no, fit_none, fit_yes}
+use Rattle.line_rows.proofs.FittingColumns.{columns_cons, fit_no, fit_none, fit_yes}
 
 nothing_fits : (room : ℕ) → IsLongestFit room [] []
 nothing_fits room = record {

@@ -8,7 +8,7 @@ use Rattle.mail_headers.specs.Lines.{is_name_byte, folded_len}
 use Rattle.mh_profile.specs.Names.{IsFieldName}
 use Rattle.mh_profile.specs.Reading.{entry_of}
 use Rattle.mh_profile.specs.Validity.{IsEntry}
-use Rattle.mh_profile.proofs.UnfoldingLemmas.{IsUnfolded-unfolded}
+use Rattle.mh_profile.proofs.OneLineValues.{IsUnfolded-unfolded}
 
 prefix_passes : (p : ℕ → Bool) (xs : List ℕ) → list_all p (take (prefix_len p xs) xs) ≡ true
 prefix_passes p [] = refl

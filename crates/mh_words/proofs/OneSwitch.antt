@@ -4,7 +4,7 @@ use Rattle.std.proofs.lemmas.Bool.{cases_lt}
 use Rattle.mh_words.specs.declared.table.Kind.{Kind}
 use Rattle.mh_words.specs.declared.table.Switch.{Switch}
 use Rattle.mh_words.specs.Switches.{IsAt, BeginsWith, IsFullName, IsSwitch, IsUnknown, IsAmbiguous}
-use Rattle.mh_words.proofs.LookupLemmas.{same_switch}
+use Rattle.mh_words.proofs.Lookups.{same_switch}
 
 -- the same switch
 pub record IsSame (index other : ℕ) (kind sort : Kind) : Type 0 where

@@ -23,7 +23,7 @@ use Rattle.mh_sequences.proofs.Bools.{or_nothing}
 use Rattle.mh_sequences.proofs.Joined.{is_joined}
 use Rattle.mh_sequences.proofs.Mentioning.{same_turned}
 use Rattle.mh_sequences.proofs.Placing.{placed_valid}
-use Rattle.mh_sequences.proofs.PlaceLemmas.{at_place, put_new, put_there, same_is}
+use Rattle.mh_sequences.proofs.NamePlaces.{at_place, put_new, put_there, same_is}
 
 nonzero : (n : ℕ) → suc n == 0 ≡ false
 nonzero n = ⊎_elim (λ t. let e = eqb-true (suc n) 0 t in absurd (omega arith)) (λ f. f) (cases_Bool (suc n == 0))

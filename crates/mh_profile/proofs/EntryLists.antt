@@ -8,7 +8,7 @@ use Rattle.mh_profile.specs.Values.{IsUnfolded}
 use Rattle.mh_profile.specs.Validity.{AreEntries, IsEntry, has_name}
 use Rattle.mh_profile.specs.Changes.{with_entry, without, noted}
 use Rattle.mh_profile.specs.Reading.{first_of_each}
-use Rattle.mh_profile.proofs.KeyLemmas.{same_sym, same_as}
+use Rattle.mh_profile.proofs.Keys.{same_sym, same_as}
 
 -- neither
 pub or_parts : (x y : Bool) → x || y ≡ false → (x ≡ false) × (y ≡ false)

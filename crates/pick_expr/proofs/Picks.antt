@@ -7,7 +7,7 @@ use Rattle.pick_expr.specs.Picks.{picks}
 use Rattle.pick_expr.specs.Refusals.{IsReadAs}
 use Rattle.pick_expr.specs.Signs.{Placed}
 use Rattle.pick_expr.specs.Truth.{Holds}
-use Rattle.pick_expr.proofs.ValueLemmas.{value_holds}
+use Rattle.pick_expr.proofs.WordValues.{value_holds}
 
 pub picks_holds : (expr : Expr) (e : Tree) → IsExpression expr.words e → (message : List ℕ) → IsTrue (picks expr message) ↔ Holds e message
 unfolding picks

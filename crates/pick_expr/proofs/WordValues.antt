@@ -20,7 +20,7 @@ use Rattle.pick_expr.specs.Fitting.{Matches}
 use Rattle.pick_expr.specs.Grammar.{Tree, Every, Leaf, Negation, Both, Either, IsOperand, IsBoth, IsEither, IsExpression, test, negation, group, last, joined, beside, only, choice, no_words, some_words}
 use Rattle.pick_expr.specs.Truth.{date_of, field_line, Holds, lines_of, OfDate, SomeOf, TestHolds}
 use Rattle.pick_expr.specs.Values.{absorbed, clock_of_date, fresh, is_after, is_before, test_value, value_of}
-use Rattle.pick_expr.proofs.FitLemmas.{match_decides}
+use Rattle.pick_expr.proofs.FittingPieces.{match_decides}
 
 -- what an expression comes to
 abbrev pub tree_value : Tree → List ℕ → Bool

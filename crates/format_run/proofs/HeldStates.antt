@@ -24,7 +24,7 @@ use Rattle.format_run.specs.Meaning as meant
 use Rattle.format_run.specs.Stepping.{Evaluated, adding, applied, evaluated, evaluated_around, judged, printed, seen, settled, sourced, tested, with_result}
 use Rattle.line_rows.specs.Fields.{printed_text}
 use Rattle.format_run.specs.Values.{value_of}
-use Rattle.line_rows.proofs.ColumnLemmas.{as_wide, more_both, row_free}
+use Rattle.line_rows.proofs.FittingColumns.{as_wide, more_both, row_free}
 
 -- the code's state where this was written
 abbrev pub at : Progress → LineState

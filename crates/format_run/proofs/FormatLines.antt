@@ -9,10 +9,10 @@ use Rattle.line_rows.specs.Columns.{Kept, empty_line, fit, with_more}
 use Rattle.format_run.specs.Meaning.{Progress, line_of, meaning, start_of}
 use Rattle.format_run.specs.Running.{line_by, run}
 use Rattle.format_run.specs.Stepping as step
-use Rattle.line_rows.proofs.ColumnLemmas.{as_wide, field_held, more_none}
-use Rattle.format_run.proofs.RunLemmas.{run_code}
-use Rattle.format_run.proofs.StepLemmas.{at}
-use Rattle.format_run.proofs.WidthLemmas.{run_wide}
+use Rattle.line_rows.proofs.FittingColumns.{as_wide, field_held, more_none}
+use Rattle.format_run.proofs.RunCode.{run_code}
+use Rattle.format_run.proofs.HeldStates.{at}
+use Rattle.format_run.proofs.KeptWidths.{run_wide}
 
 -- nothing was written yet
 pub began : (width : ℕ) → step.start_of width ≡ at (start_of width)

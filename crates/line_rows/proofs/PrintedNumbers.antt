@@ -6,7 +6,7 @@ use Rattle.format_compiler.specs.declared.width.Width.{Width}
 use Rattle.line_rows.specs.Columns.{Kept, columns_of, empty_line, fit, with_more}
 use Rattle.line_rows.specs.Decimals.{filled, last_of, sign_len}
 use Rattle.line_rows.specs.Fields.{field}
-use Rattle.line_rows.proofs.ColumnLemmas.{field_held, field_wide, two_more}
+use Rattle.line_rows.proofs.FittingColumns.{field_held, field_wide, two_more}
 
 -- a number's sign is part of its decimal
 pub sign_within : (n : ℤ) → sign_len n ≤ length (signed_decimal n)

@@ -8,10 +8,10 @@ use Rattle.mh_profile.specs.Names.{same_entry, is_attribute}
 use Rattle.mail_headers.specs.Fields.{same_name}
 use Rattle.mh_profile.specs.Validity.{AreEntries, has_name}
 use Rattle.mh_profile.specs.Changes.{value_of}
-use Rattle.mh_profile.proofs.KeyLemmas.{same_sym}
+use Rattle.mh_profile.proofs.Keys.{same_sym}
 use Rattle.mh_sequences.specs.Reading.{attribute}
 use Rattle.mh_sequences.proofs.Bools.{same_test}
-use Rattle.mh_sequences.proofs.PlaceLemmas.{same_is, same_self}
+use Rattle.mh_sequences.proofs.NamePlaces.{same_is, same_self}
 
 same_entry_self : (a : List ℕ) → same_entry a a ≡ true
 unfolding same_entry

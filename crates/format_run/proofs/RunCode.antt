@@ -13,7 +13,7 @@ use Rattle.format_run.specs.Viewed.{Viewed}
 use Rattle.format_run.specs.Meaning.{Progress, meaning}
 use Rattle.format_run.specs.Meaning as meant
 use Rattle.format_run.specs.Stepping.{holds, printed, tested}
-use Rattle.format_run.proofs.StepLemmas.{at, printed_at, tested_at}
+use Rattle.format_run.proofs.HeldStates.{at, printed_at, tested_at}
 use Rattle.format_run.specs.Running.{run}
 
 -- nothing is left to run

@@ -24,7 +24,7 @@ use Rattle.format_run.specs.Stepping.{Evaluated, adding, applied, evaluated, eva
 use Rattle.format_run.specs.Running.{run}
 use Rattle.line_rows.specs.Fields.{printed_text}
 use Rattle.format_run.specs.Values.{value_of}
-use Rattle.line_rows.proofs.ColumnLemmas.{as_wide}
+use Rattle.line_rows.proofs.FittingColumns.{as_wide}
 
 abbrev wide : LineState → ℕ
 wide s = s.row.width

@@ -16,8 +16,8 @@ use Rattle.format_compiler.specs.Grammar.{AreItems, AreOthers, AreOver, Choice, 
 use Rattle.format_compiler.specs.Reading.{Read, ◌>>=◌}
 use Rattle.format_compiler.specs.Texts.{characters_in, place_of, without_feed}
 use Rattle.format_compiler.specs.Words.{behind_word, is_inside, Open, word_in}
-use Rattle.format_compiler.proofs.ShorterLemmas.{Leaves, word_leaves}
-use Rattle.format_compiler.proofs.StandLemmas.{nothing_stands}
+use Rattle.format_compiler.proofs.Shorter.{Leaves, word_leaves}
+use Rattle.format_compiler.proofs.StandingWords.{nothing_stands}
 
 -- the words of a format are its items
 abbrev pub with_here : Format → Items → Items

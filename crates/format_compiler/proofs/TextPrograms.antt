@@ -12,8 +12,8 @@ use Rattle.format_compiler.specs.Code.{code_of, IsCodeOf}
 use Rattle.format_compiler.specs.Formats.{AreCutOff, AreRefused, AreRefusedAt, AreWrongAt, BeginsNone, Denote, Denotes, DenotesNone, IsProgramOf, IsRefused, IsRefusedAt, Stand}
 use Rattle.format_compiler.specs.Grammar.{Format, IsFormat}
 use Rattle.format_compiler.specs.Texts.{characters_in, place_of, without_feed}
-use Rattle.format_compiler.proofs.GrammarLemmas.{some_format}
-use Rattle.format_compiler.proofs.StandLemmas.{words_alone, wrong_none}
+use Rattle.format_compiler.proofs.WholeTexts.{some_format}
+use Rattle.format_compiler.proofs.StandingWords.{words_alone, wrong_none}
 use Rattle.format_compiler.proofs.SteadyWords.{hopeless}
 
 -- of a text that is UTF-8 all characters count

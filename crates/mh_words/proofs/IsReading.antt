@@ -22,8 +22,8 @@ use Rattle.mh_words.specs.Outcomes.{IsReadAs, IsRefusedAs}
 use Rattle.mh_words.specs.Readings.{Takes, takes_folder, takes_message, takes_flag, takes_value, takes_component, IsWrong, is_lone_dash, is_unknown, is_ambiguous, lacks_value, lacks_component_value, Reads, reads_none, reads_next, Fails, fails_first, fails_later}
 use Rattle.mh_words.specs.Switches.{IsAt, BeginsWith}
 use Rattle.mh_words.specs.Whole.{Wrong, found_from, FirstWord, Alone, Valued, IsBad, named, dashed, first_word, before, last_read, next_read, read_in, IsWhole}
-use Rattle.mh_words.proofs.ReadingLemmas.{reads_same, reads_fails}
-use Rattle.mh_words.proofs.LookupLemmas.{NoneIsFull, IsSoFar, none_more, longer_more, unlike_more, found_full, found_all}
+use Rattle.mh_words.proofs.OneReading.{reads_same, reads_fails}
+use Rattle.mh_words.proofs.Lookups.{NoneIsFull, IsSoFar, none_more, longer_more, unlike_more, found_full, found_all}
 
 not_both : {X : Type 0} (b : Bool) → b ≡ true → b ≡ false → X
 not_both true t f = cc

@@ -13,9 +13,9 @@ use Rattle.mh_profile.specs.Values.{is_no_feed}
 use Rattle.mh_profile.specs.Validity.{AreEntries, IsEntry}
 use Rattle.mh_profile.specs.Printing.{printed_entry, printed}
 use Rattle.mh_profile.specs.Reading.{entry_of, listed, first_of_each, entries_in}
-use Rattle.mh_profile.proofs.LineLemmas.{lines_end, lines_inside, no_lines}
-use Rattle.mh_profile.proofs.UnfoldingLemmas.{value_clean, value_read}
-use Rattle.mh_profile.proofs.EntryLemmas.{first_of_each-same}
+use Rattle.mh_profile.proofs.FoldedLines.{lines_end, lines_inside, no_lines}
+use Rattle.mh_profile.proofs.OneLineValues.{value_clean, value_read}
+use Rattle.mh_profile.proofs.EntryLists.{first_of_each-same}
 use Rattle.mh_base.specs.Characters.{is_blank}
 
 is_printable : (b : ℕ) → is_name_byte b ≡ true → 33 ≤ b

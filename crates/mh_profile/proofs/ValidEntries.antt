@@ -7,9 +7,9 @@ use Rattle.mh_profile.specs.Lines.{folded_lines}
 use Rattle.mh_profile.specs.Names.{same_entry}
 use Rattle.mh_profile.specs.Reading.{entries_in, first_of_each, listed}
 use Rattle.mh_profile.specs.Validity.{AreEntries, IsEntry, has_name}
-use Rattle.mh_profile.proofs.EntryLemmas.{entries_filtered}
-use Rattle.mh_profile.proofs.FieldLemmas.{field_valid}
-use Rattle.mh_profile.proofs.UnfoldingLemmas.{IsUnfolded-unfolded}
+use Rattle.mh_profile.proofs.EntryLists.{entries_filtered}
+use Rattle.mh_profile.proofs.FieldEntries.{field_valid}
+use Rattle.mh_profile.proofs.OneLineValues.{IsUnfolded-unfolded}
 
 -- each is an entry
 abbrev Each : List NamedValue → Type 0

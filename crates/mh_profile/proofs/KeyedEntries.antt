@@ -12,8 +12,8 @@ use Rattle.mh_profile.specs.Names.{same_entry, key_of}
 use Rattle.mh_profile.specs.Keys.{AreKeyed}
 use Rattle.mh_profile.specs.Validity.{AreEntries, has_name}
 use Rattle.mh_profile.specs.Changes.{value_of, with_entry, without}
-use Rattle.mh_profile.proofs.KeyLemmas.{same_by_key}
-use Rattle.mh_profile.proofs.EntryLemmas.{has_as, without_none}
+use Rattle.mh_profile.proofs.Keys.{same_by_key}
+use Rattle.mh_profile.proofs.EntryLists.{has_as, without_none}
 
 -- an entry stands under this key
 abbrev pub stands : List ℕ → Vec ℕ → Bool

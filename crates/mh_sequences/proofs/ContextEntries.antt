@@ -16,7 +16,7 @@ use Rattle.mh_sequences.specs.Sequences.{AreSequences, IsSequence, Marked, Seque
 use Rattle.mh_sequences.proofs.Bools.{same_test}
 use Rattle.mh_sequences.proofs.FieldsBack.{field_name}
 use Rattle.mh_sequences.proofs.ListText.{list_unfolded}
-use Rattle.mh_sequences.proofs.PlaceLemmas.{same_is}
+use Rattle.mh_sequences.proofs.NamePlaces.{same_is}
 use Rattle.mh_sequences.proofs.ReadBack.{reads_back}
 
 found : (p : NamedValue → Bool) (es : List NamedValue) → list_any p es ≡ true → (e : NamedValue) × Contains es e × (p e ≡ true)

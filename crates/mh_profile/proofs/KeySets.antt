@@ -14,9 +14,9 @@ use Rattle.mh_profile.specs.Changes.{without, without_all}
 use Rattle.mh_profile.specs.Keys.{AreKeyed}
 use Rattle.mh_profile.specs.NameKeys.{has_key, is_named}
 use Rattle.mh_profile.specs.Names.{same_entry, key_of}
-use Rattle.mh_profile.proofs.EntryLemmas.{filter_all, filter_both}
-use Rattle.mh_profile.proofs.KeyLemmas.{same_by_key, same_sym}
-use Rattle.mh_profile.proofs.MapLemmas.{stands}
+use Rattle.mh_profile.proofs.EntryLists.{filter_all, filter_both}
+use Rattle.mh_profile.proofs.Keys.{same_by_key, same_sym}
+use Rattle.mh_profile.proofs.KeyedEntries.{stands}
 
 abbrev same_key : Vec ℕ → Vec ℕ → Bool
 same_key a b = bytes_eq a.items b.items

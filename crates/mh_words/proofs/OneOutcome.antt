@@ -9,7 +9,7 @@ use Rattle.mh_words.specs.declared.table.SwitchTable.{SwitchTable}
 use Rattle.mh_words.specs.Outcomes.{IsFault, IsReadAs, IsRefusedAs}
 use Rattle.mh_words.specs.Readings.{Takes, Reads, Fails, reads_none, reads_next, fails_first, fails_later}
 use Rattle.mh_words.specs.Steps.{IsStep}
-use Rattle.mh_words.proofs.ReadingLemmas.{reads_fails, fails_same}
+use Rattle.mh_words.proofs.OneReading.{reads_fails, fails_same}
 
 -- what is left to read, with what was read before
 abbrev pub CompletesReads : SwitchTable → List (List ℕ) → ℕ → List Item → Type 0

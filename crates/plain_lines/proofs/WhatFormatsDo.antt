@@ -8,8 +8,8 @@ use Rattle.format_run.specs.Meaning.{Progress, line_of, meaning, start_of}
 use Rattle.format_run.specs.Meaning as meant
 use Rattle.format_run.specs.Stepping.{holds, tested}
 use Rattle.format_run.specs.Stepping as step
-use Rattle.format_run.proofs.LineLemmas.{began, shown_at}
-use Rattle.format_run.proofs.StepLemmas.{at, printed_at, tested_at}
+use Rattle.format_run.proofs.FormatLines.{began, shown_at}
+use Rattle.format_run.proofs.HeldStates.{at, printed_at, tested_at}
 use Rattle.plain_lines.specs.Doing.{done}
 
 -- of a conditional, whichever parts count

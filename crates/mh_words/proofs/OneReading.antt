@@ -8,8 +8,8 @@ use Rattle.mh_words.specs.declared.table.SwitchTable.{SwitchTable}
 use Rattle.mh_words.specs.Forms.{IsSwitchWord}
 use Rattle.mh_words.specs.Switches.{IsSwitch, IsUnknown, IsAmbiguous}
 use Rattle.mh_words.specs.Readings.{Takes, takes_folder, takes_message, takes_flag, takes_value, takes_component, IsWrong, is_lone_dash, is_unknown, is_ambiguous, lacks_value, lacks_component_value, Reads, reads_none, reads_next, Fails, fails_first, fails_later}
-use Rattle.mh_words.proofs.FormLemmas.{folder_message, folder_switch, folder_component, message_switch, message_component, switch_component, folder_dash, message_dash, switch_dash, component_dash, switch_name, component_name}
-use Rattle.mh_words.proofs.SwitchLemmas.{IsSame, switch_same, switch_unknown, switch_ambiguous, unknown_ambiguous}
+use Rattle.mh_words.proofs.OneForm.{folder_message, folder_switch, folder_component, message_switch, message_component, switch_component, folder_dash, message_dash, switch_dash, component_dash, switch_name, component_name}
+use Rattle.mh_words.proofs.OneSwitch.{IsSame, switch_same, switch_unknown, switch_ambiguous, unknown_ambiguous}
 
 -- two steps are one
 pub record IsSameStep (item item' : Item) (left left' : List (List ℕ)) (after after' : ℕ) : Type 0 where
