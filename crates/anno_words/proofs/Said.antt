@@ -1,11 +1,10 @@
 -- What the words of `anno` say: a refusal; or a folder that is a folder's name, and lines that annotate.
-use Rattle.std.proofs.Common.{◌≡◌, ◌&&◌, ℕ, ℤ, Bool, true, false, List, [], ◌∷◌, Option, Some, None, Result, Ok, Err, length, refl, subst}
+use Rattle.std.proofs.Common.{◌≡◌, ◌&&◌, ℕ, ℤ, Bool, true, false, List, [], ◌∷◌, Option, Some, None, Result, Ok, Err, length, refl}
 use Rattle.std.specs.Prelude.{◌==◌, not, IfSome, option_map, if◌then◌else◌}
 use Rattle.std.specs.Str.{encode_utf8_all}
-use Rattle.mh_base.specs.Folders.{is_folder_name, without_plus}
 use Rattle.mh_base.specs.declared.word.WordWhy.TheVariants.{BadValue, Missing}
 use Rattle.mh_profile.specs.declared.named_value.NamedValue.{NamedValue}
-use Rattle.mh_words.specs.Whole.{Wrong, read_in}
+use Rattle.mh_words.specs.Whole.{Wrong}
 use Rattle.mh_words.specs.declared.item.Item.{Item}
 use Rattle.folder_files.specs.Annotations.{are_annotations}
 use Rattle.folder_files.specs.declared.refusal.Refusal.TheVariants as refusal
@@ -15,21 +14,22 @@ use Rattle.annotation_lines.specs.Lines.{is_component, is_on_a_line}
 use Rattle.annotation_lines.proofs.Annotating.{lines_annotate}
 use Rattle.command_words.specs.BadValues.{earliest, first_of, unless_bad}
 use Rattle.command_words.specs.FieldNames.{is_field_name, is_name}
-use Rattle.command_words.specs.FolderWords.{folders, one_folder, some_named}
+use Rattle.command_words.specs.FolderWords.{folders, one_folder}
+use Rattle.command_words.specs.Saying.{said_unless_wrong}
 use Rattle.command_words.specs.Switches.{last_of, values}
 use Rattle.command_words.specs.declared.ended.Ended.{Ended}
 use Rattle.command_words.proofs.SaidFolder.{IsValid}
-use Rattle.anno_words.specs.AnnoWords.{anno_line, anno_said, component_of, date_of, folder_said, is_dated, items_said, lines_of, named_said, text_of, with_folder, word_said}
+use Rattle.command_words.proofs.Sound.{IsSound, named_sound, said_holds, said_refuses, words_sound}
+use Rattle.anno_words.specs.AnnoWords.{anno_items, anno_line, anno_said, component_of, date_of, is_dated, lines_of, text_of, word_said, words_of}
 use Rattle.anno_words.specs.Table.{anno_table}
 use Rattle.anno_words.specs.WrongValues.{wrong_values}
 use Rattle.anno_words.specs.declared.table.TheConstants.{COMPONENT, TEXT}
 use Rattle.anno_words.specs.declared.words.AnnoWords.{AnnoWords}
 use Rattle.anno_words.proofs.Values.{last_so, none_of}
 
--- a refusal; or the name of a folder, or none, and lines that annotate
-abbrev IsSound : Result AnnoWords Ended → Type 0
-IsSound (Ok words) = IsValid words.folder × (are_annotations words.lines ≡ true)
-IsSound (Err x) = IsRefusal x.fault
+-- the name of a folder, or none, and lines that annotate
+abbrev AnnoValid : AnnoWords → Type 0
+AnnoValid said = IsValid said.folder × (are_annotations said.lines ≡ true)
 
 named_component : (bytes : List ℕ) → is_name bytes ≡ true → is_component bytes ≡ true
 named_component [] e = e
@@ -58,38 +58,29 @@ module _ (moment offset : ℤ) where
   notes : (items : List Item) → wrong_values items ≡ [] → (name : List ℕ) → component_of items ≡ Some name → are_annotations (lines_of moment offset items name) ≡ true
   notes items none name is = lines_annotate (encode_utf8_all name) (date_of moment offset items) (text_of items) (good_component items none name is) (good_text items none)
 
-  folder_sound : (items : List Item) (name : List ℕ) → are_annotations (lines_of moment offset items name) ≡ true → (word : Option (List ℕ)) → IsSound (named_said moment offset items name word)
-  folder_sound items name annotates None = (tt, annotates)
-  folder_sound items name annotates (Some word) = go (is_folder_name (without_plus word)) refl
-    where
-      go : (b : Bool) → is_folder_name (without_plus word) ≡ b → IsSound (with_folder moment offset items name (some_named (if b then Ok (without_plus word) else Err (fault.Refused (refusal.BadFolder word)))))
-      go true is = (is, annotates)
-      go false is = (refusal.BadFolder word, refl)
-
-  word_sound : (words : List (List ℕ)) (items : List Item) → wrong_values items ≡ [] → (word name : Option (List ℕ)) → component_of items ≡ name → IsSound (word_said moment offset words items word name)
-  word_sound words items none word (Some name) is = folder_sound items name (notes items none name is) word
+  word_sound : (words : List (List ℕ)) (items : List Item) → wrong_values items ≡ [] → (word name : Option (List ℕ)) → component_of items ≡ name → IsSound AnnoValid (word_said moment offset words items word name)
+  word_sound words items none word (Some name) is = named_sound AnnoValid (λ folder. Ok (words_of folder (lines_of moment offset items name) items)) word (λ folder valid. (valid, notes items none name is))
   word_sound words items none word None is = (refusal.BadSwitch (length words) Missing, refl)
 
-  one_sound : (words : List (List ℕ)) (items : List Item) (wrong : Option ℕ) → first_of (wrong_values items) ≡ wrong → (r : Result (Option (List ℕ)) Wrong) → IsSound (folder_said moment offset words items (unless_bad wrong r))
+  one_sound : (words : List (List ℕ)) (items : List Item) (wrong : Option ℕ) → first_of (wrong_values items) ≡ wrong → (r : Result (Option (List ℕ)) Wrong)
+      → IsSound AnnoValid (said_unless_wrong (λ word. word_said moment offset words items word (component_of items)) words (unless_bad wrong r))
   one_sound words items wrong is (Err e) = (refusal.BadSwitch (earliest wrong e).place (earliest wrong e).why, refl)
   one_sound words items None is (Ok word) = word_sound words items (none_of (wrong_values items) is) word (component_of items) refl
   one_sound words items (Some place) is (Ok word) = (refusal.BadSwitch place BadValue, refl)
 
-  items_sound : (words : List (List ℕ)) (r : Result (List Item) Wrong) → IsSound (items_said moment offset words r)
-  items_sound words (Ok items) = one_sound words items (first_of (wrong_values items)) refl (one_folder (folders items))
-  items_sound words (Err wrong) = (refusal.BadSwitch wrong.place wrong.why, refl)
-
-  said_sound : (profile : List NamedValue) (words : List (List ℕ)) → IsSound (anno_said moment offset profile words)
-  said_sound profile words = items_sound (anno_line profile words) (read_in anno_table 0 (anno_line profile words))
+  anno_sound : (profile : List NamedValue) (words : List (List ℕ)) → IsSound AnnoValid (anno_said moment offset profile words)
+  anno_sound profile words =
+      words_sound AnnoValid (anno_items moment offset) anno_table (anno_line profile words)
+      (λ items. one_sound (anno_line profile words) items (first_of (wrong_values items)) refl (one_folder (folders items)))
 
   -- what is no word is a refusal
   pub anno_refuses : (profile : List NamedValue) (words : List (List ℕ)) (x : Ended) → anno_said moment offset profile words ≡ Err x → IsRefusal x.fault
-  anno_refuses profile words x is = subst IsSound is (said_sound profile words)
+  anno_refuses profile words x is = said_refuses AnnoValid (anno_said moment offset profile words) x (anno_sound profile words) is
 
   -- the words name a folder, or none
   pub anno_valid : (profile : List NamedValue) (words : List (List ℕ)) (said : AnnoWords) → anno_said moment offset profile words ≡ Ok said → IsValid said.folder
-  anno_valid profile words said is = (subst IsSound is (said_sound profile words)).0
+  anno_valid profile words said is = (said_holds AnnoValid (anno_said moment offset profile words) said (anno_sound profile words) is).0
 
   -- and their lines annotate
   pub anno_annotates : (profile : List NamedValue) (words : List (List ℕ)) (said : AnnoWords) → anno_said moment offset profile words ≡ Ok said → are_annotations said.lines ≡ true
-  anno_annotates profile words said is = (subst IsSound is (said_sound profile words)).1
+  anno_annotates profile words said is = (said_holds AnnoValid (anno_said moment offset profile words) said (anno_sound profile words) is).1

@@ -2,17 +2,16 @@
 use Rattle.std.specs.Prelude.{◌++◌, ◌==◌, ◌&&◌, not, codes, ℕ, ℤ, Bool, true, unwrap_or, length, List, Option, None, Some, option_map, Result, Ok, Err, if◌then◌else◌}
 use Rattle.std.specs.Str.{encode_utf8_all}
 use Rattle.mh_words.specs.declared.item.Item.{Item}
-use Rattle.mh_words.specs.Whole.{Wrong, read_in}
 use Rattle.mh_profile.specs.declared.named_value.NamedValue.{NamedValue}
 use Rattle.mail_dates.specs.declared.mail_date.MailDate.{MailDate}
-use Rattle.step_plans.specs.declared.command_fault.CommandFault.{CommandFault}
 use Rattle.annotation_lines.specs.Lines.{annotation_lines}
 use Rattle.annotation_lines.specs.Moments.{date_at}
 use Rattle.command_words.specs.BadValues.{first_of, unless_bad}
-use Rattle.command_words.specs.Ended.{plain, wrong_at}
+use Rattle.command_words.specs.Ended.{wrong_at}
 use Rattle.command_words.specs.FolderWords.{folders, folder_named, one_folder}
 use Rattle.command_words.specs.MessageWords.{messages, names_or}
 use Rattle.command_words.specs.RefileWords.{missing_after}
+use Rattle.command_words.specs.Saying.{said_unless_refused, said_unless_wrong, words_said}
 use Rattle.command_words.specs.Switches.{last_choice, last_of, values}
 use Rattle.command_words.specs.Words.{profile_words}
 use Rattle.command_words.specs.declared.ended.Ended.{Ended}
@@ -47,26 +46,21 @@ module _ (moment offset : ℤ) where
   abbrev pub lines_of : List Item → List ℕ → List ℕ
   lines_of items name = annotation_lines (encode_utf8_all name) (date_of items) (text_of items)
 
-  abbrev pub with_folder : List Item → List ℕ → Result (Option (List ℕ)) CommandFault → Result AnnoWords Ended
-  with_folder items name (Ok folder) = Ok (words_of folder (lines_of items name) items)
-  with_folder items name (Err e) = Err (plain e)
-
+  -- under this name, with the folder that they name
   abbrev pub named_said : List Item → List ℕ → Option (List ℕ) → Result AnnoWords Ended
-  named_said items name word = with_folder items name (folder_named word)
+  named_said items name word =
+      said_unless_refused (λ folder. Ok (words_of folder (lines_of items name) items)) (folder_named word)
 
   -- with this name of the lines' field, or none
   abbrev pub word_said : List (List ℕ) → List Item → Option (List ℕ) → Option (List ℕ) → Result AnnoWords Ended
   word_said words items word (Some name) = named_said items name word
   word_said words items word None = Err (wrong_at words (missing_after words))
 
-  abbrev pub folder_said : List (List ℕ) → List Item → Result (Option (List ℕ)) Wrong → Result AnnoWords Ended
-  folder_said words items (Ok word) = word_said words items word (component_of items)
-  folder_said words items (Err wrong) = Err (wrong_at words wrong)
-
-  abbrev pub items_said : List (List ℕ) → Result (List Item) Wrong → Result AnnoWords Ended
-  items_said words (Ok items) = folder_said words items
+  -- what the items say
+  abbrev pub anno_items : List (List ℕ) → List Item → Result AnnoWords Ended
+  anno_items words items =
+      said_unless_wrong (λ word. word_said words items word (component_of items)) words
       (unless_bad (first_of (wrong_values items)) (one_folder (folders items)))
-  items_said words (Err wrong) = Err (wrong_at words wrong)
 
 -- the words of the profile's entry, and then the command's
 abbrev pub anno_line : List NamedValue → List (List ℕ) → List (List ℕ)
@@ -76,5 +70,4 @@ anno_line profile words = profile_words (codes "anno") profile ++ words
 -- a wrong value, the earlier first; then for want of a field's name, or of something to say under it; and then of a
 -- folder's name
 abbrev pub anno_said : ℤ → ℤ → List NamedValue → List (List ℕ) → Result AnnoWords Ended
-anno_said moment offset profile words =
-    items_said moment offset (anno_line profile words) (read_in anno_table 0 (anno_line profile words))
+anno_said moment offset profile words = words_said (anno_items moment offset) anno_table (anno_line profile words)

@@ -10,7 +10,7 @@ ghost use Rattle.anno_words.specs.AnnoWords.{
   component_of,
   date_of,
   is_dated as is_dated_of,
-  items_said as items_said_of,
+  anno_items,
   lines_of,
   named_said,
   word_said as word_said_of,
@@ -151,7 +151,7 @@ fn items_said(
     offset_minutes: i32,
 ) -> Result<AnnoWords, Ended>
     requires { IsSetting moment offset_minutes }
-    ensures { IsSaid (items_said_of moment offset_minutes all.now (Ok items.now)) result }
+    ensures { IsSaid (anno_items moment offset_minutes all.now items.now) result }
 {
     let wrong = wrong_value(items);
     match folder_word(items) {

@@ -16,15 +16,19 @@ use Rattle.build_words.specs.BuildWords.{build_said, by_name, draft_named, extra
 use Rattle.build_words.specs.Sorts.{places}
 use Rattle.build_words.specs.declared.sort.Sort.TheVariants.{Switch, Name}
 use Rattle.build_words.specs.declared.words.BuildWords.{BuildWords}
-use Rattle.command_words.proofs.SaidFolder.{IsValid}
+
+-- a draft's name, where there is one
+abbrev pub IsDraft : Option (List ℕ) → Type 0
+IsDraft None = Unit {0}
+IsDraft (Some name) = is_draft_name name ≡ true
 
 abbrev IsSound : Result BuildWords Ended → Type 0
-IsSound (Ok words) = IsValid words.draft
+IsSound (Ok words) = IsDraft words.draft
 IsSound (Err x) = IsRefusal x.fault
 
 abbrev ValidIn : Option BuildWords → Type 0
 ValidIn None = Unit {0}
-ValidIn (Some words) = IsValid words.draft
+ValidIn (Some words) = IsDraft words.draft
 
 name_valid : (word : List ℕ) → ValidIn (by_name word)
 name_valid word = go (is_draft_name word) refl
@@ -69,5 +73,5 @@ pub build_refuses : (profile : List NamedValue) (words : List (List ℕ)) (x : E
 build_refuses profile words x is = subst IsSound is (said_sound profile words)
 
 -- the words name a draft by a draft's name, or the input
-pub build_valid : (profile : List NamedValue) (words : List (List ℕ)) (said : BuildWords) → build_said profile words ≡ Ok said → IsValid said.draft
+pub build_valid : (profile : List NamedValue) (words : List (List ℕ)) (said : BuildWords) → build_said profile words ≡ Ok said → IsDraft said.draft
 build_valid profile words said is = subst IsSound is (said_sound profile words)

@@ -39,7 +39,7 @@ use Rattle.mhbuild_plans.proofs.BuildSays.{SaysSo, Tells, build_says}
 use Rattle.mhbuild_plans.proofs.Unlocked.{IsUnlocked, not_locked, refused_unlocked}
 use Rattle.build_words.specs.BuildWords.{build_said}
 use Rattle.build_words.specs.declared.words.BuildWords.{BuildWords}
-use Rattle.build_words.proofs.Said.{build_refuses, build_valid}
+use Rattle.build_words.proofs.Said.{IsDraft, build_refuses, build_valid}
 use Rattle.command_words.specs.Ended.{plain}
 use Rattle.command_words.specs.declared.ended.Ended.{Ended}
 use Rattle.command_ends.specs.BuildCauses.{BuildsBy, IsBuildJob, SaysBuilt, ShowsBuildFault, ShowsBuilt, ShowsLongEntries, TellsBuilt, long_context_read, long_profile_read}
@@ -51,7 +51,6 @@ use Rattle.command_line.specs.declared.name.CommandName.TheVariants.{Mhbuild}
 use Rattle.command_line.specs.declared.caller.Caller.{Caller}
 use Rattle.command_ends.proofs.BegunParts.{Behind, Tells as TellsText, after_context, after_profile, behind_kept, clean_there, entered_silent, in_silence, none_made, profile_silent, told_comes}
 use Rattle.command_ends.proofs.WordEnding.{refusal_of, refused_by}
-use Rattle.command_words.proofs.SaidFolder.{IsValid as IsDraft}
 
 -- the profile, or it is too long
 abbrev Profile : Outcome (Result (List ℕ) Ended)

@@ -9,7 +9,6 @@ use Rattle.std.proofs.lemmas.Bool.Decides.{Decides-eqb}
 use Rattle.std.proofs.lemmas.List.{take_all}
 use Rattle.std.proofs.lemmas.Str.{IsUtf8-from_is_utf8, chars-nil, scalars-chars}
 use Rattle.mh_base.specs.Folders.{is_folder_name, without_plus}
-use Rattle.mh_base.specs.declared.word.WordWhy.TheVariants.{Missing}
 use Rattle.mh_profile.specs.declared.named_value.NamedValue.{NamedValue}
 use Rattle.mh_profile.specs.Changes.{value_of}
 use Rattle.mh_words.specs.Whole.{Alone, FirstWord, IsBad, Valued, Wrong, before, dashed, first_word, found_from, last_read, named as named_switch, next_read, read_in}
@@ -27,20 +26,24 @@ use Rattle.command_stages.specs.Current.{current_name}
 use Rattle.command_words.specs.Ended.{wrong_at}
 use Rattle.command_words.specs.FolderWords.{FolderWord, folder_named, folders, named_folder, one_folder, some_named}
 use Rattle.command_words.specs.IncWords as inc_words
-use Rattle.command_words.specs.IncWords.{inc_said}
+use Rattle.command_words.specs.IncWords.{inc_items, inc_said}
 use Rattle.command_words.specs.BadValues.{first_of, unless_bad}
 use Rattle.command_words.specs.FieldNames.{bad_names}
 use Rattle.command_words.specs.PickWords as pick_words
-use Rattle.command_words.specs.PickWords.{pick_line, pick_said}
+use Rattle.command_words.specs.PickWords.{pick_in_folder, pick_items, pick_said}
 use Rattle.command_words.specs.declared.pick.PickWords.{PickWords}
 use Rattle.pick_expr.specs.Whole.{expr_in}
 use Rattle.pick_expr.specs.declared.expr.Expr.{Expr}
 use Rattle.command_words.specs.LookWords.{wrong_widths}
-use Rattle.command_words.specs.MarkWords.{folder_said as mark_words_said, items_said as mark_items, lacks_sequence, mark_said, with_folder as mark_folder, with_names, word_said}
-use Rattle.command_words.specs.RefileWords.{items_said as refile_items, last_or, refile_said, source_of, targets, targets_said, unless_wrong, words_of, wrong_names}
-use Rattle.command_words.specs.RmmWords.{folder_said as rmm_words_said, items_said as rmm_items, rmm_said, said_folder as rmm_said_folder, with_folder as rmm_folder}
+use Rattle.command_words.specs.MarkWords.{lacks_sequence, mark_in_folder, mark_items, mark_said, word_said}
+use Rattle.command_words.specs.RefileWords.{last_or, refile_items, refile_said, source_of, targets, targets_said, unless_wrong, words_of, wrong_names}
+use Rattle.command_words.specs.MarkWords as mark_words
+use Rattle.command_words.specs.RmmWords as rmm_words
+use Rattle.command_words.specs.TellWords as tell_words
+use Rattle.command_words.specs.Saying.{folder_said, said_unless_refused, said_unless_wrong, words_said}
+use Rattle.command_words.specs.RmmWords.{rmm_items, rmm_said}
 use Rattle.command_words.specs.Switches.{values}
-use Rattle.command_words.specs.TellWords.{folder_and_message, folder_said as tell_words_said, items_said as tell_items, said_folder as tell_said_folder, is_packed, tell_said, too_many, with_folder as tell_folder}
+use Rattle.command_words.specs.TellWords.{folder_and_message, is_packed, tell_items, tell_said, too_many}
 use Rattle.command_words.specs.Tables.{folder_table, inc_table, mark_table, pick_table, refile_table, rmm_table}
 use Rattle.command_words.specs.Words.{profile_words}
 use Rattle.command_words.specs.declared.ended.Ended.{Ended}
@@ -50,22 +53,22 @@ use Rattle.command_words.specs.declared.mark.MarkWords.{MarkWords}
 use Rattle.command_words.specs.declared.refile.RefileWords.{RefileWords}
 use Rattle.command_words.specs.declared.rmm.RmmWords.{RmmWords}
 use Rattle.anno_words.specs.AnnoWords as anno_words
-use Rattle.anno_words.specs.AnnoWords.{anno_line, anno_said}
+use Rattle.anno_words.specs.AnnoWords.{anno_items, anno_said}
 use Rattle.anno_words.specs.Table.{anno_table}
 use Rattle.anno_words.specs.WrongValues.{wrong_values}
 use Rattle.anno_words.specs.declared.words.AnnoWords.{AnnoWords}
 use Rattle.sort_words.specs.SortWords as sort_words
-use Rattle.sort_words.specs.SortWords.{sort_line, sort_said}
+use Rattle.sort_words.specs.SortWords.{sort_items, sort_said}
 use Rattle.sort_words.specs.Table.{sort_table}
 use Rattle.sort_words.specs.Keys.{wrong_names as wrong_fields}
 use Rattle.sort_words.specs.declared.words.SortWords.{SortWords}
 use Rattle.list_words.specs.ListWords as list_words
-use Rattle.list_words.specs.ListWords.{list_line, list_said}
+use Rattle.list_words.specs.ListWords.{list_items, list_said}
 use Rattle.list_words.specs.Parts.{wrong_parts}
 use Rattle.list_words.specs.Table.{list_table}
 use Rattle.list_words.specs.declared.words.ListWords.{ListWords}
 use Rattle.store_words.specs.StoreWords as store_words
-use Rattle.store_words.specs.StoreWords.{store_line, store_said}
+use Rattle.store_words.specs.StoreWords.{store_items, store_said}
 use Rattle.store_words.specs.Values.{wrong_values as wrong_stored_values}
 use Rattle.store_words.specs.Table.{store_table}
 use Rattle.store_words.specs.declared.words.StoreWords.{StoreWords}
@@ -217,68 +220,41 @@ plus_chars (c ∷ rest) e = go (c == 43)
     go true = (and_parts (scalar c) (scalars rest) e).1
     go false = e
 
--- `mark`
-abbrev MarkChars : Result MarkWords Ended → Type 0
-MarkChars (Ok w) = HasChars w.folder
-MarkChars (Err e) = Unit {0}
+-- it holds of what is said
+abbrev HoldsOf : {W : Type 0} → (W → Type 0) → Result W Ended → Type 0
+HoldsOf Holds (Ok said) = Holds said
+HoldsOf Holds (Err e) = Unit {0}
 
-names_chars : (folder : Option (List ℕ)) (items : List Item) (r : Result (List (List ℕ)) CommandFault) → HasChars folder → MarkChars (with_names folder items r)
-names_chars folder items (Ok names) f = f
-names_chars folder items (Err e) f = tt
-
-mark_folder_chars : (items : List Item) (word : Option (List ℕ)) → HasChars word → MarkChars (mark_folder items (folder_named word))
-mark_folder_chars items None f = names_chars None items _ tt
-mark_folder_chars items (Some word) f = go (is_folder_name (without_plus word))
+-- it holds of what words say by the folder that they name
+named_by : {W : Type 0} (Holds : W → Type 0) (said : Option (List ℕ) → Result W Ended) (word : Option (List ℕ)) → HasChars word → ((folder : Option (List ℕ)) → HasChars folder → HoldsOf Holds (said folder))
+    → HoldsOf Holds (said_unless_refused said (folder_named word))
+named_by Holds said None chars f = f None tt
+named_by Holds said (Some word) chars f = go (is_folder_name (without_plus word))
   where
-    go : (b : Bool) → MarkChars (mark_folder items (some_named (if b then Ok (without_plus word) else Err (fault.Refused (refusal.BadFolder word)))))
-    go true = names_chars (Some (without_plus word)) items _ (plus_chars word f)
+    go : (b : Bool) → HoldsOf Holds (said_unless_refused said (some_named (if b then Ok (without_plus word) else Err (fault.Refused (refusal.BadFolder word)))))
+    go true = f (Some (without_plus word)) (plus_chars word chars)
     go false = tt
 
-mark_word_chars : (words : List (List ℕ)) (items : List Item) (word : Option (List ℕ)) → HasChars word → MarkChars (word_said words items word)
-mark_word_chars words items word f = go (lacks_sequence items)
+folder_by : {W : Type 0} (Holds : W → Type 0) (said : Option (List ℕ) → Result W Ended) (words : List (List ℕ)) (r : Result (Option (List ℕ)) Wrong) → OneChars r
+    → ((folder : Option (List ℕ)) → HasChars folder → HoldsOf Holds (said folder)) → HoldsOf Holds (folder_said said words r)
+folder_by Holds said words (Ok word) chars f = named_by Holds said word chars f
+folder_by Holds said words (Err wrong) chars f = tt
+
+-- it holds of what they say with the profile's words by a table
+words_by : {W : Type 0} (Holds : W → Type 0) (said : List (List ℕ) → List Item → Result W Ended) (table : SwitchTable) (name : List ℕ) (profile : List NamedValue) (words : List (List ℕ)) → AreTexts words
+    → ((items : List Item) → AreTextual items → HoldsOf Holds (said (profile_words name profile ++ words) items)) → HoldsOf Holds (words_said said table (profile_words name profile ++ words))
+words_by Holds said table name profile words texts f =
+    go (read_in table 0 (profile_words name profile ++ words)) (read_textual table 0 (profile_words name profile ++ words) (texts_both (profile_words name profile) words (shown_texts (words_in (unwrap_or (value_of name profile) []))) texts))
   where
-    go : (b : Bool) → MarkChars (if b then Err (wrong_at words (record { place = length words; why = Missing })) else mark_folder items (folder_named word))
-    go true = tt
-    go false = mark_folder_chars items word f
+    go : (r : Result (List Item) Wrong) → Textual r → HoldsOf Holds (said_unless_wrong (said (profile_words name profile ++ words)) (profile_words name profile ++ words) r)
+    go (Ok items) t = f items t
+    go (Err wrong) t = tt
 
-mark_one_chars : (words : List (List ℕ)) (items : List Item) (r : Result (Option (List ℕ)) Wrong) → OneChars r → MarkChars (mark_words_said words items r)
-mark_one_chars words items (Ok word) f = mark_word_chars words items word f
-mark_one_chars words items (Err wrong) f = tt
-
-mark_items_chars : (words : List (List ℕ)) (r : Result (List Item) Wrong) → Textual r → MarkChars (mark_items words r)
-mark_items_chars words (Ok items) f = mark_one_chars words items (one_folder (folders items)) (one_chars (folders items) (folder_texts items f))
-mark_items_chars words (Err wrong) f = tt
-
-pub mark_chars : (profile : List NamedValue) (words : List (List ℕ)) (said : MarkWords) → AreTexts words → mark_said profile words ≡ Ok said → HasChars said.folder
-mark_chars profile words said f e =
-    subst MarkChars e (mark_items_chars (profile_words (codes "mark") profile ++ words) (read_in mark_table 0 (profile_words (codes "mark") profile ++ words))
-    (read_textual mark_table 0 (profile_words (codes "mark") profile ++ words) (texts_both (profile_words (codes "mark") profile) words (shown_texts (words_in (unwrap_or (value_of (codes "mark") profile) []))) f)))
-
--- `rmm`
-abbrev RmmChars : Result RmmWords Ended → Type 0
-RmmChars (Ok w) = HasChars w.folder
-RmmChars (Err e) = Unit {0}
-
-rmm_folder_chars : (items : List Item) (word : Option (List ℕ)) → HasChars word → RmmChars (rmm_said_folder items word)
-rmm_folder_chars items None f = tt
-rmm_folder_chars items (Some word) f = go (is_folder_name (without_plus word))
-  where
-    go : (b : Bool) → RmmChars (rmm_folder items (if b then Ok (without_plus word) else Err (fault.Refused (refusal.BadFolder word))))
-    go true = plus_chars word f
-    go false = tt
-
-rmm_one_chars : (words : List (List ℕ)) (items : List Item) (r : Result (Option (List ℕ)) Wrong) → OneChars r → RmmChars (rmm_words_said words items r)
-rmm_one_chars words items (Ok word) f = rmm_folder_chars items word f
-rmm_one_chars words items (Err wrong) f = tt
-
-rmm_items_chars : (words : List (List ℕ)) (r : Result (List Item) Wrong) → Textual r → RmmChars (rmm_items words r)
-rmm_items_chars words (Ok items) f = rmm_one_chars words items (one_folder (folders items)) (one_chars (folders items) (folder_texts items f))
-rmm_items_chars words (Err wrong) f = tt
-
-pub rmm_chars : (profile : List NamedValue) (words : List (List ℕ)) (said : RmmWords) → AreTexts words → rmm_said profile words ≡ Ok said → HasChars said.folder
-rmm_chars profile words said f e =
-    subst RmmChars e (rmm_items_chars (profile_words (codes "rmm") profile ++ words) (read_in rmm_table 0 (profile_words (codes "rmm") profile ++ words))
-    (read_textual rmm_table 0 (profile_words (codes "rmm") profile ++ words) (texts_both (profile_words (codes "rmm") profile) words (shown_texts (words_in (unwrap_or (value_of (codes "rmm") profile) []))) f)))
+-- one folder of items that are texts, where no word is bad, or none too many
+bad_chars : (bad : Option ℕ) (r : Result (Option (List ℕ)) Wrong) → OneChars r → OneChars (unless_bad bad r)
+bad_chars bad (Err wrong) f = tt
+bad_chars None (Ok word) f = f
+bad_chars (Some place) (Ok word) f = tt
 
 alone_chars : (r : Result (Option (List ℕ)) Wrong) (place : Option ℕ) → OneChars r → OneChars (inc_words.alone r place)
 alone_chars (Ok word) None f = f
@@ -286,31 +262,48 @@ alone_chars (Ok word) (Some place) f = tt
 alone_chars (Err wrong) None f = tt
 alone_chars (Err wrong) (Some place) f = tt
 
--- `folder`
-abbrev TellChars : Result FolderWords Ended → Type 0
-TellChars (Ok w) = HasChars w.folder
-TellChars (Err e) = Unit {0}
+one_of : (items : List Item) → AreTextual items → OneChars (one_folder (folders items))
+one_of items t = one_chars (folders items) (folder_texts items t)
 
-tell_folder_chars : (items : List Item) (word : Option (List ℕ)) → HasChars word → TellChars (tell_said_folder items word)
-tell_folder_chars items None f = tt
-tell_folder_chars items (Some word) f = go (is_folder_name (without_plus word))
+-- `mark`
+abbrev MarkChars : MarkWords → Type 0
+MarkChars said = HasChars said.folder
+
+mark_folder_by : (items : List Item) (folder : Option (List ℕ)) (r : Result (List (List ℕ)) CommandFault) → HasChars folder → HoldsOf MarkChars (said_unless_refused (λ names. Ok (mark_words.words_of folder names items)) r)
+mark_folder_by items folder (Ok names) f = f
+mark_folder_by items folder (Err e) f = tt
+
+mark_word_by : (words : List (List ℕ)) (items : List Item) (word : Option (List ℕ)) → HasChars word → HoldsOf MarkChars (word_said words items word)
+mark_word_by words items word f = go (lacks_sequence items)
   where
-    go : (b : Bool) → TellChars (tell_folder items (if b then Ok (without_plus word) else Err (fault.Refused (refusal.BadFolder word))))
-    go true = plus_chars word f
-    go false = tt
+    go : (b : Bool) → HoldsOf MarkChars (if b then Err (wrong_at words (mark_words.missing_after words)) else said_unless_refused (mark_in_folder items) (folder_named word))
+    go true = tt
+    go false = named_by MarkChars (mark_in_folder items) word f (λ folder chars. mark_folder_by items folder _ chars)
 
-tell_one_chars : (words : List (List ℕ)) (items : List Item) (r : Result (Option (List ℕ)) Wrong) → OneChars r → TellChars (tell_words_said words items r)
-tell_one_chars words items (Ok word) f = tell_folder_chars items word f
-tell_one_chars words items (Err wrong) f = tt
+mark_one_by : (words : List (List ℕ)) (items : List Item) (r : Result (Option (List ℕ)) Wrong) → OneChars r → HoldsOf MarkChars (said_unless_wrong (word_said words items) words r)
+mark_one_by words items (Ok word) f = mark_word_by words items word f
+mark_one_by words items (Err wrong) f = tt
 
-tell_items_chars : (words : List (List ℕ)) (r : Result (List Item) Wrong) → Textual r → TellChars (tell_items words r)
-tell_items_chars words (Ok items) f = tell_one_chars words items (folder_and_message items) (alone_chars (one_folder (folders items)) (too_many (is_packed items) (inc_words.message_places items)) (one_chars (folders items) (folder_texts items f)))
-tell_items_chars words (Err wrong) f = tt
+pub mark_chars : (profile : List NamedValue) (words : List (List ℕ)) (said : MarkWords) → AreTexts words → mark_said profile words ≡ Ok said → HasChars said.folder
+mark_chars profile words said f e =
+    subst (HoldsOf MarkChars) e (words_by MarkChars mark_items mark_table (codes "mark") profile words f (λ items t. mark_one_by (profile_words (codes "mark") profile ++ words) items (one_folder (folders items)) (one_of items t)))
+
+-- `rmm`
+abbrev RmmChars : RmmWords → Type 0
+RmmChars said = HasChars said.folder
+
+pub rmm_chars : (profile : List NamedValue) (words : List (List ℕ)) (said : RmmWords) → AreTexts words → rmm_said profile words ≡ Ok said → HasChars said.folder
+rmm_chars profile words said f e =
+    subst (HoldsOf RmmChars) e (words_by RmmChars rmm_items rmm_table (codes "rmm") profile words f (λ items t. folder_by RmmChars (λ folder. Ok (rmm_words.words_of folder items)) _ (one_folder (folders items)) (one_of items t) (λ folder chars. chars)))
+
+-- `folder`
+abbrev TellChars : FolderWords → Type 0
+TellChars said = HasChars said.folder
 
 pub tell_chars : (profile : List NamedValue) (words : List (List ℕ)) (said : FolderWords) → AreTexts words → tell_said profile words ≡ Ok said → HasChars said.folder
 tell_chars profile words said f e =
-    subst TellChars e (tell_items_chars (profile_words (codes "folder") profile ++ words) (read_in folder_table 0 (profile_words (codes "folder") profile ++ words))
-    (read_textual folder_table 0 (profile_words (codes "folder") profile ++ words) (texts_both (profile_words (codes "folder") profile) words (shown_texts (words_in (unwrap_or (value_of (codes "folder") profile) []))) f)))
+    subst (HoldsOf TellChars) e (words_by TellChars tell_items folder_table (codes "folder") profile words f
+    (λ items t. folder_by TellChars (λ folder. Ok (tell_words.words_of folder items)) _ (folder_and_message items) (alone_chars (one_folder (folders items)) (too_many (is_packed items) (inc_words.message_places items)) (one_of items t)) (λ folder chars. chars)))
 
 -- `refile`
 targets_texts : (items : List Item) → AreTextual items → AreTexts (targets items)
@@ -336,58 +329,27 @@ source_chars at before (Switch index (Some value) place ∷ items) is f = go (in
 abbrev pub HasAllChars : RefileWords → Type 0
 HasAllChars w = HasChars w.source × AreTexts (w.target ∷ w.others)
 
-abbrev RefileChars : Result RefileWords Ended → Type 0
-RefileChars (Ok w) = HasAllChars w
-RefileChars (Err e) = Unit {0}
+refile_wrong_by : (said : RefileWords) (wrong : List (List ℕ)) → HasAllChars said → HoldsOf HasAllChars (unless_wrong said wrong)
+refile_wrong_by said [] f = f
+refile_wrong_by said (word ∷ words) f = tt
 
-refile_wrong_chars : (said : RefileWords) (wrong : List (List ℕ)) → HasAllChars said → RefileChars (unless_wrong said wrong)
-refile_wrong_chars said [] f = f
-refile_wrong_chars said (word ∷ words) f = tt
-
-refile_targets_chars : (words : List (List ℕ)) (items : List Item) (names : List (List ℕ)) → AreTexts names → AreTextual items → RefileChars (targets_said words items names)
-refile_targets_chars words items [] f g = tt
-refile_targets_chars words items (target ∷ others) f g = refile_wrong_chars (words_of (source_of items) target others items) (wrong_names items) (source_chars _ None items tt g, f)
-
-refile_items_chars : (words : List (List ℕ)) (r : Result (List Item) Wrong) → Textual r → RefileChars (refile_items words r)
-refile_items_chars words (Ok items) f = refile_targets_chars words items (targets items) (targets_texts items f) f
-refile_items_chars words (Err wrong) f = tt
+refile_targets_by : (words : List (List ℕ)) (items : List Item) (names : List (List ℕ)) → AreTexts names → AreTextual items → HoldsOf HasAllChars (targets_said words items names)
+refile_targets_by words items [] f g = tt
+refile_targets_by words items (target ∷ others) f g = refile_wrong_by (words_of (source_of items) target others items) (wrong_names items) (source_chars _ None items tt g, f)
 
 pub refile_chars : (profile : List NamedValue) (words : List (List ℕ)) (said : RefileWords) → AreTexts words → refile_said profile words ≡ Ok said → HasAllChars said
 refile_chars profile words said f e =
-    subst RefileChars e (refile_items_chars (profile_words (codes "refile") profile ++ words) (read_in refile_table 0 (profile_words (codes "refile") profile ++ words))
-    (read_textual refile_table 0 (profile_words (codes "refile") profile ++ words) (texts_both (profile_words (codes "refile") profile) words (shown_texts (words_in (unwrap_or (value_of (codes "refile") profile) []))) f)))
+    subst (HoldsOf HasAllChars) e (words_by HasAllChars refile_items refile_table (codes "refile") profile words f (λ items t. refile_targets_by (profile_words (codes "refile") profile ++ words) items (targets items) (targets_texts items t) t))
 
 -- `inc`
-abbrev IncChars : Result IncWords Ended → Type 0
-IncChars (Ok w) = HasChars w.folder
-IncChars (Err e) = Unit {0}
-
-inc_folder_chars : (items : List Item) (word : Option (List ℕ)) → HasChars word → IncChars (inc_words.said_folder items word)
-inc_folder_chars items None f = tt
-inc_folder_chars items (Some word) f = go (is_folder_name (without_plus word))
-  where
-    go : (b : Bool) → IncChars (inc_words.with_folder items (if b then Ok (without_plus word) else Err (fault.Refused (refusal.BadFolder word))))
-    go true = plus_chars word f
-    go false = tt
-
-bad_chars : (bad : Option ℕ) (r : Result (Option (List ℕ)) Wrong) → OneChars r → OneChars (unless_bad bad r)
-bad_chars bad (Err wrong) f = tt
-bad_chars None (Ok word) f = f
-bad_chars (Some place) (Ok word) f = tt
-
-inc_one_chars : (words : List (List ℕ)) (items : List Item) (r : Result (Option (List ℕ)) Wrong) → OneChars r → IncChars (inc_words.folder_said words items r)
-inc_one_chars words items (Ok word) f = inc_folder_chars items word f
-inc_one_chars words items (Err wrong) f = tt
-
-inc_items_chars : (words : List (List ℕ)) (r : Result (List Item) Wrong) → Textual r → IncChars (inc_words.items_said words r)
-inc_items_chars words (Ok items) f =
-    inc_one_chars words items (unless_bad (first_of (wrong_widths items)) (inc_words.folder_alone items)) (bad_chars (first_of (wrong_widths items)) (inc_words.folder_alone items) (alone_chars (one_folder (folders items)) (first_of (inc_words.message_places items)) (one_chars (folders items) (folder_texts items f))))
-inc_items_chars words (Err wrong) f = tt
+abbrev IncChars : IncWords → Type 0
+IncChars said = HasChars said.folder
 
 pub inc_chars : (profile : List NamedValue) (words : List (List ℕ)) (said : IncWords) → AreTexts words → inc_said profile words ≡ Ok said → HasChars said.folder
 inc_chars profile words said f e =
-    subst IncChars e (inc_items_chars (profile_words (codes "inc") profile ++ words) (read_in inc_table 0 (profile_words (codes "inc") profile ++ words))
-    (read_textual inc_table 0 (profile_words (codes "inc") profile ++ words) (texts_both (profile_words (codes "inc") profile) words (shown_texts (words_in (unwrap_or (value_of (codes "inc") profile) []))) f)))
+    subst (HoldsOf IncChars) e (words_by IncChars inc_items inc_table (codes "inc") profile words f
+    (λ items t. folder_by IncChars (λ folder. Ok (inc_words.words_of folder items)) _ (unless_bad (first_of (wrong_widths items)) (inc_words.folder_alone items))
+    (bad_chars (first_of (wrong_widths items)) (inc_words.folder_alone items) (alone_chars (one_folder (folders items)) (first_of (inc_words.message_places items)) (one_of items t))) (λ folder chars. chars)))
 
 -- the stored folder
 value_chars : (o : Option (List ℕ)) (default : List ℕ) → scalars default ≡ true → scalars (value_or o default) ≡ true
@@ -416,155 +378,66 @@ acted_chars None context profile folder f e = named_chars (stored_of context pro
 acted_chars (Some name) context profile folder f e = subst (λ z. scalars z ≡ true) (ok_name name folder e) f
 
 -- `pick`
-abbrev PickChars : Result PickWords Ended → Type 0
-PickChars (Ok w) = HasChars w.folder
-PickChars (Err e) = Unit {0}
+abbrev PickChars : PickWords → Type 0
+PickChars said = HasChars said.folder
 
 module _ (moment offset : ℤ) where
-  expr_chars : (folder : Option (List ℕ)) (names : List (List ℕ)) (items : List Item) (r : Result Expr CommandFault) → HasChars folder → PickChars (pick_words.with_expr folder names items r)
-  expr_chars folder names items (Ok expr) f = f
-  expr_chars folder names items (Err e) f = tt
+  expr_by : (folder : Option (List ℕ)) (names : List (List ℕ)) (items : List Item) (r : Result Expr CommandFault) → HasChars folder → HoldsOf PickChars (said_unless_refused (λ expr. Ok (pick_words.words_of folder names expr items)) r)
+  expr_by folder names items (Ok expr) f = f
+  expr_by folder names items (Err e) f = tt
 
-  pick_names_chars : (folder : Option (List ℕ)) (items : List Item) (r : Result (List (List ℕ)) CommandFault) → HasChars folder → PickChars (pick_words.with_names moment offset folder items r)
-  pick_names_chars folder items (Ok names) f = expr_chars folder names items (pick_words.named_expr items (expr_in moment offset items)) f
-  pick_names_chars folder items (Err e) f = tt
-
-  pick_folder_chars : (items : List Item) (word : Option (List ℕ)) → HasChars word → PickChars (pick_words.with_folder moment offset items (folder_named word))
-  pick_folder_chars items None f = pick_names_chars None items _ tt
-  pick_folder_chars items (Some word) f = go (is_folder_name (without_plus word))
-    where
-      go : (b : Bool) → PickChars (pick_words.with_folder moment offset items (some_named (if b then Ok (without_plus word) else Err (fault.Refused (refusal.BadFolder word)))))
-      go true = pick_names_chars (Some (without_plus word)) items _ (plus_chars word f)
-      go false = tt
-
-  pick_one_chars : (words : List (List ℕ)) (items : List Item) (r : Result (Option (List ℕ)) Wrong) → OneChars r → PickChars (pick_words.folder_said moment offset words items r)
-  pick_one_chars words items (Ok word) f = pick_folder_chars items word f
-  pick_one_chars words items (Err wrong) f = tt
-
-  pick_items_chars : (words : List (List ℕ)) (r : Result (List Item) Wrong) → Textual r → PickChars (pick_words.items_said moment offset words r)
-  pick_items_chars words (Ok items) f =
-      pick_one_chars words items (unless_bad (first_of (bad_names items)) (one_folder (folders items)))
-      (bad_chars (first_of (bad_names items)) (one_folder (folders items)) (one_chars (folders items) (folder_texts items f)))
-  pick_items_chars words (Err wrong) f = tt
+  pick_folder_by : (items : List Item) (folder : Option (List ℕ)) (r : Result (List (List ℕ)) CommandFault) → HasChars folder
+      → HoldsOf PickChars (said_unless_refused (λ names. said_unless_refused (λ expr. Ok (pick_words.words_of folder names expr items)) (pick_words.named_expr items (expr_in moment offset items))) r)
+  pick_folder_by items folder (Ok names) f = expr_by folder names items (pick_words.named_expr items (expr_in moment offset items)) f
+  pick_folder_by items folder (Err e) f = tt
 
   pub pick_chars : (profile : List NamedValue) (words : List (List ℕ)) (said : PickWords) → AreTexts words → pick_said moment offset profile words ≡ Ok said → HasChars said.folder
   pick_chars profile words said f e =
-      subst PickChars e (pick_items_chars (pick_line profile words) (read_in pick_table 0 (pick_line profile words))
-      (read_textual pick_table 0 (pick_line profile words) (texts_both (profile_words (codes "pick") profile) words (shown_texts (words_in (unwrap_or (value_of (codes "pick") profile) []))) f)))
+      subst (HoldsOf PickChars) e (words_by PickChars (pick_items moment offset) pick_table (codes "pick") profile words f
+      (λ items t. folder_by PickChars (pick_in_folder moment offset items) _ (unless_bad (first_of (bad_names items)) (one_folder (folders items))) (bad_chars (first_of (bad_names items)) (one_folder (folders items)) (one_of items t))
+      (λ folder chars. pick_folder_by items folder _ chars)))
 
 -- `anno`
-abbrev AnnoChars : Result AnnoWords Ended → Type 0
-AnnoChars (Ok w) = HasChars w.folder
-AnnoChars (Err e) = Unit {0}
+abbrev AnnoChars : AnnoWords → Type 0
+AnnoChars said = HasChars said.folder
 
 module _ (moment offset : ℤ) where
-  anno_folder_chars : (items : List Item) (name : List ℕ) (word : Option (List ℕ)) → HasChars word → AnnoChars (anno_words.named_said moment offset items name word)
-  anno_folder_chars items name None f = tt
-  anno_folder_chars items name (Some word) f = go (is_folder_name (without_plus word))
-    where
-      go : (b : Bool) → AnnoChars (anno_words.with_folder moment offset items name (some_named (if b then Ok (without_plus word) else Err (fault.Refused (refusal.BadFolder word)))))
-      go true = plus_chars word f
-      go false = tt
+  anno_word_by : (words : List (List ℕ)) (items : List Item) (word name : Option (List ℕ)) → HasChars word → HoldsOf AnnoChars (anno_words.word_said moment offset words items word name)
+  anno_word_by words items word (Some name) f = named_by AnnoChars (λ folder. Ok (anno_words.words_of folder (anno_words.lines_of moment offset items name) items)) word f (λ folder chars. chars)
+  anno_word_by words items word None f = tt
 
-  anno_word_chars : (words : List (List ℕ)) (items : List Item) (word name : Option (List ℕ)) → HasChars word → AnnoChars (anno_words.word_said moment offset words items word name)
-  anno_word_chars words items word (Some name) f = anno_folder_chars items name word f
-  anno_word_chars words items word None f = tt
-
-  anno_one_chars : (words : List (List ℕ)) (items : List Item) (r : Result (Option (List ℕ)) Wrong) → OneChars r → AnnoChars (anno_words.folder_said moment offset words items r)
-  anno_one_chars words items (Ok word) f = anno_word_chars words items word (anno_words.component_of items) f
-  anno_one_chars words items (Err wrong) f = tt
-
-  anno_items_chars : (words : List (List ℕ)) (r : Result (List Item) Wrong) → Textual r → AnnoChars (anno_words.items_said moment offset words r)
-  anno_items_chars words (Ok items) f =
-      anno_one_chars words items (unless_bad (first_of (wrong_values items)) (one_folder (folders items)))
-      (bad_chars (first_of (wrong_values items)) (one_folder (folders items)) (one_chars (folders items) (folder_texts items f)))
-  anno_items_chars words (Err wrong) f = tt
+  anno_one_by : (words : List (List ℕ)) (items : List Item) (r : Result (Option (List ℕ)) Wrong) → OneChars r → HoldsOf AnnoChars (said_unless_wrong (λ word. anno_words.word_said moment offset words items word (anno_words.component_of items)) words r)
+  anno_one_by words items (Ok word) f = anno_word_by words items word (anno_words.component_of items) f
+  anno_one_by words items (Err wrong) f = tt
 
   pub anno_chars : (profile : List NamedValue) (words : List (List ℕ)) (said : AnnoWords) → AreTexts words → anno_said moment offset profile words ≡ Ok said → HasChars said.folder
   anno_chars profile words said f e =
-      subst AnnoChars e (anno_items_chars (anno_line profile words) (read_in anno_table 0 (anno_line profile words))
-      (read_textual anno_table 0 (anno_line profile words) (texts_both (profile_words (codes "anno") profile) words (shown_texts (words_in (unwrap_or (value_of (codes "anno") profile) []))) f)))
+      subst (HoldsOf AnnoChars) e (words_by AnnoChars (anno_items moment offset) anno_table (codes "anno") profile words f
+      (λ items t. anno_one_by (profile_words (codes "anno") profile ++ words) items (unless_bad (first_of (wrong_values items)) (one_folder (folders items))) (bad_chars (first_of (wrong_values items)) (one_folder (folders items)) (one_of items t))))
 
 -- `sortm`
-abbrev SortChars : Result SortWords Ended → Type 0
-SortChars (Ok w) = HasChars w.folder
-SortChars (Err e) = Unit {0}
-
-sort_folder_chars : (items : List Item) (word : Option (List ℕ)) → HasChars word → SortChars (sort_words.with_folder items (folder_named word))
-sort_folder_chars items None f = tt
-sort_folder_chars items (Some word) f = go (is_folder_name (without_plus word))
-  where
-    go : (b : Bool) → SortChars (sort_words.with_folder items (some_named (if b then Ok (without_plus word) else Err (fault.Refused (refusal.BadFolder word)))))
-    go true = plus_chars word f
-    go false = tt
-
-sort_one_chars : (words : List (List ℕ)) (items : List Item) (r : Result (Option (List ℕ)) Wrong) → OneChars r → SortChars (sort_words.folder_said words items r)
-sort_one_chars words items (Ok word) f = sort_folder_chars items word f
-sort_one_chars words items (Err wrong) f = tt
-
-sort_items_chars : (words : List (List ℕ)) (r : Result (List Item) Wrong) → Textual r → SortChars (sort_words.items_said words r)
-sort_items_chars words (Ok items) f =
-    sort_one_chars words items (unless_bad (first_of (wrong_fields items)) (one_folder (folders items)))
-    (bad_chars (first_of (wrong_fields items)) (one_folder (folders items)) (one_chars (folders items) (folder_texts items f)))
-sort_items_chars words (Err wrong) f = tt
+abbrev SortChars : SortWords → Type 0
+SortChars said = HasChars said.folder
 
 pub sort_chars : (profile : List NamedValue) (words : List (List ℕ)) (said : SortWords) → AreTexts words → sort_said profile words ≡ Ok said → HasChars said.folder
 sort_chars profile words said f e =
-    subst SortChars e (sort_items_chars (sort_line profile words) (read_in sort_table 0 (sort_line profile words))
-    (read_textual sort_table 0 (sort_line profile words) (texts_both (profile_words (codes "sortm") profile) words (shown_texts (words_in (unwrap_or (value_of (codes "sortm") profile) []))) f)))
+    subst (HoldsOf SortChars) e (words_by SortChars sort_items sort_table (codes "sortm") profile words f
+    (λ items t. folder_by SortChars (λ folder. Ok (sort_words.words_of folder items)) _ (unless_bad (first_of (wrong_fields items)) (one_folder (folders items))) (bad_chars (first_of (wrong_fields items)) (one_folder (folders items)) (one_of items t)) (λ folder chars. chars)))
 
 -- `mhlist`
-abbrev ListChars : Result ListWords Ended → Type 0
-ListChars (Ok w) = HasChars w.folder
-ListChars (Err e) = Unit {0}
-
-list_folder_chars : (items : List Item) (word : Option (List ℕ)) → HasChars word → ListChars (list_words.with_folder items (folder_named word))
-list_folder_chars items None f = tt
-list_folder_chars items (Some word) f = go (is_folder_name (without_plus word))
-  where
-    go : (b : Bool) → ListChars (list_words.with_folder items (some_named (if b then Ok (without_plus word) else Err (fault.Refused (refusal.BadFolder word)))))
-    go true = plus_chars word f
-    go false = tt
-
-list_one_chars : (words : List (List ℕ)) (items : List Item) (r : Result (Option (List ℕ)) Wrong) → OneChars r → ListChars (list_words.folder_said words items r)
-list_one_chars words items (Ok word) f = list_folder_chars items word f
-list_one_chars words items (Err wrong) f = tt
-
-list_items_chars : (words : List (List ℕ)) (r : Result (List Item) Wrong) → Textual r → ListChars (list_words.items_said words r)
-list_items_chars words (Ok items) f =
-    list_one_chars words items (unless_bad (first_of (wrong_parts items)) (one_folder (folders items)))
-    (bad_chars (first_of (wrong_parts items)) (one_folder (folders items)) (one_chars (folders items) (folder_texts items f)))
-list_items_chars words (Err wrong) f = tt
+abbrev ListChars : ListWords → Type 0
+ListChars said = HasChars said.folder
 
 pub list_chars : (profile : List NamedValue) (words : List (List ℕ)) (said : ListWords) → AreTexts words → list_said profile words ≡ Ok said → HasChars said.folder
 list_chars profile words said f e =
-    subst ListChars e (list_items_chars (list_line profile words) (read_in list_table 0 (list_line profile words))
-    (read_textual list_table 0 (list_line profile words) (texts_both (profile_words (codes "mhlist") profile) words (shown_texts (words_in (unwrap_or (value_of (codes "mhlist") profile) []))) f)))
+    subst (HoldsOf ListChars) e (words_by ListChars list_items list_table (codes "mhlist") profile words f
+    (λ items t. folder_by ListChars (λ folder. Ok (list_words.words_of folder items)) _ (unless_bad (first_of (wrong_parts items)) (one_folder (folders items))) (bad_chars (first_of (wrong_parts items)) (one_folder (folders items)) (one_of items t)) (λ folder chars. chars)))
 
 -- `mhstore`
-abbrev StoreChars : Result StoreWords Ended → Type 0
-StoreChars (Ok w) = HasChars w.folder
-StoreChars (Err e) = Unit {0}
-
-store_folder_chars : (items : List Item) (word : Option (List ℕ)) → HasChars word → StoreChars (store_words.with_folder items (folder_named word))
-store_folder_chars items None f = tt
-store_folder_chars items (Some word) f = go (is_folder_name (without_plus word))
-  where
-    go : (b : Bool) → StoreChars (store_words.with_folder items (some_named (if b then Ok (without_plus word) else Err (fault.Refused (refusal.BadFolder word)))))
-    go true = plus_chars word f
-    go false = tt
-
-store_one_chars : (words : List (List ℕ)) (items : List Item) (r : Result (Option (List ℕ)) Wrong) → OneChars r → StoreChars (store_words.folder_said words items r)
-store_one_chars words items (Ok word) f = store_folder_chars items word f
-store_one_chars words items (Err wrong) f = tt
-
-store_items_chars : (words : List (List ℕ)) (r : Result (List Item) Wrong) → Textual r → StoreChars (store_words.items_said words r)
-store_items_chars words (Ok items) f =
-    store_one_chars words items (unless_bad (first_of (wrong_stored_values items)) (one_folder (folders items)))
-    (bad_chars (first_of (wrong_stored_values items)) (one_folder (folders items)) (one_chars (folders items) (folder_texts items f)))
-store_items_chars words (Err wrong) f = tt
+abbrev StoreChars : StoreWords → Type 0
+StoreChars said = HasChars said.folder
 
 pub store_chars : (profile : List NamedValue) (words : List (List ℕ)) (said : StoreWords) → AreTexts words → store_said profile words ≡ Ok said → HasChars said.folder
 store_chars profile words said f e =
-    subst StoreChars e (store_items_chars (store_line profile words) (read_in store_table 0 (store_line profile words))
-    (read_textual store_table 0 (store_line profile words) (texts_both (profile_words (codes "mhstore") profile) words (shown_texts (words_in (unwrap_or (value_of (codes "mhstore") profile) []))) f)))
+    subst (HoldsOf StoreChars) e (words_by StoreChars store_items store_table (codes "mhstore") profile words f
+    (λ items t. folder_by StoreChars (λ folder. Ok (store_words.words_of folder items)) _ (unless_bad (first_of (wrong_stored_values items)) (one_folder (folders items))) (bad_chars (first_of (wrong_stored_values items)) (one_folder (folders items)) (one_of items t)) (λ folder chars. chars)))

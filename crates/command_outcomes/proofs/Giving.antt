@@ -71,7 +71,7 @@ use Rattle.command_words.specs.declared.refile.RefileWords.{RefileWords}
 use Rattle.command_words.specs.declared.rmm.RmmWords.{RmmWords}
 use Rattle.sort_words.specs.SortWords.{sort_said}
 use Rattle.command_line.specs.Looking.{ScanAsked, look_found, scan_asked}
-use Rattle.command_words.proofs.SaidFolder.{IsValid, IsValid as IsDraft}
+use Rattle.command_words.proofs.SaidFolder.{IsValid}
 use Rattle.anno_plans.specs.Anno.{anno}
 use Rattle.sortm_plans.specs.Sort.{sortm}
 use Rattle.anno_plans.proofs.AnnoGiven.{anno_gives}
@@ -90,7 +90,7 @@ use Rattle.mhstore_plans.specs.Storing.{mhstore}
 use Rattle.mhstore_plans.proofs.WholeGiven.{store_gives}
 use Rattle.build_words.specs.BuildWords.{build_said}
 use Rattle.build_words.specs.declared.words.BuildWords.{BuildWords}
-use Rattle.build_words.proofs.Said.{build_refuses, build_valid}
+use Rattle.build_words.proofs.Said.{IsDraft, build_refuses, build_valid}
 use Rattle.mhbuild_plans.specs.Heard.{Heard}
 use Rattle.mhbuild_plans.proofs.HeardBuild.{mhbuild_given}
 use Rattle.mhbuild_plans.proofs.HeardGiven.{given_gives}

@@ -79,7 +79,7 @@ use Rattle.command_words.specs.declared.refile.RefileWords.{RefileWords}
 use Rattle.command_words.specs.declared.rmm.RmmWords.{RmmWords}
 use Rattle.sort_words.specs.SortWords.{sort_said}
 use Rattle.command_line.specs.Looking.{ScanAsked, WritesAs, look_found, scan_asked, written_by}
-use Rattle.command_words.proofs.SaidFolder.{IsValid, IsValid as IsDraft}
+use Rattle.command_words.proofs.SaidFolder.{IsValid}
 use Rattle.refile_plans.specs.Refile.{refile}
 use Rattle.refile_plans.specs.Rmm.{rmm}
 use Rattle.refile_plans.specs.declared.job.RefileJob.{RefileJob}
@@ -91,7 +91,7 @@ use Rattle.command_line.specs.CommandNames.{command_of, named}
 use Rattle.command_pledges.specs.CommandPledge.{IsDone, KeepsPledge, TellsAsked, anno_on_named, annos_pledge, asked_pledge, builds_pledge, command_pledge, incs_pledge, list_on_named, lists_pledge, marks_pledge, on_named, pick_on_named, picks_pledge, refile_on_named, refiles_pledge, rmm_on_named, rmms_pledge, sort_on_named, sorts_pledge, store_on_named, stores_pledge, task_pledge, tell_on_named, tells_pledge, word_pledge}
 use Rattle.build_words.specs.BuildWords.{build_said}
 use Rattle.build_words.specs.declared.words.BuildWords.{BuildWords}
-use Rattle.build_words.proofs.Said.{build_valid}
+use Rattle.build_words.proofs.Said.{IsDraft, build_valid}
 use Rattle.mhbuild_plans.specs.BuildDone.{HasBuilt}
 use Rattle.mhbuild_plans.specs.BuildPledge.{build_pledge}
 use Rattle.mhbuild_plans.specs.Building.{mhbuild}

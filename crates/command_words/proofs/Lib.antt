@@ -6,8 +6,8 @@ mod RefileFolders
 pub mod Said
 pub mod SaidFolder
 pub mod SaidRefileFolders
-pub mod SaidRmmFolder
-pub mod SaidTellFolder
+pub mod SaidSound
 pub mod SequenceNames
+pub mod Sound
 pub mod Texts
 pub mod Widths

@@ -14,7 +14,7 @@ use Rattle.step_plans.proofs.Rounds.{next}
 use Rattle.command_words.specs.Ended.{plain, wrong_at}
 use Rattle.command_words.specs.FolderWords.{FolderWord, folders, named_folder, one_folder}
 use Rattle.command_words.specs.RefileFolders.{AreBehind, AreNamed, AreTargets, IsFirstWrong, IsNoted, IsTargetNoted, IsUnchanged, IsValueNoted, IsWordNoted}
-use Rattle.command_words.specs.RefileWords.{items_said, last_or, missing_after, source_of, targets, targets_in, targets_said, unless_wrong, words_of, wrong_in, wrong_names}
+use Rattle.command_words.specs.RefileWords.{refile_items, last_or, missing_after, source_of, targets, targets_in, targets_said, unless_wrong, words_of, wrong_in, wrong_names}
 use Rattle.command_words.specs.Results.{IsNamed, IsSaid}
 use Rattle.command_words.specs.Switches.{value_in}
 use Rattle.command_words.specs.declared.ended.Ended.{Ended}
@@ -159,13 +159,13 @@ none_noted items named s t o = record { source = ap (λ z. last_or z (flat_map (
 
 -- the words, where the folders are these
 pub named_said : (words : List (List ℕ)) (items : List Item) (source : Option (List ℕ)) (target : List ℕ) (others : List (List ℕ)) (said : RefileWords)
-    → AreNamed items (Ok (record { source = source; target = Some target; others = others })) → said ≡ words_of source target others items → IsSaid (items_said words (Ok items)) (Ok said)
+    → AreNamed items (Ok (record { source = source; target = Some target; others = others })) → said ≡ words_of source target others items → IsSaid (refile_items words items) (Ok said)
 named_said words items source target others said f is =
     subst (λ names. IsSaid (targets_said words items names) (Ok said)) (sym f.1)
     (subst (λ wrong. IsSaid (unless_wrong (words_of (source_of items) target others items) wrong) (Ok said)) (sym f.2) (ap Ok (ap (λ s. words_of s target others items) (sym f.0) ∙ sym is)))
 
 -- the refusal of a word that names no folder, where one folder at least is named
-pub wrong_said : (words : List (List ℕ)) (items : List Item) (e : CommandFault) → (targets items ≡ [] → ⊥) → AreNamed items (Err e) → IsSaid (items_said words (Ok items)) (Err (plain e))
+pub wrong_said : (words : List (List ℕ)) (items : List Item) (e : CommandFault) → (targets items ≡ [] → ⊥) → AreNamed items (Err e) → IsSaid (refile_items words items) (Err (plain e))
 wrong_said words items e some (inr m) = inr m
 wrong_said words items e some (inl w) = inl (go (targets items) some)
   where
@@ -206,7 +206,7 @@ pub wrong_named : (items : List Item) (w : Wrong) → one_folder (folders items)
 wrong_named items w some e = absurd (let both : one_folder [] ≡ Err w = ap one_folder (sym (no_folders items e)) ∙ some in cc (both))
 
 -- none is named
-pub missing_said : (words : List (List ℕ)) (items : List Item) (e : Ended) → targets items ≡ [] → e ≡ wrong_at words (missing_after words) → IsSaid (items_said words (Ok items)) (Err e)
+pub missing_said : (words : List (List ℕ)) (items : List Item) (e : Ended) → targets items ≡ [] → e ≡ wrong_at words (missing_after words) → IsSaid (refile_items words items) (Err e)
 missing_said words items e none is = inl (subst (λ names. targets_said words items names ≡ Err e) (sym none) (ap Err (sym is)))
 
 -- a result that is this error

@@ -7,8 +7,9 @@ use Rattle.mh_words.specs.Whole.{Wrong, read_in}
 use Rattle.mh_words.specs.declared.item.Item.{Item}
 use Rattle.mh_words.specs.declared.table.SwitchTable.{SwitchTable}
 use Rattle.command_words.specs.Ended.{wrong_at, items_or_wrong}
-use Rattle.command_words.specs.MarkWords.{items_said, mark_line, mark_said}
+use Rattle.command_words.specs.MarkWords.{mark_items, mark_line, mark_said}
 use Rattle.command_words.specs.Results.{IsOneFolder, IsSaid}
+use Rattle.command_words.specs.Saying.{said_unless_wrong, words_said}
 use Rattle.command_words.specs.Tables.{mark_table}
 use Rattle.command_words.specs.declared.ended.Ended.{Ended}
 use Rattle.command_words.specs.declared.mark.MarkWords.{MarkWords}
@@ -25,20 +26,20 @@ items_read words (Ok all) items same = ap Ok (ok_same all items same)
 items_read words (Err wrong) items same = apart (wrong_at words wrong) items same
 
 -- what a command says of its words, which were read by its table
-pub read_on : {W : Type 0} (said : List (List ℕ) → Result (List Item) Wrong → Result W Ended) (all line : List (List ℕ)) (table given : SwitchTable) (items : List Item) (result : Result W Ended) → given ≡ table → all ≡ line →
-    items_or_wrong all (read_in given 0 all) ≡ Ok items → IsSaid (said all (Ok items)) result → IsSaid (said line (read_in table 0 line)) result
+pub read_on : {W : Type 0} (said : List (List ℕ) → List Item → Result W Ended) (all line : List (List ℕ)) (table given : SwitchTable) (items : List Item) (result : Result W Ended) → given ≡ table → all ≡ line →
+    items_or_wrong all (read_in given 0 all) ≡ Ok items → IsSaid (said all items) result → IsSaid (words_said said table line) result
 read_on said all line table given items result tabled whole read is =
     let at_items = sym (items_read all (read_in given 0 all) items read) in
-    subst (λ a. IsSaid (said a (read_in table 0 a)) result) whole
-    (subst (λ t. IsSaid (said all (read_in t 0 all)) result) tabled
-    (subst (λ r. IsSaid (said all r) result) at_items is))
+    subst (λ a. IsSaid (words_said said table a) result) whole
+    (subst (λ t. IsSaid (words_said said t all) result) tabled
+    (subst (λ r. IsSaid (said_unless_wrong (said all) all r) result) at_items is))
 
 -- the words of `mark`
 pub mark_on : (profile : List NamedValue) (words all : List (List ℕ)) (table : SwitchTable) (items : List Item)
     (result : Result MarkWords Ended) → table ≡ mark_table → all ≡ mark_line profile words →
-    items_or_wrong all (read_in table 0 all) ≡ Ok items → IsSaid (items_said all (Ok items)) result →
+    items_or_wrong all (read_in table 0 all) ≡ Ok items → IsSaid (mark_items all items) result →
     IsSaid (mark_said profile words) result
-mark_on profile words all table items result tabled whole read said = read_on items_said all (mark_line profile words) mark_table table items result tabled whole read said
+mark_on profile words all table items result tabled whole read said = read_on mark_items all (mark_line profile words) mark_table table items result tabled whole read said
 
 -- the word of the one folder
 pub word_is : (value : Result (Option (List ℕ)) Wrong) (word : Option (Bor (List ℕ))) → IsOneFolder value (Ok word) → value ≡ Ok (option_map (λ w. w.now) word)

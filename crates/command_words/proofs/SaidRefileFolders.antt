@@ -5,7 +5,7 @@ use Rattle.mh_base.specs.Folders.{is_folder_name, without_plus}
 use Rattle.mh_words.specs.Whole.{Wrong}
 use Rattle.mh_words.specs.declared.item.Item.{Item}
 use Rattle.mh_words.specs.declared.item.Item.TheVariants.{Folder, Message, Switch, Component}
-use Rattle.command_words.specs.RefileWords.{items_said, last_or, source_of, targets, targets_said, unless_wrong, words_of, wrong_names}
+use Rattle.command_words.specs.RefileWords.{refile_items, last_or, source_of, targets, targets_said, unless_wrong, words_of, wrong_names}
 use Rattle.command_words.specs.Switches.{values}
 use Rattle.command_words.specs.declared.refile.RefileWords.{RefileWords}
 use Rattle.command_words.specs.declared.tables.TheConstants.{SRC}
@@ -62,6 +62,5 @@ targets_valid all items (target ∷ others) words is e = go (wrong_names items) 
     go [] none e = wrong_valid items target others words (subst AreValid is (all_valid items None tt none).0) [] none e
     go (word ∷ more) some e = no_ok _ words e
 
-pub refile_valid : (all : List (List ℕ)) (r : Result (List Item) Wrong) (words : RefileWords) → items_said all r ≡ Ok words → NamesFolders words
-refile_valid all (Ok items) words e = targets_valid all items (targets items) words refl e
-refile_valid all (Err wrong) words e = no_ok _ words e
+pub items_valid : (all : List (List ℕ)) (items : List Item) (words : RefileWords) → refile_items all items ≡ Ok words → NamesFolders words
+items_valid all items words e = targets_valid all items (targets items) words refl e

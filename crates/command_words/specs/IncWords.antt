@@ -4,13 +4,12 @@ use Rattle.std.specs.List.{flat_map}
 use Rattle.mh_base.specs.declared.word.WordWhy.TheVariants.{Extra}
 use Rattle.mh_words.specs.declared.item.Item.{Item}
 use Rattle.mh_words.specs.declared.item.Item.TheVariants.{Folder, Message, Switch, Component}
-use Rattle.mh_words.specs.Whole.{Wrong, read_in}
+use Rattle.mh_words.specs.Whole.{Wrong}
 use Rattle.mh_profile.specs.declared.named_value.NamedValue.{NamedValue}
-use Rattle.step_plans.specs.declared.command_fault.CommandFault.{CommandFault}
 use Rattle.command_words.specs.BadValues.{first_of, unless_bad}
-use Rattle.command_words.specs.Ended.{plain, wrong_at}
-use Rattle.command_words.specs.FolderWords.{folders, one_folder, named_folder}
+use Rattle.command_words.specs.FolderWords.{folders, one_folder}
 use Rattle.command_words.specs.LookWords.{look_of, wrong_widths}
+use Rattle.command_words.specs.Saying.{folder_said, words_said}
 use Rattle.command_words.specs.Switches.{last_choice, last_of, values}
 use Rattle.command_words.specs.Tables.{inc_table}
 use Rattle.command_words.specs.Words.{profile_words}
@@ -54,25 +53,13 @@ words_of folder items = record {
   look = look_of items;
 }
 
-abbrev pub with_folder : List Item → Result (List ℕ) CommandFault → Result IncWords Ended
-with_folder items (Ok name) = Ok (words_of (Some name) items)
-with_folder items (Err e) = Err (plain e)
-
-abbrev pub said_folder : List Item → Option (List ℕ) → Result IncWords Ended
-said_folder items None = Ok (words_of None items)
-said_folder items (Some word) = with_folder items (named_folder word)
-
-abbrev pub folder_said : List (List ℕ) → List Item → Result (Option (List ℕ)) Wrong → Result IncWords Ended
-folder_said words items (Ok word) = said_folder items word
-folder_said words items (Err wrong) = Err (wrong_at words wrong)
-
-abbrev pub items_said : List (List ℕ) → Result (List Item) Wrong → Result IncWords Ended
-items_said words (Ok items) = folder_said words items (unless_bad (first_of (wrong_widths items)) (folder_alone items))
-items_said words (Err wrong) = Err (wrong_at words wrong)
+-- what the items say, with the folder that they name
+abbrev pub inc_items : List (List ℕ) → List Item → Result IncWords Ended
+inc_items words items =
+    folder_said (λ folder. Ok (words_of folder items)) words
+    (unless_bad (first_of (wrong_widths items)) (folder_alone items))
 
 -- what the words of `inc` say, those of the profile first, or the refusal: of a switch before that of a word that is
 -- too many or of a width that is none, the earlier first, and that before a wrong name
 abbrev pub inc_said : List NamedValue → List (List ℕ) → Result IncWords Ended
-inc_said profile words =
-    items_said (profile_words (codes "inc") profile ++ words)
-    (read_in inc_table 0 (profile_words (codes "inc") profile ++ words))
+inc_said profile words = words_said inc_items inc_table (profile_words (codes "inc") profile ++ words)

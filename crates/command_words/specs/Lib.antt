@@ -12,6 +12,7 @@ pub mod RefileFolders
 pub mod RefileWords
 pub mod Results
 pub mod RmmWords
+pub mod Saying
 pub mod ScanWords
 pub mod SequenceNames
 pub mod Switches

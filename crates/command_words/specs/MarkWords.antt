@@ -3,14 +3,14 @@ use Rattle.std.specs.Prelude.{◌++◌, ◌&&◌, ◌||◌, not, codes, ℕ, Boo
 use Rattle.std.specs.Prelude.{Option, None, Some, Result, Ok, Err, if◌then◌else◌}
 use Rattle.mh_base.specs.declared.word.WordWhy.TheVariants.{Missing}
 use Rattle.mh_words.specs.declared.item.Item.{Item}
-use Rattle.mh_words.specs.Whole.{Wrong, read_in}
+use Rattle.mh_words.specs.Whole.{Wrong}
 use Rattle.mh_profile.specs.declared.named_value.NamedValue.{NamedValue}
-use Rattle.step_plans.specs.declared.command_fault.CommandFault.{CommandFault}
 use Rattle.mark_command.specs.declared.job.MarkAct.{MarkAct}
 use Rattle.mark_command.specs.declared.job.MarkAct.TheVariants.{Add, Delete, Set, SetOthers}
-use Rattle.command_words.specs.Ended.{plain, wrong_at}
+use Rattle.command_words.specs.Ended.{wrong_at}
 use Rattle.command_words.specs.FolderWords.{folders, one_folder, folder_named}
 use Rattle.command_words.specs.MessageWords.{messages, names_or}
+use Rattle.command_words.specs.Saying.{said_unless_refused, said_unless_wrong, words_said}
 use Rattle.command_words.specs.SequenceNames.{named_sequences}
 use Rattle.command_words.specs.Switches.{last_choice, is_given, values}
 use Rattle.command_words.specs.Tables.{mark_table}
@@ -72,26 +72,20 @@ lacks_sequence items = (is_given ADD items || is_given DELETE items) && not (is_
 abbrev pub missing_after : List (List ℕ) → Wrong
 missing_after words = record { place = length words; why = Missing }
 
-abbrev pub with_names : Option (List ℕ) → List Item → Result (List (List ℕ)) CommandFault → Result MarkWords Ended
-with_names folder items (Ok names) = Ok (words_of folder names items)
-with_names folder items (Err e) = Err (plain e)
-
-abbrev pub with_folder : List Item → Result (Option (List ℕ)) CommandFault → Result MarkWords Ended
-with_folder items (Ok folder) = with_names folder items (named_sequences (values SEQUENCE items))
-with_folder items (Err e) = Err (plain e)
+-- with the folder that they name, or the refusal of the first wrong name of a sequence
+abbrev pub mark_in_folder : List Item → Option (List ℕ) → Result MarkWords Ended
+mark_in_folder items folder =
+    said_unless_refused (λ names. Ok (words_of folder names items)) (named_sequences (values SEQUENCE items))
 
 -- a sequence that is missing comes first, then a wrong name of the folder, then one of a sequence
 abbrev pub word_said : List (List ℕ) → List Item → Option (List ℕ) → Result MarkWords Ended
 word_said words items word =
-    if lacks_sequence items then Err (wrong_at words (missing_after words)) else with_folder items (folder_named word)
+    if lacks_sequence items then Err (wrong_at words (missing_after words))
+    else said_unless_refused (mark_in_folder items) (folder_named word)
 
-abbrev pub folder_said : List (List ℕ) → List Item → Result (Option (List ℕ)) Wrong → Result MarkWords Ended
-folder_said words items (Ok word) = word_said words items word
-folder_said words items (Err wrong) = Err (wrong_at words wrong)
-
-abbrev pub items_said : List (List ℕ) → Result (List Item) Wrong → Result MarkWords Ended
-items_said words (Ok items) = folder_said words items (one_folder (folders items))
-items_said words (Err wrong) = Err (wrong_at words wrong)
+-- what the items say
+abbrev pub mark_items : List (List ℕ) → List Item → Result MarkWords Ended
+mark_items words items = said_unless_wrong (word_said words items) words (one_folder (folders items))
 
 -- the words of the profile's entry, and then the command's
 abbrev pub mark_line : List NamedValue → List (List ℕ) → List (List ℕ)
@@ -100,4 +94,4 @@ mark_line profile words = profile_words (codes "mark") profile ++ words
 -- what the words of `mark` say, those of the profile first, or the refusal: of a switch, then of a second folder, then
 -- for want of a sequence, then of a folder's name, then of the first wrong name of a sequence
 abbrev pub mark_said : List NamedValue → List (List ℕ) → Result MarkWords Ended
-mark_said profile words = items_said (mark_line profile words) (read_in mark_table 0 (mark_line profile words))
+mark_said profile words = words_said mark_items mark_table (mark_line profile words)

@@ -3,7 +3,6 @@ use Rattle.std.specs.Prelude.{◌++◌, ◌==◌, codes, ℕ, ℤ, true, unwrap_
 use Rattle.std.specs.List.{flat_map}
 use Rattle.mh_words.specs.declared.item.Item.{Item}
 use Rattle.mh_words.specs.declared.item.Item.TheVariants.{Folder, Message, Switch, Component}
-use Rattle.mh_words.specs.Whole.{Wrong, read_in}
 use Rattle.mh_profile.specs.declared.named_value.NamedValue.{NamedValue}
 use Rattle.folder_files.specs.declared.refusal.Refusal.TheVariants as refusal
 use Rattle.step_plans.specs.declared.command_fault.CommandFault.{CommandFault}
@@ -16,10 +15,10 @@ use Rattle.pick_plans.specs.declared.job.PickAct.{PickAct}
 use Rattle.pick_plans.specs.declared.job.PickAct.TheVariants as act
 use Rattle.pick_plans.specs.declared.job.PickMarks.{PickMarks}
 use Rattle.command_words.specs.BadValues.{first_of, unless_bad}
-use Rattle.command_words.specs.Ended.{plain, wrong_at}
 use Rattle.command_words.specs.FieldNames.{bad_names}
-use Rattle.command_words.specs.FolderWords.{folders, one_folder, folder_named}
+use Rattle.command_words.specs.FolderWords.{folders, one_folder}
 use Rattle.command_words.specs.MessageWords.{messages, names_or}
+use Rattle.command_words.specs.Saying.{folder_said, said_unless_refused, words_said}
 use Rattle.command_words.specs.SequenceNames.{named_sequences}
 use Rattle.command_words.specs.Switches.{last_choice, last_of, values}
 use Rattle.command_words.specs.Tables.{pick_table}
@@ -71,28 +70,20 @@ words_of folder names expr items = record {
   list = unwrap_or (last_choice PICK_LIST PICK_NOLIST items) (length names == 0);
 }
 
-abbrev pub with_expr : Option (List ℕ) → List (List ℕ) → List Item → Result Expr CommandFault → Result PickWords Ended
-with_expr folder names items (Ok expr) = Ok (words_of folder names expr items)
-with_expr folder names items (Err e) = Err (plain e)
-
 -- the dates of the expression are named at this moment, by a clock that is so many minutes ahead of UTC
 module _ (moment offset : ℤ) where
-  abbrev pub with_names : Option (List ℕ) → List Item → Result (List (List ℕ)) CommandFault → Result PickWords Ended
-  with_names folder items (Ok names) = with_expr folder names items (named_expr items (expr_in moment offset items))
-  with_names folder items (Err e) = Err (plain e)
+  -- with the folder that the words name, or the refusal of the first wrong name of a sequence, or of the expression
+  abbrev pub pick_in_folder : List Item → Option (List ℕ) → Result PickWords Ended
+  pick_in_folder items folder =
+      said_unless_refused
+      (λ names. said_unless_refused (λ expr. Ok (words_of folder names expr items))
+      (named_expr items (expr_in moment offset items)))
+      (named_sequences (values PICK_SEQUENCE items))
 
-  abbrev pub with_folder : List Item → Result (Option (List ℕ)) CommandFault → Result PickWords Ended
-  with_folder items (Ok folder) = with_names folder items (named_sequences (values PICK_SEQUENCE items))
-  with_folder items (Err e) = Err (plain e)
-
-  abbrev pub folder_said : List (List ℕ) → List Item → Result (Option (List ℕ)) Wrong → Result PickWords Ended
-  folder_said words items (Ok word) = with_folder items (folder_named word)
-  folder_said words items (Err wrong) = Err (wrong_at words wrong)
-
-  abbrev pub items_said : List (List ℕ) → Result (List Item) Wrong → Result PickWords Ended
-  items_said words (Ok items) = folder_said words items
-      (unless_bad (first_of (bad_names items)) (one_folder (folders items)))
-  items_said words (Err wrong) = Err (wrong_at words wrong)
+  -- what the items say
+  abbrev pub pick_items : List (List ℕ) → List Item → Result PickWords Ended
+  pick_items words items =
+      folder_said (pick_in_folder items) words (unless_bad (first_of (bad_names items)) (one_folder (folders items)))
 
 -- the words of the profile's entry, and then the command's
 abbrev pub pick_line : List NamedValue → List (List ℕ) → List (List ℕ)
@@ -102,5 +93,4 @@ pick_line profile words = profile_words (codes "pick") profile ++ words
 -- a name that no field may have, the earlier first; then of a folder's name; then of the first wrong name of a
 -- sequence; then of the expression
 abbrev pub pick_said : ℤ → ℤ → List NamedValue → List (List ℕ) → Result PickWords Ended
-pick_said moment offset profile words =
-    items_said moment offset (pick_line profile words) (read_in pick_table 0 (pick_line profile words))
+pick_said moment offset profile words = words_said (pick_items moment offset) pick_table (pick_line profile words)

@@ -5,13 +5,14 @@ use Rattle.mh_base.specs.Folders.{is_folder_name, without_plus}
 use Rattle.mh_base.specs.declared.word.WordWhy.TheVariants.{Missing}
 use Rattle.mh_words.specs.declared.item.Item.{Item}
 use Rattle.mh_words.specs.declared.item.Item.TheVariants.{Folder, Message, Switch, Component}
-use Rattle.mh_words.specs.Whole.{Wrong, read_in}
+use Rattle.mh_words.specs.Whole.{Wrong}
 use Rattle.mh_profile.specs.declared.named_value.NamedValue.{NamedValue}
 use Rattle.folder_files.specs.declared.refusal.Refusal.TheVariants as refusal
 use Rattle.step_plans.specs.declared.command_fault.CommandFault.TheVariants as fault
 use Rattle.command_words.specs.Ended.{plain, wrong_at}
 use Rattle.command_words.specs.FolderWords.{folder_in}
 use Rattle.command_words.specs.MessageWords.{messages, names_or}
+use Rattle.command_words.specs.Saying.{words_said}
 use Rattle.command_words.specs.Switches.{last_choice, values}
 use Rattle.command_words.specs.Tables.{refile_table}
 use Rattle.command_words.specs.Words.{profile_words}
@@ -74,13 +75,11 @@ targets_said words items [] = Err (wrong_at words (missing_after words))
 targets_said words items (target ∷ others) =
     unless_wrong (words_of (source_of items) target others items) (wrong_names items)
 
-abbrev pub items_said : List (List ℕ) → Result (List Item) Wrong → Result RefileWords Ended
-items_said words (Ok items) = targets_said words items (targets items)
-items_said words (Err wrong) = Err (wrong_at words wrong)
+-- what the items say
+abbrev pub refile_items : List (List ℕ) → List Item → Result RefileWords Ended
+refile_items words items = targets_said words items (targets items)
 
 -- what the words of `refile` say, those of the profile first, or the refusal: of a switch, then for want of a folder,
 -- then of the first wrong name of one
 abbrev pub refile_said : List NamedValue → List (List ℕ) → Result RefileWords Ended
-refile_said profile words =
-    items_said (profile_words (codes "refile") profile ++ words)
-    (read_in refile_table 0 (profile_words (codes "refile") profile ++ words))
+refile_said profile words = words_said refile_items refile_table (profile_words (codes "refile") profile ++ words)

@@ -1,12 +1,10 @@
 -- What the words of `rmm` say.
-use Rattle.std.specs.Prelude.{◌++◌, codes, ℕ, false, unwrap_or, List, Option, None, Some, Result, Ok, Err}
+use Rattle.std.specs.Prelude.{◌++◌, codes, ℕ, false, unwrap_or, List, Option, Result, Ok}
 use Rattle.mh_words.specs.declared.item.Item.{Item}
-use Rattle.mh_words.specs.Whole.{Wrong, read_in}
 use Rattle.mh_profile.specs.declared.named_value.NamedValue.{NamedValue}
-use Rattle.step_plans.specs.declared.command_fault.CommandFault.{CommandFault}
-use Rattle.command_words.specs.Ended.{plain, wrong_at}
-use Rattle.command_words.specs.FolderWords.{folders, one_folder, named_folder}
+use Rattle.command_words.specs.FolderWords.{folders, one_folder}
 use Rattle.command_words.specs.MessageWords.{messages, names_or}
+use Rattle.command_words.specs.Saying.{folder_said, words_said}
 use Rattle.command_words.specs.Switches.{last_choice}
 use Rattle.command_words.specs.Tables.{rmm_table}
 use Rattle.command_words.specs.Words.{profile_words}
@@ -23,25 +21,12 @@ words_of folder items =
       unlink = unwrap_or (last_choice UNLINK NOUNLINK items) false;
     }
 
-abbrev pub with_folder : List Item → Result (List ℕ) CommandFault → Result RmmWords Ended
-with_folder items (Ok name) = Ok (words_of (Some name) items)
-with_folder items (Err e) = Err (plain e)
-
-abbrev pub said_folder : List Item → Option (List ℕ) → Result RmmWords Ended
-said_folder items None = Ok (words_of None items)
-said_folder items (Some word) = with_folder items (named_folder word)
-
-abbrev pub folder_said : List (List ℕ) → List Item → Result (Option (List ℕ)) Wrong → Result RmmWords Ended
-folder_said words items (Ok word) = said_folder items word
-folder_said words items (Err wrong) = Err (wrong_at words wrong)
-
-abbrev pub items_said : List (List ℕ) → Result (List Item) Wrong → Result RmmWords Ended
-items_said words (Ok items) = folder_said words items (one_folder (folders items))
-items_said words (Err wrong) = Err (wrong_at words wrong)
+-- what the items say, with the folder that they name
+abbrev pub rmm_items : List (List ℕ) → List Item → Result RmmWords Ended
+rmm_items words items =
+    folder_said (λ folder. Ok (words_of folder items)) words (one_folder (folders items))
 
 -- what the words of `rmm` say, those of the profile first, or the refusal: of a switch before that of a second folder,
 -- and that before a wrong name
 abbrev pub rmm_said : List NamedValue → List (List ℕ) → Result RmmWords Ended
-rmm_said profile words =
-    items_said (profile_words (codes "rmm") profile ++ words)
-    (read_in rmm_table 0 (profile_words (codes "rmm") profile ++ words))
+rmm_said profile words = words_said rmm_items rmm_table (profile_words (codes "rmm") profile ++ words)

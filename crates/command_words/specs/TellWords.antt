@@ -1,14 +1,13 @@
 -- What the words of `folder` say.
-use Rattle.std.specs.Prelude.{◌++◌, codes, ℕ, Bool, true, false, unwrap_or, List, [], ◌∷◌, Option, None, Some, Result, Ok, Err}
+use Rattle.std.specs.Prelude.{◌++◌, codes, ℕ, Bool, true, false, unwrap_or, List, [], ◌∷◌, Option, None, Result, Ok}
 use Rattle.mh_words.specs.declared.item.Item.{Item}
-use Rattle.mh_words.specs.Whole.{Wrong, read_in}
+use Rattle.mh_words.specs.Whole.{Wrong}
 use Rattle.mh_profile.specs.declared.named_value.NamedValue.{NamedValue}
-use Rattle.step_plans.specs.declared.command_fault.CommandFault.{CommandFault}
 use Rattle.command_words.specs.BadValues.{first_of}
-use Rattle.command_words.specs.Ended.{plain, wrong_at}
-use Rattle.command_words.specs.FolderWords.{folders, one_folder, named_folder}
+use Rattle.command_words.specs.FolderWords.{folders, one_folder}
 use Rattle.command_words.specs.IncWords.{alone, message_places}
 use Rattle.command_words.specs.MessageWords.{messages}
+use Rattle.command_words.specs.Saying.{folder_said, words_said}
 use Rattle.command_words.specs.Switches.{last_choice}
 use Rattle.command_words.specs.Tables.{folder_table}
 use Rattle.command_words.specs.Words.{profile_words}
@@ -45,25 +44,12 @@ folder_and_message items = alone (one_folder (folders items)) (too_many (is_pack
 abbrev pub words_of : Option (List ℕ) → List Item → FolderWords
 words_of folder items = record { folder = folder; pack = is_packed items; specs = messages items }
 
-abbrev pub with_folder : List Item → Result (List ℕ) CommandFault → Result FolderWords Ended
-with_folder items (Ok name) = Ok (words_of (Some name) items)
-with_folder items (Err e) = Err (plain e)
-
-abbrev pub said_folder : List Item → Option (List ℕ) → Result FolderWords Ended
-said_folder items None = Ok (words_of None items)
-said_folder items (Some word) = with_folder items (named_folder word)
-
-abbrev pub folder_said : List (List ℕ) → List Item → Result (Option (List ℕ)) Wrong → Result FolderWords Ended
-folder_said words items (Ok word) = said_folder items word
-folder_said words items (Err wrong) = Err (wrong_at words wrong)
-
-abbrev pub items_said : List (List ℕ) → Result (List Item) Wrong → Result FolderWords Ended
-items_said words (Ok items) = folder_said words items (folder_and_message items)
-items_said words (Err wrong) = Err (wrong_at words wrong)
+-- what the items say, with the folder that they name
+abbrev pub tell_items : List (List ℕ) → List Item → Result FolderWords Ended
+tell_items words items =
+    folder_said (λ folder. Ok (words_of folder items)) words (folder_and_message items)
 
 -- what the words of `folder` say, those of the profile first, or the refusal: of a switch before that of a word that is
 -- too many, and that before a wrong name
 abbrev pub tell_said : List NamedValue → List (List ℕ) → Result FolderWords Ended
-tell_said profile words =
-    items_said (profile_words (codes "folder") profile ++ words)
-    (read_in folder_table 0 (profile_words (codes "folder") profile ++ words))
+tell_said profile words = words_said tell_items folder_table (profile_words (codes "folder") profile ++ words)

@@ -8,7 +8,7 @@ ghost use Rattle.command_words.specs.Results.{IsOneFolder, IsSaid};
 ghost use Rattle.command_words.specs.TellWords.{
   folder_and_message,
   is_packed as is_packed_of,
-  items_said as items_said_of,
+  tell_items,
   second_from,
   second_of,
   tell_said,
@@ -95,7 +95,7 @@ fn words_said(
 
 /// What the items of the words say.
 fn items_said(alloc: Global, words: &TextList, items: &ItemList) -> Result<FolderWords, Ended>
-    ensures { IsSaid (items_said_of words.now (Ok items.now)) result }
+    ensures { IsSaid (tell_items words.now items.now) result }
 {
     match folder_alone(items) {
         Ok(word) => {

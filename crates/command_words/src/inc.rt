@@ -7,7 +7,7 @@ ghost use Rattle.command_words.specs.Results.{IsOneFolder, IsSaid};
 ghost use Rattle.command_words.specs.IncWords.{
   words_of,
   folder_alone as folder_alone_of,
-  items_said as items_said_of,
+  inc_items,
   inc_said,
   message_places,
   place_in,
@@ -90,7 +90,7 @@ fn words_said(
 
 /// What the items of the words say.
 fn items_said(alloc: Global, words: &TextList, items: &ItemList) -> Result<IncWords, Ended>
-    ensures { IsSaid (items_said_of words.now (Ok items.now)) result }
+    ensures { IsSaid (inc_items words.now items.now) result }
 {
     match folder_alone(items) {
         Ok(word) => {

@@ -12,7 +12,7 @@ ghost use Rattle.command_words.specs.MarkWords.{
   lacks_sequence as lacks_sequence_of,
   words_of,
   word_said as word_said_of,
-  items_said as items_said_of,
+  mark_items,
   mark_said,
 };
 ghost use Rattle.command_words.specs.Results.{IsSaid};
@@ -146,7 +146,7 @@ fn word_said(
 
 /// What the items of the words say.
 fn items_said(alloc: Global, words: &TextList, items: &ItemList) -> Result<MarkWords, Ended>
-    ensures { IsSaid (items_said_of words.now (Ok items.now)) result }
+    ensures { IsSaid (mark_items words.now items.now) result }
 {
     match folder_word(items) {
         Ok(word) => word_said(alloc, words, items, word),

@@ -8,16 +8,17 @@ ghost use Rattle.command_words.specs.FolderWords.{folder_named};
 ghost use Rattle.command_words.specs.PickWords.{
   act_of,
   date_word as date_word_of,
-  items_said as items_said_of,
+  pick_items,
   marks_of,
   named_expr,
   pick_said,
   value_at,
   values_at as values_at_of,
-  with_folder,
+  pick_in_folder,
   words_of,
 };
 ghost use Rattle.command_words.specs.Results.{IsNamed, IsSaid};
+ghost use Rattle.command_words.specs.Saying.{said_unless_refused};
 
 use crate::bad_value::wrong_earliest;
 use crate::ended::Ended;
@@ -168,7 +169,8 @@ fn word_said(
 ) -> Result<PickWords, Ended>
     requires { IsSetting moment offset_minutes }
     ensures { IsSaid
-        (with_folder moment offset_minutes words.now.items (folder_named (option_map (λ w. w.now) word.entry))) result }
+        (said_unless_refused (pick_in_folder moment offset_minutes words.now.items)
+        (folder_named (option_map (λ w. w.now) word.entry))) result }
 {
     let folder = folder_said(alloc, word)?;
     let names = sequence_names(alloc, &values(alloc, PICK_SEQUENCE, &words.items)?)?;
@@ -185,7 +187,7 @@ fn items_said(
     offset_minutes: i32,
 ) -> Result<PickWords, Ended>
     requires { IsSetting moment offset_minutes }
-    ensures { IsSaid (items_said_of moment offset_minutes all.now (Ok words.now.items)) result }
+    ensures { IsSaid (pick_items moment offset_minutes all.now words.now.items) result }
 {
     let bad = bad_name(&words.items);
     match folder_word(&words.items) {

@@ -5,7 +5,7 @@ ghost use Rattle.std.specs.String.{string_bytes};
 ghost use Rattle.command_words.specs.Results.{IsSaid};
 ghost use Rattle.command_words.specs.RefileFolders.{AreNamed, IsNoted, IsSourceNoted, IsTargetNoted, IsValueNoted, IsWordNoted};
 ghost use Rattle.command_words.specs.declared.tables.TheConstants.{SRC as SRC_AT};
-ghost use Rattle.command_words.specs.RefileWords.{items_said as items_said_of, refile_said, targets, words_of};
+ghost use Rattle.command_words.specs.RefileWords.{refile_items, refile_said, targets, words_of};
 
 use crate::ended::Ended;
 use crate::folders::{folder_word, read_folder};
@@ -135,7 +135,7 @@ fn words_said(
 /// What the items say, of which one at least is a folder.
 fn targets_said(alloc: Global, words: &TextList, items: &ItemList) -> Result<RefileWords, Ended>
     requires { targets items.now ≡ [] → ⊥ }
-    ensures { IsSaid (items_said_of words.now (Ok items.now)) result }
+    ensures { IsSaid (refile_items words.now items.now) result }
 {
     let FoldersNamed {
         source,
@@ -150,7 +150,7 @@ fn targets_said(alloc: Global, words: &TextList, items: &ItemList) -> Result<Ref
 
 /// What the items of the words say.
 fn items_said(alloc: Global, words: &TextList, items: &ItemList) -> Result<RefileWords, Ended>
-    ensures { IsSaid (items_said_of words.now (Ok items.now)) result }
+    ensures { IsSaid (refile_items words.now items.now) result }
 {
     match folder_word(items) {
         Ok(None) => Err(wrong_at(alloc, words, words.len() as u64, WordWhy::Missing)?),

@@ -5,7 +5,7 @@ ghost use Rattle.std.specs.String.{string_bytes};
 ghost use Rattle.command_words.specs.Results.{IsSaid};
 ghost use Rattle.command_words.specs.RmmWords.{
   words_of,
-  items_said as items_said_of,
+  rmm_items,
   rmm_said,
 };
 
@@ -47,7 +47,7 @@ fn words_said(
 
 /// What the items of the words say.
 fn items_said(alloc: Global, words: &TextList, items: &ItemList) -> Result<RmmWords, Ended>
-    ensures { IsSaid (items_said_of words.now (Ok items.now)) result }
+    ensures { IsSaid (rmm_items words.now items.now) result }
 {
     match folder_word(items) {
         Ok(word) => {

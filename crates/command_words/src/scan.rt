@@ -5,7 +5,7 @@ ghost use Rattle.std.specs.String.{string_bytes};
 ghost use Rattle.command_words.specs.Results.{IsSaid};
 ghost use Rattle.command_words.specs.ScanWords.{
   words_of,
-  items_said as items_said_of,
+  scan_items,
   scan_said,
 };
 
@@ -51,7 +51,7 @@ fn words_said(
 
 /// What the items of the words say.
 fn items_said(alloc: Global, words: &TextList, items: &ItemList) -> Result<ScanWords, Ended>
-    ensures { IsSaid (items_said_of words.now (Ok items.now)) result }
+    ensures { IsSaid (scan_items words.now items.now) result }
 {
     match folder_word(items) {
         Ok(word) => {

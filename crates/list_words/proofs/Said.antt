@@ -1,50 +1,25 @@
 -- What the words of `mhlist` say: a refusal; or a folder that is a folder's name.
-use Rattle.std.proofs.Common.{◌≡◌, ℕ, Bool, true, false, List, Option, Some, None, Result, Ok, Err, refl, subst}
-use Rattle.std.specs.Prelude.{if◌then◌else◌}
-use Rattle.mh_base.specs.Folders.{is_folder_name, without_plus}
+use Rattle.std.proofs.Common.{◌≡◌, ℕ, List, Result, Ok, Err}
 use Rattle.mh_profile.specs.declared.named_value.NamedValue.{NamedValue}
-use Rattle.mh_words.specs.Whole.{Wrong, read_in}
-use Rattle.mh_words.specs.declared.item.Item.{Item}
-use Rattle.folder_files.specs.declared.refusal.Refusal.TheVariants as refusal
-use Rattle.step_plans.specs.declared.command_fault.CommandFault.TheVariants as fault
 use Rattle.step_plans.proofs.Refusals.{IsRefusal}
-use Rattle.command_words.specs.BadValues.{first_of, unless_bad}
-use Rattle.command_words.specs.FolderWords.{folder_named, folders, one_folder, some_named}
 use Rattle.command_words.specs.declared.ended.Ended.{Ended}
 use Rattle.command_words.proofs.SaidFolder.{IsValid}
-use Rattle.list_words.specs.Parts.{wrong_parts}
-use Rattle.list_words.specs.ListWords.{folder_said, items_said, list_line, list_said, with_folder}
+use Rattle.command_words.proofs.Sound.{IsSound, folder_sound, said_holds, said_refuses, words_sound}
+use Rattle.list_words.specs.ListWords.{list_items, list_line, list_said, words_of}
 use Rattle.list_words.specs.Table.{list_table}
 use Rattle.list_words.specs.declared.words.ListWords.{ListWords}
 
--- a refusal, or the name of a folder, or none
-abbrev IsSound : Result ListWords Ended → Type 0
-IsSound (Ok words) = IsValid words.folder
-IsSound (Err x) = IsRefusal x.fault
+abbrev ListValid : ListWords → Type 0
+ListValid said = IsValid said.folder
 
-folder_sound : (items : List Item) (word : Option (List ℕ)) → IsSound (with_folder items (folder_named word))
-folder_sound items None = tt
-folder_sound items (Some word) = go (is_folder_name (without_plus word)) refl
-  where
-    go : (b : Bool) → is_folder_name (without_plus word) ≡ b → IsSound (with_folder items (some_named (if b then Ok (without_plus word) else Err (fault.Refused (refusal.BadFolder word)))))
-    go true is = is
-    go false is = (refusal.BadFolder word, refl)
-
-one_sound : (words : List (List ℕ)) (items : List Item) (r : Result (Option (List ℕ)) Wrong) → IsSound (folder_said words items r)
-one_sound words items (Ok word) = folder_sound items word
-one_sound words items (Err wrong) = (refusal.BadSwitch wrong.place wrong.why, refl)
-
-items_sound : (words : List (List ℕ)) (r : Result (List Item) Wrong) → IsSound (items_said words r)
-items_sound words (Ok items) = one_sound words items (unless_bad (first_of (wrong_parts items)) (one_folder (folders items)))
-items_sound words (Err wrong) = (refusal.BadSwitch wrong.place wrong.why, refl)
-
-said_sound : (profile : List NamedValue) (words : List (List ℕ)) → IsSound (list_said profile words)
-said_sound profile words = items_sound (list_line profile words) (read_in list_table 0 (list_line profile words))
+list_sound : (profile : List NamedValue) (words : List (List ℕ)) → IsSound ListValid (list_said profile words)
+list_sound profile words =
+    words_sound ListValid list_items list_table (list_line profile words) (λ items. folder_sound ListValid (λ folder. Ok (words_of folder items)) _ _ (λ folder valid. valid))
 
 -- what is no word is a refusal
 pub list_refuses : (profile : List NamedValue) (words : List (List ℕ)) (x : Ended) → list_said profile words ≡ Err x → IsRefusal x.fault
-list_refuses profile words x is = subst IsSound is (said_sound profile words)
+list_refuses profile words x is = said_refuses ListValid (list_said profile words) x (list_sound profile words) is
 
 -- the words name a folder, or none
 pub list_valid : (profile : List NamedValue) (words : List (List ℕ)) (said : ListWords) → list_said profile words ≡ Ok said → IsValid said.folder
-list_valid profile words said is = subst IsSound is (said_sound profile words)
+list_valid profile words said is = said_holds ListValid (list_said profile words) said (list_sound profile words) is

@@ -1,13 +1,11 @@
 -- What the words of `mhlist` say.
-use Rattle.std.specs.Prelude.{◌++◌, codes, ℕ, List, Option, Result, Ok, Err}
+use Rattle.std.specs.Prelude.{◌++◌, codes, ℕ, List, Option, Result, Ok}
 use Rattle.mh_words.specs.declared.item.Item.{Item}
-use Rattle.mh_words.specs.Whole.{Wrong, read_in}
 use Rattle.mh_profile.specs.declared.named_value.NamedValue.{NamedValue}
-use Rattle.step_plans.specs.declared.command_fault.CommandFault.{CommandFault}
 use Rattle.command_words.specs.BadValues.{first_of, unless_bad}
-use Rattle.command_words.specs.Ended.{plain, wrong_at}
-use Rattle.command_words.specs.FolderWords.{folders, folder_named, one_folder}
+use Rattle.command_words.specs.FolderWords.{folders, one_folder}
 use Rattle.command_words.specs.MessageWords.{messages, names_or}
+use Rattle.command_words.specs.Saying.{folder_said, words_said}
 use Rattle.command_words.specs.Words.{profile_words}
 use Rattle.command_words.specs.declared.ended.Ended.{Ended}
 use Rattle.list_words.specs.Parts.{parts_of, wrong_parts}
@@ -19,18 +17,11 @@ abbrev pub words_of : Option (List ℕ) → List Item → ListWords
 words_of folder items =
     record { folder = folder; specs = names_or (codes "cur") (messages items); parts = parts_of items }
 
-abbrev pub with_folder : List Item → Result (Option (List ℕ)) CommandFault → Result ListWords Ended
-with_folder items (Ok folder) = Ok (words_of folder items)
-with_folder items (Err e) = Err (plain e)
-
-abbrev pub folder_said : List (List ℕ) → List Item → Result (Option (List ℕ)) Wrong → Result ListWords Ended
-folder_said words items (Ok word) = with_folder items (folder_named word)
-folder_said words items (Err wrong) = Err (wrong_at words wrong)
-
-abbrev pub items_said : List (List ℕ) → Result (List Item) Wrong → Result ListWords Ended
-items_said words (Ok items) =
-    folder_said words items (unless_bad (first_of (wrong_parts items)) (one_folder (folders items)))
-items_said words (Err wrong) = Err (wrong_at words wrong)
+-- what the items say, with the folder that they name
+abbrev pub list_items : List (List ℕ) → List Item → Result ListWords Ended
+list_items words items =
+    folder_said (λ folder. Ok (words_of folder items)) words
+    (unless_bad (first_of (wrong_parts items)) (one_folder (folders items)))
 
 -- the words of the profile's entry, and then the command's
 abbrev pub list_line : List NamedValue → List (List ℕ) → List (List ℕ)
@@ -39,4 +30,4 @@ list_line profile words = profile_words (codes "mhlist") profile ++ words
 -- what the words of `mhlist` say, those of the profile first, or the refusal: of a switch; then of a second folder or
 -- of a value that is no path of a part, the earlier first; and then of a folder's name
 abbrev pub list_said : List NamedValue → List (List ℕ) → Result ListWords Ended
-list_said profile words = items_said (list_line profile words) (read_in list_table 0 (list_line profile words))
+list_said profile words = words_said list_items list_table (list_line profile words)

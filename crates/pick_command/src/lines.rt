@@ -6,7 +6,7 @@ use itoa::Buffer;
 use mh_base::{Bytes, BytesList, List, MsgNum};
 use std::alloc::{AllocError, Global};
 
-#[tactic(auto, unfolding(crate::specs::Lines::number_line))]
+#[tactic(auto, unfolding(pick_plans::specs::Lines::number_line))]
 fn number_line(alloc: Global, number: MsgNum) -> Result<Bytes, AllocError>
     ensures { IfOk result (λ l. l ≡ number_line_of number) }
 {

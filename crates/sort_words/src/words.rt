@@ -4,7 +4,8 @@ ghost use Rattle.std.specs.Str.{chars};
 ghost use Rattle.std.specs.String.{string_bytes};
 ghost use Rattle.command_words.specs.FolderWords.{folder_named};
 ghost use Rattle.command_words.specs.Results.{IsSaid};
-ghost use Rattle.sort_words.specs.SortWords.{items_said as items_said_of, sort_said, with_folder, words_of};
+ghost use Rattle.command_words.specs.Saying.{said_unless_refused};
+ghost use Rattle.sort_words.specs.SortWords.{sort_items, sort_said, words_of};
 
 use crate::keys::{key, wrong_name};
 use crate::table::sort_table;
@@ -42,7 +43,9 @@ fn words_said(
 
 /// What the items say, with the folder of this word.
 fn word_said(alloc: Global, items: &ItemList, word: Option<&Text>) -> Result<SortWords, Ended>
-    ensures { IsSaid (with_folder items.now (folder_named (option_map (λ w. w.now) word.entry))) result }
+    ensures { IsSaid
+        (said_unless_refused (λ folder. Ok (words_of folder items.now))
+        (folder_named (option_map (λ w. w.now) word.entry))) result }
 {
     let folder = folder_said(alloc, word)?;
     Ok(words_said(alloc, items, folder)?)
@@ -50,7 +53,7 @@ fn word_said(alloc: Global, items: &ItemList, word: Option<&Text>) -> Result<Sor
 
 /// What the items of the words say.
 fn items_said(alloc: Global, all: &TextList, items: &ItemList) -> Result<SortWords, Ended>
-    ensures { IsSaid (items_said_of all.now (Ok items.now)) result }
+    ensures { IsSaid (sort_items all.now items.now) result }
 {
     let wrong = wrong_name(items);
     match folder_word(items) {

@@ -40,7 +40,7 @@ use Rattle.folder_files.specs.Careful.{HasLock}
 use Rattle.step_plans.specs.Commits.{IsBase}
 use Rattle.sequence_commits.proofs.SequencesPledged.{sequences_name}
 use Rattle.sortm_plans.specs.MovesDone.{AllSettled}
-use Rattle.refile_plans.proofs.Lasts.{last_small}
+use Rattle.refile_plans.proofs.Lasts.{last_listed, last_small}
 use Rattle.refile_plans.specs.Rmm.{withdrawn}
 
 module _ (shown : Commits) where
@@ -120,7 +120,7 @@ module _ (shown : Commits) where
             (λ last_ i r. moving.MovedSo run few path folder Top top_kept top_met (λ end k ends. moving.Calm run few path folder Top top_kept top_met end k) last_ i r × okay (settling.AllSettle run few p ms) last_ i r)
             (Plainly (λ last_ i ends. moving.Calm run few path folder Top top_kept top_met last_ i × AllSettled run p ms ends last_)) go
             (comes_both later j (arranged run p takes ms (last_in listing)) (moving.MovedSo run few path folder Top top_kept top_met (λ end k ends. moving.Calm run few path folder Top top_kept top_met end k)) (okay (settling.AllSettle run few p ms))
-            (arranged_comes run few path folder Top top_kept top_met takes good_takes distinct_takes x l good_moving distinct_moving good_slots among (last_in listing) later j (last_small listing listed) (λ e. inl (f.0.1.1, commits.last_listed listing e)) f.1.1.1.clean
+            (arranged_comes run few path folder Top top_kept top_met takes good_takes distinct_takes x l good_moving distinct_moving good_slots among (last_in listing) later j (last_small listing listed) (λ e. inl (f.0.1.1, last_listed listing e)) f.1.1.1.clean
             (λ k e. f.1.0 k e))
             (arranged_settles run few p takes good_takes ms among (last_in listing) later j)))
           where

@@ -8,6 +8,7 @@ use Rattle.mh_sequences.specs.Runs.{numbers_of}
 use Rattle.mh_sequences.specs.Sequences.{Marked}
 use Rattle.mh_sequences.specs.declared.run.Run.{Run}
 use Rattle.msg_ranges.specs.Selection.{marks_of}
+use Rattle.msg_ranges.proofs.Rising.{first_listed, other_listed}
 use Rattle.folder_files.specs.Careful.{HasLock}
 use Rattle.folder_files.specs.Commands.{Sorting}
 use Rattle.folder_files.specs.Deeds.{Deed, WasDone, did, on}
@@ -213,8 +214,8 @@ module _ (run : ℕ) (few : run < 2 ^ 128) (path : List ℕ) (job : SortJob) whe
       Read key_of later j keys = Reading later j × Keys key_of later keys
 
       in_behind : (before : List ℕ) (n : ℕ) (rest : List ℕ) → is_in n (before ++ n ∷ rest) ≡ true
-      in_behind [] n rest = commits.first_listed n rest
-      in_behind (m ∷ before) n rest = commits.other_listed m n (before ++ n ∷ rest) (in_behind before n rest)
+      in_behind [] n rest = first_listed n rest
+      in_behind (m ∷ before) n rest = other_listed m n (before ++ n ∷ rest) (in_behind before n rest)
 
       keys_come : {K : Type 0} (key_of : List ℕ → K) (ns before : List ℕ) → numbers ≡ before ++ ns → (texts : List (List ℕ)) (keys : List K) → keys ≡ map key_of texts → (later : List Deed) (j : Hand) → HaveRead p before texts later → Reading later j
           → Comes later j (keys_read key_of p keys ns) (So (Read key_of))

@@ -3,7 +3,7 @@ use Rattle.std.proofs.lemmas.Int.{to_z-of_z}
 use Rattle.std.specs.Str.{chars}
 use Rattle.std.specs.String.{string_bytes}
 use Rattle.command_words.proofs.Said.{read_on}
-use Rattle.anno_words.specs.AnnoWords.{anno_line, items_said}
+use Rattle.anno_words.specs.AnnoWords.{anno_items, anno_line}
 use Rattle.anno_words.specs.Table.{anno_table}
 use Rattle.anno_words.proofs.words.anno_words.Goals as goal
 
@@ -11,5 +11,5 @@ pub returns : goal.returns
 returns c =
     let fits_now : FitsSigned w64 c.args.moment = c.ranges.moment in
     let fits_offset : FitsSigned w32 c.args.offset_minutes = c.ranges.offset_minutes in
-    read_on (items_said c.args.moment c.args.offset_minutes) _ (anno_line c.args.profile.now (map chars (map string_bytes c.args.words.now))) anno_table _ _ _ c.in_ok-table.ensures c.in_ok-all.ensures c.in_ok-items.ensures
+    read_on (anno_items c.args.moment c.args.offset_minutes) _ (anno_line c.args.profile.now (map chars (map string_bytes c.args.words.now))) anno_table _ _ _ c.in_ok-table.ensures c.in_ok-all.ensures c.in_ok-items.ensures
     (simp to_z-of_z at c.items_said.ensures)

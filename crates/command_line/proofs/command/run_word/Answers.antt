@@ -65,7 +65,7 @@ returns-in-Some-Refile-clause-plan g c =
     let f = c.run_refile.ensures in (
       f.0,
       word_on c.args.caller.now c.args.profile.now c.args.word.now (map string_bytes c.args.rest.now) (named c.args.word.now) (Some Refile) (search rules)
-          (beside {p = by_words (refile_begun c.args.run c.args.profile.now) (refile_said c.args.profile.now (map chars (map string_bytes c.args.rest.now)))} (whole f.1)),
+          (beside {p = by_words (refile_begun c.args.run c.args.profile.now) (refile_said c.args.profile.now (map chars (map string_bytes c.args.rest.now)))} (whole {p = by_words (refile_begun c.args.run c.args.profile.now) (refile_said c.args.profile.now (map chars (map string_bytes c.args.rest.now)))} f.1)),
     )
 
 pub returns-in-Some-Rmm-clause-plan : goal.returns-in-Some-Rmm-clause-plan
@@ -73,7 +73,7 @@ returns-in-Some-Rmm-clause-plan g c =
     let f = c.run_rmm.ensures in (
       f.0,
       word_on c.args.caller.now c.args.profile.now c.args.word.now (map string_bytes c.args.rest.now) (named c.args.word.now) (Some Rmm) (search rules)
-          (beside {p = by_words (rmm_begun c.args.run c.args.profile.now) (rmm_said c.args.profile.now (map chars (map string_bytes c.args.rest.now)))} (whole f.1)),
+          (beside {p = by_words (rmm_begun c.args.run c.args.profile.now) (rmm_said c.args.profile.now (map chars (map string_bytes c.args.rest.now)))} (whole {p = by_words (rmm_begun c.args.run c.args.profile.now) (rmm_said c.args.profile.now (map chars (map string_bytes c.args.rest.now)))} f.1)),
     )
 
 pub returns-in-Some-Folder-clause-plan : goal.returns-in-Some-Folder-clause-plan
@@ -89,7 +89,7 @@ returns-in-Some-Anno-clause-plan g c =
     let f = c.run_anno.ensures in (
       f.0,
       word_on c.args.caller.now c.args.profile.now c.args.word.now (map string_bytes c.args.rest.now) (named c.args.word.now) (Some Anno) (search rules)
-          (beside {p = by_words (anno_begun c.args.run c.args.profile.now) (annotated_by c.args.caller.now c.args.profile.now (map chars (map string_bytes c.args.rest.now)))} (whole f.1)),
+          (beside {p = by_words (anno_begun c.args.run c.args.profile.now) (annotated_by c.args.caller.now c.args.profile.now (map chars (map string_bytes c.args.rest.now)))} (whole {p = by_words (anno_begun c.args.run c.args.profile.now) (annotated_by c.args.caller.now c.args.profile.now (map chars (map string_bytes c.args.rest.now)))} f.1)),
     )
 
 pub returns-in-Some-Sortm-clause-plan : goal.returns-in-Some-Sortm-clause-plan
@@ -97,7 +97,7 @@ returns-in-Some-Sortm-clause-plan g c =
     let f = c.run_sortm.ensures in (
       f.0,
       word_on c.args.caller.now c.args.profile.now c.args.word.now (map string_bytes c.args.rest.now) (named c.args.word.now) (Some Sortm) (search rules)
-          (beside {p = by_words (sort_begun c.args.run c.args.profile.now) (sort_said c.args.profile.now (map chars (map string_bytes c.args.rest.now)))} (whole f.1)),
+          (beside {p = by_words (sort_begun c.args.run c.args.profile.now) (sort_said c.args.profile.now (map chars (map string_bytes c.args.rest.now)))} (whole {p = by_words (sort_begun c.args.run c.args.profile.now) (sort_said c.args.profile.now (map chars (map string_bytes c.args.rest.now)))} f.1)),
     )
 
 pub returns-in-Some-Mhlist-clause-plan : goal.returns-in-Some-Mhlist-clause-plan
@@ -138,19 +138,19 @@ pub returns-in-Some-Mark-clause-input : goal.returns-in-Some-Mark-clause-input
 returns-in-Some-Mark-clause-input g c = λ other. (refl, unsourced c.run_mark.ensures.1)
 
 pub returns-in-Some-Refile-clause-input : goal.returns-in-Some-Refile-clause-input
-returns-in-Some-Refile-clause-input g c = λ other. (refl, hand_unsourced c.run_refile.ensures.1)
+returns-in-Some-Refile-clause-input g c = λ other. (refl, hand_unsourced {p = by_words (refile_begun c.args.run c.args.profile.now) (refile_said c.args.profile.now (map chars (map string_bytes c.args.rest.now)))} c.run_refile.ensures.1)
 
 pub returns-in-Some-Rmm-clause-input : goal.returns-in-Some-Rmm-clause-input
-returns-in-Some-Rmm-clause-input g c = λ other. (refl, hand_unsourced c.run_rmm.ensures.1)
+returns-in-Some-Rmm-clause-input g c = λ other. (refl, hand_unsourced {p = by_words (rmm_begun c.args.run c.args.profile.now) (rmm_said c.args.profile.now (map chars (map string_bytes c.args.rest.now)))} c.run_rmm.ensures.1)
 
 pub returns-in-Some-Folder-clause-input : goal.returns-in-Some-Folder-clause-input
 returns-in-Some-Folder-clause-input g c = λ other. (refl, unsourced c.run_folder.ensures.1)
 
 pub returns-in-Some-Anno-clause-input : goal.returns-in-Some-Anno-clause-input
-returns-in-Some-Anno-clause-input g c = λ other. (refl, hand_unsourced c.run_anno.ensures.1)
+returns-in-Some-Anno-clause-input g c = λ other. (refl, hand_unsourced {p = by_words (anno_begun c.args.run c.args.profile.now) (annotated_by c.args.caller.now c.args.profile.now (map chars (map string_bytes c.args.rest.now)))} c.run_anno.ensures.1)
 
 pub returns-in-Some-Sortm-clause-input : goal.returns-in-Some-Sortm-clause-input
-returns-in-Some-Sortm-clause-input g c = λ other. (refl, hand_unsourced c.run_sortm.ensures.1)
+returns-in-Some-Sortm-clause-input g c = λ other. (refl, hand_unsourced {p = by_words (sort_begun c.args.run c.args.profile.now) (sort_said c.args.profile.now (map chars (map string_bytes c.args.rest.now)))} c.run_sortm.ensures.1)
 
 pub returns-in-Some-Mhlist-clause-input : goal.returns-in-Some-Mhlist-clause-input
 returns-in-Some-Mhlist-clause-input g c = λ other. (refl, unsourced c.run_mhlist.ensures.1)

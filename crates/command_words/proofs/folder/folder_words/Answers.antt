@@ -3,11 +3,11 @@ use Rattle.std.specs.Prelude.{codes}
 use Rattle.std.specs.Str.{chars}
 use Rattle.std.specs.String.{string_bytes}
 use Rattle.command_words.specs.Tables.{folder_table}
-use Rattle.command_words.specs.TellWords.{items_said}
+use Rattle.command_words.specs.TellWords.{tell_items}
 use Rattle.command_words.specs.Words.{profile_words}
 use Rattle.command_words.proofs.Said.{read_on}
 use Rattle.command_words.proofs.folder.folder_words.Goals as goal
 
 pub returns : goal.returns
 returns c =
-    read_on (items_said) _ (profile_words (codes "folder") c.args.profile.now ++ map chars (map string_bytes c.args.words.now)) folder_table _ _ _ c.in_ok-table.ensures c.in_ok-all.ensures c.in_ok-items.ensures c.items_said.ensures
+    read_on tell_items _ (profile_words (codes "folder") c.args.profile.now ++ map chars (map string_bytes c.args.words.now)) folder_table _ _ _ c.in_ok-table.ensures c.in_ok-all.ensures c.in_ok-items.ensures c.items_said.ensures
