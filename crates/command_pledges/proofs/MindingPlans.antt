@@ -1,5 +1,5 @@
 -- Plans that keep a pledge which minds the marks of messages.
-use Rattle.std.proofs.Common.{◌≡◌, ◌∷◌, [], ℕ, List, Option, Some, None, Result, Ok, sym, subst}
+use Rattle.std.proofs.Common.{◌≡◌, ◌∷◌, [], ℕ, List, Option, Some, None, Result, sym, subst, Err, refl}
 use Rattle.std.specs.Prelude.{Contains}
 use Rattle.folder_files.specs.Deeds.{Deed}
 use Rattle.folder_files.specs.Histories.{past_of}
@@ -8,13 +8,9 @@ use Rattle.folder_files.specs.declared.event.Event.{Event}
 use Rattle.folder_files.specs.declared.event.Event.TheVariants.{Act, Crash, Deliver, End}
 use Rattle.folder_files.specs.declared.step.Step.{Step}
 use Rattle.file_plans.specs.Follows.{Follows, State}
-use Rattle.file_plans.specs.Plan.{Hand, Plan}
-use Rattle.file_plans.specs.Rules.{Keeps}
-use Rattle.file_plans.specs.Runs.{Cause, Deed as Done}
+use Rattle.file_plans.specs.Plan.{Hand, Ask, Return}
+use Rattle.file_plans.specs.Rules.{Keeps, IfOkay}
 use Rattle.step_plans.specs.Pledges.{Pledge}
-use Rattle.step_plans.specs.Safety.{AtSteps}
-use Rattle.step_plans.specs.declared.command_fault.CommandFault.{CommandFault}
-use Rattle.step_plans.proofs.Going.{Sound}
 use Rattle.step_plans.proofs.Ruling.{rules_of}
 use Rattle.step_plans.proofs.StoryMay.{StoryMay}
 use Rattle.sequence_marks.specs.KeepsSequencesOf.{KeepsSequencesOf}
@@ -23,10 +19,20 @@ use Rattle.sequence_marks.proofs.SequencesOf.{MindsSequencesOf, sequences_kept_o
 use Rattle.opening_plans.proofs.CommitMinds.{IsTold}
 use Rattle.opening_plans.proofs.Meeting.{with_step}
 use Rattle.refile_plans.proofs.FoldersMinded.{IsToldAll}
-use Rattle.command_pledges.specs.CommandMarks.{IsTextName, KeepsWhere}
-use Rattle.command_pledges.proofs.MindsMarks.{keeps_may}
+use Rattle.command_pledges.specs.CommandMarks.{IsTextName, KeepsWhere, AreAllSo}
+use Rattle.command_pledges.proofs.MindsMarks.{keeps_may, minds_sequences}
 use Rattle.command_pledges.proofs.StepsWith.{may_without, own_with}
 use Rattle.command_pledges.proofs.ToldApart.{told_by}
+use Rattle.command_pledges.proofs.Begun.{Any}
+use Rattle.command_words.specs.declared.ended.Ended.{Ended}
+use Rattle.command_words.specs.Ended.{Ending, ended_cause}
+use Rattle.folder_files.specs.declared.place.Place.TheVariants.{Home}
+use Rattle.step_plans.specs.ContextCommit.{LIMIT_BYTES}
+use Rattle.mh_profile.specs.declared.named_value.NamedValue.{NamedValue}
+use Rattle.command_pledges.proofs.TwoAnswers.{keeps_ended}
+use Rattle.command_line.specs.Profile.{path_of, profile_name}
+use Rattle.command_line.proofs.FirstReadings.{profile_step}
+use Rattle.mh_looks.specs.ScanPledge.{scan_pledge}
 
 -- where one folder is acted on, whose name is a text
 pub minds_own : (acted : List ℕ) (w : Pledge) → IsTextName acted → MindsSequencesOf (λ other. IsTold acted other) w → MindsSequencesOf IsTextName w
@@ -44,54 +50,49 @@ minds_with w A m = record {
 }
 
 -- a plan that keeps a pledge, which minds the marks where each own step meets this besides
-pub record Minding {R : Type 0} (run : ℕ) (B : List Deed → Step → Type 0) (h : Hand) (plan : Plan R) : Type 1 where
+pub record Minding (run : ℕ) (B : List Deed → Step → Type 0) (h : Hand) (plan : Ending Unit) : Type 1 where
   pub pledge : Pledge
   pub run_is : pledge.run ≡ run
   pub minds : MindsSequencesOf IsTextName (with_step pledge B)
-  pub Q : List Done → Hand → R → Type 0
-  pub keeps : Keeps (rules_of pledge) [] h plan Q
+  pub keeps : Keeps (rules_of pledge) [] h plan (IfOkay Any)
 
--- what is sound where more is asked of the steps
-pub sound_so : (w : Pledge) (A : List Deed → Step → Type 0) (own : List Deed) (j : Hand) → Sound (with_step w A) own j → Sound w own j
-sound_so w A own j s = record { numbered = s.numbered; unfailed = s.unfailed }
+-- what a pledge keeps where each own step meets this besides
+where_kept : (B : List Deed → Step → Type 0) (w : Pledge) → MindsSequencesOf IsTextName (with_step w B) → (old new : Option Story) → SameStart old new → StoryMay w old new → KeepsWhere B w.run old new
+where_kept B w minds None None same may = tt
+where_kept B w minds (Some old) (Some new) same may =
+    λ all. sequences_kept_of IsTextName (with_step w B) minds (Some old) (Some new) same (λ unused. own_with w B (past_of new.history) all (may unused))
+where_kept B w minds None (Some new) same may = absurd may
+where_kept B w minds (Some old) None same may = absurd may
 
-pub ok_one : (v : Result (List ℕ) CommandFault) (x y : List ℕ) → v ≡ Ok x → v ≡ Ok y → x ≡ y
-ok_one v x y e f = cc (e, f)
+-- a call that follows such a plan keeps the marks then
+pub minding_where : (run : ℕ) (B : List Deed → Step → Type 0) (plan : Ending Unit) (x y : State) (result : Result Unit Ended) → Minding run B x.hand plan → Follows run ended_cause plan x y result → SameStart x.files.story y.files.story
+    → KeepsWhere B run x.files.story y.files.story
+minding_where run B plan x y result m f same =
+    subst (λ n. KeepsWhere B n x.files.story y.files.story) m.run_is (where_kept B m.pledge m.minds x.files.story y.files.story same
+    (keeps_may m.pledge ended_cause plan x y result (IfOkay Any) m.keeps (subst (λ n. Follows n ended_cause plan x y result) (sym m.run_is) f)))
 
-no_more : (run : ℕ) (past : List Event) → AtSteps (λ r. r ≡ run) (λ r own s. Unit {0}) past
+-- no more than that is asked of the steps
+abbrev pub NothingMore : List Deed → Step → Type 0
+NothingMore own s = Unit {0}
+
+no_more : (run : ℕ) (past : List Event) → AreAllSo NothingMore run past
 no_more run [] = tt
 no_more run (Act r s a m ∷ past) = ((λ is. tt), no_more run past)
 no_more run (Deliver _ piece ∷ past) = no_more run past
 no_more run (Crash v ∷ past) = no_more run past
 no_more run (End r ∷ past) = no_more run past
 
-abbrev pub NothingMore : List Deed → Step → Type 0
-NothingMore own s = Unit {0}
+pub all_kept : (run : ℕ) (old new : Option Story) → KeepsWhere NothingMore run old new → KeepsSequencesOf IsTextName run old new
+all_kept run None None k = tt
+all_kept run (Some old) (Some new) k = k (no_more run (past_of new.history))
+all_kept run None (Some new) k = absurd k
+all_kept run (Some old) None k = absurd k
 
-pub may_more : (w : Pledge) (old new : Option Story) → StoryMay w old new → StoryMay (with_step w NothingMore) old new
-may_more w None None may = tt
-may_more w (Some old) (Some new) may = λ unused. own_with w NothingMore (past_of new.history) (no_more w.run (past_of new.history)) (may unused)
-may_more w None (Some new) may = absurd may
-may_more w (Some old) None may = absurd may
-
--- what a pledge keeps where each own step meets this besides
-pub where_kept : (A : List Deed → Step → Type 0) (w : Pledge) → MindsSequencesOf IsTextName (with_step w A) → (old new : Option Story) → SameStart old new → StoryMay w old new → KeepsWhere A w.run old new
-where_kept A w minds None None same may = tt
-where_kept A w minds (Some old) (Some new) same may =
-    λ all. sequences_kept_of IsTextName (with_step w A) minds (Some old) (Some new) same (λ unused. own_with w A (past_of new.history) all (may unused))
-where_kept A w minds None (Some new) same may = absurd may
-where_kept A w minds (Some old) None same may = absurd may
-
--- a call that follows such a plan keeps the marks
-module _ {R E : Type 0} (run : ℕ) (cause : E → Cause) (plan : Plan (Result R E)) (x y : State) (result : Result R E) where
-  pub minding_may : {B : List Deed → Step → Type 0} (m : Minding run B x.hand plan) → Follows run cause plan x y result → StoryMay m.pledge x.files.story y.files.story
-  minding_may m f = keeps_may m.pledge cause plan x y result m.Q m.keeps (subst (λ n. Follows n cause plan x y result) (sym m.run_is) f)
-
-  pub minding_kept : (m : Minding run NothingMore x.hand plan) → Follows run cause plan x y result → SameStart x.files.story y.files.story → KeepsSequencesOf IsTextName run x.files.story y.files.story
-  minding_kept m f same =
-      subst (λ n. KeepsSequencesOf IsTextName n x.files.story y.files.story) m.run_is
-      (sequences_kept_of IsTextName (with_step m.pledge NothingMore) m.minds x.files.story y.files.story same (may_more m.pledge x.files.story y.files.story (minding_may m f)))
-
-  pub minding_where : (A : List Deed → Step → Type 0) (m : Minding run A x.hand plan) → Follows run cause plan x y result → SameStart x.files.story y.files.story → KeepsWhere A run x.files.story y.files.story
-  minding_where A m f same =
-      subst (λ n. KeepsWhere A n x.files.story y.files.story) m.run_is (where_kept A m.pledge m.minds x.files.story y.files.story same (minding_may m f))
+-- the command ends before it does anything
+pub ended_minding : (run : ℕ) (profile : List NamedValue) (B : List Deed → Step → Type 0) (h : Hand) (e : Ended) → Minding run B h (Ask profile_step (λ c. Return (Err e)))
+ended_minding run profile B h e = record {
+  pledge = scan_pledge run (path_of profile);
+  run_is = refl;
+  minds = minds_with (scan_pledge run (path_of profile)) B (minds_sequences run (path_of profile));
+  keeps = keeps_ended (scan_pledge run (path_of profile)) Home profile_name LIMIT_BYTES h (Err e) (IfOkay Any) (λ c. tt);
+}

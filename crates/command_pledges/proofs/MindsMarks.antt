@@ -1,5 +1,5 @@
 -- A command that keeps the context by naming the current folder minds the marks of all sequences.
-use Rattle.std.proofs.Common.{◌≡◌, inl, inr, ◌<◌, ◌^◌, ◌∷◌, [], ℕ, false, List, Option, Some, None, Result, refl, sym, ◌∙◌, ap, subst}
+use Rattle.std.proofs.Common.{◌≡◌, inl, inr, ◌<◌, ◌^◌, [], ℕ, false, List, Option, Some, None, Result, refl, sym, ◌∙◌, ap, subst, Err, Ok}
 use Rattle.mh_profile.specs.Names.{is_attribute}
 use Rattle.mh_profile.specs.declared.named_value.NamedValue.{NamedValue}
 use Rattle.folder_files.specs.Commands.{IsMadeIn, Noting}
@@ -9,7 +9,7 @@ use Rattle.folder_files.specs.Story.{GrowsBy, Story}
 use Rattle.folder_files.specs.declared.place.Place.{Place}
 use Rattle.folder_files.specs.declared.place.Place.TheVariants.{Folder, Mail}
 use Rattle.folder_files.specs.declared.step.Step.{Step}
-use Rattle.folder_files.specs.declared.step.Step.TheVariants as step
+use Rattle.folder_files.specs.declared.step.Step.TheVariants.{Read}
 use Rattle.file_plans.specs.Asking.{reading_of}
 use Rattle.file_plans.specs.Follows.{deeds_in, filed_in, State, Follows}
 use Rattle.file_plans.specs.Plan.{Hand, Plan}
@@ -36,36 +36,26 @@ use Rattle.command_stages.specs.Current.{current_name}
 use Rattle.mh_looks.specs.ScanPledge.{MarksCurrent, scan_pledge}
 use Rattle.command_stages.proofs.FolderLines.{current_valid}
 use Rattle.command_line.specs.Command.{command}
-use Rattle.command_line.specs.CommandNames.{begins_folders, command_of, named}
-use Rattle.command_pledges.specs.CommandPledge.{command_pledge, word_pledge}
-use Rattle.command_line.specs.Profile.{entries_by, path_by, path_of}
-use Rattle.command_line.specs.declared.name.CommandName.{CommandName}
-use Rattle.command_line.specs.declared.name.CommandName.TheVariants.{Anno, Folder as FolderCommand, Inc, Mark, Mhbuild, Mhlist, Mhstore, Pick, Refile, Rmm, Scan, Sortm}
+use Rattle.command_pledges.specs.CommandPledge.{command_pledge, pledge_found}
+use Rattle.command_line.specs.Profile.{entries_by, path_of}
 use Rattle.command_line.specs.declared.caller.Caller.{Caller}
 use Rattle.command_words.specs.Ended.{ended_cause}
 use Rattle.command_words.specs.declared.ended.Ended.{Ended}
 use Rattle.command_pledges.proofs.Begun.{start_same}
-use Rattle.command_pledges.proofs.Pledging.{Answered, End, answers, follows_pledged, plan_by, pledge_at, read_keeps}
+use Rattle.command_pledges.proofs.Pledging.{Answered, End, answers, follows_pledged, plan_by, pledge_at, read_keeps, pledge_run}
+use Rattle.folder_command.proofs.Orderly.{orderly}
+use Rattle.folder_files.specs.declared.step.Step.TheVariants as step
 
 -- a step in the mail directory changes no folder
 other_place : (mail path folder : List ℕ) (p : Place) → Mail mail ≡ p → Folder path folder ≡ p → ⊥
 other_place mail path folder p e f = cc
 
 pub mail_changes : (mail path folder : List ℕ) (s : Step) → IsMadeIn (Mail mail) s → Changes (Folder path folder) s → ⊥
-mail_changes mail path folder (step.List p) m c = c
-mail_changes mail path folder (step.Read p n limit) m c = c
-mail_changes mail path folder (step.MakeFolder p) m c = c
 mail_changes mail path folder (step.Create p n b) m c = other_place mail path folder p m c
-mail_changes mail path folder (step.SyncFile p n) m c = c
-mail_changes mail path folder (step.SyncFolder p) m c = c
 mail_changes mail path folder (step.Link p a b) m c = other_place mail path folder p m c
 mail_changes mail path folder (step.Rename p a b) m c = other_place mail path folder p m c
 mail_changes mail path folder (step.Unlink p a) m c = other_place mail path folder p m c
-mail_changes mail path folder (step.Lock p) m c = c
-mail_changes mail path folder (step.Unlock p) m c = c
-mail_changes mail path folder (step.ReadFile f limit) m c = c
-mail_changes mail path folder (step.ReadDrop f from most) m c = c
-mail_changes mail path folder (step.CutDrop f length_) m c = c
+mail_changes mail path folder s m c = c
 
 -- a command that changes no folder, and of the context the current folder alone
 module _ (w : Pledge) (mail : List ℕ) (no_change : (before : List Deed) (s : Step) (path folder : List ℕ) → IsOwnStep w.run w.manner before s → Changes (Folder path folder) s → ⊥)
@@ -118,25 +108,10 @@ noting_changes run mail before s path folder (careful f kind k makes orderly) c 
 pub minds_sequences : (run : ℕ) (mail : List ℕ) → MindsSequences (scan_pledge run mail)
 minds_sequences run mail = minds_all (scan_pledge run mail) mail (noting_changes run mail) (λ before p name old new m. m)
 
--- a command that looks pledges so
-pledge_looks : (run : ℕ) (caller : Caller) (words : List (List ℕ)) (profile context : List NamedValue) → (begins_folders (command_of words) ≡ false) → command_pledge run caller words profile context ≡ scan_pledge run (path_of profile)
-pledge_looks run caller [] profile context other = refl
-pledge_looks run caller (word ∷ words) profile context other = go (named word) other
-  where
-    go : (name : Option CommandName) → (begins_folders name ≡ false) → word_pledge run caller profile context words name ≡ scan_pledge run (path_of profile)
-    go None other = refl
-    go (Some Inc) other = cc (other)
-    go (Some Scan) other = refl
-    go (Some Mark) other = cc (other)
-    go (Some Pick) other = cc (other)
-    go (Some Refile) other = cc (other)
-    go (Some Rmm) other = cc (other)
-    go (Some FolderCommand) other = cc (other)
-    go (Some Anno) other = cc (other)
-    go (Some Sortm) other = cc (other)
-    go (Some Mhlist) other = cc (other)
-    go (Some Mhstore) other = cc (other)
-    go (Some Mhbuild) other = cc (other)
+-- so does what was found, where each that may be does
+pub found_minds : {A E : Type 0} (run : ℕ) (profile : List NamedValue) (pledge : A → Pledge) (value : Result A E) → ((found : A) → MindsSequences (pledge found)) → MindsSequences (pledge_found run profile pledge value)
+found_minds run profile pledge (Ok found) each = each found
+found_minds run profile pledge (Err e) each = minds_sequences run (path_of profile)
 
 -- the own steps of a call's story, where its plan keeps the rules of a pledge
 pub keeps_may : {T E : Type 0} (w : Pledge) (cause : E → Cause) (plan : Plan (Result T E)) (x y : State) (result : Result T E) (Q : List Done → Hand → Result T E → Type 0) → Keeps (rules_of w) [] x.hand plan Q → (f : Follows w.run cause plan x y result) → StoryMay w x.files.story y.files.story
@@ -148,18 +123,15 @@ keeps_may w cause plan x y result Q k f = told x.files.story y.files.story f.wen
     told None (Some new) g l = absurd g
     told (Some old) None g l = absurd g
 
--- a call that follows a command that looks keeps the marks of all sequences
-pub command_keeps_sequences : (run : ℕ) → run < 2 ^ 128 → (caller : Caller) (words : List (List ℕ)) → (begins_folders (command_of words) ≡ false) → (x y : State) (result : Result Unit Ended) → Follows run ended_cause (command run caller words) x y result
-    → KeepsSequences run x.files.story y.files.story
-command_keeps_sequences run few caller words other x y result f =
-    sequences_kept (scan_pledge run path) (minds_sequences run path) x.files.story y.files.story (start_same run ended_cause (command run caller words) x y result f)
-    (may_by (answers run few caller words x y result f))
+-- a call that follows a command keeps the marks of all sequences, where its pledge minds them
+pub command_keeps_sequences : (run : ℕ) (few : run < 2 ^ 128) (caller : Caller) (words : List (List ℕ)) → ((profile context : List NamedValue) → MindsSequences (command_pledge run caller words profile context)) → (x y : State) (result : Result Unit Ended)
+    → Follows run ended_cause (command run caller words) x y result → KeepsSequences run x.files.story y.files.story
+command_keeps_sequences run few caller words minds x y result f = go (answers run few caller words x y result f)
   where
-    path : List ℕ
-    path = path_by (answers run few caller words x y result f).first
-
-    may_by : (t : Answered run few caller words x.hand y.hand (deeds_in f.went.log) (exit_of ended_cause result)) → StoryMay (scan_pledge run (path_by t.first)) x.files.story y.files.story
-    may_by t =
-        subst (λ w. StoryMay w x.files.story y.files.story) (pledge_looks run caller words (entries_by t.first) (entries_by t.second) other)
-        (keeps_may (pledge_at run few caller words t.first t.second) ended_cause (plan_by run few caller words (reading_of t.first) t.second) x y result (IfOkay (End run few caller words t.first)) (read_keeps run few caller words x.hand (reading_of t.first) t.second)
-        (follows_pledged run few caller words x y result f t))
+    go : Answered run few caller words x.hand y.hand (deeds_in f.went.log) (exit_of ended_cause result) → KeepsSequences run x.files.story y.files.story
+    go t =
+        let w = pledge_at run few caller words t.first t.second in
+        subst (λ n. KeepsSequences n x.files.story y.files.story) (pledge_run run caller words (entries_by t.first) (entries_by t.second))
+        (sequences_kept w (minds (entries_by t.first) (entries_by t.second)) x.files.story y.files.story (start_same run ended_cause (command run caller words) x y result f)
+        (keeps_may w ended_cause (plan_by run few caller words (reading_of t.first) t.second) x y result (IfOkay (End run few caller words t.first)) (read_keeps run few caller words x.hand (reading_of t.first) t.second)
+        (follows_pledged run few caller words x y result f t)))

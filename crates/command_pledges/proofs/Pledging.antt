@@ -2,19 +2,17 @@
 use Rattle.std.proofs.Common.{◌≡◌, ◌⊎◌, inl, inr, ◌<◌, ◌^◌, ℕ, Bool, true, false, List, [], ◌∷◌, Option, None, Some, Result, Ok, Err, refl, sym, subst, map}
 use Rattle.std.specs.Str.{chars}
 use Rattle.mh_profile.specs.declared.named_value.NamedValue.{NamedValue}
-use Rattle.mh_profile.specs.Reading.{entries_in, entries_seen}
-use Rattle.folder_files.specs.Annotations.{are_annotations}
+use Rattle.mh_profile.specs.Reading.{entries_in}
 use Rattle.folder_files.specs.Deeds.{Deed, HasFailed}
 use Rattle.folder_files.specs.declared.place.Place.TheVariants.{Folder, Home, Mail}
 use Rattle.folder_files.specs.declared.step.Answer.{Answer}
 use Rattle.folder_files.specs.declared.step.Step.{Step}
 use Rattle.file_plans.specs.Asking.{read, reading_of}
 use Rattle.file_plans.specs.Follows.{State, Follows, deeds_in}
-use Rattle.file_plans.specs.Plan.{Hand, Return, Ask, Recall, after, ask, bind, ◌>>=◌, lifted}
+use Rattle.file_plans.specs.Plan.{Hand, Ask, after, ask, bind, ◌>>=◌, lifted}
 use Rattle.file_plans.specs.Rules.{IsKeptExit, IfOkay, Keeps}
 use Rattle.file_plans.specs.Runs.{Deed as Done, Exit, Runs, exit_of}
 use Rattle.file_plans.specs.declared.answers.Reading.{Reading}
-use Rattle.file_plans.specs.declared.answers.Reading.TheVariants as reading
 use Rattle.file_plans.proofs.Acting.{acts, acts_made}
 use Rattle.file_plans.proofs.Keeping.{keeps_lifted, run_keeps}
 use Rattle.step_plans.specs.ContextCommit.{LIMIT_BYTES, context_name}
@@ -41,24 +39,15 @@ use Rattle.inc_plans.proofs.IncPledged.{inc_keeps}
 use Rattle.mark_command.specs.Mark.{mark, pledge_by}
 use Rattle.mark_command.specs.declared.job.MarkAct.{MarkAct}
 use Rattle.mark_command.proofs.MarkPledged.{mark_keeps}
-use Rattle.anno_plans.specs.Anno.{anno}
 use Rattle.anno_plans.proofs.AnnoPledged.{anno_keeps}
-use Rattle.anno_words.specs.declared.words.AnnoWords.{AnnoWords}
 use Rattle.anno_words.proofs.Said.{anno_annotates}
-use Rattle.sortm_plans.specs.Sort.{sortm}
 use Rattle.sortm_plans.proofs.SortPledged.{sortm_keeps}
-use Rattle.sort_words.specs.declared.words.SortWords.{SortWords}
-use Rattle.mhlist_plans.specs.Listing.{mhlist}
 use Rattle.mhlist_plans.proofs.ListPledged.{list_keeps}
 use Rattle.list_words.specs.ListWords.{list_said}
-use Rattle.list_words.specs.declared.words.ListWords.{ListWords}
-use Rattle.mhstore_plans.specs.Storing.{mhstore}
 use Rattle.mhstore_plans.proofs.StorePledged.{store_keeps}
 use Rattle.store_words.specs.StoreWords.{store_said}
-use Rattle.store_words.specs.declared.words.StoreWords.{StoreWords}
 use Rattle.folder_command.specs.Folder.{folder as tell, pledge_by as tell_pledge_by}
 use Rattle.folder_command.proofs.FolderPledged.{folder_keeps}
-use Rattle.pack_command.specs.Pack.{pack}
 use Rattle.pack_command.proofs.PackPledged.{pack_keeps}
 use Rattle.pick_plans.specs.Pick.{pick}
 use Rattle.pick_plans.specs.PickPledge.{pledge_by as pick_pledge_by}
@@ -75,23 +64,19 @@ use Rattle.command_words.specs.declared.ended.Ended.{Ended}
 use Rattle.command_words.specs.declared.folder.FolderWords.{FolderWords}
 use Rattle.command_words.specs.declared.mark.MarkWords.{MarkWords}
 use Rattle.command_words.specs.declared.pick.PickWords.{PickWords}
-use Rattle.command_words.specs.declared.refile.RefileWords.{RefileWords}
-use Rattle.command_words.specs.declared.rmm.RmmWords.{RmmWords}
 use Rattle.sort_words.specs.SortWords.{sort_said}
-use Rattle.command_line.specs.Looking.{ScanAsked, WritesAs, look_found, scan_asked, written_by}
+use Rattle.command_line.specs.Looking.{ScanAsked, WritesAs, scan_asked, written_by}
 use Rattle.command_words.proofs.SaidFolder.{IsValid}
 use Rattle.refile_plans.specs.Refile.{refile}
-use Rattle.refile_plans.specs.Rmm.{rmm}
 use Rattle.refile_plans.specs.declared.job.RefileJob.{RefileJob}
 use Rattle.refile_plans.proofs.RefileMoved.{HasHeldNone}
 use Rattle.refile_plans.proofs.RefilePledged.{EndsRefiled, refile_keeps}
 use Rattle.refile_plans.proofs.RmmPledged.{rmm_keeps}
-use Rattle.command_line.specs.Command.{anno_begun, anno_job, annotated_by, build_begun, build_job, by_words, command, command_by, context_entered, context_seen, folder_begun, folder_found, inc_begun, job_of, list_begun, list_job, mark_begun, mark_job, no_command, pack_begun, pack_job, pick_begun, pick_job, picked_by, refile_begun, refile_job, rmm_begun, rmm_job, scan_begun, sort_begun, sort_job, store_begun, store_job, task_begun, tell_begun, tell_job, word_by}
+use Rattle.command_line.specs.Command.{anno_job, annotated_by, build_job, command, command_by, context_seen, job_of, list_job, mark_job, no_command, pack_job, pick_job, picked_by, refile_job, rmm_job, sort_job, store_job, tell_job}
 use Rattle.command_line.specs.CommandNames.{command_of, named}
-use Rattle.command_pledges.specs.CommandPledge.{IsDone, KeepsPledge, TellsAsked, anno_on_named, annos_pledge, asked_pledge, builds_pledge, command_pledge, incs_pledge, list_on_named, lists_pledge, marks_pledge, on_named, pick_on_named, picks_pledge, refile_on_named, refiles_pledge, rmm_on_named, rmms_pledge, sort_on_named, sorts_pledge, store_on_named, stores_pledge, task_pledge, tell_on_named, tells_pledge, word_pledge}
 use Rattle.build_words.specs.BuildWords.{build_said}
 use Rattle.build_words.specs.declared.words.BuildWords.{BuildWords}
-use Rattle.build_words.proofs.Said.{IsDraft, build_valid}
+use Rattle.build_words.proofs.Said.{build_valid}
 use Rattle.mhbuild_plans.specs.BuildDone.{HasBuilt}
 use Rattle.mhbuild_plans.specs.BuildPledge.{build_pledge}
 use Rattle.mhbuild_plans.specs.Building.{mhbuild}
@@ -107,156 +92,10 @@ use Rattle.command_pledges.proofs.Telling.{keeps_telling}
 use Rattle.command_line.proofs.SaidFolder.{acted_valid, asked_valid}
 use Rattle.command_line.proofs.FirstReadings.{context_step, profile_step, two_once, two_readings}
 use Rattle.command_pledges.proofs.TwoAnswers.{Onward, TwoAnswers, acts_begin_with, follows_so, keeps_after, keeps_ended, rest_by, two_answers}
-
--- the context was read so: the folder is named, and the work goes on
-abbrev pub on_context_plainly : List NamedValue → Option (List ℕ) → (List ℕ → Commanded Unit) → Reading → Commanded Unit
-on_context_plainly profile said act r = ((text_by r >>= (λ text. context_seen (entries_in text))) >>= (λ entered. Recall (λ h. Return (folder_of said (entries_seen h.context) profile)))) >>= act
-
-abbrev pub on_context : List NamedValue → Option (List ℕ) → (List ℕ → Commanded Unit) → Reading → Ending Unit
-on_context profile said act r = lifted plain (on_context_plainly profile said act r)
-
-pub context_asked : (profile : List NamedValue) (said : Option (List ℕ)) (act : List ℕ → Commanded Unit) → lifted plain (folder_found profile said >>= act) ≡ Ask (context_step profile) (λ b. on_context profile said act (reading_of b))
-unfolding folder_found context_entered text_read read ask lifted bind ◌>>=◌
-context_asked profile said act = refl
-
--- the same of `inc`, whose folder is known before
-abbrev pub on_entries_plainly : Commanded Unit → Reading → Commanded Unit
-on_entries_plainly act r = (text_by r >>= (λ text. context_seen (entries_in text))) >>= (λ entered. act)
-
-abbrev pub on_entries : Commanded Unit → Reading → Ending Unit
-on_entries act r = lifted plain (on_entries_plainly act r)
-
-pub entries_asked : (profile : List NamedValue) (act : Commanded Unit) → lifted plain (context_entered (Mail (path_of profile)) >>= (λ entered. act)) ≡ Ask (context_step profile) (λ b. on_entries act (reading_of b))
-unfolding context_entered text_read read ask lifted bind ◌>>=◌
-entries_asked profile act = refl
-
--- what is done next, by the words: the context is read, or the command ends
-module _ (run : ℕ) (profile : List NamedValue) where
-  abbrev pub scan_acts : ScanAsked → List ℕ → Commanded Unit
-  scan_acts words folder = look_found words.telling >>= (λ spoken. scan run (path_of profile) (job_of folder words profile spoken))
-
-  abbrev pub inc_acts : IncAsked → Commanded Unit
-  inc_acts asked = look_found asked.telling >>= (λ spoken. inc run (path_of profile) (job_writing asked spoken))
-
-  abbrev pub mark_acts : MarkWords → List ℕ → Commanded Unit
-  mark_acts words folder = mark run (path_of profile) (mark_job folder words profile)
-
-  abbrev pub tell_acts : FolderWords → List ℕ → Commanded Unit
-  tell_acts words folder = tell run (path_of profile) (tell_job folder words profile)
-
-  abbrev pub pack_acts : List ℕ → Commanded Unit
-  pack_acts folder = pack run (path_of profile) (pack_job folder)
-
-  abbrev pub task_acts : FolderWords → Bool → List ℕ → Commanded Unit
-  task_acts words true folder = pack_acts folder
-  task_acts words false folder = tell_acts words folder
-
-  abbrev pub pick_acts : PickWords → List ℕ → Commanded Unit
-  pick_acts words folder = pick run (path_of profile) (pick_job folder words profile)
-
-  abbrev pub refile_acts : RefileWords → List ℕ → Commanded Unit
-  refile_acts words folder = refile run (path_of profile) (refile_job folder words profile)
-
-  abbrev pub rmm_acts : RmmWords → List ℕ → Commanded Unit
-  rmm_acts words folder = rmm run (path_of profile) (rmm_job folder words profile)
-
-  abbrev pub anno_acts : AnnoWords → List ℕ → Commanded Unit
-  anno_acts words folder = anno run (path_of profile) (anno_job folder words profile)
-
-  abbrev pub sort_acts : SortWords → List ℕ → Commanded Unit
-  sort_acts words folder = sortm run (path_of profile) (sort_job folder words profile)
-
-  abbrev pub list_acts : ListWords → List ℕ → Commanded Unit
-  list_acts words folder = mhlist run (path_of profile) (list_job folder words profile)
-
-  abbrev pub store_acts : StoreWords → List ℕ → Commanded Unit
-  store_acts words folder = mhstore run (path_of profile) (store_job folder words profile)
-
-  unfoldable pub scan_onward : (value : Result ScanAsked Ended) → Onward (context_step profile) (by_words (scan_begun run profile) value)
-  unfolding scan_begun
-  scan_onward (Ok words) = inr (λ b. on_context profile words.folder (scan_acts words) (reading_of b), context_asked profile words.folder (scan_acts words))
-  scan_onward (Err e) = inl (Err e, refl)
-
-  unfoldable pub mark_onward : (value : Result MarkWords Ended) → Onward (context_step profile) (by_words (mark_begun run profile) value)
-  unfolding mark_begun
-  mark_onward (Ok words) = inr (λ b. on_context profile words.folder (mark_acts words) (reading_of b), context_asked profile words.folder (mark_acts words))
-  mark_onward (Err e) = inl (Err e, refl)
-
-  pub task_asked : (words : FolderWords) (k : Bool) → lifted plain (task_begun run profile words k) ≡ Ask (context_step profile) (λ b. on_context profile words.folder (task_acts words k) (reading_of b))
-  unfolding task_begun tell_begun pack_begun
-  task_asked words true = context_asked profile words.folder pack_acts
-  task_asked words false = context_asked profile words.folder (tell_acts words)
-
-  unfoldable pub tell_onward : (value : Result FolderWords Ended) → Onward (context_step profile) (by_words (folder_begun run profile) value)
-  tell_onward (Ok words) = inr (λ b. on_context profile words.folder (task_acts words words.pack) (reading_of b), task_asked words words.pack)
-  tell_onward (Err e) = inl (Err e, refl)
-
-  unfoldable pub pick_onward : (value : Result PickWords Ended) → Onward (context_step profile) (by_words (pick_begun run profile) value)
-  unfolding pick_begun
-  pick_onward (Ok words) = inr (λ b. on_context profile words.folder (pick_acts words) (reading_of b), context_asked profile words.folder (pick_acts words))
-  pick_onward (Err e) = inl (Err e, refl)
-
-  unfoldable pub refile_onward : (value : Result RefileWords Ended) → Onward (context_step profile) (by_words (refile_begun run profile) value)
-  unfolding refile_begun
-  refile_onward (Ok words) = inr (λ b. on_context profile words.source (refile_acts words) (reading_of b), context_asked profile words.source (refile_acts words))
-  refile_onward (Err e) = inl (Err e, refl)
-
-  unfoldable pub rmm_onward : (value : Result RmmWords Ended) → Onward (context_step profile) (by_words (rmm_begun run profile) value)
-  unfolding rmm_begun
-  rmm_onward (Ok words) = inr (λ b. on_context profile words.folder (rmm_acts words) (reading_of b), context_asked profile words.folder (rmm_acts words))
-  rmm_onward (Err e) = inl (Err e, refl)
-
-  unfoldable pub anno_onward : (value : Result AnnoWords Ended) → Onward (context_step profile) (by_words (anno_begun run profile) value)
-  unfolding anno_begun
-  anno_onward (Ok words) = inr (λ b. on_context profile words.folder (anno_acts words) (reading_of b), context_asked profile words.folder (anno_acts words))
-  anno_onward (Err e) = inl (Err e, refl)
-
-  unfoldable pub sort_onward : (value : Result SortWords Ended) → Onward (context_step profile) (by_words (sort_begun run profile) value)
-  unfolding sort_begun
-  sort_onward (Ok words) = inr (λ b. on_context profile words.folder (sort_acts words) (reading_of b), context_asked profile words.folder (sort_acts words))
-  sort_onward (Err e) = inl (Err e, refl)
-
-  unfoldable pub list_onward : (value : Result ListWords Ended) → Onward (context_step profile) (by_words (list_begun run profile) value)
-  unfolding list_begun
-  list_onward (Ok words) = inr (λ b. on_context profile words.folder (list_acts words) (reading_of b), context_asked profile words.folder (list_acts words))
-  list_onward (Err e) = inl (Err e, refl)
-
-  unfoldable pub store_onward : (value : Result StoreWords Ended) → Onward (context_step profile) (by_words (store_begun run profile) value)
-  unfolding store_begun
-  store_onward (Ok words) = inr (λ b. on_context profile words.folder (store_acts words) (reading_of b), context_asked profile words.folder (store_acts words))
-  store_onward (Err e) = inl (Err e, refl)
-
-  abbrev pub build_acts : BuildWords → Commanded Unit
-  build_acts words = Recall (λ h. mhbuild run (path_of profile) (build_job words (entries_seen h.context) profile))
-
-  unfoldable pub build_onward : (value : Result BuildWords Ended) → Onward (context_step profile) (by_words (build_begun run profile) value)
-  unfolding build_begun
-  build_onward (Ok words) = inr (λ b. on_entries (build_acts words) (reading_of b), entries_asked profile (build_acts words))
-  build_onward (Err e) = inl (Err e, refl)
-
-  unfoldable pub inc_onward : (value : Result IncAsked Ended) → Onward (context_step profile) (by_words (inc_begun run (path_of profile)) value)
-  unfolding inc_begun
-  inc_onward (Ok asked) = inr (λ b. on_entries (inc_acts asked) (reading_of b), entries_asked profile (inc_acts asked))
-  inc_onward (Err e) = inl (Err e, refl)
-
-  unfoldable pub word_onward : (caller : Caller) (word : List ℕ) (words : List (List ℕ)) (name : Option CommandName) → Onward (context_step profile) (word_by run caller profile word words name)
-  word_onward caller word words None = inl (Err (no_command (Some word)), refl)
-  word_onward caller word words (Some Inc) = inc_onward (job_by caller profile (inc_said profile (map chars words)))
-  word_onward caller word words (Some Scan) = scan_onward (scan_asked caller (scan_said profile (map chars words)))
-  word_onward caller word words (Some Mark) = mark_onward (mark_said profile (map chars words))
-  word_onward caller word words (Some Pick) = pick_onward (picked_by caller profile (map chars words))
-  word_onward caller word words (Some Refile) = refile_onward (refile_said profile (map chars words))
-  word_onward caller word words (Some Rmm) = rmm_onward (rmm_said profile (map chars words))
-  word_onward caller word words (Some FolderCommand) = tell_onward (tell_said profile (map chars words))
-  word_onward caller word words (Some Anno) = anno_onward (annotated_by caller profile (map chars words))
-  word_onward caller word words (Some Sortm) = sort_onward (sort_said profile (map chars words))
-  word_onward caller word words (Some Mhlist) = list_onward (list_said profile (map chars words))
-  word_onward caller word words (Some Mhstore) = store_onward (store_said profile (map chars words))
-  word_onward caller word words (Some Mhbuild) = build_onward (build_said profile (map chars words))
-
-  unfoldable pub named_onward : (caller : Caller) (words : List (List ℕ)) → Onward (context_step profile) (command_by run caller profile words)
-  named_onward caller [] = inl (Err (no_command None), refl)
-  named_onward caller (word ∷ words) = word_onward caller word words (named word)
+use Rattle.command_pledges.specs.CommandPledge.{IsDone, KeepsPledge, TellsAsked, asked_pledge, command_pledge, pledge_by_words, pledge_found, task_pledge, word_pledge}
+use Rattle.command_pledges.proofs.ByWords.{AsksContext, build_acts, inc_acts, named_onward, on_context, on_context_plainly, on_entries, on_entries_plainly, on_folder, scan_acts, task_acts, word_onward, word_plan, words_onward, words_plan}
+use Rattle.refile_plans.specs.RefilePledge.{refile_pledge}
+use Rattle.file_plans.specs.declared.answers.Reading.TheVariants as reading
 
 -- a command is done so
 pub record Finished (name : Option CommandName) (path : List ℕ) (past : List Done) (h : Hand) (u : Unit {0}) : Type 0 where
@@ -303,12 +142,70 @@ two_unheld run profile folder a b = λ n ok. ((λ e f. cc (e)), ((λ e f. cc (e)
 pub known_sound : (w : Pledge) (own : List Deed) (h : Hand) (es : List NamedValue) → Sound w own h → Sound w own (knowing es h)
 known_sound w own h es s = record { numbered = s.numbered; unfailed = s.unfailed }
 
-module _ (run : ℕ) (few : run < 2 ^ 128) (profile : List NamedValue) (h : Hand) where
+-- after both readings this work keeps the rules of the pledge, and leaves settled what was settled
+abbrev pub WorkKeeps : List NamedValue → Pledge → Hand → Commanded Unit → Type 0
+WorkKeeps profile w j plan = (c d : Answer) → Sound w (acts (two_readings profile c d)) j → Keeps (rules_of w) (two_readings profile c d) j plan (IfOkay (Still (acts (two_readings profile c d))))
+
+-- what goes on so by its words keeps the rules of their pledge, where it does after both readings
+words_keep : {W : Type 0} (profile : List NamedValue) (begun : W → Commanded Unit) (more : W → Reading → Ending Unit) (asked : AsksContext profile begun more) (h : Hand) (b : Answer) (P : List Done → Hand → Unit {0} → Type 0) (pledge : Result W Ended → Pledge) (value : Result W Ended)
+    → ((words : W) → value ≡ Ok words → (c d : Answer) → Sound (pledge (Ok words)) (acts (two_readings profile c d)) h → Keeps (rules_of (pledge (Ok words))) (two_readings profile c d) h (more words (reading_of b)) (IfOkay P))
+    → Keeps (rules_of (pledge value)) [] h (words_plan profile begun more asked b value) (IfOkay P)
+unfolding words_onward
+words_keep profile begun more asked h b P pledge (Ok words) f = keeps_after (pledge (Ok words)) Home (Mail (path_of profile)) profile_name context_name LIMIT_BYTES h (more words (reading_of b)) (IfOkay P) (f words refl)
+words_keep profile begun more asked h b P pledge (Err e) f = keeps_ended (pledge (Err e)) Home profile_name LIMIT_BYTES h (Err e) (IfOkay P) (λ c. tt)
+
+module _ (run : ℕ) (few : run < 2 ^ 128) (profile : List NamedValue) where
+  -- `folder`, by whether messages are numbered anew
+  task_keeps : (words : FolderWords) (folder : List ℕ) (k : Bool) (j : Hand) → WorkKeeps profile (task_pledge run profile words folder k) j (task_acts run profile words k folder)
+  unfolding tell
+  task_keeps words folder true j c d sound = pack_keeps run few (path_of profile) (pack_job folder) (two_readings profile c d) j (two_unheld run profile folder c d) sound
+  task_keeps words folder false j c d sound = folder_keeps run few (path_of profile) (tell_job folder words profile) words.specs (two_readings profile c d) j sound
+
+  -- `refile`, of whose end more is known
+  still_refiled : (job : RefileJob) (own : List Deed) (later : List Done) (j : Hand) (r : Result Unit CommandFault) → IfOkay (EndsRefiled run few (path_of profile) job own) later j r → IfOkay (Still own) later j r
+  still_refiled job own later j (Ok u) f = f.0
+  still_refiled job own later j (Err e) f = tt
+
+  pub refiled_keeps : (job : RefileJob) (j : Hand) → WorkKeeps profile (refile_pledge run (path_of profile) job) j (refile run (path_of profile) job)
+  refiled_keeps job j c d sound =
+      keeps_more (rules_of (refile_pledge run (path_of profile) job)) (two_readings profile c d) j (refile run (path_of profile) job) (IfOkay (EndsRefiled run few (path_of profile) job (acts (two_readings profile c d)))) (IfOkay (Still (acts (two_readings profile c d))))
+      (still_refiled job (acts (two_readings profile c d))) (refile_keeps run few (path_of profile) job (two_readings profile c d) j (two_unheld run profile job.source c d) sound)
+
+module _ (run : ℕ) (few : run < 2 ^ 128) (profile : List NamedValue) (h : Hand) (b : Answer) where
   abbrev path : List ℕ
   path = path_of profile
 
   abbrev look : Pledge
   look = scan_pledge run path
+
+  -- the hand, once the context is known
+  abbrev entered : Hand
+  entered = knowing (entries_by b) h
+
+  -- what leaves settled what was settled is done, where no more is asked of it
+  done_so : (name : Option CommandName) → ((own : List Deed) → AreSettled own → IsDone name path own) → (past : List Done) → AreSettled (acts past)
+      → (later : List Done) (j : Hand) (r : Result Unit CommandFault) → IfOkay (Still (acts past)) later j r → IfOkay (Finished name path) later j r
+  done_so name done past settled later j (Ok u) f = record { is_done = done (acts later) (f.settled settled); unfailed = f.unfailed }
+  done_so name done past settled later j (Err e) f = tt
+
+  -- a command on a folder, whose work there keeps the rules of what is pledged on it
+  folder_keep : {W : Type 0} (begun : W → Commanded Unit) (named_in : W → Option (List ℕ)) (does : W → List ℕ → Commanded Unit) (asked : AsksContext profile begun (on_folder profile named_in does)) (pledge : W → List ℕ → Pledge) (value : Result W Ended)
+      (name : Option CommandName) → ((own : List Deed) → AreSettled own → IsDone name path own) → ((words : W) → value ≡ Ok words → (folder : List ℕ) → WorkKeeps profile (pledge words folder) entered (does words folder))
+      → Keeps (rules_of (pledge_by_words run profile (entries_by b) value named_in pledge)) [] h (words_plan profile begun (on_folder profile named_in does) asked b value) (IfOkay (Finished name path))
+  folder_keep {W = W} begun named_in does asked pledge value name done f =
+      words_keep profile begun (on_folder profile named_in does) asked h b (Finished name path) (λ v. pledge_by_words run profile (entries_by b) v named_in pledge) value
+      (λ words is c d sound. context_keeps (on_value words (folder_of (named_in words) (entries_by b) profile)) (two_readings profile c d) h sound profile (named_in words) (does words) (Finished name path) (reading_of b)
+      (λ folder acted. works words is c d folder (folder_of (named_in words) (entries_by b) profile) acted (known_sound (on_value words (folder_of (named_in words) (entries_by b) profile)) (acts (two_readings profile c d)) h (entries_by b) sound)))
+    where
+      on_value : W → Result (List ℕ) CommandFault → Pledge
+      on_value words v = pledge_found run profile (pledge words) v
+
+      works : (words : W) → value ≡ Ok words → (c d : Answer) (folder : List ℕ) (v : Result (List ℕ) CommandFault) → v ≡ Ok folder → Sound (on_value words v) (acts (two_readings profile c d)) entered
+          → Keeps (rules_of (on_value words v)) (two_readings profile c d) entered (does words folder) (IfOkay (Finished name path))
+      works words is c d folder v acted =
+          subst (λ z. Sound (on_value words z) (acts (two_readings profile c d)) entered → Keeps (rules_of (on_value words z)) (two_readings profile c d) entered (does words folder) (IfOkay (Finished name path))) (sym acted)
+          (λ sound. keeps_more (rules_of (pledge words folder)) (two_readings profile c d) entered (does words folder) (IfOkay (Still (acts (two_readings profile c d)))) (IfOkay (Finished name path))
+          (done_so name done (two_readings profile c d) (two_settled profile c d)) (f words is folder c d sound))
 
   -- `scan`
   scan_done : (past : List Done) → AreSettled (acts past) → OnlyLooked (acts past) → (later : List Done) (j : Hand) (r : Result Unit CommandFault) → Sound look (acts later) j → okay (Of (Noted path (acts past))) (acts later) j r → IfOkay (Finished (Some Scan) path) later j r
@@ -319,513 +216,159 @@ module _ (run : ℕ) (few : run < 2 ^ 128) (profile : List NamedValue) (h : Hand
       parts (inr o) = inr (o only)
   scan_done past settled only later j (Err e) s f = tt
 
-  scan_keeps : (words : ScanAsked) → IsValid words.folder → (a b : Answer) (es : List NamedValue) (folder : List ℕ) → folder_of words.folder es profile ≡ Ok folder → Sound look (acts (two_readings profile a b)) h
-      → Keeps (rules_of look) (two_readings profile a b) (knowing es h) (scan_acts run profile words folder) (IfOkay (Finished (Some Scan) path))
-  scan_keeps words valid a b es folder is sound =
-      look_keeps look past j (Finished (Some Scan) path) (known_sound look (acts past) h es sound) words.telling plan go
+  scan_keeps : (words : ScanAsked) → IsValid words.folder → (c d : Answer) (folder : List ℕ) → folder_of words.folder (entries_by b) profile ≡ Ok folder → Sound look (acts (two_readings profile c d)) h
+      → Keeps (rules_of look) (two_readings profile c d) entered (scan_acts run profile words folder) (IfOkay (Finished (Some Scan) path))
+  scan_keeps words valid c d folder is sound = look_keeps look past entered (Finished (Some Scan) path) (known_sound look (acts past) h (entries_by b) sound) words.telling plan go
     where
       past : List Done
-      past = two_readings profile a b
-
-      j : Hand
-      j = knowing es h
+      past = two_readings profile c d
 
       plan : (Standing → Writing) → Commanded Unit
       plan spoken = scan run path (job_of folder words profile spoken)
 
-      go : (c : Answer) (spoken : Standing → Writing) → written_by words.telling c ≡ Ok spoken → Sound look (acts (look_done words.telling c past)) j
-          → Keeps (rules_of look) (look_done words.telling c past) j (plan spoken) (IfOkay (Finished (Some Scan) path))
-      go c spoken written here =
-          let then_ = look_done words.telling c past in
-          keeps_more (rules_of look) then_ j (plan spoken) (ByActs (Soundly look (okay (Of (Noted path (acts then_)))))) (IfOkay (Finished (Some Scan) path))
-          (λ later i r q. scan_done then_ (looked_settled words.telling c past (two_settled profile a b)) (looked_only words.telling c past (tt, (tt, tt))) later i r q.0 q.1)
-          (goes_keeps look then_ (acts then_) j (plan spoken) (okay (Of (Noted path (acts then_)))) refl here
-          (scan_goes run few path (acts then_) j (job_of folder words profile spoken) (acted_valid words.folder es profile folder valid is)))
+      go : (e : Answer) (spoken : Standing → Writing) → written_by words.telling e ≡ Ok spoken → Sound look (acts (look_done words.telling e past)) entered
+          → Keeps (rules_of look) (look_done words.telling e past) entered (plan spoken) (IfOkay (Finished (Some Scan) path))
+      go e spoken written here =
+          let then_ = look_done words.telling e past in
+          keeps_more (rules_of look) then_ entered (plan spoken) (ByActs (Soundly look (okay (Of (Noted path (acts then_)))))) (IfOkay (Finished (Some Scan) path))
+          (λ later i r q. scan_done then_ (looked_settled words.telling e past (two_settled profile c d)) (looked_only words.telling e past (tt, (tt, tt))) later i r q.0 q.1)
+          (goes_keeps look then_ (acts then_) entered (plan spoken) (okay (Of (Noted path (acts then_)))) refl here
+          (scan_goes run few path (acts then_) entered (job_of folder words profile spoken) (acted_valid words.folder (entries_by b) profile folder valid is)))
 
-  scan_words_keep : (b : Answer) (value : Result ScanAsked Ended) → ((words : ScanAsked) → value ≡ Ok words → IsValid words.folder)
-      → Keeps (rules_of look) [] h (Ask profile_step (λ c. rest_by (context_step profile) (by_words (scan_begun run profile) value) (scan_onward run profile value) b)) (IfOkay (Finished (Some Scan) path))
-  unfolding scan_onward
-  scan_words_keep b (Ok words) valid =
-      keeps_after look Home (Mail path) profile_name context_name LIMIT_BYTES h (on_context profile words.folder (scan_acts run profile words) (reading_of b)) (IfOkay (Finished (Some Scan) path))
-      (λ c d sound. context_keeps look (two_readings profile c d) h sound profile words.folder (scan_acts run profile words) (Finished (Some Scan) path) (reading_of b)
-      (λ folder is. scan_keeps words (valid words refl) c d (entries_by b) folder is sound))
-  scan_words_keep b (Err e) valid = keeps_ended look Home profile_name LIMIT_BYTES h (Err e) (IfOkay (Finished (Some Scan) path)) (λ c. tt)
-
-  -- `mark`
-  mark_done : (a b : Answer) (later : List Done) (j : Hand) (r : Result Unit CommandFault) → IfOkay (Still (acts (two_readings profile a b))) later j r → IfOkay (Finished (Some Mark) path) later j r
-  mark_done a b later j (Ok u) f = record { is_done = f.settled (two_settled profile a b); unfailed = f.unfailed }
-  mark_done a b later j (Err e) f = tt
-
-  module _ (words : MarkWords) (a b : Answer) (es : List NamedValue) (folder : List ℕ) where
-    abbrev MarkKeeps : Pledge → Type 0
-    MarkKeeps w = Sound w (acts (two_readings profile a b)) h → Keeps (rules_of w) (two_readings profile a b) (knowing es h) (mark_acts run profile words folder) (IfOkay (Finished (Some Mark) path))
-
-    marked_so : MarkKeeps (on_named run profile words (Ok folder))
-    unfolding mark
-    marked_so sound =
-        let w = on_named run profile words (Ok folder) in
-        keeps_more (rules_of w) (two_readings profile a b) (knowing es h) (mark_acts run profile words folder) (IfOkay (Still (acts (two_readings profile a b)))) (IfOkay (Finished (Some Mark) path)) (mark_done a b)
-        (mark_keeps run few path (mark_job folder words profile) words.act (two_readings profile a b) (knowing es h) (known_sound w (acts (two_readings profile a b)) h es sound))
-
-    marked_at : folder_of words.folder es profile ≡ Ok folder → MarkKeeps (on_named run profile words (folder_of words.folder es profile))
-    marked_at is = subst (λ v. MarkKeeps (on_named run profile words v)) (sym is) marked_so
-
-  pub mark_words_keep : (b : Answer) (value : Result MarkWords Ended)
-      → Keeps (rules_of (marks_pledge run profile (entries_by b) value)) [] h (Ask profile_step (λ c. rest_by (context_step profile) (by_words (mark_begun run profile) value) (mark_onward run profile value) b)) (IfOkay (Finished (Some Mark) path))
-  unfolding mark_onward
-  mark_words_keep b (Ok words) =
-      keeps_after w Home (Mail path) profile_name context_name LIMIT_BYTES h (on_context profile words.folder (mark_acts run profile words) (reading_of b)) (IfOkay (Finished (Some Mark) path))
-      (λ c d sound. context_keeps w (two_readings profile c d) h sound profile words.folder (mark_acts run profile words) (Finished (Some Mark) path) (reading_of b)
-      (λ folder is. marked_at words c d (entries_by b) folder is sound))
-    where
-      w : Pledge
-      w = on_named run profile words (folder_of words.folder (entries_by b) profile)
-  mark_words_keep b (Err e) = keeps_ended look Home profile_name LIMIT_BYTES h (Err e) (IfOkay (Finished (Some Mark) path)) (λ c. tt)
-
-  -- `folder`
-  tell_done : (a b : Answer) (later : List Done) (j : Hand) (r : Result Unit CommandFault) → IfOkay (Still (acts (two_readings profile a b))) later j r → IfOkay (Finished (Some FolderCommand) path) later j r
-  tell_done a b later j (Ok u) f = record { is_done = f.settled (two_settled profile a b); unfailed = f.unfailed }
-  tell_done a b later j (Err e) f = tt
-
-  module _ (words : FolderWords) (a b : Answer) (es : List NamedValue) (folder : List ℕ) where
-    abbrev TaskKeeps : Bool → Pledge → Type 0
-    TaskKeeps k w = Sound w (acts (two_readings profile a b)) h → Keeps (rules_of w) (two_readings profile a b) (knowing es h) (task_acts run profile words k folder) (IfOkay (Finished (Some FolderCommand) path))
-
-    task_so : (k : Bool) → TaskKeeps k (task_pledge run profile words folder k)
-    unfolding tell
-    task_so true sound =
-        let w = task_pledge run profile words folder true in
-        keeps_more (rules_of w) (two_readings profile a b) (knowing es h) (pack_acts run profile folder) (IfOkay (Still (acts (two_readings profile a b)))) (IfOkay (Finished (Some FolderCommand) path)) (tell_done a b)
-        (pack_keeps run few path (pack_job folder) (two_readings profile a b) (knowing es h) (two_unheld run profile folder a b) (known_sound w (acts (two_readings profile a b)) h es sound))
-    task_so false sound =
-        let w = task_pledge run profile words folder false in
-        keeps_more (rules_of w) (two_readings profile a b) (knowing es h) (tell_acts run profile words folder) (IfOkay (Still (acts (two_readings profile a b)))) (IfOkay (Finished (Some FolderCommand) path)) (tell_done a b)
-        (folder_keeps run few path (tell_job folder words profile) words.specs (two_readings profile a b) (knowing es h) (known_sound w (acts (two_readings profile a b)) h es sound))
-
-    told_at : folder_of words.folder es profile ≡ Ok folder → TaskKeeps words.pack (tell_on_named run profile words (folder_of words.folder es profile))
-    told_at is = subst (λ v. TaskKeeps words.pack (tell_on_named run profile words v)) (sym is) (task_so words.pack)
-
-  pub tell_words_keep : (b : Answer) (value : Result FolderWords Ended)
-      → Keeps (rules_of (tells_pledge run profile (entries_by b) value)) [] h (Ask profile_step (λ c. rest_by (context_step profile) (by_words (folder_begun run profile) value) (tell_onward run profile value) b)) (IfOkay (Finished (Some FolderCommand) path))
-  unfolding tell_onward
-  tell_words_keep b (Ok words) =
-      keeps_after w Home (Mail path) profile_name context_name LIMIT_BYTES h (on_context profile words.folder (task_acts run profile words words.pack) (reading_of b)) (IfOkay (Finished (Some FolderCommand) path))
-      (λ c d sound. context_keeps w (two_readings profile c d) h sound profile words.folder (task_acts run profile words words.pack) (Finished (Some FolderCommand) path) (reading_of b)
-      (λ folder is. told_at words c d (entries_by b) folder is sound))
-    where
-      w : Pledge
-      w = tell_on_named run profile words (folder_of words.folder (entries_by b) profile)
-  tell_words_keep b (Err e) = keeps_ended look Home profile_name LIMIT_BYTES h (Err e) (IfOkay (Finished (Some FolderCommand) path)) (λ c. tt)
-
-  -- `pick`
-  pick_done : (a b : Answer) (later : List Done) (j : Hand) (r : Result Unit CommandFault) → IfOkay (Still (acts (two_readings profile a b))) later j r → IfOkay (Finished (Some Pick) path) later j r
-  pick_done a b later j (Ok u) f = record { is_done = f.settled (two_settled profile a b); unfailed = f.unfailed }
-  pick_done a b later j (Err e) f = tt
-
-  module _ (words : PickWords) (a b : Answer) (es : List NamedValue) (folder : List ℕ) where
-    abbrev PickKeeps : Pledge → Type 0
-    PickKeeps w = Sound w (acts (two_readings profile a b)) h → Keeps (rules_of w) (two_readings profile a b) (knowing es h) (pick_acts run profile words folder) (IfOkay (Finished (Some Pick) path))
-
-    picked_so : PickKeeps (pick_on_named run profile words (Ok folder))
-    unfolding pick
-    picked_so sound =
-        let w = pick_on_named run profile words (Ok folder) in
-        keeps_more (rules_of w) (two_readings profile a b) (knowing es h) (pick_acts run profile words folder) (IfOkay (Still (acts (two_readings profile a b)))) (IfOkay (Finished (Some Pick) path)) (pick_done a b)
-        (pick_keeps run few path (pick_job folder words profile) words.marks (two_readings profile a b) (knowing es h) (known_sound w (acts (two_readings profile a b)) h es sound))
-
-    picked_at : folder_of words.folder es profile ≡ Ok folder → PickKeeps (pick_on_named run profile words (folder_of words.folder es profile))
-    picked_at is = subst (λ v. PickKeeps (pick_on_named run profile words v)) (sym is) picked_so
-
-  pub pick_words_keep : (b : Answer) (value : Result PickWords Ended)
-      → Keeps (rules_of (picks_pledge run profile (entries_by b) value)) [] h (Ask profile_step (λ c. rest_by (context_step profile) (by_words (pick_begun run profile) value) (pick_onward run profile value) b)) (IfOkay (Finished (Some Pick) path))
-  unfolding pick_onward
-  pick_words_keep b (Ok words) =
-      keeps_after w Home (Mail path) profile_name context_name LIMIT_BYTES h (on_context profile words.folder (pick_acts run profile words) (reading_of b)) (IfOkay (Finished (Some Pick) path))
-      (λ c d sound. context_keeps w (two_readings profile c d) h sound profile words.folder (pick_acts run profile words) (Finished (Some Pick) path) (reading_of b)
-      (λ folder is. picked_at words c d (entries_by b) folder is sound))
-    where
-      w : Pledge
-      w = pick_on_named run profile words (folder_of words.folder (entries_by b) profile)
-  pick_words_keep b (Err e) = keeps_ended look Home profile_name LIMIT_BYTES h (Err e) (IfOkay (Finished (Some Pick) path)) (λ c. tt)
-
-  -- `rmm`
-  rmm_done : (a b : Answer) (later : List Done) (j : Hand) (r : Result Unit CommandFault) → IfOkay (Still (acts (two_readings profile a b))) later j r → IfOkay (Finished (Some Rmm) path) later j r
-  rmm_done a b later j (Ok u) f = record { is_done = f.settled (two_settled profile a b); unfailed = f.unfailed }
-  rmm_done a b later j (Err e) f = tt
-
-  module _ (words : RmmWords) (a b : Answer) (es : List NamedValue) (folder : List ℕ) where
-    abbrev RmmKeeps : Pledge → Type 0
-    RmmKeeps w = Sound w (acts (two_readings profile a b)) h → Keeps (rules_of w) (two_readings profile a b) (knowing es h) (rmm_acts run profile words folder) (IfOkay (Finished (Some Rmm) path))
-
-    removed_so : RmmKeeps (rmm_on_named run profile words (Ok folder))
-    removed_so sound =
-        let w = rmm_on_named run profile words (Ok folder) in
-        keeps_more (rules_of w) (two_readings profile a b) (knowing es h) (rmm_acts run profile words folder) (IfOkay (Still (acts (two_readings profile a b)))) (IfOkay (Finished (Some Rmm) path)) (rmm_done a b)
-        (rmm_keeps run few path (rmm_job folder words profile) (two_readings profile a b) (knowing es h) (known_sound w (acts (two_readings profile a b)) h es sound))
-
-    removed_at : folder_of words.folder es profile ≡ Ok folder → RmmKeeps (rmm_on_named run profile words (folder_of words.folder es profile))
-    removed_at is = subst (λ v. RmmKeeps (rmm_on_named run profile words v)) (sym is) removed_so
-
-  pub rmm_words_keep : (b : Answer) (value : Result RmmWords Ended)
-      → Keeps (rules_of (rmms_pledge run profile (entries_by b) value)) [] h (Ask profile_step (λ c. rest_by (context_step profile) (by_words (rmm_begun run profile) value) (rmm_onward run profile value) b)) (IfOkay (Finished (Some Rmm) path))
-  unfolding rmm_onward
-  rmm_words_keep b (Ok words) =
-      keeps_after w Home (Mail path) profile_name context_name LIMIT_BYTES h (on_context profile words.folder (rmm_acts run profile words) (reading_of b)) (IfOkay (Finished (Some Rmm) path))
-      (λ c d sound. context_keeps w (two_readings profile c d) h sound profile words.folder (rmm_acts run profile words) (Finished (Some Rmm) path) (reading_of b)
-      (λ folder is. removed_at words c d (entries_by b) folder is sound))
-    where
-      w : Pledge
-      w = rmm_on_named run profile words (folder_of words.folder (entries_by b) profile)
-  rmm_words_keep b (Err e) = keeps_ended look Home profile_name LIMIT_BYTES h (Err e) (IfOkay (Finished (Some Rmm) path)) (λ c. tt)
-
-  -- `anno`
-  anno_done : (a b : Answer) (later : List Done) (j : Hand) (r : Result Unit CommandFault) → IfOkay (Still (acts (two_readings profile a b))) later j r → IfOkay (Finished (Some Anno) path) later j r
-  anno_done a b later j (Ok u) f = record { is_done = f.settled (two_settled profile a b); unfailed = f.unfailed }
-  anno_done a b later j (Err e) f = tt
-
-  module _ (words : AnnoWords) (notes : are_annotations words.lines ≡ true) (a b : Answer) (es : List NamedValue) (folder : List ℕ) where
-    abbrev AnnoKeeps : Pledge → Type 0
-    AnnoKeeps w = Sound w (acts (two_readings profile a b)) h → Keeps (rules_of w) (two_readings profile a b) (knowing es h) (anno_acts run profile words folder) (IfOkay (Finished (Some Anno) path))
-
-    noted_so : AnnoKeeps (anno_on_named run profile words (Ok folder))
-    noted_so sound =
-        let w = anno_on_named run profile words (Ok folder) in
-        keeps_more (rules_of w) (two_readings profile a b) (knowing es h) (anno_acts run profile words folder) (IfOkay (Still (acts (two_readings profile a b)))) (IfOkay (Finished (Some Anno) path)) (anno_done a b)
-        (anno_keeps run few path (anno_job folder words profile) notes (two_readings profile a b) (knowing es h) (two_unheld run profile folder a b) (known_sound w (acts (two_readings profile a b)) h es sound))
-
-    noted_at : folder_of words.folder es profile ≡ Ok folder → AnnoKeeps (anno_on_named run profile words (folder_of words.folder es profile))
-    noted_at is = subst (λ v. AnnoKeeps (anno_on_named run profile words v)) (sym is) noted_so
-
-  pub anno_words_keep : (b : Answer) (value : Result AnnoWords Ended) → ((words : AnnoWords) → value ≡ Ok words → are_annotations words.lines ≡ true)
-      → Keeps (rules_of (annos_pledge run profile (entries_by b) value)) [] h (Ask profile_step (λ c. rest_by (context_step profile) (by_words (anno_begun run profile) value) (anno_onward run profile value) b)) (IfOkay (Finished (Some Anno) path))
-  unfolding anno_onward
-  anno_words_keep b (Ok words) notes =
-      keeps_after w Home (Mail path) profile_name context_name LIMIT_BYTES h (on_context profile words.folder (anno_acts run profile words) (reading_of b)) (IfOkay (Finished (Some Anno) path))
-      (λ c d sound. context_keeps w (two_readings profile c d) h sound profile words.folder (anno_acts run profile words) (Finished (Some Anno) path) (reading_of b)
-      (λ folder is. noted_at words (notes words refl) c d (entries_by b) folder is sound))
-    where
-      w : Pledge
-      w = anno_on_named run profile words (folder_of words.folder (entries_by b) profile)
-  anno_words_keep b (Err e) notes = keeps_ended look Home profile_name LIMIT_BYTES h (Err e) (IfOkay (Finished (Some Anno) path)) (λ c. tt)
-
-  -- `sortm`
-  sortm_done : (a b : Answer) (later : List Done) (j : Hand) (r : Result Unit CommandFault) → IfOkay (Still (acts (two_readings profile a b))) later j r → IfOkay (Finished (Some Sortm) path) later j r
-  sortm_done a b later j (Ok u) f = record { is_done = f.settled (two_settled profile a b); unfailed = f.unfailed }
-  sortm_done a b later j (Err e) f = tt
-
-  module _ (words : SortWords) (a b : Answer) (es : List NamedValue) (folder : List ℕ) where
-    abbrev SortKeeps : Pledge → Type 0
-    SortKeeps w = Sound w (acts (two_readings profile a b)) h → Keeps (rules_of w) (two_readings profile a b) (knowing es h) (sort_acts run profile words folder) (IfOkay (Finished (Some Sortm) path))
-
-    sorted_so : SortKeeps (sort_on_named run profile words (Ok folder))
-    sorted_so sound =
-        let w = sort_on_named run profile words (Ok folder) in
-        keeps_more (rules_of w) (two_readings profile a b) (knowing es h) (sort_acts run profile words folder) (IfOkay (Still (acts (two_readings profile a b)))) (IfOkay (Finished (Some Sortm) path)) (sortm_done a b)
-        (sortm_keeps run few path (sort_job folder words profile) (two_readings profile a b) (knowing es h) (two_unheld run profile folder a b) (known_sound w (acts (two_readings profile a b)) h es sound))
-
-    sorted_at : folder_of words.folder es profile ≡ Ok folder → SortKeeps (sort_on_named run profile words (folder_of words.folder es profile))
-    sorted_at is = subst (λ v. SortKeeps (sort_on_named run profile words v)) (sym is) sorted_so
-
-  pub sort_words_keep : (b : Answer) (value : Result SortWords Ended)
-      → Keeps (rules_of (sorts_pledge run profile (entries_by b) value)) [] h (Ask profile_step (λ c. rest_by (context_step profile) (by_words (sort_begun run profile) value) (sort_onward run profile value) b)) (IfOkay (Finished (Some Sortm) path))
-  unfolding sort_onward
-  sort_words_keep b (Ok words) =
-      keeps_after w Home (Mail path) profile_name context_name LIMIT_BYTES h (on_context profile words.folder (sort_acts run profile words) (reading_of b)) (IfOkay (Finished (Some Sortm) path))
-      (λ c d sound. context_keeps w (two_readings profile c d) h sound profile words.folder (sort_acts run profile words) (Finished (Some Sortm) path) (reading_of b)
-      (λ folder is. sorted_at words c d (entries_by b) folder is sound))
-    where
-      w : Pledge
-      w = sort_on_named run profile words (folder_of words.folder (entries_by b) profile)
-  sort_words_keep b (Err e) = keeps_ended look Home profile_name LIMIT_BYTES h (Err e) (IfOkay (Finished (Some Sortm) path)) (λ c. tt)
-
-  -- `mhlist`
-  mhlist_done : (a b : Answer) (later : List Done) (j : Hand) (r : Result Unit CommandFault) → IfOkay (Still (acts (two_readings profile a b))) later j r → IfOkay (Finished (Some Mhlist) path) later j r
-  mhlist_done a b later j (Ok u) f = record { is_done = f.settled (two_settled profile a b); unfailed = f.unfailed }
-  mhlist_done a b later j (Err e) f = tt
-
-  module _ (words : ListWords) (a b : Answer) (es : List NamedValue) (folder : List ℕ) where
-    abbrev ListKeeps : Pledge → Type 0
-    ListKeeps w = Sound w (acts (two_readings profile a b)) h → Keeps (rules_of w) (two_readings profile a b) (knowing es h) (list_acts run profile words folder) (IfOkay (Finished (Some Mhlist) path))
-
-    listed_so : ListKeeps (list_on_named run profile words (Ok folder))
-    listed_so sound =
-        let w = list_on_named run profile words (Ok folder) in
-        keeps_more (rules_of w) (two_readings profile a b) (knowing es h) (list_acts run profile words folder) (IfOkay (Still (acts (two_readings profile a b)))) (IfOkay (Finished (Some Mhlist) path)) (mhlist_done a b)
-        (list_keeps run few path (list_job folder words profile) (two_readings profile a b) (knowing es h) (known_sound w (acts (two_readings profile a b)) h es sound))
-
-    listed_at : folder_of words.folder es profile ≡ Ok folder → ListKeeps (list_on_named run profile words (folder_of words.folder es profile))
-    listed_at is = subst (λ v. ListKeeps (list_on_named run profile words v)) (sym is) listed_so
-
-  pub list_words_keep : (b : Answer) (value : Result ListWords Ended)
-      → Keeps (rules_of (lists_pledge run profile (entries_by b) value)) [] h (Ask profile_step (λ c. rest_by (context_step profile) (by_words (list_begun run profile) value) (list_onward run profile value) b)) (IfOkay (Finished (Some Mhlist) path))
-  unfolding list_onward
-  list_words_keep b (Ok words) =
-      keeps_after w Home (Mail path) profile_name context_name LIMIT_BYTES h (on_context profile words.folder (list_acts run profile words) (reading_of b)) (IfOkay (Finished (Some Mhlist) path))
-      (λ c d sound. context_keeps w (two_readings profile c d) h sound profile words.folder (list_acts run profile words) (Finished (Some Mhlist) path) (reading_of b)
-      (λ folder is. listed_at words c d (entries_by b) folder is sound))
-    where
-      w : Pledge
-      w = list_on_named run profile words (folder_of words.folder (entries_by b) profile)
-  list_words_keep b (Err e) = keeps_ended look Home profile_name LIMIT_BYTES h (Err e) (IfOkay (Finished (Some Mhlist) path)) (λ c. tt)
-
-  -- `mhstore`
-  mhstore_done : (a b : Answer) (later : List Done) (j : Hand) (r : Result Unit CommandFault) → IfOkay (Still (acts (two_readings profile a b))) later j r → IfOkay (Finished (Some Mhstore) path) later j r
-  mhstore_done a b later j (Ok u) f = record { is_done = f.settled (two_settled profile a b); unfailed = f.unfailed }
-  mhstore_done a b later j (Err e) f = tt
-
-  module _ (words : StoreWords) (a b : Answer) (es : List NamedValue) (folder : List ℕ) where
-    abbrev StoreKeeps : Pledge → Type 0
-    StoreKeeps w = Sound w (acts (two_readings profile a b)) h → Keeps (rules_of w) (two_readings profile a b) (knowing es h) (store_acts run profile words folder) (IfOkay (Finished (Some Mhstore) path))
-
-    stored_so : StoreKeeps (store_on_named run profile words (Ok folder))
-    stored_so sound =
-        let w = store_on_named run profile words (Ok folder) in
-        keeps_more (rules_of w) (two_readings profile a b) (knowing es h) (store_acts run profile words folder) (IfOkay (Still (acts (two_readings profile a b)))) (IfOkay (Finished (Some Mhstore) path)) (mhstore_done a b)
-        (store_keeps run few path (store_job folder words profile) (two_readings profile a b) (knowing es h) (known_sound w (acts (two_readings profile a b)) h es sound))
-
-    stored_at : folder_of words.folder es profile ≡ Ok folder → StoreKeeps (store_on_named run profile words (folder_of words.folder es profile))
-    stored_at is = subst (λ v. StoreKeeps (store_on_named run profile words v)) (sym is) stored_so
-
-  pub store_words_keep : (b : Answer) (value : Result StoreWords Ended)
-      → Keeps (rules_of (stores_pledge run profile (entries_by b) value)) [] h (Ask profile_step (λ c. rest_by (context_step profile) (by_words (store_begun run profile) value) (store_onward run profile value) b)) (IfOkay (Finished (Some Mhstore) path))
-  unfolding store_onward
-  store_words_keep b (Ok words) =
-      keeps_after w Home (Mail path) profile_name context_name LIMIT_BYTES h (on_context profile words.folder (store_acts run profile words) (reading_of b)) (IfOkay (Finished (Some Mhstore) path))
-      (λ c d sound. context_keeps w (two_readings profile c d) h sound profile words.folder (store_acts run profile words) (Finished (Some Mhstore) path) (reading_of b)
-      (λ folder is. stored_at words c d (entries_by b) folder is sound))
-    where
-      w : Pledge
-      w = store_on_named run profile words (folder_of words.folder (entries_by b) profile)
-  store_words_keep b (Err e) = keeps_ended look Home profile_name LIMIT_BYTES h (Err e) (IfOkay (Finished (Some Mhstore) path)) (λ c. tt)
-
-  -- `mhbuild`
-  module _ (words : BuildWords) (valid : IsDraft words.draft) (b : Answer) where
+  -- `mhbuild`, of whose end more is known
+  module _ (words : BuildWords) where
     abbrev building : BuildJob
     building = build_job words (entries_by b) profile
 
     abbrev build_w : Pledge
     build_w = build_pledge run path building
 
-    mhbuild_done : (c d : Answer) (later : List Done) (j : Hand) (r : Result Unit CommandFault) → IfOkay (λ last i u. HasBuilt run path building (acts (two_readings profile c d)) (acts last) × (HasFailed (acts last) → ⊥)) later j r → IfOkay (Finished (Some Mhbuild) path) later j r
-    mhbuild_done c d later j (Ok u) f = record { is_done = f.0.settled (two_settled profile c d); unfailed = f.1 }
-    mhbuild_done c d later j (Err e) f = tt
+    abbrev Built : Answer → Answer → List Done → Hand → Unit {0} → Type 0
+    Built c d later j u = HasBuilt run path building (acts (two_readings profile c d)) (acts later) × (HasFailed (acts later) → ⊥)
 
-    built_so : (c d : Answer) → Sound build_w (acts (two_readings profile c d)) h → Keeps (rules_of build_w) (two_readings profile c d) (knowing (entries_by b) h) (build_acts run profile words) (IfOkay (Finished (Some Mhbuild) path))
+    built_so : (c d : Answer) (later : List Done) (j : Hand) (r : Result Unit CommandFault) → IfOkay (Built c d) later j r → IfOkay (Finished (Some Mhbuild) path) later j r
+    built_so c d later j (Ok u) f = record { is_done = f.0.settled (two_settled profile c d); unfailed = f.1 }
+    built_so c d later j (Err e) f = tt
+
+    built_keeps : (c d : Answer) → Keeps (rules_of build_w) (two_readings profile c d) entered (mhbuild run path building) (IfOkay (Built c d)) → Keeps (rules_of build_w) (two_readings profile c d) entered (build_acts run profile words) (IfOkay (Finished (Some Mhbuild) path))
     unfolding Keeps
-    built_so c d sound =
-        keeps_more (rules_of build_w) (two_readings profile c d) (knowing (entries_by b) h) (mhbuild run path building) (IfOkay (λ last i u. HasBuilt run path building (acts (two_readings profile c d)) (acts last) × (HasFailed (acts last) → ⊥))) (IfOkay (Finished (Some Mhbuild) path))
-        (mhbuild_done c d) (build_keeps run few path building valid (two_readings profile c d) (knowing (entries_by b) h) (known_sound build_w (acts (two_readings profile c d)) h (entries_by b) sound))
-
-  pub build_words_keep : (b : Answer) (value : Result BuildWords Ended) → ((words : BuildWords) → value ≡ Ok words → IsDraft words.draft)
-      → Keeps (rules_of (builds_pledge run profile (entries_by b) value)) [] h (Ask profile_step (λ c. rest_by (context_step profile) (by_words (build_begun run profile) value) (build_onward run profile value) b)) (IfOkay (Finished (Some Mhbuild) path))
-  unfolding build_onward
-  build_words_keep b (Ok words) valid =
-      keeps_after (build_w words (valid words refl) b) Home (Mail path) profile_name context_name LIMIT_BYTES h (on_entries (build_acts run profile words) (reading_of b)) (IfOkay (Finished (Some Mhbuild) path))
-      (λ c d sound. entries_keep (build_w words (valid words refl) b) (two_readings profile c d) h sound (build_acts run profile words) (Finished (Some Mhbuild) path) (reading_of b) (built_so words (valid words refl) b c d sound))
-  build_words_keep b (Err e) valid = keeps_ended look Home profile_name LIMIT_BYTES h (Err e) (IfOkay (Finished (Some Mhbuild) path)) (λ c. tt)
-
-  -- `refile`
-  refile_done : (job : RefileJob) (a b : Answer) (later : List Done) (j : Hand) (r : Result Unit CommandFault) → IfOkay (EndsRefiled run few path job (acts (two_readings profile a b))) later j r → IfOkay (Finished (Some Refile) path) later j r
-  refile_done job a b later j (Ok u) f = record { is_done = f.0.settled (two_settled profile a b); unfailed = f.0.unfailed }
-  refile_done job a b later j (Err e) f = tt
-
-  module _ (words : RefileWords) (a b : Answer) (es : List NamedValue) (folder : List ℕ) where
-    abbrev RefileKeeps : Pledge → Type 0
-    RefileKeeps w = Sound w (acts (two_readings profile a b)) h → Keeps (rules_of w) (two_readings profile a b) (knowing es h) (refile_acts run profile words folder) (IfOkay (Finished (Some Refile) path))
-
-    refiled_so : RefileKeeps (refile_on_named run profile words (Ok folder))
-    refiled_so sound =
-        let w = refile_on_named run profile words (Ok folder) in
-        keeps_more (rules_of w) (two_readings profile a b) (knowing es h) (refile_acts run profile words folder) (IfOkay (EndsRefiled run few path (refile_job folder words profile) (acts (two_readings profile a b)))) (IfOkay (Finished (Some Refile) path)) (refile_done (refile_job folder words profile) a b)
-        (refile_keeps run few path (refile_job folder words profile) (two_readings profile a b) (knowing es h) (two_unheld run profile folder a b) (known_sound w (acts (two_readings profile a b)) h es sound))
-
-    refiled_at : folder_of words.source es profile ≡ Ok folder → RefileKeeps (refile_on_named run profile words (folder_of words.source es profile))
-    refiled_at is = subst (λ v. RefileKeeps (refile_on_named run profile words v)) (sym is) refiled_so
-
-  pub refile_words_keep : (b : Answer) (value : Result RefileWords Ended)
-      → Keeps (rules_of (refiles_pledge run profile (entries_by b) value)) [] h (Ask profile_step (λ c. rest_by (context_step profile) (by_words (refile_begun run profile) value) (refile_onward run profile value) b)) (IfOkay (Finished (Some Refile) path))
-  unfolding refile_onward
-  refile_words_keep b (Ok words) =
-      keeps_after w Home (Mail path) profile_name context_name LIMIT_BYTES h (on_context profile words.source (refile_acts run profile words) (reading_of b)) (IfOkay (Finished (Some Refile) path))
-      (λ c d sound. context_keeps w (two_readings profile c d) h sound profile words.source (refile_acts run profile words) (Finished (Some Refile) path) (reading_of b)
-      (λ folder is. refiled_at words c d (entries_by b) folder is sound))
-    where
-      w : Pledge
-      w = refile_on_named run profile words (folder_of words.source (entries_by b) profile)
-  refile_words_keep b (Err e) = keeps_ended look Home profile_name LIMIT_BYTES h (Err e) (IfOkay (Finished (Some Refile) path)) (λ c. tt)
+    built_keeps c d k = keeps_more (rules_of build_w) (two_readings profile c d) entered (mhbuild run path building) (IfOkay (Built c d)) (IfOkay (Finished (Some Mhbuild) path)) (built_so c d) k
 
   -- `inc`
-  inc_done : (past : List Done) → AreSettled (acts past) → (later : List Done) (j : Hand) (r : Result Unit CommandFault) → IfOkay (Still (acts past)) later j r → IfOkay (Finished (Some Inc) path) later j r
-  inc_done past settled later j (Ok u) f = record { is_done = f.settled settled; unfailed = f.unfailed }
-  inc_done past settled later j (Err e) f = tt
+  module _ (asked : IncAsked) where
+    abbrev inc_w : Pledge
+    inc_w = asked_pledge run path asked
 
-  pub inc_job_keeps : (b : Answer) (value : Result IncAsked Ended)
-      → Keeps (rules_of (incs_pledge run profile value)) [] h (Ask profile_step (λ c. rest_by (context_step profile) (by_words (inc_begun run (path_of profile)) value) (inc_onward run profile value) b)) (IfOkay (Finished (Some Inc) path))
-  unfolding inc_onward
-  inc_job_keeps b (Ok asked) =
-      keeps_after w Home (Mail path) profile_name context_name LIMIT_BYTES h (on_entries (inc_acts run profile asked) (reading_of b)) (IfOkay (Finished (Some Inc) path))
-      (λ c d sound. entries_keep w (two_readings profile c d) h sound (inc_acts run profile asked) (Finished (Some Inc) path) (reading_of b) (asked_so c d (entries_by b) sound))
-    where
-      w : Pledge
-      w = asked_pledge run path asked
+    taken_so : (c d e : Answer) (spoken : Standing → Writing) → written_by asked.telling e ≡ Ok spoken → Sound inc_w (acts (look_done asked.telling e (two_readings profile c d))) entered
+        → Keeps (rules_of inc_w) (look_done asked.telling e (two_readings profile c d)) entered (inc run path (job_writing asked spoken)) (IfOkay (Finished (Some Inc) path))
+    taken_so c d e spoken written sound =
+        let first = two_readings profile c d in
+        let past = look_done asked.telling e first in
+        let job = job_writing asked spoken in
+        keeps_telling (inc_pledge run path job) (TellsAsked run path asked) (WritesAs asked.telling spoken) (writes_kept asked.telling spoken) (λ own piece writes told. (spoken, writes, told)) past entered
+        (inc run path job) (IfOkay (Finished (Some Inc) path)) (subst (WritesAs asked.telling spoken) (sym (acts_looked asked.telling e first)) (look_writes asked.telling e (acts first) spoken written))
+        (keeps_more (rules_of (inc_pledge run path job)) past entered (inc run path job) (IfOkay (Still (acts past))) (IfOkay (Finished (Some Inc) path))
+        (done_so (Some Inc) (λ own s. s) past (looked_settled asked.telling e first (two_settled profile c d)))
+        (inc_keeps run few path job past entered (looked_once inc_w asked.telling e first (two_once inc_w profile c d)) (record { numbered = sound.numbered; unfailed = sound.unfailed })))
 
-      taken_so : (c d : Answer) (es : List NamedValue) (e : Answer) (spoken : Standing → Writing) → written_by asked.telling e ≡ Ok spoken → Sound w (acts (look_done asked.telling e (two_readings profile c d))) (knowing es h)
-          → Keeps (rules_of w) (look_done asked.telling e (two_readings profile c d)) (knowing es h) (inc run path (job_writing asked spoken)) (IfOkay (Finished (Some Inc) path))
-      taken_so c d es e spoken written sound =
-          let first = two_readings profile c d in
-          let past = look_done asked.telling e first in
-          let job = job_writing asked spoken in
-          keeps_telling (inc_pledge run path job) (TellsAsked run path asked) (WritesAs asked.telling spoken) (writes_kept asked.telling spoken) (λ own piece writes told. (spoken, writes, told)) past (knowing es h)
-          (inc run path job) (IfOkay (Finished (Some Inc) path)) (subst (WritesAs asked.telling spoken) (sym (acts_looked asked.telling e first)) (look_writes asked.telling e (acts first) spoken written))
-          (keeps_more (rules_of (inc_pledge run path job)) past (knowing es h) (inc run path job) (IfOkay (Still (acts past))) (IfOkay (Finished (Some Inc) path))
-          (inc_done past (looked_settled asked.telling e first (two_settled profile c d)))
-          (inc_keeps run few path job past (knowing es h) (looked_once w asked.telling e first (two_once w profile c d)) (record { numbered = sound.numbered; unfailed = sound.unfailed })))
+    asked_so : (c d : Answer) → Sound inc_w (acts (two_readings profile c d)) h → Keeps (rules_of inc_w) (two_readings profile c d) entered (inc_acts run profile asked) (IfOkay (Finished (Some Inc) path))
+    asked_so c d sound =
+        look_keeps inc_w (two_readings profile c d) entered (Finished (Some Inc) path) (known_sound inc_w (acts (two_readings profile c d)) h (entries_by b) sound) asked.telling (λ spoken. inc run path (job_writing asked spoken)) (taken_so c d)
 
-      asked_so : (c d : Answer) (es : List NamedValue) → Sound w (acts (two_readings profile c d)) h → Keeps (rules_of w) (two_readings profile c d) (knowing es h) (inc_acts run profile asked) (IfOkay (Finished (Some Inc) path))
-      asked_so c d es sound =
-          look_keeps w (two_readings profile c d) (knowing es h) (Finished (Some Inc) path) (known_sound w (acts (two_readings profile c d)) h es sound) asked.telling (λ spoken. inc run path (job_writing asked spoken))
-          (λ e spoken written here. taken_so c d es e spoken written here)
-  inc_job_keeps b (Err e) = keeps_ended look Home profile_name LIMIT_BYTES h (Err e) (IfOkay (Finished (Some Inc) path)) (λ c. tt)
+  -- the command that the first word names
+  word_keeps : (caller : Caller) (word : List ℕ) (words : List (List ℕ)) (name : Option CommandName)
+      → Keeps (rules_of (word_pledge run caller profile (entries_by b) words name)) [] h (word_plan run profile caller word words name b) (IfOkay (Finished name path))
+  unfolding word_onward mark pick
+  word_keeps caller word words None = keeps_ended look Home profile_name LIMIT_BYTES h (Err (no_command (Some word))) (IfOkay (Finished None path)) (λ c. tt)
+  word_keeps caller word words (Some Inc) =
+      words_keep profile _ _ _ h b (Finished (Some Inc) path) (pledge_found run profile (asked_pledge run path)) (job_by caller profile (inc_said profile (map chars words)))
+      (λ asked is c d sound. entries_keep (inc_w asked) (two_readings profile c d) h sound (inc_acts run profile asked) (Finished (Some Inc) path) (reading_of b) (asked_so asked c d sound))
+  word_keeps caller word words (Some Scan) =
+      words_keep profile _ _ _ h b (Finished (Some Scan) path) (λ v. look) (scan_asked caller (scan_said profile (map chars words)))
+      (λ said is c d sound. context_keeps look (two_readings profile c d) h sound profile said.folder (scan_acts run profile said) (Finished (Some Scan) path) (reading_of b)
+      (λ folder acted. scan_keeps said (asked_valid caller profile (map chars words) said is) c d folder acted sound))
+  word_keeps caller word words (Some Mark) =
+      folder_keep _ _ _ _ _ (mark_said profile (map chars words)) (Some Mark) (λ own s. s)
+      (λ said is folder c d sound. mark_keeps run few path (mark_job folder said profile) said.act (two_readings profile c d) entered sound)
+  word_keeps caller word words (Some Pick) =
+      folder_keep _ _ _ _ _ (picked_by caller profile (map chars words)) (Some Pick) (λ own s. s)
+      (λ said is folder c d sound. pick_keeps run few path (pick_job folder said profile) said.marks (two_readings profile c d) entered sound)
+  word_keeps caller word words (Some Refile) =
+      folder_keep _ _ _ _ _ (refile_said profile (map chars words)) (Some Refile) (λ own s. s)
+      (λ said is folder. refiled_keeps run few profile (refile_job folder said profile) entered)
+  word_keeps caller word words (Some Rmm) =
+      folder_keep _ _ _ _ _ (rmm_said profile (map chars words)) (Some Rmm) (λ own s. s)
+      (λ said is folder c d sound. rmm_keeps run few path (rmm_job folder said profile) (two_readings profile c d) entered sound)
+  word_keeps caller word words (Some FolderCommand) =
+      folder_keep _ _ _ _ _ (tell_said profile (map chars words)) (Some FolderCommand) (λ own s. s)
+      (λ said is folder. task_keeps run few profile said folder said.pack entered)
+  word_keeps caller word words (Some Anno) =
+      folder_keep _ _ _ _ _ (annotated_by caller profile (map chars words)) (Some Anno) (λ own s. s)
+      (λ said is folder c d sound. anno_keeps run few path (anno_job folder said profile) (anno_annotates caller.clock.moment caller.clock.offset profile (map chars words) said is) (two_readings profile c d) entered (two_unheld run profile folder c d) sound)
+  word_keeps caller word words (Some Sortm) =
+      folder_keep _ _ _ _ _ (sort_said profile (map chars words)) (Some Sortm) (λ own s. s)
+      (λ said is folder c d sound. sortm_keeps run few path (sort_job folder said profile) (two_readings profile c d) entered (two_unheld run profile folder c d) sound)
+  word_keeps caller word words (Some Mhlist) =
+      folder_keep _ _ _ _ _ (list_said profile (map chars words)) (Some Mhlist) (λ own s. s)
+      (λ said is folder c d sound. list_keeps run few path (list_job folder said profile) (two_readings profile c d) entered sound)
+  word_keeps caller word words (Some Mhstore) =
+      folder_keep _ _ _ _ _ (store_said profile (map chars words)) (Some Mhstore) (λ own s. s)
+      (λ said is folder c d sound. store_keeps run few path (store_job folder said profile) (two_readings profile c d) entered sound)
+  word_keeps caller word words (Some Mhbuild) =
+      words_keep profile _ _ _ h b (Finished (Some Mhbuild) path) (pledge_found run profile (λ said. build_pledge run path (build_job said (entries_by b) profile))) (build_said profile (map chars words))
+      (λ said is c d sound. entries_keep (build_w said) (two_readings profile c d) h sound (build_acts run profile said) (Finished (Some Mhbuild) path) (reading_of b)
+      (built_keeps said c d (build_keeps run few path (building said) (build_valid profile (map chars words) said is) (two_readings profile c d) entered (known_sound (build_w said) (acts (two_readings profile c d)) h (entries_by b) sound))))
 
-  -- the command that the words name
-  word_keeps : (caller : Caller) (b : Answer) (word : List ℕ) (words : List (List ℕ)) (name : Option CommandName)
-      → Keeps (rules_of (word_pledge run caller profile (entries_by b) words name)) [] h (Ask profile_step (λ c. rest_by (context_step profile) (word_by run caller profile word words name) (word_onward run profile caller word words name) b)) (IfOkay (Finished name path))
-  unfolding word_onward
-  word_keeps caller b word words None = keeps_ended look Home profile_name LIMIT_BYTES h (Err (no_command (Some word))) (IfOkay (Finished None path)) (λ c. tt)
-  word_keeps caller b word words (Some Inc) = inc_job_keeps b (job_by caller profile (inc_said profile (map chars words)))
-  word_keeps caller b word words (Some Scan) = scan_words_keep b (scan_asked caller (scan_said profile (map chars words))) (λ said e. asked_valid caller profile (map chars words) said e)
-  word_keeps caller b word words (Some Mark) = mark_words_keep b (mark_said profile (map chars words))
-  word_keeps caller b word words (Some Pick) = pick_words_keep b (picked_by caller profile (map chars words))
-  word_keeps caller b word words (Some Refile) = refile_words_keep b (refile_said profile (map chars words))
-  word_keeps caller b word words (Some Rmm) = rmm_words_keep b (rmm_said profile (map chars words))
-  word_keeps caller b word words (Some FolderCommand) = tell_words_keep b (tell_said profile (map chars words))
-  word_keeps caller b word words (Some Anno) = anno_words_keep b (annotated_by caller profile (map chars words)) (λ said e. anno_annotates caller.clock.moment caller.clock.offset profile (map chars words) said e)
-  word_keeps caller b word words (Some Sortm) = sort_words_keep b (sort_said profile (map chars words))
-  word_keeps caller b word words (Some Mhlist) = list_words_keep b (list_said profile (map chars words))
-  word_keeps caller b word words (Some Mhstore) = store_words_keep b (store_said profile (map chars words))
-  word_keeps caller b word words (Some Mhbuild) = build_words_keep b (build_said profile (map chars words)) (λ said e. build_valid profile (map chars words) said e)
-
-  named_keeps : (caller : Caller) (b : Answer) (words : List (List ℕ))
+  named_keeps : (caller : Caller) (words : List (List ℕ))
       → Keeps (rules_of (command_pledge run caller words profile (entries_by b))) [] h (Ask profile_step (λ c. rest_by (context_step profile) (command_by run caller profile words) (named_onward run profile caller words) b)) (IfOkay (Finished (command_of words) path))
   unfolding named_onward
-  named_keeps caller b [] = keeps_ended look Home profile_name LIMIT_BYTES h (Err (no_command None)) (IfOkay (Finished None path)) (λ c. tt)
-  named_keeps caller b (word ∷ words) = word_keeps caller b word words (named word)
+  named_keeps caller [] = keeps_ended look Home profile_name LIMIT_BYTES h (Err (no_command None)) (IfOkay (Finished None path)) (λ c. tt)
+  named_keeps caller (word ∷ words) = word_keeps caller word words (named word)
 
--- whose pledge it is
+-- whose pledge it is, where each is that run's
+found_run : {A E : Type 0} (run : ℕ) (profile : List NamedValue) (pledge : A → Pledge) (value : Result A E) → ((found : A) → (pledge found).run ≡ run) → (pledge_found run profile pledge value).run ≡ run
+found_run run profile pledge (Ok found) each = each found
+found_run run profile pledge (Err e) each = refl
+
+words_run : {W : Type 0} (run : ℕ) (profile context : List NamedValue) (value : Result W Ended) (named_in : W → Option (List ℕ)) (pledge : W → List ℕ → Pledge) → ((words : W) (folder : List ℕ) → (pledge words folder).run ≡ run)
+    → (pledge_by_words run profile context value named_in pledge).run ≡ run
+words_run run profile context value named_in pledge each =
+    found_run run profile (λ words. pledge_found run profile (pledge words) (folder_of (named_in words) context profile)) value (λ words. found_run run profile (pledge words) (folder_of (named_in words) context profile) (each words))
+
 pub pledge_run : (run : ℕ) (caller : Caller) (words : List (List ℕ)) (profile context : List NamedValue) → (command_pledge run caller words profile context).run ≡ run
 pledge_run run caller [] profile context = refl
 pledge_run run caller (word ∷ words) profile context = go (named word)
   where
-    on : (said : MarkWords) (value : Result (List ℕ) CommandFault) → (on_named run profile said value).run ≡ run
-    on said (Err e) = refl
-    on said (Ok folder) = by said.act
-      where
-        by : (act : Option MarkAct) → (pledge_by run (path_of profile) (mark_job folder said profile) act).run ≡ run
-        by None = refl
-        by (Some a) = refl
+    marks : (said : MarkWords) (folder : List ℕ) (act : Option MarkAct) → (pledge_by run (path_of profile) (mark_job folder said profile) act).run ≡ run
+    marks said folder None = refl
+    marks said folder (Some a) = refl
 
-    marks_by : (value : Result MarkWords Ended) → (marks_pledge run profile context value).run ≡ run
-    marks_by (Ok said) = on said (folder_of said.folder context profile)
-    marks_by (Err e) = refl
+    picks : (said : PickWords) (folder : List ℕ) (p : Option PickMarks) → (pick_pledge_by run (path_of profile) (pick_job folder said profile) p).run ≡ run
+    picks said folder None = refl
+    picks said folder (Some p) = refl
 
-    tells_by : (value : Result FolderWords Ended) → (tells_pledge run profile context value).run ≡ run
-    tells_by (Ok said) = by_folder (folder_of said.folder context profile)
-      where
-        by_specs : (folder : List ℕ) (specs : List (List ℕ)) → (tell_pledge_by run (path_of profile) (tell_job folder said profile) specs).run ≡ run
-        by_specs folder [] = refl
-        by_specs folder (word ∷ words) = refl
+    tells : (said : FolderWords) (folder : List ℕ) (specs : List (List ℕ)) → (tell_pledge_by run (path_of profile) (tell_job folder said profile) specs).run ≡ run
+    tells said folder [] = refl
+    tells said folder (word ∷ words) = refl
 
-        by_task : (folder : List ℕ) (k : Bool) → (task_pledge run profile said folder k).run ≡ run
-        by_task folder true = refl
-        by_task folder false = by_specs folder said.specs
-
-        by_folder : (value : Result (List ℕ) CommandFault) → (tell_on_named run profile said value).run ≡ run
-        by_folder (Ok folder) = by_task folder said.pack
-        by_folder (Err e) = refl
-    tells_by (Err e) = refl
-
-    picks_by : (value : Result PickWords Ended) → (picks_pledge run profile context value).run ≡ run
-    picks_by (Ok said) = by_folder (folder_of said.folder context profile)
-      where
-        by_marks : (folder : List ℕ) (marks : Option PickMarks) → (pick_pledge_by run (path_of profile) (pick_job folder said profile) marks).run ≡ run
-        by_marks folder None = refl
-        by_marks folder (Some p) = refl
-
-        by_folder : (value : Result (List ℕ) CommandFault) → (pick_on_named run profile said value).run ≡ run
-        by_folder (Ok folder) = by_marks folder said.marks
-        by_folder (Err e) = refl
-    picks_by (Err e) = refl
-
-    removes_by : (value : Result RmmWords Ended) → (rmms_pledge run profile context value).run ≡ run
-    removes_by (Ok said) = by (folder_of said.folder context profile)
-      where
-        by : (value : Result (List ℕ) CommandFault) → (rmm_on_named run profile said value).run ≡ run
-        by (Ok folder) = refl
-        by (Err e) = refl
-    removes_by (Err e) = refl
-
-    notes_by : (value : Result AnnoWords Ended) → (annos_pledge run profile context value).run ≡ run
-    notes_by (Ok said) = by (folder_of said.folder context profile)
-      where
-        by : (value : Result (List ℕ) CommandFault) → (anno_on_named run profile said value).run ≡ run
-        by (Ok folder) = refl
-        by (Err e) = refl
-    notes_by (Err e) = refl
-
-    sorts_by : (value : Result SortWords Ended) → (sorts_pledge run profile context value).run ≡ run
-    sorts_by (Ok said) = by (folder_of said.folder context profile)
-      where
-        by : (value : Result (List ℕ) CommandFault) → (sort_on_named run profile said value).run ≡ run
-        by (Ok folder) = refl
-        by (Err e) = refl
-    sorts_by (Err e) = refl
-
-    lists_by : (value : Result ListWords Ended) → (lists_pledge run profile context value).run ≡ run
-    lists_by (Ok said) = by (folder_of said.folder context profile)
-      where
-        by : (value : Result (List ℕ) CommandFault) → (list_on_named run profile said value).run ≡ run
-        by (Ok folder) = refl
-        by (Err e) = refl
-    lists_by (Err e) = refl
-
-    stores_by : (value : Result StoreWords Ended) → (stores_pledge run profile context value).run ≡ run
-    stores_by (Ok said) = by (folder_of said.folder context profile)
-      where
-        by : (value : Result (List ℕ) CommandFault) → (store_on_named run profile said value).run ≡ run
-        by (Ok folder) = refl
-        by (Err e) = refl
-    stores_by (Err e) = refl
-
-    builds_by : (value : Result BuildWords Ended) → (builds_pledge run profile context value).run ≡ run
-    builds_by (Ok said) = refl
-    builds_by (Err e) = refl
-
-    refiles_by : (value : Result RefileWords Ended) → (refiles_pledge run profile context value).run ≡ run
-    refiles_by (Ok said) = by (folder_of said.source context profile)
-      where
-        by : (value : Result (List ℕ) CommandFault) → (refile_on_named run profile said value).run ≡ run
-        by (Ok folder) = refl
-        by (Err e) = refl
-    refiles_by (Err e) = refl
-
-    takes_by : (value : Result IncAsked Ended) → (incs_pledge run profile value).run ≡ run
-    takes_by (Ok job) = refl
-    takes_by (Err e) = refl
+    tasks : (said : FolderWords) (folder : List ℕ) (k : Bool) → (task_pledge run profile said folder k).run ≡ run
+    tasks said folder true = refl
+    tasks said folder false = tells said folder said.specs
 
     go : (name : Option CommandName) → (word_pledge run caller profile context words name).run ≡ run
     go None = refl
-    go (Some Inc) = takes_by (job_by caller profile (inc_said profile (map chars words)))
+    go (Some Inc) = found_run run profile (asked_pledge run (path_of profile)) (job_by caller profile (inc_said profile (map chars words))) (λ asked. refl)
     go (Some Scan) = refl
-    go (Some Mark) = marks_by (mark_said profile (map chars words))
-    go (Some Pick) = picks_by (picked_by caller profile (map chars words))
-    go (Some Refile) = refiles_by (refile_said profile (map chars words))
-    go (Some Rmm) = removes_by (rmm_said profile (map chars words))
-    go (Some FolderCommand) = tells_by (tell_said profile (map chars words))
-    go (Some Anno) = notes_by (annotated_by caller profile (map chars words))
-    go (Some Sortm) = sorts_by (sort_said profile (map chars words))
-    go (Some Mhlist) = lists_by (list_said profile (map chars words))
-    go (Some Mhstore) = stores_by (store_said profile (map chars words))
-    go (Some Mhbuild) = builds_by (build_said profile (map chars words))
+    go (Some Mark) = words_run run profile context (mark_said profile (map chars words)) _ _ (λ said folder. marks said folder said.act)
+    go (Some Pick) = words_run run profile context (picked_by caller profile (map chars words)) _ _ (λ said folder. picks said folder said.marks)
+    go (Some Refile) = words_run run profile context (refile_said profile (map chars words)) _ _ (λ said folder. refl)
+    go (Some Rmm) = words_run run profile context (rmm_said profile (map chars words)) _ _ (λ said folder. refl)
+    go (Some FolderCommand) = words_run run profile context (tell_said profile (map chars words)) _ _ (λ said folder. tasks said folder said.pack)
+    go (Some Anno) = words_run run profile context (annotated_by caller profile (map chars words)) _ _ (λ said folder. refl)
+    go (Some Sortm) = words_run run profile context (sort_said profile (map chars words)) _ _ (λ said folder. refl)
+    go (Some Mhlist) = words_run run profile context (list_said profile (map chars words)) _ _ (λ said folder. refl)
+    go (Some Mhstore) = words_run run profile context (store_said profile (map chars words)) _ _ (λ said folder. refl)
+    go (Some Mhbuild) = found_run run profile _ (build_said profile (map chars words)) (λ said. refl)
 
 module _ (run : ℕ) (few : run < 2 ^ 128) (caller : Caller) (words : List (List ℕ)) where
   -- the command, by what reading the profile gave
@@ -851,9 +394,9 @@ module _ (run : ℕ) (few : run < 2 ^ 128) (caller : Caller) (words : List (List
   -- whatever the profile and the context were, the call keeps the rules of its pledge
   pub read_keeps : (h : Hand) (r : Reading) (b : Answer) → Keeps (rules_of (command_pledge run caller words (entries_in (text_of r)) (entries_by b))) [] h (plan_by r b) (IfOkay (Finished (command_of words) (path_of (entries_in (text_of r)))))
   unfolding onward_by lifted bind ◌>>=◌
-  read_keeps h (reading.Content bytes) b = named_keeps run few (entries_in bytes) h caller b words
+  read_keeps h (reading.Content bytes) b = named_keeps run few (entries_in bytes) h b caller words
   read_keeps h (reading.Long l) b = keeps_ended (command_pledge run caller words (entries_in []) (entries_by b)) Home profile_name LIMIT_BYTES h (Err (plain (too_large l))) (IfOkay (Finished (command_of words) (path_of (entries_in [])))) (λ c. tt)
-  read_keeps h reading.Gone b = named_keeps run few (entries_in []) h caller b words
+  read_keeps h reading.Gone b = named_keeps run few (entries_in []) h b caller words
 
   -- the answers to the first two steps of a run of the command
   abbrev pub Answered : Hand → Hand → List Done → Exit (Result Unit Ended) → Type 0

@@ -13,20 +13,8 @@ use Rattle.opening_plans.proofs.Meeting.{may_with, with_step}
 -- what may be asked with more may be asked with less
 module _ (w : Pledge) (A : List Deed → Step → Type 0) where
   marked_without : (own : List Deed) (s : Step) → Marks (with_step w A) own s → Marks w own s
-  marked_without own (step.List p) m = tt
-  marked_without own (step.Read p n limit) m = tt
-  marked_without own (step.MakeFolder p) m = tt
-  marked_without own (step.Create p n b) m = tt
-  marked_without own (step.SyncFile p n) m = tt
-  marked_without own (step.SyncFolder p) m = tt
-  marked_without own (step.Link p a b) m = tt
   marked_without own (step.Rename p temp name) m = λ is. let k = m is in record { old = k.old; new = k.new; is_base = k.is_base; created = k.created; made = k.made }
-  marked_without own (step.Unlink p a) m = tt
-  marked_without own (step.Lock p) m = tt
-  marked_without own (step.Unlock p) m = tt
-  marked_without own (step.ReadFile f limit) m = tt
-  marked_without own (step.ReadDrop f from most) m = tt
-  marked_without own (step.CutDrop f length_) m = tt
+  marked_without own s m = tt
 
   pub may_without : (own : List Deed) (s : Step) → MayAsk (with_step w A) own s → MayAsk w own s
   may_without own s m = record { is_own = m.is_own; marks = marked_without own s m.marks; steps = λ no. (m.steps no).0 }

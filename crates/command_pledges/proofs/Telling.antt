@@ -17,20 +17,8 @@ use Rattle.command_pledges.specs.CommandPledge.{telling}
 -- with the same pledge but for what may be said, where more lets it be said
 module _ (w : Pledge) (T : List deeds.Deed → List ℕ → Type 0) where
   marked_told : (own : List deeds.Deed) (s : Step) → Marks w own s → Marks (telling w T) own s
-  marked_told own (step.List p) m = tt
-  marked_told own (step.Read p n limit) m = tt
-  marked_told own (step.MakeFolder p) m = tt
-  marked_told own (step.Create p n b) m = tt
-  marked_told own (step.SyncFile p n) m = tt
-  marked_told own (step.SyncFolder p) m = tt
-  marked_told own (step.Link p a b) m = tt
   marked_told own (step.Rename p temp name) m = λ is. let k = m is in record { old = k.old; new = k.new; is_base = k.is_base; created = k.created; made = k.made }
-  marked_told own (step.Unlink p a) m = tt
-  marked_told own (step.Lock p) m = tt
-  marked_told own (step.Unlock p) m = tt
-  marked_told own (step.ReadFile f limit) m = tt
-  marked_told own (step.ReadDrop f from most) m = tt
-  marked_told own (step.CutDrop f length_) m = tt
+  marked_told own s m = tt
 
   may_told : (own : List deeds.Deed) (s : Step) → MayAsk w own s → MayAsk (telling w T) own s
   may_told own s m = record { is_own = m.is_own; marks = marked_told own s m.marks; steps = m.steps }

@@ -13,7 +13,6 @@ use Rattle.step_plans.specs.Finished.{AreFinished}
 use Rattle.step_plans.specs.Pledges.{Pledge}
 use Rattle.step_plans.specs.Promises.{Promises}
 use Rattle.step_plans.specs.Settled.{AreSettled}
-use Rattle.step_plans.specs.declared.command_fault.CommandFault.{CommandFault}
 use Rattle.mh_looks.specs.ScanPledge.{scan_pledge}
 use Rattle.mark_command.specs.Mark.{pledge_by}
 use Rattle.pick_plans.specs.PickPledge.{pledge_by as pick_pledge_by}
@@ -36,19 +35,10 @@ use Rattle.command_words.specs.RmmWords.{rmm_said}
 use Rattle.command_words.specs.TellWords.{tell_said}
 use Rattle.command_words.specs.declared.ended.Ended.{Ended}
 use Rattle.command_words.specs.declared.folder.FolderWords.{FolderWords}
-use Rattle.command_words.specs.declared.mark.MarkWords.{MarkWords}
-use Rattle.command_words.specs.declared.pick.PickWords.{PickWords}
-use Rattle.command_words.specs.declared.refile.RefileWords.{RefileWords}
-use Rattle.command_words.specs.declared.rmm.RmmWords.{RmmWords}
-use Rattle.anno_words.specs.declared.words.AnnoWords.{AnnoWords}
-use Rattle.sort_words.specs.declared.words.SortWords.{SortWords}
 use Rattle.sort_words.specs.SortWords.{sort_said}
 use Rattle.list_words.specs.ListWords.{list_said}
-use Rattle.list_words.specs.declared.words.ListWords.{ListWords}
 use Rattle.build_words.specs.BuildWords.{build_said}
-use Rattle.build_words.specs.declared.words.BuildWords.{BuildWords}
 use Rattle.store_words.specs.StoreWords.{store_said}
-use Rattle.store_words.specs.declared.words.StoreWords.{StoreWords}
 use Rattle.command_line.specs.Command.{anno_job, annotated_by, build_job, list_job, mark_job, pack_job, pick_job, picked_by, refile_job, rmm_job, tell_job, sort_job, store_job}
 use Rattle.command_line.specs.CommandNames.{command_of, named}
 use Rattle.command_line.specs.Incorporating.{IncAsked, job_by, job_writing}
@@ -68,98 +58,23 @@ HaveBegun a b own =
     × (own ≡ newer ++ did (Read (Mail (path_by a)) context_name LIMIT_BYTES) b
     ∷ did (Read Home profile_name LIMIT_BYTES) a ∷ [])))
 
--- what a `mark` on the folder that is acted on pledges; where none can be, what a command pledges that looks
-abbrev pub on_named : ℕ → List NamedValue → MarkWords → Result (List ℕ) CommandFault → Pledge
-on_named run profile words (Ok folder) = pledge_by run (path_of profile) (mark_job folder words profile) words.act
-on_named run profile words (Err e) = scan_pledge run (path_of profile)
+-- what is pledged once this was found; where it could not be, what a command pledges that looks
+abbrev pub pledge_found : {A E : Type 0} → ℕ → List NamedValue → (A → Pledge) → Result A E → Pledge
+pledge_found run profile pledge (Ok found) = pledge found
+pledge_found run profile pledge (Err e) = scan_pledge run (path_of profile)
 
-abbrev pub marks_pledge : ℕ → List NamedValue → List NamedValue → Result MarkWords Ended → Pledge
-marks_pledge run profile context (Ok words) = on_named run profile words (folder_of words.folder context profile)
-marks_pledge run profile context (Err e) = scan_pledge run (path_of profile)
+-- what a command on a folder pledges, by its words and the folder that they name, or the context
+abbrev pub pledge_by_words : {W : Type 0} → ℕ → List NamedValue → List NamedValue → Result W Ended
+    → (W → Option (List ℕ)) → (W → List ℕ → Pledge) → Pledge
+pledge_by_words run profile context value named_in pledge =
+    pledge_found run profile
+    (λ words. pledge_found run profile (pledge words) (folder_of (named_in words) context profile)) value
 
--- the same of `pick`, by what it marks
-abbrev pub pick_on_named : ℕ → List NamedValue → PickWords → Result (List ℕ) CommandFault → Pledge
-pick_on_named run profile words (Ok folder) =
-    pick_pledge_by run (path_of profile) (pick_job folder words profile) words.marks
-pick_on_named run profile words (Err e) = scan_pledge run (path_of profile)
-
-abbrev pub picks_pledge : ℕ → List NamedValue → List NamedValue → Result PickWords Ended → Pledge
-picks_pledge run profile context (Ok words) = pick_on_named run profile words (folder_of words.folder context profile)
-picks_pledge run profile context (Err e) = scan_pledge run (path_of profile)
-
--- of `folder`, by whether messages are numbered anew
+-- what `folder` pledges on one, by whether messages are numbered anew
 abbrev pub task_pledge : ℕ → List NamedValue → FolderWords → List ℕ → Bool → Pledge
 task_pledge run profile words folder true = pack_pledge run (path_of profile) (pack_job folder)
 task_pledge run profile words folder false =
     tell_pledge_by run (path_of profile) (tell_job folder words profile) words.specs
-
-abbrev pub tell_on_named : ℕ → List NamedValue → FolderWords → Result (List ℕ) CommandFault → Pledge
-tell_on_named run profile words (Ok folder) = task_pledge run profile words folder words.pack
-tell_on_named run profile words (Err e) = scan_pledge run (path_of profile)
-
-abbrev pub tells_pledge : ℕ → List NamedValue → List NamedValue → Result FolderWords Ended → Pledge
-tells_pledge run profile context (Ok words) = tell_on_named run profile words (folder_of words.folder context profile)
-tells_pledge run profile context (Err e) = scan_pledge run (path_of profile)
-
--- of `rmm`
-abbrev pub rmm_on_named : ℕ → List NamedValue → RmmWords → Result (List ℕ) CommandFault → Pledge
-rmm_on_named run profile words (Ok folder) = rmm_pledge run (path_of profile) (rmm_job folder words profile)
-rmm_on_named run profile words (Err e) = scan_pledge run (path_of profile)
-
-abbrev pub rmms_pledge : ℕ → List NamedValue → List NamedValue → Result RmmWords Ended → Pledge
-rmms_pledge run profile context (Ok words) = rmm_on_named run profile words (folder_of words.folder context profile)
-rmms_pledge run profile context (Err e) = scan_pledge run (path_of profile)
-
--- of `anno`
-abbrev pub anno_on_named : ℕ → List NamedValue → AnnoWords → Result (List ℕ) CommandFault → Pledge
-anno_on_named run profile words (Ok folder) = anno_pledge run (path_of profile) (anno_job folder words profile)
-anno_on_named run profile words (Err e) = scan_pledge run (path_of profile)
-
-abbrev pub annos_pledge : ℕ → List NamedValue → List NamedValue → Result AnnoWords Ended → Pledge
-annos_pledge run profile context (Ok words) = anno_on_named run profile words (folder_of words.folder context profile)
-annos_pledge run profile context (Err e) = scan_pledge run (path_of profile)
-
--- of `sortm`
-abbrev pub sort_on_named : ℕ → List NamedValue → SortWords → Result (List ℕ) CommandFault → Pledge
-sort_on_named run profile words (Ok folder) = sortm_pledge run (path_of profile) (sort_job folder words profile)
-sort_on_named run profile words (Err e) = scan_pledge run (path_of profile)
-
-abbrev pub sorts_pledge : ℕ → List NamedValue → List NamedValue → Result SortWords Ended → Pledge
-sorts_pledge run profile context (Ok words) = sort_on_named run profile words (folder_of words.folder context profile)
-sorts_pledge run profile context (Err e) = scan_pledge run (path_of profile)
-
--- of `mhlist`
-abbrev pub list_on_named : ℕ → List NamedValue → ListWords → Result (List ℕ) CommandFault → Pledge
-list_on_named run profile words (Ok folder) = list_pledge run (path_of profile) (list_job folder words profile)
-list_on_named run profile words (Err e) = scan_pledge run (path_of profile)
-
-abbrev pub lists_pledge : ℕ → List NamedValue → List NamedValue → Result ListWords Ended → Pledge
-lists_pledge run profile context (Ok words) = list_on_named run profile words (folder_of words.folder context profile)
-lists_pledge run profile context (Err e) = scan_pledge run (path_of profile)
-
--- of `mhstore`
-abbrev pub store_on_named : ℕ → List NamedValue → StoreWords → Result (List ℕ) CommandFault → Pledge
-store_on_named run profile words (Ok folder) = store_pledge run (path_of profile) (store_job folder words profile)
-store_on_named run profile words (Err e) = scan_pledge run (path_of profile)
-
-abbrev pub stores_pledge : ℕ → List NamedValue → List NamedValue → Result StoreWords Ended → Pledge
-stores_pledge run profile context (Ok words) = store_on_named run profile words (folder_of words.folder context profile)
-stores_pledge run profile context (Err e) = scan_pledge run (path_of profile)
-
--- of `mhbuild`
-abbrev pub builds_pledge : ℕ → List NamedValue → List NamedValue → Result BuildWords Ended → Pledge
-builds_pledge run profile context (Ok words) = build_pledge run (path_of profile) (build_job words context profile)
-builds_pledge run profile context (Err e) = scan_pledge run (path_of profile)
-
--- and of `refile`
-abbrev pub refile_on_named : ℕ → List NamedValue → RefileWords → Result (List ℕ) CommandFault → Pledge
-refile_on_named run profile words (Ok folder) = refile_pledge run (path_of profile) (refile_job folder words profile)
-refile_on_named run profile words (Err e) = scan_pledge run (path_of profile)
-
-abbrev pub refiles_pledge : ℕ → List NamedValue → List NamedValue → Result RefileWords Ended → Pledge
-refiles_pledge run profile context (Ok words) =
-    refile_on_named run profile words (folder_of words.source context profile)
-refiles_pledge run profile context (Err e) = scan_pledge run (path_of profile)
 
 -- the same pledge, but for what may be said
 abbrev pub telling : Pledge → (List Deed → List ℕ → Type 0) → Pledge
@@ -180,36 +95,43 @@ unwritten standing n message = []
 abbrev pub asked_pledge : ℕ → List ℕ → IncAsked → Pledge
 asked_pledge run path asked = telling (inc_pledge run path (job_writing asked unwritten)) (TellsAsked run path asked)
 
--- by its words; where these are refused, what a command pledges that looks
-abbrev pub incs_pledge : ℕ → List NamedValue → Result IncAsked Ended → Pledge
-incs_pledge run profile (Ok asked) = asked_pledge run (path_of profile) asked
-incs_pledge run profile (Err e) = scan_pledge run (path_of profile)
-
+-- by the command that the first word names
 abbrev pub word_pledge : ℕ → Caller → List NamedValue → List NamedValue → List (List ℕ) → Option CommandName → Pledge
 word_pledge run caller profile context words None = scan_pledge run (path_of profile)
 word_pledge run caller profile context words (Some Inc) =
-    incs_pledge run profile (job_by caller profile (inc_said profile (map chars words)))
+    pledge_found run profile (asked_pledge run (path_of profile))
+    (job_by caller profile (inc_said profile (map chars words)))
 word_pledge run caller profile context words (Some Scan) = scan_pledge run (path_of profile)
 word_pledge run caller profile context words (Some Mark) =
-    marks_pledge run profile context (mark_said profile (map chars words))
+    pledge_by_words run profile context (mark_said profile (map chars words)) (λ said. said.folder)
+    (λ said folder. pledge_by run (path_of profile) (mark_job folder said profile) said.act)
 word_pledge run caller profile context words (Some Pick) =
-    picks_pledge run profile context (picked_by caller profile (map chars words))
+    pledge_by_words run profile context (picked_by caller profile (map chars words)) (λ said. said.folder)
+    (λ said folder. pick_pledge_by run (path_of profile) (pick_job folder said profile) said.marks)
 word_pledge run caller profile context words (Some Refile) =
-    refiles_pledge run profile context (refile_said profile (map chars words))
+    pledge_by_words run profile context (refile_said profile (map chars words)) (λ said. said.source)
+    (λ said folder. refile_pledge run (path_of profile) (refile_job folder said profile))
 word_pledge run caller profile context words (Some Rmm) =
-    rmms_pledge run profile context (rmm_said profile (map chars words))
+    pledge_by_words run profile context (rmm_said profile (map chars words)) (λ said. said.folder)
+    (λ said folder. rmm_pledge run (path_of profile) (rmm_job folder said profile))
 word_pledge run caller profile context words (Some FolderCommand) =
-    tells_pledge run profile context (tell_said profile (map chars words))
+    pledge_by_words run profile context (tell_said profile (map chars words)) (λ said. said.folder)
+    (λ said folder. task_pledge run profile said folder said.pack)
 word_pledge run caller profile context words (Some Anno) =
-    annos_pledge run profile context (annotated_by caller profile (map chars words))
+    pledge_by_words run profile context (annotated_by caller profile (map chars words)) (λ said. said.folder)
+    (λ said folder. anno_pledge run (path_of profile) (anno_job folder said profile))
 word_pledge run caller profile context words (Some Sortm) =
-    sorts_pledge run profile context (sort_said profile (map chars words))
+    pledge_by_words run profile context (sort_said profile (map chars words)) (λ said. said.folder)
+    (λ said folder. sortm_pledge run (path_of profile) (sort_job folder said profile))
 word_pledge run caller profile context words (Some Mhlist) =
-    lists_pledge run profile context (list_said profile (map chars words))
+    pledge_by_words run profile context (list_said profile (map chars words)) (λ said. said.folder)
+    (λ said folder. list_pledge run (path_of profile) (list_job folder said profile))
 word_pledge run caller profile context words (Some Mhstore) =
-    stores_pledge run profile context (store_said profile (map chars words))
+    pledge_by_words run profile context (store_said profile (map chars words)) (λ said. said.folder)
+    (λ said folder. store_pledge run (path_of profile) (store_job folder said profile))
 word_pledge run caller profile context words (Some Mhbuild) =
-    builds_pledge run profile context (build_said profile (map chars words))
+    pledge_found run profile (λ said. build_pledge run (path_of profile) (build_job said context profile))
+    (build_said profile (map chars words))
 
 -- what a command pledges, by the user's name, its words, the entries of the profile and those of the context
 abbrev pub command_pledge : ℕ → Caller → List (List ℕ) → List NamedValue → List NamedValue → Pledge
@@ -220,18 +142,8 @@ command_pledge run caller (word ∷ words) profile context = word_pledge run cal
 -- current one, or changed nothing
 abbrev pub IsDone : Option CommandName → List ℕ → List Deed → Type 0
 IsDone None path own = AreFinished (Mail path) context_name own
-IsDone (Some Inc) path own = AreSettled own
 IsDone (Some Scan) path own = AreFinished (Mail path) context_name own
-IsDone (Some Mark) path own = AreSettled own
-IsDone (Some Pick) path own = AreSettled own
-IsDone (Some Refile) path own = AreSettled own
-IsDone (Some Rmm) path own = AreSettled own
-IsDone (Some FolderCommand) path own = AreSettled own
-IsDone (Some Anno) path own = AreSettled own
-IsDone (Some Sortm) path own = AreSettled own
-IsDone (Some Mhlist) path own = AreSettled own
-IsDone (Some Mhstore) path own = AreSettled own
-IsDone (Some Mhbuild) path own = AreSettled own
+IsDone (Some name) path own = AreSettled own
 
 -- the call began with the profile, which names the path of a mail directory, and with the context of that; it kept the
 -- pledge that these and its words make
