@@ -1,5 +1,5 @@
 -- How a command begins that may begin a folder: it reads the profile, and then the context.
-use Rattle.std.proofs.Common.{◌≡◌, ◌++◌, ◌^◌, ◌∷◌, [], ℕ, Bool, true, false, List, Option, Some, None, Result, Ok, Err, nat_lt, refl, sym, ◌∙◌, ap, arith}
+use Rattle.std.proofs.Common.{◌≡◌, ◌++◌, ◌^◌, ◌∷◌, [], ℕ, Bool, true, false, List, Option, Some, None, Result, Ok, Err, nat_lt, refl, sym, ◌∙◌, ap, subst, arith}
 use Rattle.std.specs.Prelude.{if◌then◌else◌}
 use Rattle.mh_base.specs.Folders.{is_folder_name, without_plus}
 use Rattle.mh_base.specs.Entries.{kind_of}
@@ -17,33 +17,36 @@ use Rattle.folder_files.specs.declared.step.Answer.TheVariants as answer
 use Rattle.folder_files.specs.declared.step.Step.TheVariants as step
 use Rattle.file_plans.specs.Asking.{reading_of}
 use Rattle.file_plans.specs.Text.{said_of}
-use Rattle.file_plans.specs.Plan.{Hand, Plan, Recall, Return, after, converted, fresh, lifted, ◌>>=◌}
-use Rattle.file_plans.specs.Rules.{Keeps, Rules}
+use Rattle.file_plans.specs.Plan.{Hand, Recall, Return, after, converted, fresh, lifted, ◌>>=◌}
+use Rattle.file_plans.specs.Rules.{Keeps}
 use Rattle.file_plans.specs.Runs as runs
 use Rattle.file_plans.proofs.Acting.{acts}
-use Rattle.file_plans.proofs.Framing.{AnyStep}
+use Rattle.file_plans.proofs.Framing.{AnyStep, asks_any}
 use Rattle.file_plans.proofs.Keeping.{keeps_bind}
 use Rattle.step_plans.specs.CommandFaults.{of_stop}
 use Rattle.step_plans.specs.ContextCommit.{LIMIT_BYTES, context_name}
 use Rattle.step_plans.specs.Endings.{IsTakenAway}
 use Rattle.step_plans.specs.Hands.{knowing}
+use Rattle.step_plans.specs.Pledges.{Pledge}
 use Rattle.step_plans.specs.declared.command_fault.CommandFault.{CommandFault}
 use Rattle.step_plans.specs.declared.command_fault.CommandFault.TheVariants as fault
-use Rattle.step_plans.proofs.Coming.{Comes, NoneFailed, anything, comes_lifted, comes_read, comes_then, comes_to}
+use Rattle.step_plans.proofs.Coming.{Comes, NoneFailed, OfActs, anything, comes_clean, comes_framed, comes_keeps, comes_lifted, comes_read, comes_then, comes_to}
 use Rattle.step_plans.proofs.Going.{Outcome}
 use Rattle.step_plans.proofs.Lasting.{KeptBy}
 use Rattle.step_plans.proofs.Past.{did_step}
+use Rattle.step_plans.proofs.Ruling.{rules_of}
 use Rattle.command_stages.specs.Texts.{Commanded, text_by, text_read, too_large}
-use Rattle.opening_plans.specs.Endings.{IsEndedBy, IsShownBy, IsToldBy, PutsNone, at_once, let_go}
+use Rattle.opening_plans.specs.Endings.{IsEndedBy, IsShownBy, PutsNone, at_once, let_go}
 use Rattle.opening_plans.proofs.CleanRuns.{Clean, unfailed_by}
 use Rattle.opening_plans.proofs.EndedKept.{keeps_more}
 use Rattle.opening_plans.proofs.NamesKept.{putting, taking}
-use Rattle.opening_plans.proofs.Speaking.{keeps_both, silence, silent_told, silently, speaking, speaks_more, text_silent}
+use Rattle.opening_plans.proofs.Speaking.{Quiet, keeps_both, quietly, silence, silent_told, speaking, speaks_more, text_silent}
 use Rattle.refile_plans.proofs.RefileMoved.{HasHeldNone}
 use Rattle.command_words.specs.Ended.{plain}
 use Rattle.command_words.specs.declared.ended.Ended.{Ended}
 use Rattle.command_words.specs.FolderWords.{named_folder}
-use Rattle.command_ends.specs.BegunCauses.{ShowsEarly, long_context, long_profile, wrong_stored}
+use Rattle.command_ends.specs.BegunCauses.{ShowsEarly, long_entries, wrong_stored}
+use Rattle.command_ends.specs.Causes.{ShowsLongEntries, long_context, long_profile}
 use Rattle.command_line.specs.Command.{context_entered, context_seen, folder_found}
 use Rattle.command_line.specs.Looking.{InFile, Known, Telling}
 use Rattle.command_line.specs.Profile.{entries_by, folder_of, path_by, path_of, profile_name, stored_of, text_of}
@@ -146,16 +149,16 @@ found_silent past h profile said =
     go later j (Ok entered) u = (tt, tt)
     go later j (Err e) u = (tt, tt)
 
-long_there : (a : Answer) (later : List Deed) (l : ℕ) (e : CommandFault) → e ≡ too_large l → later ≡ did (step.Read (Mail (path_by a)) context_name LIMIT_BYTES) (answer.Long l) ∷ after_profile a → ShowsEarly e later
+long_there : (a : Answer) (later : List Deed) (l : ℕ) (e : CommandFault) → e ≡ too_large l → later ≡ did (step.Read (Mail (path_by a)) context_name LIMIT_BYTES) (answer.Long l) ∷ after_profile a → ShowsLongEntries e later
 long_there a later l e is at = rw (is, at) (long_context {a = a})
 
-long_first : (later : List Deed) (l : ℕ) (e : CommandFault) → e ≡ too_large l → later ≡ did (step.Read Home profile_name LIMIT_BYTES) (answer.Long l) ∷ [] → ShowsEarly e later
+long_first : (later : List Deed) (l : ℕ) (e : CommandFault) → e ≡ too_large l → later ≡ did (step.Read Home profile_name LIMIT_BYTES) (answer.Long l) ∷ [] → ShowsLongEntries e later
 long_first later l e is at = rw (is, at) long_profile
 
 -- the profile
 abbrev pub Profile : Outcome (Result (List ℕ) Ended)
 Profile later j (Ok text) = (a : Answer) × (later ≡ after_profile a) × (j ≡ fresh) × (text ≡ text_of (reading_of a))
-Profile later j (Err x) = ShowsEarly x.fault later
+Profile later j (Err x) = ShowsLongEntries x.fault later
 
 pub profile_comes : Comes [] fresh (lifted plain (text_read Home profile_name)) Profile
 profile_comes =
@@ -167,19 +170,6 @@ none_told text own = ⊥
 
 pub none_lasts : (text : List ℕ) → KeptBy AnyStep (none_told text)
 none_lasts text own s x any f = f
-
-module _ (Spoken : List ℕ → List Deed → Type 0) where
-  abbrev Speech : Rules
-  Speech = speaking Spoken
-
-  -- a part that is silent, where nothing was said before
-  pub in_silence : {R : Type 0} (past : List runs.Deed) (h : Hand) (p : Plan R) (P : List runs.Deed → Hand → R → Type 0) → said_of past ≡ [] → Keeps silence past h p (λ later j r. Unit {0}) → Keeps anything past h p P
-      → Keeps Speech past h p (λ later j r. (said_of later ≡ []) × P later j r)
-  in_silence past h p P silent f g =
-      keeps_more Speech past h p (λ later j r. ((said_of later ≡ said_of past) × IsToldBy none_told (said_of later) (acts later)) × P later j r) (λ later j r. (said_of later ≡ []) × P later j r) (λ later j r q. (q.0.0 ∙ silent, q.1))
-      (speaks_more none_told Spoken (λ text own t. absurd t) past h p (λ later j r. ((said_of later ≡ said_of past) × IsToldBy none_told (said_of later) (acts later)) × P later j r)
-      (keeps_both (speaking none_told) anything past h p (λ later j r. (said_of later ≡ said_of past) × IsToldBy none_told (said_of later) (acts later)) P
-      (silently none_told none_lasts past h p (silent_told none_told none_lasts past silent) f) g))
 
 -- the profile was read
 module _ (a : Answer) where
@@ -196,7 +186,7 @@ module _ (a : Answer) where
 
   abbrev pub Enters : Outcome (Result Unit CommandFault)
   Enters later j (Ok u) = (b : Answer) × (later ≡ after_context path a b) × (j ≡ knowing (entries_by b) fresh)
-  Enters later j (Err e) = ShowsEarly e later
+  Enters later j (Err e) = ShowsLongEntries e later
 
   seen_comes : (b : Answer) (es : List NamedValue) → es ≡ entries_by b → Comes (after_context path a b) fresh (context_seen es) Enters
   unfolding Comes context_seen
@@ -232,7 +222,7 @@ module _ (a : Answer) where
   unfolding folder_found
   found_comes said =
       comes_then (after_profile a) fresh (context_entered (Mail path)) (λ entered. Recall (λ h. Return (folder_of said (entries_seen h.context) profile))) Enters (Found said) entered_comes
-      (λ later j u q. at later (after_context path a q.0) j j _ (Found said) q.1 refl (refused_comes said q.0 j q.2)) (λ later j e q. q)
+      (λ later j u q. at later (after_context path a q.0) j j _ (Found said) q.1 refl (refused_comes said q.0 j q.2)) (λ later j e q. long_entries q)
 
   -- and then the context; and what follows
   abbrev pub Behind : Answer → List Deed → Type 0
@@ -240,6 +230,10 @@ module _ (a : Answer) where
 
   pub behind_kept : (b : Answer) → KeptBy AnyStep (Behind b)
   behind_kept b own s x any f = (did s x ∷ f.0, ap (λ t. did s x ∷ t) f.1)
+
+  -- so a plan ends of which no step fails
+  abbrev pub Later : Answer → Outcome (Result Unit CommandFault) → Outcome (Result Unit CommandFault)
+  Later b Q own j r = NoneFailed own × (Behind b own × Q own j r)
 
   pub clean_there : (run : ℕ) (b : Answer) (own : List Deed) (j : Hand) → own ≡ after_context path a b → j ≡ knowing (entries_by b) fresh → NoneFailed own → Clean run own j
   clean_there run b own j is first clean = record {
@@ -262,3 +256,40 @@ module _ (a : Answer) where
 -- two readings use no held name of a folder
 pub none_held : (run : ℕ) (path folder : List ℕ) (a b : Answer) → HasHeldNone run (Folder path folder) (after_context path a b)
 none_held run path folder a b = λ n ok. ((λ e f. cc (e)), ((λ e f. cc (e)), tt))
+
+-- both were read, and nothing else was done
+module _ (run : ℕ) (a b : Answer) (past : List runs.Deed) (is : acts past ≡ after_context (path a) a b) (clean : NoneFailed (acts past)) where
+  abbrev known : Hand
+  known = knowing (entries_by b) fresh
+
+  pub begun_clean : Clean run (acts past) known
+  begun_clean = clean_there a run b (acts past) known is refl clean
+
+  pub put_none : (p : Place) → PutsNone p (acts past)
+  put_none p = subst (PutsNone p) (sym is) (none_put p (path a) a b)
+
+  pub taken_none : (p : Place) (x : List ℕ) → is_number (kind_of x) ≡ true → Once (λ d older. IsTakenAway p x d) (acts past) → ⊥
+  taken_none p x n t = none_taken p (path a) a b x n (subst (λ o. Once (λ d older. IsTakenAway p x d) o) is t)
+
+  pub made_none : (p : Place) (x : List ℕ) → WasMade p x (acts past) → ⊥
+  made_none p x w = none_made p x (path a) a b (subst (λ o. WasMade p x o) is w)
+
+  pub held_none : (folder : List ℕ) → HasHeldNone run (Folder (path a) folder) (acts past)
+  held_none folder = subst (HasHeldNone run (Folder (path a) folder)) (sym is) (none_held run (path a) folder a b)
+
+  pub later_keeps : (q : Commanded Unit) (Q : Outcome (Result Unit CommandFault)) → Comes (acts past) known q Q → Keeps anything past known q (OfActs (Later a b Q))
+  later_keeps q Q f =
+      comes_keeps past (acts past) known q (Later a b Q) refl
+      (comes_clean (acts past) known q (λ own i r. Behind a b own × Q own i r) clean (comes_framed AnyStep (Behind a b) (behind_kept a b) (acts past) known q Q (asks_any q) ([], is) f))
+
+  -- so a plan that may say nothing says nothing
+  pub quietly_keeps : (Spoken : List ℕ → List Deed → Type 0) (w : Pledge) → ((now_ : List runs.Deed) (piece : List ℕ) → (rules_of w).may_say now_ piece → ⊥) → said_of past ≡ []
+      → (q : Commanded Unit) (P S Q : List runs.Deed → Hand → Result Unit CommandFault → Type 0) → Keeps (rules_of w) past known q P → Keeps anything past known q S
+      → ((later : List runs.Deed) (i : Hand) (r : Result Unit CommandFault) → said_of later ≡ [] → P later i r → S later i r → Q later i r) → Keeps (speaking Spoken) past known q Q
+  quietly_keeps Spoken w unsaid silent q P S Q f g so =
+      keeps_more (speaking Spoken) past known q (λ later i r. Silent later i r × S later i r) Q (λ later i r s. so later i r (s.0.0 ∙ silent) s.0.3 s.1)
+      (keeps_both (speaking Spoken) anything past known q Silent S
+      (speaks_more none_told Spoken (λ text own t. absurd t) past known q Silent (quietly none_told none_lasts (rules_of w) unsaid (Behind a b) (behind_kept a b) past known q P (silent_told none_told none_lasts past silent) f)) g)
+    where
+      Silent : List runs.Deed → Hand → Result Unit CommandFault → Type 0
+      Silent later i r = Quiet none_told none_lasts (rules_of w) unsaid (Behind a b) (behind_kept a b) P past later i r

@@ -35,16 +35,16 @@ use Rattle.mh_looks.proofs.Ending.{ScanShows, no_folder, bad_spec, absent, empty
 use Rattle.command_words.specs.Ended.{plain}
 use Rattle.command_words.specs.ScanWords.{scan_said}
 use Rattle.command_words.specs.declared.ended.Ended.{Ended}
-use Rattle.command_ends.specs.BegunCauses.{ShowsEarly, long_context, long_profile, wrong_stored}
-use Rattle.command_ends.specs.Causes.{IsAboveLimit, ShowsCommandFault, ShowsRefusal}
+use Rattle.command_ends.specs.BegunCauses.{ShowsEarly, long_entries, wrong_stored}
+use Rattle.command_ends.specs.Causes.{IsAboveLimit, ShowsCommandFault, ShowsRefusal, long_context, long_profile}
 use Rattle.command_line.specs.Command.{by_words, command, command_by, folder_found, job_of, no_command, scan_begun, word_by}
 use Rattle.command_line.specs.CommandNames.{begins_folders, command_of, named}
 use Rattle.command_line.specs.Looking.{ScanAsked, look_found, scan_asked}
 use Rattle.command_line.specs.Profile.{entries_by, path_by, path_of, profile_name}
-use Rattle.command_ends.specs.WordCauses.{IsRefusedByWords, file_in, scan_file, words_file}
+use Rattle.command_ends.specs.WordCauses.{IsRefusedByWords, asked_file, file_in, words_file}
 use Rattle.command_line.specs.declared.caller.Caller.{Caller}
 use Rattle.command_line.specs.declared.name.CommandName.{CommandName}
-use Rattle.command_line.specs.declared.name.CommandName.TheVariants.{Anno, Folder as FolderCommand, Inc, Mark, Mhbuild, Mhlist, Mhstore, Pick, Refile, Rmm, Scan, Sortm}
+use Rattle.command_line.specs.declared.name.CommandName.TheVariants.{Scan}
 use Rattle.command_ends.proofs.BegunParts.{Found, Profile, after_context, after_profile, found_comes, none_made_looked, numbered_there, profile_comes}
 use Rattle.command_line.proofs.LookFound.{Looked, look_comes, look_deeds}
 use Rattle.command_line.proofs.Refusals.{asked_refuses}
@@ -74,8 +74,8 @@ refused_above run l own s (inr f) = f.2.above
 -- so does what shows an early one
 early_shows : (run : ℕ) (e : CommandFault) (own : List Deed) → ShowsEarly e own → ShowsCommandFault run e own
 early_shows run _ own (wrong_stored f) = f
-early_shows run _ _ long_profile = (refl, inl (Home, profile_name, ([], refl)))
-early_shows run _ _ (long_context {a = a}) = (refl, inl (Mail (path_by a), context_name, (after_profile a, refl)))
+early_shows run _ _ (long_entries long_profile) = (refl, inl (Home, profile_name, ([], refl)))
+early_shows run _ _ (long_entries (long_context {a = a})) = (refl, inl (Mail (path_by a), context_name, (after_profile a, refl)))
 
 module _ (run : ℕ) (caller : Caller) (words_ : List (List ℕ)) where
   -- what shows a fault of the plan: the words are refused, or it comes later
@@ -155,40 +155,30 @@ module _ (run : ℕ) (caller : Caller) (words_ : List (List ℕ)) where
 
     -- by what its words ask
     asked_comes : (value : Result ScanAsked Ended) → ((x : Ended) → value ≡ Err x → IsRefusal x.fault × IsRefusedByWords caller words_ x.fault (after_profile a))
-        → ((file : FilePath) → scan_file value ≡ Some file → words_file caller profile words_ ≡ Some file) → Comes (after_profile a) fresh (by_words (scan_begun run profile) value) CommandEnds
+        → ((file : FilePath) → asked_file value (λ asked. asked.telling) ≡ Some file → words_file caller profile words_ ≡ Some file) → Comes (after_profile a) fresh (by_words (scan_begun run profile) value) CommandEnds
     asked_comes (Ok words) refused file =
         comes_lifted (after_profile a) fresh plain (scan_begun run profile words) Faults CommandEnds (scan_begun_comes words file) (λ later j u q. tt) (λ later j e q. q)
     asked_comes (Err x) refused file = let s = refused x refl in comes_to (after_profile a) fresh (Err x) CommandEnds (words_show x.fault (after_profile a) s.0 s.1)
 
     by_word : (word : List ℕ) (rest : List (List ℕ)) → words_ ≡ word ∷ rest → (name : Option CommandName) → named word ≡ name → begins_folders name ≡ false → Comes (after_profile a) fresh (word_by run caller profile word rest name) CommandEnds
     by_word word rest is None name other = comes_to (after_profile a) fresh (Err (no_command (Some word))) CommandEnds (inl (refused_by caller words_ a word rest is None name (no_command None).fault refl))
-    by_word word rest is (Some Inc) name other = cc (other)
     by_word word rest is (Some Scan) name other =
         asked_comes (scan_asked caller (scan_said profile (map chars rest)))
         (λ x said. (asked_refuses caller profile (map chars rest) x said, refused_by caller words_ a word rest is (Some Scan) name x.fault (refusal_of (scan_asked caller (scan_said profile (map chars rest))) x said)))
         (λ file said. file_by caller words_ a word rest is (Some Scan) name file said)
-    by_word word rest is (Some Mark) name other = cc (other)
-    by_word word rest is (Some Pick) name other = cc (other)
-    by_word word rest is (Some Refile) name other = cc (other)
-    by_word word rest is (Some Rmm) name other = cc (other)
-    by_word word rest is (Some FolderCommand) name other = cc (other)
-    by_word word rest is (Some Anno) name other = cc (other)
-    by_word word rest is (Some Sortm) name other = cc (other)
-    by_word word rest is (Some Mhlist) name other = cc (other)
-    by_word word rest is (Some Mhstore) name other = cc (other)
-    by_word word rest is (Some Mhbuild) name other = cc (other)
+    by_word word rest is n name other = cc (other)
 
-    by_words : (words : List (List ℕ)) → words_ ≡ words → begins_folders (command_of words) ≡ false → Comes (after_profile a) fresh (command_by run caller profile words) CommandEnds
-    by_words [] is other = comes_to (after_profile a) fresh (Err (no_command None)) CommandEnds (inl (refused_none caller words_ a is))
-    by_words (word ∷ rest) is other = by_word word rest is (named word) refl other
+    by_line : (words : List (List ℕ)) → words_ ≡ words → begins_folders (command_of words) ≡ false → Comes (after_profile a) fresh (command_by run caller profile words) CommandEnds
+    by_line [] is other = comes_to (after_profile a) fresh (Err (no_command None)) CommandEnds (inl (refused_none caller words_ a is))
+    by_line (word ∷ rest) is other = by_word word rest is (named word) refl other
 
   command_comes : begins_folders (command_of words_) ≡ false → Comes [] fresh (command run caller words_) CommandEnds
   unfolding command
   command_comes other =
       comes_then [] fresh (lifted plain (text_read Home profile_name)) (λ text. command_by run caller (entries_in text) words_) Profile CommandEnds profile_comes
       (λ later j text q. comes_at later (after_profile q.0) j fresh (command_by run caller (entries_in text) words_) CommandEnds q.1 q.2
-      (subst (λ t. Comes (after_profile q.0) fresh (command_by run caller (entries_in t) words_) CommandEnds) (sym q.3) (by_words q.0 words_ refl other)))
-      (λ later j x q. later_shows x.fault later (early_shows run x.fault later q))
+      (subst (λ t. Comes (after_profile q.0) fresh (command_by run caller (entries_in t) words_) CommandEnds) (sym q.3) (by_line q.0 words_ refl other)))
+      (λ later j x q. later_shows x.fault later (early_shows run x.fault later (long_entries q)))
 
   -- where the plan of a command that looks returns, no step of the call has failed, and its deeds show the fault, if there is one
   abbrev pub EndsAs : List runs.Deed → Hand → Result Unit Ended → Type 0

@@ -1,18 +1,12 @@
 -- What shows how a command ended whose words name one that begins a folder: its run's own deeds in the call, the newest
 -- first.
-use Rattle.std.specs.Prelude.{◌≡◌, ◌⊎◌, ◌++◌, ℕ, Bool, true, false, List, [], ◌∷◌, map, Option, None, Some, Result, Ok, Err}
+use Rattle.std.specs.Prelude.{◌≡◌, ◌⊎◌, ℕ, Bool, true, false, List, [], ◌∷◌, map, Option, None, Some, Result, Ok, Err}
 use Rattle.std.specs.Str.{chars}
 use Rattle.mh_profile.specs.declared.named_value.NamedValue.{NamedValue}
-use Rattle.folder_files.specs.Deeds.{Deed, did}
-use Rattle.folder_files.specs.declared.place.Place.TheVariants.{Home, Mail}
+use Rattle.folder_files.specs.Deeds.{Deed}
 use Rattle.folder_files.specs.declared.refusal.Refusal.TheVariants as refusal
-use Rattle.folder_files.specs.declared.step.Answer.{Answer}
-use Rattle.folder_files.specs.declared.step.Answer.TheVariants.{Long}
-use Rattle.folder_files.specs.declared.step.Step.TheVariants.{Read}
-use Rattle.step_plans.specs.ContextCommit.{LIMIT_BYTES, context_name}
 use Rattle.step_plans.specs.declared.command_fault.CommandFault.{CommandFault}
 use Rattle.step_plans.specs.declared.command_fault.CommandFault.TheVariants as fault
-use Rattle.command_stages.specs.Texts.{too_large}
 use Rattle.opening_plans.specs.Endings.{ShowsEnd}
 use Rattle.mark_command.specs.Mark.{look_task, mark_task}
 use Rattle.mark_command.specs.declared.job.MarkAct.{MarkAct}
@@ -52,26 +46,18 @@ use Rattle.command_words.specs.RmmWords.{rmm_said}
 use Rattle.command_words.specs.TellWords.{tell_said}
 use Rattle.command_words.specs.declared.ended.Ended.{Ended}
 use Rattle.command_words.specs.declared.folder.FolderWords.{FolderWords}
-use Rattle.command_words.specs.declared.mark.MarkWords.{MarkWords}
-use Rattle.command_words.specs.declared.pick.PickWords.{PickWords}
-use Rattle.command_words.specs.declared.refile.RefileWords.{RefileWords}
-use Rattle.command_words.specs.declared.rmm.RmmWords.{RmmWords}
 use Rattle.sort_words.specs.SortWords.{sort_said}
 use Rattle.list_words.specs.ListWords.{list_said}
-use Rattle.list_words.specs.declared.words.ListWords.{ListWords}
 use Rattle.store_words.specs.StoreWords.{store_said}
-use Rattle.store_words.specs.declared.words.StoreWords.{StoreWords}
-use Rattle.command_ends.specs.Causes.{IsWrongStored, ShowsCommandFault}
-use Rattle.anno_words.specs.declared.words.AnnoWords.{AnnoWords}
-use Rattle.sort_words.specs.declared.words.SortWords.{SortWords}
+use Rattle.command_ends.specs.Causes.{ByReadings, IsWrongStored, ShowsCommandFault, ShowsLongEntries}
 use Rattle.command_line.specs.Command.{anno_job, annotated_by, list_job, mark_job, pack_job, pick_job, picked_by, refile_job, rmm_job, tell_job, sort_job, store_job}
 use Rattle.command_line.specs.CommandNames.{named}
 use Rattle.command_line.specs.Incorporating.{IncAsked, job_by, job_writing}
 use Rattle.command_line.specs.Looking.{WritesAs}
-use Rattle.command_line.specs.Profile.{entries_by, folder_of, path_by, path_of, profile_name}
-use Rattle.command_ends.specs.WordCauses.{IsRefusedByWords}
+use Rattle.command_line.specs.Profile.{entries_by, folder_of, path_by, path_of}
+use Rattle.command_ends.specs.WordCauses.{AreWordsOf, IsRefusedByWords, OfSaid}
 use Rattle.command_line.specs.declared.name.CommandName.{CommandName}
-use Rattle.command_line.specs.declared.name.CommandName.TheVariants.{Anno, Folder as FolderCommand, Inc, Mark, Mhbuild, Mhlist, Mhstore, Pick, Refile, Rmm, Scan, Sortm}
+use Rattle.command_line.specs.declared.name.CommandName.TheVariants.{Anno, Folder as FolderCommand, Inc, Mark, Mhlist, Mhstore, Pick, Refile, Rmm, Sortm}
 use Rattle.command_line.specs.declared.caller.Caller.{Caller}
 
 -- what shows how it ended before it came to a folder, once the words are read
@@ -79,16 +65,11 @@ pub data ShowsEarly : CommandFault → List Deed → Type 0 where
   -- what is stored as the current folder is no folder's name
   wrong_stored : {word : List ℕ} {own : List Deed} → IsWrongStored word own
       → ShowsEarly (fault.Refused (refusal.BadFolder word)) own
-  -- the profile is too long
-  long_profile : {l : ℕ} → ShowsEarly (too_large l) (did (Read Home profile_name LIMIT_BYTES) (Long l) ∷ [])
-  -- the context is
-  long_context : {l : ℕ} {a : Answer}
-      → ShowsEarly (too_large l)
-      (did (Read (Mail (path_by a)) context_name LIMIT_BYTES) (Long l)
-      ∷ (did (Read Home profile_name LIMIT_BYTES) a ∷ []))
+  -- the profile or the context is too long
+  long_entries : {e : CommandFault} {own : List Deed} → ShowsLongEntries e own → ShowsEarly e own
 
--- of a command that only looks at a folder: it tells of the sequences that it read, with these entries of the context; or it is refused as a
--- command that looks, its words by what it read
+-- of a command that only looks at a folder: it tells of the sequences that it read, with these entries of the context;
+-- or it is refused as a command that looks, its words by what it read
 abbrev pub ShowsToldTask : ℕ → List ℕ → Task → List NamedValue → Result (List ℕ) CommandFault → List Deed → Type 0
 ShowsToldTask run path t context (Ok said) own = TellsFolder path t context said own
 ShowsToldTask run path t context (Err e) own = ShowsCommandFault run e own × ShowsListing path t context e own
@@ -141,23 +122,32 @@ ShowsTask run profile context folder words r own true = ShowsPacking run (path_o
 ShowsTask run profile context folder words r own false =
     ShowsTelling run (path_of profile) (tell_job folder words profile) context r own words.specs
 
+-- of a command that tells nothing: at its end this holds, and it said nothing; or this shows its fault
+abbrev pub ShowsSilent : (List Deed → Type 0) → (CommandFault → List Deed → Type 0) → Result (List ℕ) CommandFault
+    → List Deed → Type 0
+ShowsSilent done faults (Ok said) own = done own × (said ≡ [])
+ShowsSilent done faults (Err e) own = faults e own
+
 -- `rmm` on this folder: at its end it had removed the messages that the job's words choose, and said nothing; or this
 -- shows its fault
 abbrev pub ShowsRemoving : ℕ → List ℕ → RmmJob → Result (List ℕ) CommandFault → List Deed → Type 0
-ShowsRemoving run path job (Ok said) own = HasRemovedChosen run path job own × (said ≡ [])
-ShowsRemoving run path job (Err e) own = ShowsEnd run path job.folder (rmm_answers job) e own
+ShowsRemoving run path job =
+    ShowsSilent (HasRemovedChosen run path job) (ShowsEnd run path job.folder (rmm_answers job))
 
 -- `anno` on this folder: at its end it had put each message that the job's words choose anew, with the job's lines in
 -- front, and said nothing; or this shows its fault
 abbrev pub ShowsNoting : ℕ → List ℕ → AnnoJob → Result (List ℕ) CommandFault → List Deed → Type 0
-ShowsNoting run path job (Ok said) own = HasNotedChosen run path job own × (said ≡ [])
-ShowsNoting run path job (Err e) own = ShowsAnno run path job e own
+ShowsNoting run path job = ShowsSilent (HasNotedChosen run path job) (ShowsAnno run path job)
 
 -- `sortm` on this folder: at its end the messages that the job's words choose had changed places so that they stand in
 -- order, and it said nothing; or this shows its fault
 abbrev pub ShowsSorting : ℕ → List ℕ → SortJob → Result (List ℕ) CommandFault → List Deed → Type 0
-ShowsSorting run path job (Ok said) own = HasSortedChosen run path job own × (said ≡ [])
-ShowsSorting run path job (Err e) own = ShowsSort run path job e own
+ShowsSorting run path job = ShowsSilent (HasSortedChosen run path job) (ShowsSort run path job)
+
+-- `refile` from this folder: at its end it had brought each message that the job's words choose to all folders that
+-- they name, and said nothing; or this shows its fault
+abbrev pub ShowsRefiling : ℕ → List ℕ → RefileJob → Result (List ℕ) CommandFault → List Deed → Type 0
+ShowsRefiling run path job = ShowsSilent (HasRefiledChosen run path job) (ShowsRefile run path job)
 
 -- `mhlist` on this folder: at its end it told the parts of the messages that the job's words choose, by what it read
 -- and by these entries of the context; or it is refused as a command that looks, or since a message lacks a part, and
@@ -178,121 +168,54 @@ ShowsStoringParts run path job context (Ok said) own = TellsFiles run path job c
 ShowsStoringParts run path job context (Err e) own =
     (ShowsCommandFault run e own ⊎ (IsNoStoring e ⊎ ShowsStoring run e own)) × ShowsRefused run path job context e own
 
--- `refile` from this folder: at its end it had brought each message that the job's words choose to all folders that
--- they name, and said nothing; or this shows its fault
-abbrev pub ShowsRefiling : ℕ → List ℕ → RefileJob → Result (List ℕ) CommandFault → List Deed → Type 0
-ShowsRefiling run path job (Ok said) own = HasRefiledChosen run path job own × (said ≡ [])
-ShowsRefiling run path job (Err e) own = ShowsRefile run path job e own
-
--- the words of `mark`, the context or the profile name this folder, and this shows how it ended there
-abbrev pub ShowsMark : ℕ → List NamedValue → List NamedValue → List ℕ → Result (List ℕ) CommandFault → List Deed
-    → Result MarkWords Ended → Type 0
-ShowsMark run profile context folder r own (Ok words) =
-    (folder_of words.folder context profile ≡ Ok folder)
-    × ShowsMarking run (path_of profile) (mark_job folder words profile) context r own words.act
-ShowsMark run profile context folder r own (Err x) = ⊥
-
--- the same of `pick`
-abbrev pub ShowsPick : ℕ → List NamedValue → List NamedValue → List ℕ → Result (List ℕ) CommandFault → List Deed
-    → Result PickWords Ended → Type 0
-ShowsPick run profile context folder r own (Ok words) =
-    (folder_of words.folder context profile ≡ Ok folder)
-    × ShowsPickJob run (path_of profile) (pick_job folder words profile) context r own words.marks
-ShowsPick run profile context folder r own (Err x) = ⊥
-
--- of `folder`
-abbrev pub ShowsTell : ℕ → List NamedValue → List NamedValue → List ℕ → Result (List ℕ) CommandFault → List Deed
-    → Result FolderWords Ended → Type 0
-ShowsTell run profile context folder r own (Ok words) =
-    (folder_of words.folder context profile ≡ Ok folder)
-    × ShowsTask run profile context folder words r own words.pack
-ShowsTell run profile context folder r own (Err x) = ⊥
-
--- of `rmm`
-abbrev pub ShowsRmm : ℕ → List NamedValue → List NamedValue → List ℕ → Result (List ℕ) CommandFault → List Deed
-    → Result RmmWords Ended → Type 0
-ShowsRmm run profile context folder r own (Ok words) =
-    (folder_of words.folder context profile ≡ Ok folder)
-    × ShowsRemoving run (path_of profile) (rmm_job folder words profile) r own
-ShowsRmm run profile context folder r own (Err x) = ⊥
-
--- of `anno`
-abbrev pub ShowsAnnoWords : ℕ → List NamedValue → List NamedValue → List ℕ → Result (List ℕ) CommandFault → List Deed
-    → Result AnnoWords Ended → Type 0
-ShowsAnnoWords run profile context folder r own (Ok words) =
-    (folder_of words.folder context profile ≡ Ok folder)
-    × ShowsNoting run (path_of profile) (anno_job folder words profile) r own
-ShowsAnnoWords run profile context folder r own (Err x) = ⊥
-
--- of `sortm`
-abbrev pub ShowsSortWords : ℕ → List NamedValue → List NamedValue → List ℕ → Result (List ℕ) CommandFault → List Deed
-    → Result SortWords Ended → Type 0
-ShowsSortWords run profile context folder r own (Ok words) =
-    (folder_of words.folder context profile ≡ Ok folder)
-    × ShowsSorting run (path_of profile) (sort_job folder words profile) r own
-ShowsSortWords run profile context folder r own (Err x) = ⊥
-
--- of `mhlist`
-abbrev pub ShowsListWords : ℕ → List NamedValue → List NamedValue → List ℕ → Result (List ℕ) CommandFault → List Deed
-    → Result ListWords Ended → Type 0
-ShowsListWords run profile context folder r own (Ok words) =
-    (folder_of words.folder context profile ≡ Ok folder)
-    × ShowsListingParts run (path_of profile) (list_job folder words profile) context r own
-ShowsListWords run profile context folder r own (Err x) = ⊥
-
--- of `mhstore`
-abbrev pub ShowsStoreWords : ℕ → List NamedValue → List NamedValue → List ℕ → Result (List ℕ) CommandFault → List Deed
-    → Result StoreWords Ended → Type 0
-ShowsStoreWords run profile context folder r own (Ok words) =
-    (folder_of words.folder context profile ≡ Ok folder)
-    × ShowsStoringParts run (path_of profile) (store_job folder words profile) context r own
-ShowsStoreWords run profile context folder r own (Err x) = ⊥
-
--- and of `refile`, with the folder that messages leave or are copied from
-abbrev pub ShowsRefileWords : ℕ → List NamedValue → List NamedValue → List ℕ → Result (List ℕ) CommandFault → List Deed
-    → Result RefileWords Ended → Type 0
-ShowsRefileWords run profile context folder r own (Ok words) =
-    (folder_of words.source context profile ≡ Ok folder)
-    × ShowsRefiling run (path_of profile) (refile_job folder words profile) r own
-ShowsRefileWords run profile context folder r own (Err x) = ⊥
+-- the words, the context or the profile name this folder, and this shows how the command ended there
+abbrev pub ShowsOn : {W : Type 0} → List NamedValue → List NamedValue → List ℕ → Result W Ended
+    → (W → Option (List ℕ)) → (W → Type 0) → Type 0
+ShowsOn profile context folder value named_in shows =
+    OfSaid value (λ said. (folder_of (named_in said) context profile ≡ Ok folder) × shows said)
 
 -- what `inc` is to do is to take new mail into this folder; and this shows how it ended there, which writes of messages
 -- what the words name, or what the format makes of them that the run has read from its file
-abbrev pub ShowsIncJob : ℕ → List NamedValue → List ℕ → Result (List ℕ) CommandFault → List Deed → Result IncAsked Ended
-    → Type 0
-ShowsIncJob run profile folder r own (Ok asked) =
+abbrev pub ShowsIncJob : ℕ → List NamedValue → List ℕ → Result (List ℕ) CommandFault → List Deed → IncAsked → Type 0
+ShowsIncJob run profile folder r own asked =
     (folder ≡ asked.folder)
     × ((spoken : Standing → Writing) × WritesAs asked.telling spoken own
     × ShowsIncorporating run (path_of profile) (job_writing asked spoken) r own)
-ShowsIncJob run profile folder r own (Err x) = ⊥
 
 -- by the command's name
 abbrev pub ShowsNamed : ℕ → Caller → List NamedValue → List NamedValue → List ℕ → Result (List ℕ) CommandFault
     → List Deed
     → List (List ℕ) → Option CommandName → Type 0
-ShowsNamed run caller profile context folder r own words None = ⊥
 ShowsNamed run caller profile context folder r own words (Some Inc) =
-    ShowsIncJob run profile folder r own (job_by caller profile (inc_said profile (map chars words)))
-ShowsNamed run caller profile context folder r own words (Some Scan) = ⊥
+    OfSaid (job_by caller profile (inc_said profile (map chars words))) (ShowsIncJob run profile folder r own)
 ShowsNamed run caller profile context folder r own words (Some Mark) =
-    ShowsMark run profile context folder r own (mark_said profile (map chars words))
+    ShowsOn profile context folder (mark_said profile (map chars words)) (λ said. said.folder)
+    (λ said. ShowsMarking run (path_of profile) (mark_job folder said profile) context r own said.act)
 ShowsNamed run caller profile context folder r own words (Some Pick) =
-    ShowsPick run profile context folder r own (picked_by caller profile (map chars words))
+    ShowsOn profile context folder (picked_by caller profile (map chars words)) (λ said. said.folder)
+    (λ said. ShowsPickJob run (path_of profile) (pick_job folder said profile) context r own said.marks)
 ShowsNamed run caller profile context folder r own words (Some Refile) =
-    ShowsRefileWords run profile context folder r own (refile_said profile (map chars words))
+    ShowsOn profile context folder (refile_said profile (map chars words)) (λ said. said.source)
+    (λ said. ShowsRefiling run (path_of profile) (refile_job folder said profile) r own)
 ShowsNamed run caller profile context folder r own words (Some Rmm) =
-    ShowsRmm run profile context folder r own (rmm_said profile (map chars words))
+    ShowsOn profile context folder (rmm_said profile (map chars words)) (λ said. said.folder)
+    (λ said. ShowsRemoving run (path_of profile) (rmm_job folder said profile) r own)
 ShowsNamed run caller profile context folder r own words (Some FolderCommand) =
-    ShowsTell run profile context folder r own (tell_said profile (map chars words))
+    ShowsOn profile context folder (tell_said profile (map chars words)) (λ said. said.folder)
+    (λ said. ShowsTask run profile context folder said r own said.pack)
 ShowsNamed run caller profile context folder r own words (Some Anno) =
-    ShowsAnnoWords run profile context folder r own (annotated_by caller profile (map chars words))
+    ShowsOn profile context folder (annotated_by caller profile (map chars words)) (λ said. said.folder)
+    (λ said. ShowsNoting run (path_of profile) (anno_job folder said profile) r own)
 ShowsNamed run caller profile context folder r own words (Some Sortm) =
-    ShowsSortWords run profile context folder r own (sort_said profile (map chars words))
+    ShowsOn profile context folder (sort_said profile (map chars words)) (λ said. said.folder)
+    (λ said. ShowsSorting run (path_of profile) (sort_job folder said profile) r own)
 ShowsNamed run caller profile context folder r own words (Some Mhlist) =
-    ShowsListWords run profile context folder r own (list_said profile (map chars words))
+    ShowsOn profile context folder (list_said profile (map chars words)) (λ said. said.folder)
+    (λ said. ShowsListingParts run (path_of profile) (list_job folder said profile) context r own)
 ShowsNamed run caller profile context folder r own words (Some Mhstore) =
-    ShowsStoreWords run profile context folder r own (store_said profile (map chars words))
-ShowsNamed run caller profile context folder r own words (Some Mhbuild) = ⊥
+    ShowsOn profile context folder (store_said profile (map chars words)) (λ said. said.folder)
+    (λ said. ShowsStoringParts run (path_of profile) (store_job folder said profile) context r own)
+ShowsNamed run caller profile context folder r own words other = ⊥
 
 -- by the command that the first word names
 abbrev pub ShowsWords : ℕ → Caller → List NamedValue → List NamedValue → List ℕ → Result (List ℕ) CommandFault
@@ -305,18 +228,12 @@ ShowsWords run caller profile context folder r own (word ∷ words) =
 -- the call read the profile and then the context of the mail directory that it names; by these, the words and the
 -- user's name the command was on this folder, and the later deeds show how it ended there: done, with this output, or
 -- by this fault
-pub record ShowsOnFolder (run : ℕ) (caller : Caller) (words : List (List ℕ)) (r : Result (List ℕ) CommandFault)
-    (own : List Deed) : Type 0 where
-  pub profile : Answer
-  pub context : Answer
-  pub folder : List ℕ
-  pub newer : List Deed
-  pub begun :
-      own
-      ≡ newer
-      ++ did (Read (Mail (path_by profile)) context_name LIMIT_BYTES) context
-      ∷ did (Read Home profile_name LIMIT_BYTES) profile ∷ []
-  pub shows : ShowsWords run caller (entries_by profile) (entries_by context) folder r own words
+abbrev pub ShowsOnFolder : ℕ → Caller → List (List ℕ) → Result (List ℕ) CommandFault → List Deed → Type 0
+ShowsOnFolder run caller words r own =
+    ByReadings
+    (λ profile context. (folder : List ℕ)
+    × ShowsWords run caller (entries_by profile) (entries_by context) folder r own words)
+    own
 
 -- what shows each fault of a command that may begin a folder: its words are refused, or it ended early, or on its
 -- folder
@@ -324,118 +241,75 @@ abbrev pub ShowsFault : ℕ → Caller → List (List ℕ) → CommandFault → 
 ShowsFault run caller words e own =
     IsRefusedByWords caller words e own ⊎ (ShowsEarly e own ⊎ ShowsOnFolder run caller words (Err e) own)
 
--- the words name `inc`, and this is what it is to do by them
-abbrev pub TakesInBy : Caller → List NamedValue → List (List ℕ) → IncAsked → Type 0
-TakesInBy caller profile [] asked = ⊥
-TakesInBy caller profile (word ∷ words) asked =
-    (named word ≡ Some Inc) × (job_by caller profile (inc_said profile (map chars words)) ≡ Ok asked)
-
 -- `inc` tells while it goes on: the call read the profile and the context, and this is a text of the heading and of
 -- lines of messages that it has stored, as the words say or the file that they name
-pub record TellsNewMail (run : ℕ) (caller : Caller) (words : List (List ℕ)) (text : List ℕ)
-    (own : List Deed) : Type 0 where
-  pub profile : Answer
-  pub context : Answer
-  pub newer : List Deed
-  pub begun :
-      own
-      ≡ newer
-      ++ did (Read (Mail (path_by profile)) context_name LIMIT_BYTES) context
-      ∷ did (Read Home profile_name LIMIT_BYTES) profile ∷ []
-  pub asked : IncAsked
-  pub by_words : TakesInBy caller (entries_by profile) words asked
-  pub spoken : Standing → Writing
-  pub writes : WritesAs asked.telling spoken own
-  pub told : IsTextOfNew run (path_by profile) (job_writing asked spoken) own text
+abbrev pub TellsNewMail : ℕ → Caller → List (List ℕ) → List ℕ → List Deed → Type 0
+TellsNewMail run caller words text own =
+    ByReadings
+    (λ profile context. (asked : IncAsked) × (spoken : Standing → Writing)
+    × AreWordsOf Inc
+    (λ rest. job_by caller (entries_by profile) (inc_said (entries_by profile) rest) ≡ Ok asked) words
+    × WritesAs asked.telling spoken own
+    × IsTextOfNew run (path_by profile) (job_writing asked spoken) own text)
+    own
+
+-- the words, the context or the profile name a folder, and this is the job there
+abbrev pub IsJobOn : {W J : Type 0} → List NamedValue → List NamedValue → J → Result W Ended → (W → Option (List ℕ))
+    → (List ℕ → W → List NamedValue → J) → Type 0
+IsJobOn profile context job value named_in job_on =
+    OfSaid value
+    (λ said. (folder : List ℕ) × (folder_of (named_in said) context profile ≡ Ok folder)
+    × (job ≡ job_on folder said profile))
 
 -- of a `pick`, by what it marks: no message was found, and this text says so
 abbrev pub TellsNoneBy : ℕ → List ℕ → PickJob → List NamedValue → List ℕ → List Deed → Option PickMarks → Type 0
 TellsNoneBy run path job context text own None = TellsNone (HasFoundListed path job context) job text own
 TellsNoneBy run path job context text own (Some p) = TellsNone (HasFound run path job) job text own
 
--- the words of `pick`, the context or the profile name a folder, and this is its job there
-abbrev pub IsPickOn : List NamedValue → List NamedValue → PickJob → Result PickWords Ended → Type 0
-IsPickOn profile context job (Ok words) =
-    (folder : List ℕ) × (folder_of words.folder context profile ≡ Ok folder) × (job ≡ pick_job folder words profile)
-IsPickOn profile context job (Err x) = ⊥
-
 -- the words name `pick`, and this is its job by them
 abbrev pub PicksBy : Caller → List NamedValue → List NamedValue → List (List ℕ) → PickJob → Type 0
-PicksBy caller profile context [] job = ⊥
-PicksBy caller profile context (word ∷ words) job =
-    (named word ≡ Some Pick) × IsPickOn profile context job (picked_by caller profile (map chars words))
+PicksBy caller profile context words job =
+    AreWordsOf Pick
+    (λ rest. IsJobOn profile context job (picked_by caller profile rest) (λ said. said.folder) pick_job) words
 
 -- `pick` says that no message matches before it is refused: the call read the profile and the context, and this text
 -- says so
-pub record TellsNoMatch (run : ℕ) (caller : Caller) (words : List (List ℕ)) (text : List ℕ)
-    (own : List Deed) : Type 0 where
-  pub profile : Answer
-  pub context : Answer
-  pub newer : List Deed
-  pub begun :
-      own
-      ≡ newer
-      ++ did (Read (Mail (path_by profile)) context_name LIMIT_BYTES) context
-      ∷ did (Read Home profile_name LIMIT_BYTES) profile ∷ []
-  pub job : PickJob
-  pub by_words : PicksBy caller (entries_by profile) (entries_by context) words job
-  pub told : TellsNoneBy run (path_by profile) job (entries_by context) text own job.marks
-
--- the words of `mhlist`, the context or the profile name a folder, and this is its job there
-abbrev pub IsListOn : List NamedValue → List NamedValue → ListJob → Result ListWords Ended → Type 0
-IsListOn profile context job (Ok words) =
-    (folder : List ℕ) × (folder_of words.folder context profile ≡ Ok folder) × (job ≡ list_job folder words profile)
-IsListOn profile context job (Err x) = ⊥
+abbrev pub TellsNoMatch : ℕ → Caller → List (List ℕ) → List ℕ → List Deed → Type 0
+TellsNoMatch run caller words text own =
+    ByReadings
+    (λ profile context. (job : PickJob) × PicksBy caller (entries_by profile) (entries_by context) words job
+    × TellsNoneBy run (path_by profile) job (entries_by context) text own job.marks)
+    own
 
 -- the words name `mhlist`, and this is its job by them
 abbrev pub ListsBy : List NamedValue → List NamedValue → List (List ℕ) → ListJob → Type 0
-ListsBy profile context [] job = ⊥
-ListsBy profile context (word ∷ words) job =
-    (named word ≡ Some Mhlist) × IsListOn profile context job (list_said profile (map chars words))
+ListsBy profile context words job =
+    AreWordsOf Mhlist
+    (λ rest. IsJobOn profile context job (list_said profile rest) (λ said. said.folder) list_job) words
 
 -- `mhlist` tells while it goes on: the call read the profile and the context, and this is the text of the header and of
 -- the rows of the first messages that its words choose, which it has read
-pub record TellsParts (run : ℕ) (caller : Caller) (words : List (List ℕ)) (text : List ℕ)
-    (own : List Deed) : Type 0 where
-  pub profile : Answer
-  pub context : Answer
-  pub newer : List Deed
-  pub begun :
-      own
-      ≡ newer
-      ++ did (Read (Mail (path_by profile)) context_name LIMIT_BYTES) context
-      ∷ did (Read Home profile_name LIMIT_BYTES) profile ∷ []
-  pub job : ListJob
-  pub by_words : ListsBy (entries_by profile) (entries_by context) words job
-  pub told : TellsFirstRows (path_by profile) job (entries_by context) text own
-
--- the words of `mhstore`, the context or the profile name a folder, and this is its job there
-abbrev pub IsStoreOn : List NamedValue → List NamedValue → StoreJob → Result StoreWords Ended → Type 0
-IsStoreOn profile context job (Ok words) =
-    (folder : List ℕ) × (folder_of words.folder context profile ≡ Ok folder) × (job ≡ store_job folder words profile)
-IsStoreOn profile context job (Err x) = ⊥
+abbrev pub TellsParts : List (List ℕ) → List ℕ → List Deed → Type 0
+TellsParts words text own =
+    ByReadings
+    (λ profile context. (job : ListJob) × ListsBy (entries_by profile) (entries_by context) words job
+    × TellsFirstRows (path_by profile) job (entries_by context) text own)
+    own
 
 -- the words name `mhstore`, and this is its job by them
 abbrev pub StoresBy : List NamedValue → List NamedValue → List (List ℕ) → StoreJob → Type 0
-StoresBy profile context [] job = ⊥
-StoresBy profile context (word ∷ words) job =
-    (named word ≡ Some Mhstore) × IsStoreOn profile context job (store_said profile (map chars words))
+StoresBy profile context words job =
+    AreWordsOf Mhstore
+    (λ rest. IsJobOn profile context job (store_said profile rest) (λ said. said.folder) store_job) words
 
 -- `mhstore` tells while it goes on: the call read the profile and the context, and this is the text of the lines of the
 -- first files that it is to store, which it has stored
-pub record TellsFilesStored (run : ℕ) (caller : Caller) (words : List (List ℕ)) (text : List ℕ)
-    (own : List Deed) : Type 0 where
-  pub profile : Answer
-  pub context : Answer
-  pub newer : List Deed
-  pub begun :
-      own
-      ≡ newer
-      ++ did (Read (Mail (path_by profile)) context_name LIMIT_BYTES) context
-      ∷ did (Read Home profile_name LIMIT_BYTES) profile ∷ []
-  pub job : StoreJob
-  pub by_words : StoresBy (entries_by profile) (entries_by context) words job
-  pub told : TellsFirstFiles run (path_by profile) job (entries_by context) text own
+abbrev pub TellsFilesStored : ℕ → List (List ℕ) → List ℕ → List Deed → Type 0
+TellsFilesStored run words text own =
+    ByReadings
+    (λ profile context. (job : StoreJob) × StoresBy (entries_by profile) (entries_by context) words job
+    × TellsFirstFiles run (path_by profile) job (entries_by context) text own)
+    own
 
 -- by what these deeds show, this is the text of the command on its folder: that of the sequences that `mark` made or
 -- read, where it lists; what `folder` tells; that of the messages that `pick` found, or that it found none; or what
@@ -444,4 +318,4 @@ abbrev pub TellsOnFolder : ℕ → Caller → List (List ℕ) → List ℕ → L
 TellsOnFolder run caller words text own =
     ShowsOnFolder run caller words (Ok text) own
     ⊎ (TellsNewMail run caller words text own ⊎ (TellsNoMatch run caller words text own
-    ⊎ (TellsParts run caller words text own ⊎ TellsFilesStored run caller words text own)))
+    ⊎ (TellsParts words text own ⊎ TellsFilesStored run words text own)))

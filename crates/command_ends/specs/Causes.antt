@@ -1,5 +1,5 @@
 -- What shows how a command ended: its run's own deeds in the call, the newest first.
-use Rattle.std.specs.Prelude.{◌≡◌, ◌⊎◌, ℕ, false, List, [], ◌∷◌}
+use Rattle.std.specs.Prelude.{◌≡◌, ◌⊎◌, ◌++◌, ℕ, false, List, [], ◌∷◌}
 use Rattle.mh_base.specs.Folders.{is_folder_name, without_plus}
 use Rattle.mh_base.specs.Entries.{entry_text}
 use Rattle.mh_base.specs.declared.entry.Entry.TheVariants.{Sequences}
@@ -16,7 +16,29 @@ use Rattle.step_plans.specs.Endings.{IsHeld, IsMeddled, IsLongRead, IsLongText}
 use Rattle.step_plans.specs.declared.command_fault.CommandFault.{CommandFault}
 use Rattle.step_plans.specs.declared.command_fault.CommandFault.TheVariants as fault
 use Rattle.command_stages.specs.Current.{current_change}
+use Rattle.command_stages.specs.Texts.{too_large}
 use Rattle.command_line.specs.Profile.{entries_by, path_by, profile_name, stored_of}
+
+-- the call read the profile and then the context of the mail directory that it names, and by the two answers this holds
+pub record ByReadings (Holds : Answer → Answer → Type 0) (own : List Deed) : Type 0 where
+  pub profile : Answer
+  pub context : Answer
+  pub newer : List Deed
+  pub begun :
+      own
+      ≡ newer
+      ++ did (step.Read (Mail (path_by profile)) context_name LIMIT_BYTES) context
+      ∷ did (step.Read Home profile_name LIMIT_BYTES) profile ∷ []
+  pub holds : Holds profile context
+
+-- the profile or the context is too long
+pub data ShowsLongEntries : CommandFault → List Deed → Type 0 where
+  long_profile : {l : ℕ}
+      → ShowsLongEntries (too_large l) (did (step.Read Home profile_name LIMIT_BYTES) (answer.Long l) ∷ [])
+  long_context : {l : ℕ} {a : Answer}
+      → ShowsLongEntries (too_large l)
+      (did (step.Read (Mail (path_by a)) context_name LIMIT_BYTES) (answer.Long l)
+      ∷ (did (step.Read Home profile_name LIMIT_BYTES) a ∷ []))
 
 -- the profile was read, and then the context of the mail directory that it names, and that is all; by these this word
 -- is the current folder's stored name, or else the profile's or `inbox`, and it is the name of no folder

@@ -24,12 +24,22 @@ use Rattle.build_words.specs.BuildWords.{build_said}
 use Rattle.store_words.specs.StoreWords.{store_said}
 use Rattle.command_line.specs.Command.{annotated_by, no_command, picked_by}
 use Rattle.command_line.specs.CommandNames.{named}
-use Rattle.command_line.specs.Incorporating.{IncAsked, job_by}
-use Rattle.command_line.specs.Looking.{InFile, Known, ScanAsked, Telling, scan_asked}
+use Rattle.command_line.specs.Incorporating.{job_by}
+use Rattle.command_line.specs.Looking.{InFile, Known, Telling, scan_asked}
 use Rattle.command_line.specs.Profile.{entries_by, path_by, profile_name}
 use Rattle.command_line.specs.declared.caller.Caller.{Caller}
 use Rattle.command_line.specs.declared.name.CommandName.{CommandName}
 use Rattle.command_line.specs.declared.name.CommandName.TheVariants.{Anno, Folder as FolderCommand, Inc, Mark, Mhbuild, Mhlist, Mhstore, Pick, Refile, Rmm, Scan, Sortm}
+
+-- the words are not refused, and this holds of what they say
+abbrev pub OfSaid : {W : Type 0} → Result W Ended → (W → Type 0) → Type 0
+OfSaid (Ok said) so = so said
+OfSaid (Err x) so = ⊥
+
+-- the words of a call name this command, and this holds of those behind its name
+abbrev pub AreWordsOf : CommandName → (List (List ℕ) → Type 0) → List (List ℕ) → Type 0
+AreWordsOf name so [] = ⊥
+AreWordsOf name so (word ∷ words) = (named word ≡ Some name) × so (map chars words)
 
 -- the refusal, where there is one
 abbrev pub refusal_in : {A : Type 0} → Result A Ended → Option CommandFault
@@ -63,29 +73,18 @@ abbrev pub file_in : Telling → Option FilePath
 file_in (Known spoken) = None
 file_in (InFile path sight) = Some path
 
-abbrev pub scan_file : Result ScanAsked Ended → Option FilePath
-scan_file (Ok asked) = file_in asked.telling
-scan_file (Err e) = None
-
-abbrev pub inc_file : Result IncAsked Ended → Option FilePath
-inc_file (Ok asked) = file_in asked.telling
-inc_file (Err e) = None
+-- that of what is asked, where the words are not refused
+abbrev pub asked_file : {A : Type 0} → Result A Ended → (A → Telling) → Option FilePath
+asked_file (Ok asked) telling = file_in (telling asked)
+asked_file (Err e) telling = None
 
 -- the one that the words behind a command's name name
 abbrev pub named_file : Caller → List NamedValue → List (List ℕ) → Option CommandName → Option FilePath
-named_file caller profile words None = None
-named_file caller profile words (Some Inc) = inc_file (job_by caller profile (inc_said profile (map chars words)))
-named_file caller profile words (Some Scan) = scan_file (scan_asked caller (scan_said profile (map chars words)))
-named_file caller profile words (Some Mark) = None
-named_file caller profile words (Some Pick) = None
-named_file caller profile words (Some Refile) = None
-named_file caller profile words (Some Rmm) = None
-named_file caller profile words (Some FolderCommand) = None
-named_file caller profile words (Some Anno) = None
-named_file caller profile words (Some Sortm) = None
-named_file caller profile words (Some Mhlist) = None
-named_file caller profile words (Some Mhstore) = None
-named_file caller profile words (Some Mhbuild) = None
+named_file caller profile words (Some Inc) =
+    asked_file (job_by caller profile (inc_said profile (map chars words))) (λ asked. asked.telling)
+named_file caller profile words (Some Scan) =
+    asked_file (scan_asked caller (scan_said profile (map chars words))) (λ asked. asked.telling)
+named_file caller profile words other = None
 
 abbrev pub words_file : Caller → List NamedValue → List (List ℕ) → Option FilePath
 words_file caller profile [] = None

@@ -25,31 +25,16 @@ use Rattle.command_line.specs.Command.{build_begun, build_job, by_words, command
 use Rattle.command_line.specs.CommandNames.{command_of, named}
 use Rattle.command_line.specs.Profile.{path_of, profile_name}
 use Rattle.command_line.specs.declared.name.CommandName.{CommandName}
-use Rattle.command_line.specs.declared.name.CommandName.TheVariants.{Anno, Folder as FolderCommand, Inc, Mark, Mhbuild, Mhlist, Mhstore, Pick, Refile, Rmm, Scan, Sortm}
+use Rattle.command_line.specs.declared.name.CommandName.TheVariants.{Mhbuild}
 use Rattle.command_line.specs.declared.caller.Caller.{Caller}
 
 -- the plans in which this was heard
 unfoldable pub build_given : Heard → ℕ → List NamedValue → BuildWords → Commanded Unit
 build_given heard run profile words = context_entered (Mail (path_of profile)) >>= (λ entered. Recall (λ h. mhbuild_given heard run (path_of profile) (build_job words (entries_seen h.context) profile)))
 
-abbrev pub build_given_by : Heard → ℕ → List NamedValue → Result BuildWords Ended → Ending Unit
-build_given_by heard run profile (Ok words) = lifted plain (build_given heard run profile words)
-build_given_by heard run profile (Err e) = Return (Err e)
-
 abbrev pub word_given : Heard → ℕ → Caller → List NamedValue → List ℕ → List (List ℕ) → Option CommandName → Ending Unit
-word_given heard run caller profile word words None = word_by run caller profile word words None
-word_given heard run caller profile word words (Some Inc) = word_by run caller profile word words (Some Inc)
-word_given heard run caller profile word words (Some Scan) = word_by run caller profile word words (Some Scan)
-word_given heard run caller profile word words (Some Mark) = word_by run caller profile word words (Some Mark)
-word_given heard run caller profile word words (Some Pick) = word_by run caller profile word words (Some Pick)
-word_given heard run caller profile word words (Some Refile) = word_by run caller profile word words (Some Refile)
-word_given heard run caller profile word words (Some Rmm) = word_by run caller profile word words (Some Rmm)
-word_given heard run caller profile word words (Some FolderCommand) = word_by run caller profile word words (Some FolderCommand)
-word_given heard run caller profile word words (Some Anno) = word_by run caller profile word words (Some Anno)
-word_given heard run caller profile word words (Some Sortm) = word_by run caller profile word words (Some Sortm)
-word_given heard run caller profile word words (Some Mhlist) = word_by run caller profile word words (Some Mhlist)
-word_given heard run caller profile word words (Some Mhstore) = word_by run caller profile word words (Some Mhstore)
-word_given heard run caller profile word words (Some Mhbuild) = build_given_by heard run profile (build_said profile (map chars words))
+word_given heard run caller profile word words (Some Mhbuild) = by_words (build_given heard run profile) (build_said profile (map chars words))
+word_given heard run caller profile word words other = word_by run caller profile word words other
 
 abbrev pub given_by : Heard → ℕ → Caller → List NamedValue → List (List ℕ) → Ending Unit
 given_by heard run caller profile [] = Return (Err (no_command None))
@@ -108,13 +93,13 @@ module _ (run : ℕ) (profile : List NamedValue) (words : BuildWords) where
       (heeds_bind IsNotDone entered (λ r. bind (after next r) ended) (λ heard r. bind (after (next_given heard) r) ended) (plain_entered (Mail (path_of profile))) by_entered)
 
 module _ (run : ℕ) (caller : Caller) where
-  by_said : (profile : List NamedValue) (value : Result BuildWords Ended) → Heeds IsNotDone (by_words (build_begun run profile) value) (λ heard. build_given_by heard run profile value)
+  by_said : (profile : List NamedValue) (value : Result BuildWords Ended) → Heeds IsNotDone (by_words (build_begun run profile) value) (λ heard. by_words (build_given heard run profile) value)
   by_said profile (Ok words) = build_heeds run profile words
   by_said profile (Err e) = plain_heeds IsNotDone (Return (Err e)) (plain_return (Err e))
 
-  by_words : (words : List (List ℕ)) → command_of words ≡ Some Mhbuild → (profile : List NamedValue) → Heeds IsNotDone (command_by run caller profile words) (λ heard. given_by heard run caller profile words)
-  by_words [] is profile = cc (is)
-  by_words (word ∷ words) is profile = subst (λ n. Heeds IsNotDone (word_by run caller profile word words n) (λ heard. word_given heard run caller profile word words n)) (sym is) (by_said profile (build_said profile (map chars words)))
+  by_command : (words : List (List ℕ)) → command_of words ≡ Some Mhbuild → (profile : List NamedValue) → Heeds IsNotDone (command_by run caller profile words) (λ heard. given_by heard run caller profile words)
+  by_command [] is profile = cc (is)
+  by_command (word ∷ words) is profile = subst (λ n. Heeds IsNotDone (word_by run caller profile word words n) (λ heard. word_given heard run caller profile word words n)) (sym is) (by_said profile (build_said profile (map chars words)))
 
   -- a run of `mhbuild` is a run of the plan in which this was heard
   pub command_heeds : (words : List (List ℕ)) → command_of words ≡ Some Mhbuild → Heeds IsNotDone (command run caller words) (λ heard. command_given heard run caller words)
@@ -124,24 +109,13 @@ module _ (run : ℕ) (caller : Caller) where
       (plain_lifted plain (text_read Home profile_name) (plain_text_read Home profile_name)) go
     where
       go : (r : Result (List ℕ) Ended) → Heeds IsNotDone (after (λ text. command_by run caller (entries_in text) words) r) (λ heard. after (λ text. given_by heard run caller (entries_in text) words) r)
-      go (Ok text) = by_words words is (entries_in text)
+      go (Ok text) = by_command words is (entries_in text)
       go (Err e) = plain_heeds IsNotDone (Return (Err e)) (plain_return (Err e))
 
   -- another command does not hear
   name_same : (heard : Heard) (profile : List NamedValue) (word : List ℕ) (words : List (List ℕ)) (name : Option CommandName) → name ≢ Some Mhbuild → word_given heard run caller profile word words name ≡ word_by run caller profile word words name
-  name_same heard profile word words None other = refl
-  name_same heard profile word words (Some Inc) other = refl
-  name_same heard profile word words (Some Scan) other = refl
-  name_same heard profile word words (Some Mark) other = refl
-  name_same heard profile word words (Some Pick) other = refl
-  name_same heard profile word words (Some Refile) other = refl
-  name_same heard profile word words (Some Rmm) other = refl
-  name_same heard profile word words (Some FolderCommand) other = refl
-  name_same heard profile word words (Some Anno) other = refl
-  name_same heard profile word words (Some Sortm) other = refl
-  name_same heard profile word words (Some Mhlist) other = refl
-  name_same heard profile word words (Some Mhstore) other = refl
   name_same heard profile word words (Some Mhbuild) other = absurd (other refl)
+  name_same heard profile word words name other = refl
 
   words_same : (heard : Heard) (words : List (List ℕ)) → command_of words ≢ Some Mhbuild → (profile : List NamedValue) → given_by heard run caller profile words ≡ command_by run caller profile words
   words_same heard [] other profile = refl

@@ -43,7 +43,7 @@ use Rattle.command_line.specs.Command.{by_words, command, command_by, context_en
 use Rattle.command_line.specs.CommandNames.{begins_folders, command_of, named}
 use Rattle.command_line.specs.Profile.{folder_of, path_of, profile_name}
 use Rattle.command_line.specs.declared.name.CommandName.{CommandName}
-use Rattle.command_line.specs.declared.name.CommandName.TheVariants.{Anno, Folder as FolderCommand, Inc, Mark, Mhbuild, Mhlist, Mhstore, Pick, Refile, Rmm, Scan, Sortm}
+use Rattle.command_line.specs.declared.name.CommandName.TheVariants.{Scan}
 use Rattle.command_line.specs.declared.caller.Caller.{Caller}
 use Rattle.command_words.specs.Ended.{plain}
 use Rattle.command_words.specs.ScanWords.{scan_said}
@@ -172,18 +172,8 @@ by_nothing run profile (Err e) = asks_none IsUnlinked (Err e)
 
 word_nothing : (run : ℕ) (caller : Caller) (profile : List NamedValue) (word : List ℕ) (words : List (List ℕ)) (name : Option CommandName) → (begins_folders name ≡ false) → LinksNothing (word_by run caller profile word words name)
 word_nothing run caller profile word words None other = asks_none IsUnlinked (Err (no_command (Some word)))
-word_nothing run caller profile word words (Some Inc) other = cc (other)
 word_nothing run caller profile word words (Some Scan) other = by_nothing run profile (scan_asked caller (scan_said profile (map chars words)))
-word_nothing run caller profile word words (Some Mark) other = cc (other)
-word_nothing run caller profile word words (Some Pick) other = cc (other)
-word_nothing run caller profile word words (Some Refile) other = cc (other)
-word_nothing run caller profile word words (Some Rmm) other = cc (other)
-word_nothing run caller profile word words (Some FolderCommand) other = cc (other)
-word_nothing run caller profile word words (Some Anno) other = cc (other)
-word_nothing run caller profile word words (Some Sortm) other = cc (other)
-word_nothing run caller profile word words (Some Mhlist) other = cc (other)
-word_nothing run caller profile word words (Some Mhstore) other = cc (other)
-word_nothing run caller profile word words (Some Mhbuild) other = cc (other)
+word_nothing run caller profile word words name other = cc (other)
 
 named_nothing : (run : ℕ) (caller : Caller) (profile : List NamedValue) (words : List (List ℕ)) → (begins_folders (command_of words) ≡ false) → LinksNothing (command_by run caller profile words)
 named_nothing run caller profile [] other = asks_none IsUnlinked (Err (no_command None))

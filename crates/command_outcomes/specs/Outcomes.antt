@@ -90,6 +90,16 @@ with_context m profile said work (Err e) = refused_at m e
 abbrev pub on_folder : Mailbox → List NamedValue → Option (List ℕ) → FolderWork → Work CommandFault
 on_folder m profile said work = with_context m profile said work (readable (m.context (Mail (path_of profile))))
 
+-- what words come to: the work that they ask for, or the end that they come to
+abbrev pub words_work : {W : Type 0} → Mailbox → (W → Work CommandFault) → Result W Ended → Work Ended
+words_work m works (Ok words) = of_stage (works words)
+words_work m works (Err e) = refused_at m e
+
+-- so the words of a command on a folder, which say what folder, or none
+abbrev pub folder_words_work : {W : Type 0} → Mailbox → List NamedValue → (W → FolderWork) → (W → Option (List ℕ))
+    → Result W Ended → Work Ended
+folder_words_work m profile works said = words_work m (λ words. on_folder m profile (said words) (works words))
+
 -- the format of a file outside the mailbox, where there is one
 abbrev pub format_outside : FilePath → Option (List ℕ) → Result Format CommandFault
 format_outside path None = Err (fault.Refused (NoFile path))
@@ -112,10 +122,6 @@ scans m profile words context folder =
     writing m (λ spoken. scan_work (path_of profile) context (job_of folder words profile spoken) m)
     (written_there m words.telling)
 
-abbrev pub scan_words_work : Mailbox → List NamedValue → Result ScanAsked Ended → Work Ended
-scan_words_work m profile (Ok words) = of_stage (on_folder m profile words.folder (scans m profile words))
-scan_words_work m profile (Err e) = refused_at m e
-
 -- What a command meets that begins a folder: where each message goes that other runs held aside there, and the
 -- context's entries as they are read under the folder's lock, by those that were read before; and its run's number.
 pub record Meeting : Type 0 where
@@ -127,93 +133,65 @@ pub record Meeting : Type 0 where
 abbrev pub alone_meeting : ℕ → Meeting
 alone_meeting run = record { homes = homes_at run; entries = λ es. es; run = run }
 
+-- where each message goes that other runs held aside in this folder
+abbrev pub homes_in : Meeting → Mailbox → List NamedValue → List ℕ → Homes
+homes_in g m profile folder = g.homes (m.folders (Folder (path_of profile) folder))
+
 -- `mark`: what other runs hold aside in the folder goes first
 abbrev pub marks : Meeting → Mailbox → List NamedValue → MarkWords → FolderWork
 marks g m profile words context folder =
-    mark_work (path_of profile) (mark_job folder words profile) (g.entries context)
-    (g.homes (m.folders (Folder (path_of profile) folder))) m
-
-abbrev pub mark_words_work : Meeting → Mailbox → List NamedValue → Result MarkWords Ended → Work Ended
-mark_words_work g m profile (Ok words) = of_stage (on_folder m profile words.folder (marks g m profile words))
-mark_words_work g m profile (Err e) = refused_at m e
+    mark_work (path_of profile) (mark_job folder words profile) (g.entries context) (homes_in g m profile folder) m
 
 -- `pick`: so too where it marks
 abbrev pub picks : Meeting → Mailbox → List NamedValue → PickWords → FolderWork
 picks g m profile words context folder =
-    pick_work (path_of profile) (g.entries context) (g.homes (m.folders (Folder (path_of profile) folder)))
-    (pick_job folder words profile) m
-
-abbrev pub pick_words_work : Meeting → Mailbox → List NamedValue → Result PickWords Ended → Work Ended
-pick_words_work g m profile (Ok words) = of_stage (on_folder m profile words.folder (picks g m profile words))
-pick_words_work g m profile (Err e) = refused_at m e
+    pick_work (path_of profile) (g.entries context) (homes_in g m profile folder) (pick_job folder words profile) m
 
 -- `folder`: so too where words choose messages
 abbrev pub tells : Meeting → Mailbox → List NamedValue → FolderWords → FolderWork
 tells g m profile words context folder =
-    folder_work (path_of profile) (tell_job folder words profile) (g.entries context)
-    (g.homes (m.folders (Folder (path_of profile) folder))) m
+    folder_work (path_of profile) (tell_job folder words profile) (g.entries context) (homes_in g m profile folder) m
 
 -- `folder -pack`: so too
 abbrev pub packs : Meeting → Mailbox → List NamedValue → FolderWork
 packs g m profile context folder =
-    pack_work g.run (path_of profile) (g.entries context) (g.homes (m.folders (Folder (path_of profile) folder)))
-    (pack_job folder) m
+    pack_work g.run (path_of profile) (g.entries context) (homes_in g m profile folder) (pack_job folder) m
 
 -- the one or the other
 abbrev pub tasks : Meeting → Mailbox → List NamedValue → FolderWords → Bool → FolderWork
 tasks g m profile words true = packs g m profile
 tasks g m profile words false = tells g m profile words
 
-abbrev pub tell_words_work : Meeting → Mailbox → List NamedValue → Result FolderWords Ended → Work Ended
-tell_words_work g m profile (Ok words) =
-    of_stage (on_folder m profile words.folder (tasks g m profile words words.pack))
-tell_words_work g m profile (Err e) = refused_at m e
-
 -- `rmm`: so too
 abbrev pub rmms : Meeting → Mailbox → List NamedValue → RmmWords → FolderWork
 rmms g m profile words context folder =
-    rmm_work (path_of profile) (g.entries context) (g.homes (m.folders (Folder (path_of profile) folder)))
-    (rmm_job folder words profile) m
-
-abbrev pub rmm_words_work : Meeting → Mailbox → List NamedValue → Result RmmWords Ended → Work Ended
-rmm_words_work g m profile (Ok words) = of_stage (on_folder m profile words.folder (rmms g m profile words))
-rmm_words_work g m profile (Err e) = refused_at m e
+    rmm_work (path_of profile) (g.entries context) (homes_in g m profile folder) (rmm_job folder words profile) m
 
 -- `anno`: so too
 abbrev pub annos : Meeting → Mailbox → List NamedValue → AnnoWords → FolderWork
 annos g m profile words context folder =
-    anno_work g.run (path_of profile) (g.entries context) (g.homes (m.folders (Folder (path_of profile) folder)))
+    anno_work g.run (path_of profile) (g.entries context) (homes_in g m profile folder)
     (anno_job folder words profile) m
-
-abbrev pub anno_words_work : Meeting → Mailbox → List NamedValue → Result AnnoWords Ended → Work Ended
-anno_words_work g m profile (Ok words) = of_stage (on_folder m profile words.folder (annos g m profile words))
-anno_words_work g m profile (Err e) = refused_at m e
 
 -- `sortm`: so too
 abbrev pub sorts : Meeting → Mailbox → List NamedValue → SortWords → FolderWork
 sorts g m profile words context folder =
-    sort_work g.run (path_of profile) (g.entries context) (g.homes (m.folders (Folder (path_of profile) folder)))
+    sort_work g.run (path_of profile) (g.entries context) (homes_in g m profile folder)
     (sort_job folder words profile) m
 
-abbrev pub sort_words_work : Meeting → Mailbox → List NamedValue → Result SortWords Ended → Work Ended
-sort_words_work g m profile (Ok words) = of_stage (on_folder m profile words.folder (sorts g m profile words))
-sort_words_work g m profile (Err e) = refused_at m e
+-- `refile`: so too in each folder that it begins; one that is missing is empty
+abbrev pub refiles : Meeting → Mailbox → List NamedValue → RefileWords → FolderWork
+refiles g m profile words context folder =
+    refile_work g.run (path_of profile) (g.entries context)
+    (λ name. g.homes (or_empty (m.folders (Folder (path_of profile) name)))) (refile_job folder words profile) m
 
 -- `mhlist`, which looks alone
 abbrev pub lists : Mailbox → List NamedValue → ListWords → FolderWork
 lists m profile words context folder = mhlist_work (path_of profile) context (list_job folder words profile) m
 
-abbrev pub list_words_work : Mailbox → List NamedValue → Result ListWords Ended → Work Ended
-list_words_work m profile (Ok words) = of_stage (on_folder m profile words.folder (lists m profile words))
-list_words_work m profile (Err e) = refused_at m e
-
 -- `mhstore`, which stores files in the current directory besides
 abbrev pub stores : Mailbox → List NamedValue → StoreWords → FolderWork
 stores m profile words context folder = mhstore_work (path_of profile) context (store_job folder words profile) m
-
-abbrev pub store_words_work : Mailbox → List NamedValue → Result StoreWords Ended → Work Ended
-store_words_work m profile (Ok words) = of_stage (on_folder m profile words.folder (stores m profile words))
-store_words_work m profile (Err e) = refused_at m e
 
 -- `mhbuild`, once the context is read
 abbrev pub builds : ℕ → Heard → Mailbox → List NamedValue → BuildWords → Result (List ℕ) CommandFault
@@ -223,65 +201,50 @@ builds run heard m profile words (Ok context) =
     (text_found heard m words.draft) m
 builds run heard m profile words (Err e) = refused_at m e
 
-abbrev pub build_words_work : ℕ → Heard → Mailbox → List NamedValue → Result BuildWords Ended → Work Ended
-build_words_work run heard m profile (Ok words) =
-    of_stage (builds run heard m profile words (readable (m.context (Mail (path_of profile)))))
-build_words_work run heard m profile (Err e) = refused_at m e
-
--- `refile`: so too in each folder that it begins; one that is missing is empty
-abbrev pub refiles : Meeting → Mailbox → List NamedValue → RefileWords → FolderWork
-refiles g m profile words context folder =
-    refile_work g.run (path_of profile) (g.entries context)
-    (λ name. g.homes (or_empty (m.folders (Folder (path_of profile) name)))) (refile_job folder words profile) m
-
-abbrev pub refile_words_work : Meeting → Mailbox → List NamedValue → Result RefileWords Ended → Work Ended
-refile_words_work g m profile (Ok words) = of_stage (on_folder m profile words.source (refiles g m profile words))
-refile_words_work g m profile (Err e) = refused_at m e
-
--- `inc`, once the context is read: so too, in the folder of its job once that is there
+-- `inc`, once the context is read: what other runs hold aside in the folder of its job goes first, once that is there
 abbrev pub incs : Meeting → Mailbox → List NamedValue → IncAsked → Result (List ℕ) CommandFault → Work CommandFault
 incs g m profile asked (Ok text) =
     writing m
     (λ spoken.
     inc_work (path_of profile) (g.entries (entries_in text))
-    (g.homes
-    ((with_folder_made m (Folder (path_of profile) asked.folder)).folders
-    (Folder (path_of profile) asked.folder))) (job_writing asked spoken) m)
+    (homes_in g (with_folder_made m (Folder (path_of profile) asked.folder)) profile asked.folder)
+    (job_writing asked spoken) m)
     (written_there m asked.telling)
 incs g m profile asked (Err e) = refused_at m e
-
-abbrev pub inc_job_work : Meeting → Mailbox → List NamedValue → Result IncAsked Ended → Work Ended
-inc_job_work g m profile (Ok asked) = of_stage (incs g m profile asked (readable (m.context (Mail (path_of profile)))))
-inc_job_work g m profile (Err e) = refused_at m e
 
 -- the command of this name
 abbrev pub word_work : Meeting → Heard → Mailbox → Caller → List NamedValue → List ℕ → List (List ℕ)
     → Option CommandName → Work Ended
 word_work g heard m caller profile word words None = refused_at m (no_command (Some word))
 word_work g heard m caller profile word words (Some Inc) =
-    inc_job_work g m profile (job_by caller profile (inc_said profile (map chars words)))
+    words_work m (λ asked. incs g m profile asked (readable (m.context (Mail (path_of profile)))))
+    (job_by caller profile (inc_said profile (map chars words)))
 word_work g heard m caller profile word words (Some Scan) =
-    scan_words_work m profile (scan_asked caller (scan_said profile (map chars words)))
+    folder_words_work m profile (scans m profile) (λ said. said.folder)
+    (scan_asked caller (scan_said profile (map chars words)))
 word_work g heard m caller profile word words (Some Mark) =
-    mark_words_work g m profile (mark_said profile (map chars words))
+    folder_words_work m profile (marks g m profile) (λ said. said.folder) (mark_said profile (map chars words))
 word_work g heard m caller profile word words (Some Pick) =
-    pick_words_work g m profile (picked_by caller profile (map chars words))
+    folder_words_work m profile (picks g m profile) (λ said. said.folder) (picked_by caller profile (map chars words))
 word_work g heard m caller profile word words (Some Refile) =
-    refile_words_work g m profile (refile_said profile (map chars words))
+    folder_words_work m profile (refiles g m profile) (λ said. said.source) (refile_said profile (map chars words))
 word_work g heard m caller profile word words (Some Rmm) =
-    rmm_words_work g m profile (rmm_said profile (map chars words))
+    folder_words_work m profile (rmms g m profile) (λ said. said.folder) (rmm_said profile (map chars words))
 word_work g heard m caller profile word words (Some FolderCommand) =
-    tell_words_work g m profile (tell_said profile (map chars words))
+    folder_words_work m profile (λ said. tasks g m profile said said.pack) (λ said. said.folder)
+    (tell_said profile (map chars words))
 word_work g heard m caller profile word words (Some Anno) =
-    anno_words_work g m profile (annotated_by caller profile (map chars words))
+    folder_words_work m profile (annos g m profile) (λ said. said.folder)
+    (annotated_by caller profile (map chars words))
 word_work g heard m caller profile word words (Some Sortm) =
-    sort_words_work g m profile (sort_said profile (map chars words))
+    folder_words_work m profile (sorts g m profile) (λ said. said.folder) (sort_said profile (map chars words))
 word_work g heard m caller profile word words (Some Mhlist) =
-    list_words_work m profile (list_said profile (map chars words))
+    folder_words_work m profile (lists m profile) (λ said. said.folder) (list_said profile (map chars words))
 word_work g heard m caller profile word words (Some Mhstore) =
-    store_words_work m profile (store_said profile (map chars words))
+    folder_words_work m profile (stores m profile) (λ said. said.folder) (store_said profile (map chars words))
 word_work g heard m caller profile word words (Some Mhbuild) =
-    build_words_work g.run heard m profile (build_said profile (map chars words))
+    words_work m (λ said. builds g.run heard m profile said (readable (m.context (Mail (path_of profile)))))
+    (build_said profile (map chars words))
 
 abbrev pub named_work : Meeting → Heard → Mailbox → Caller → List NamedValue → List (List ℕ) → Work Ended
 named_work g heard m caller profile [] = refused_at m (no_command None)
