@@ -8,7 +8,7 @@ ghost use Rattle.inc_plans.specs.Targets.{told_by};
 use crate::taking::take;
 use crate::{Taken, Target};
 use folder_files::Files;
-use mh_base::{BytesList, List, MsgNum, Sink};
+use mh_base::{BytesList, Sink};
 use std::alloc::Global;
 use step_plans::{CommandFault, Hand};
 

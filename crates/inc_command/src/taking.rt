@@ -13,11 +13,10 @@ ghost use Rattle.inc_plans.specs.Targets.{told_by};
 use crate::Target;
 use command_stages::fault_in;
 use file_plans::say;
-use folder_files::{Files, Place};
-use message_lines::{Look, Standing, is_current, message_line};
+use folder_files::Files;
+use message_lines::{Standing, is_current, message_line};
 use message_puts::store;
-use mh_base::{Bytes, Duplicate, FolderName, MsgNum, Sink};
-use mh_sequences::Sequences;
+use mh_base::{Bytes, Duplicate, MsgNum, Sink};
 use std::alloc::{AllocError, Global};
 use step_plans::{CommandFault, Hand};
 
