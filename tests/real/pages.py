@@ -32,9 +32,12 @@ def tables():
     """The switches of each command, by the code of the words that the program reads."""
     below = re.search(r"^command_line: (.*)$", (TOP / "crates.txt").read_text(), re.M).group(1).split()
     files = [it for crate in below for it in (TOP / f"crates/{crate}/src").glob("table*.rt") if crate.endswith("_words")]
-    found = {"mhbuild": set()}
-    for name, body in re.findall(r"fn (\w+)_table\(.*?\n\{(.*?)\n\}", "\n".join(it.read_text() for it in files), re.S):
-        found[{"sort": "sortm", "list": "mhlist", "store": "mhstore"}.get(name, name)] = set(re.findall(r'push_switch\(alloc, &mut switches, "(\w+)"', body))
+    names = lambda rows: set(re.findall(r'\("(\w+)", Kind::', rows))
+    table = r"const \w+: \[\(&str, Kind\); \d+\] = \[(.*?)\];"
+    pick = re.search(table, (TOP / "crates/pick_expr/src/switches.rt").read_text(), re.S).group(1)
+    found = {"mhbuild": set(), "pick": names(pick)}
+    for name, rows in re.findall(r"/// The switch(?:es)? of `(\w+)`\.\n" + table, "\n".join(it.read_text() for it in files), re.S):
+        found[name] = names(rows)
     return found
 
 

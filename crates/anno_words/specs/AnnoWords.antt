@@ -7,10 +7,9 @@ use Rattle.mail_dates.specs.declared.mail_date.MailDate.{MailDate}
 use Rattle.annotation_lines.specs.Lines.{annotation_lines}
 use Rattle.annotation_lines.specs.Moments.{date_at}
 use Rattle.command_words.specs.BadValues.{first_of, unless_bad}
-use Rattle.command_words.specs.Ended.{wrong_at}
+use Rattle.command_words.specs.Ended.{wrong_at, missing_after}
 use Rattle.command_words.specs.FolderWords.{folders, folder_named, one_folder}
 use Rattle.command_words.specs.MessageWords.{messages, names_or}
-use Rattle.command_words.specs.RefileWords.{missing_after}
 use Rattle.command_words.specs.Saying.{said_unless_refused, said_unless_wrong, words_said}
 use Rattle.command_words.specs.Switches.{last_choice, last_of, values}
 use Rattle.command_words.specs.Words.{profile_words}

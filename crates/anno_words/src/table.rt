@@ -2,8 +2,7 @@
 ghost use Rattle.std.specs.Prelude.{◌≡◌, IfOk};
 ghost use Rattle.anno_words.specs.Table.{anno_table as anno_table_of};
 
-use command_words::push_switch;
-use mh_base::List;
+use command_words::switch_table;
 use mh_words::{Kind, SwitchTable};
 use std::alloc::{AllocError, Global};
 
@@ -16,16 +15,16 @@ pub(crate) const DATE: u64 = 2;
 pub(crate) const NODATE: u64 = 3;
 
 /// The switches of `anno`.
+const SWITCHES: [(&str, Kind); 4] = [
+    ("component", Kind::Value),
+    ("text", Kind::Value),
+    ("date", Kind::Flag),
+    ("nodate", Kind::Flag),
+];
+
+/// The table of `anno`.
 pub(crate) fn anno_table(alloc: Global) -> Result<SwitchTable, AllocError>
     ensures { IfOk result (λ table. table ≡ anno_table_of) }
 {
-    let mut switches = List::new(alloc);
-    push_switch(alloc, &mut switches, "component", Kind::Value)?;
-    push_switch(alloc, &mut switches, "text", Kind::Value)?;
-    push_switch(alloc, &mut switches, "date", Kind::Flag)?;
-    push_switch(alloc, &mut switches, "nodate", Kind::Flag)?;
-    Ok(SwitchTable {
-        switches,
-        components: false,
-    })
+    switch_table(alloc, &SWITCHES)
 }

@@ -5,16 +5,15 @@ use Rattle.mh_base.specs.declared.word.WordWhy.TheVariants.{BadValue, Missing, U
 use Rattle.mh_words.specs.Whole.{Wrong}
 use Rattle.mh_profile.specs.declared.named_value.NamedValue.{NamedValue}
 use Rattle.command_stages.specs.Chosen.{word_at}
-use Rattle.command_words.specs.BadValues.{earliest, first_of}
+use Rattle.command_words.specs.BadValues.{earliest, first_of, second_of}
 use Rattle.command_words.specs.Ended.{wrong_at}
-use Rattle.command_words.specs.TellWords.{second_of}
 use Rattle.command_words.specs.Words.{profile_words}
 use Rattle.command_words.specs.declared.ended.Ended.{Ended}
 use Rattle.draft_files.specs.DraftNames.{is_draft_name}
 use Rattle.build_words.specs.Sorts.{least, places}
 use Rattle.build_words.specs.declared.sort.Sort.TheVariants.{Switch, Folder, Name}
 use Rattle.build_words.specs.declared.words.BuildWords.{BuildWords}
-use Rattle.command_words.specs.IncWords.{extra}
+use Rattle.command_words.specs.MessagePlaces.{extra}
 
 -- the lone dash, which is the input
 abbrev pub is_input : List ℕ → Bool

@@ -1,7 +1,6 @@
 // What a word is to a command that has no switches and takes the lone dash as a name.
 ghost use Rattle.std.specs.Prelude.{◌≡◌, ◌++◌, IfOk, OnOk};
-ghost use Rattle.command_words.specs.BadValues.{first_of};
-ghost use Rattle.command_words.specs.TellWords.{second_of};
+ghost use Rattle.command_words.specs.BadValues.{first_of, second_of};
 ghost use Rattle.build_words.specs.Sorts.{is_folder as is_folder_of, is_of as is_of_value, is_switch as is_switch_of, least as least_of, place_if, places as places_of};
 
 use mh_base::{List, NumberList, Text, TextList};

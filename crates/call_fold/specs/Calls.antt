@@ -6,7 +6,7 @@ use Rattle.folder_files.specs.declared.world.World.{World}
 use Rattle.step_plans.specs.Pledges.{Pledge}
 use Rattle.step_plans.specs.Safety.{CommitsItsMarks}
 use Rattle.command_pledges.specs.CommandPledge.{command_pledge}
-use Rattle.command_line.specs.declared.caller.Caller.{Caller}
+use Rattle.command_plans.specs.declared.caller.Caller.{Caller}
 
 -- what a call of `mh` began with: who called, the words, and the entries of the profile and of the context that it read
 pub record Calling : Type 0 where

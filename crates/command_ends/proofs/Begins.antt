@@ -21,9 +21,9 @@ use Rattle.opening_plans.proofs.EndedKept.{keeps_more}
 use Rattle.opening_plans.proofs.Speaking.{keeps_both, keeps_holding, silence, silent_told, silently, speaking, speaks_more}
 use Rattle.command_words.specs.Ended.{plain}
 use Rattle.command_words.specs.declared.ended.Ended.{Ended}
-use Rattle.command_line.specs.Command.{by_words, command, command_by, context_entered, folder_found}
-use Rattle.command_line.specs.Profile.{entries_by, folder_of, path_by, profile_name}
-use Rattle.command_line.specs.declared.caller.Caller.{Caller}
+use Rattle.command_plans.specs.Command.{by_words, command, command_by, context_entered, folder_found}
+use Rattle.command_plans.specs.Profile.{entries_by, folder_of, path_by, profile_name}
+use Rattle.command_plans.specs.declared.caller.Caller.{Caller}
 use Rattle.command_ends.specs.BegunCauses.{ShowsEarly}
 use Rattle.command_ends.specs.Causes.{ShowsLongEntries}
 use Rattle.command_ends.proofs.BegunParts.{Enters, Found, Profile, after_context, after_profile, entered_comes, entered_silent, found_comes, found_silent, none_lasts, none_told, profile_comes, profile_silent}

@@ -58,11 +58,11 @@ use Rattle.told_folders.proofs.LooksSay.{listing_says}
 use Rattle.folder_command.specs.Folder.{folder as tell, folder_by, task_with}
 use Rattle.folder_command.specs.declared.job.FolderJob.{FolderJob}
 use Rattle.folder_command.proofs.Orderly.{orderly}
-use Rattle.pack_command.specs.Pack.{pack}
-use Rattle.pack_command.specs.PackPledge.{TellsPacked}
-use Rattle.pack_command.specs.declared.job.PackJob.{PackJob}
-use Rattle.pack_command.proofs.PackEnds.{pack_ends}
-use Rattle.pack_command.proofs.PackSays.{pack_says}
+use Rattle.pack_plans.specs.Pack.{pack}
+use Rattle.pack_plans.specs.PackPledge.{TellsPacked}
+use Rattle.pack_plans.specs.declared.job.PackJob.{PackJob}
+use Rattle.pack_plans.proofs.PackEnds.{pack_ends}
+use Rattle.pack_plans.proofs.PackSays.{pack_says}
 use Rattle.anno_plans.specs.Anno.{anno}
 use Rattle.anno_plans.specs.AnnoAnswers.{ShowsAnno}
 use Rattle.anno_plans.specs.AnnoDone.{HasNotedChosen}
@@ -105,31 +105,31 @@ use Rattle.refile_plans.proofs.RmmPledged.{rmm_keeps as rmm_pledged}
 use Rattle.refile_plans.specs.RmmPledge.{rmm_pledge}
 use Rattle.refile_plans.specs.declared.job.RmmJob.{RmmJob}
 use Rattle.command_words.specs.Ended.{plain}
-use Rattle.command_words.specs.IncWords.{inc_said}
-use Rattle.command_words.specs.MarkWords.{mark_said}
-use Rattle.command_words.specs.RmmWords.{rmm_said}
-use Rattle.command_words.specs.TellWords.{tell_said}
+use Rattle.look_words.specs.IncWords.{inc_said}
+use Rattle.folder_words.specs.MarkWords.{mark_said}
+use Rattle.folder_words.specs.RmmWords.{rmm_said}
+use Rattle.folder_words.specs.TellWords.{tell_said}
 use Rattle.command_words.specs.declared.ended.Ended.{Ended}
-use Rattle.command_words.specs.declared.folder.FolderWords.{FolderWords}
+use Rattle.folder_words.specs.declared.folder.FolderWords.{FolderWords}
 use Rattle.sort_words.specs.SortWords.{sort_said}
 use Rattle.command_ends.specs.BegunCauses.{IsJobOn, ListsBy, PicksBy, ShowsChangedTask, ShowsEarly, ShowsFault, ShowsFinding, ShowsIncJob, ShowsListingParts, ShowsMarking, ShowsMarkingFound, ShowsNamed, ShowsNoting, ShowsOn, ShowsOnFolder, ShowsPacking, ShowsPickJob, ShowsRemoving, ShowsSilent, ShowsSorting, ShowsStoringParts, ShowsTask, ShowsTelling, ShowsToldTask, ShowsWords, StoresBy, TellsNoneBy, TellsOnFolder, long_entries, wrong_stored}
 use Rattle.command_ends.specs.Causes.{ByReadings, ShowsCommandFault, long_context, long_profile}
-use Rattle.command_line.specs.Command.{anno_begun, anno_job, annotated_by, by_words, command, command_by, folder_begun, folder_found, inc_begun, list_begun, list_job, mark_begun, mark_job, pack_begun, pack_job, pick_begun, pick_job, picked_by, rmm_begun, rmm_job, sort_begun, sort_job, store_begun, store_job, task_begun, tell_begun, tell_job, word_by}
-use Rattle.command_line.specs.CommandNames.{shows_ends, command_of, named}
-use Rattle.command_line.specs.Incorporating.{IncAsked, job_by, job_writing}
-use Rattle.command_line.specs.Looking.{WritesAs, look_found, written_by}
-use Rattle.command_line.specs.Profile.{entries_by, folder_of, path_of}
+use Rattle.command_plans.specs.Command.{anno_begun, anno_job, annotated_by, by_words, command, command_by, folder_begun, folder_found, inc_begun, list_begun, list_job, mark_begun, mark_job, pack_begun, pack_job, pick_begun, pick_job, picked_by, rmm_begun, rmm_job, sort_begun, sort_job, store_begun, store_job, task_begun, tell_begun, tell_job, word_by}
+use Rattle.command_plans.specs.CommandNames.{shows_ends, command_of, named}
+use Rattle.command_plans.specs.Incorporating.{IncAsked, job_by, job_writing}
+use Rattle.command_plans.specs.Looking.{WritesAs, look_found, written_by}
+use Rattle.command_plans.specs.Profile.{entries_by, folder_of, path_of}
 use Rattle.command_ends.specs.WordCauses.{AreWordsOf, IsRefusedByWords, OfSaid, asked_file, named_refusal, refusal_in}
-use Rattle.command_line.specs.declared.name.CommandName.{CommandName}
-use Rattle.command_line.specs.declared.name.CommandName.TheVariants.{Anno, Folder as FolderCommand, Inc, Mark, Mhlist, Mhstore, Pick, Rmm, Sortm}
-use Rattle.command_line.specs.declared.caller.Caller.{Caller}
+use Rattle.command_plans.specs.declared.name.CommandName.{CommandName}
+use Rattle.command_plans.specs.declared.name.CommandName.TheVariants.{Anno, Folder as FolderCommand, Inc, Mark, Mhlist, Mhstore, Pick, Rmm, Sortm}
+use Rattle.command_plans.specs.declared.caller.Caller.{Caller}
 use Rattle.command_ends.proofs.Ending.{scan_shows}
 use Rattle.command_ends.proofs.IncEnding.{BehindLook, TakesIn, ToldSo, inc_comes}
 use Rattle.command_ends.proofs.BegunParts.{Behind, Later, after_context, after_profile, begun_clean, behind_kept, ended_more, held_none, later_keeps, made_none, numbered_there, put_none, quietly_keeps, taken_none}
 use Rattle.command_ends.proofs.Begins.{command_keeps, context_then, folder_then, silent_then, words_keep}
-use Rattle.command_line.proofs.LookFound.{Looked, look_comes, look_deeds, look_silent}
-use Rattle.command_line.proofs.Refusals.{job_refuses, mark_refuses, rmm_refuses, tell_refuses}
-use Rattle.command_line.proofs.SaidPick.{pick_refuses}
+use Rattle.command_plans.proofs.LookFound.{Looked, look_comes, look_deeds, look_silent}
+use Rattle.command_plans.proofs.Refusals.{job_refuses, mark_refuses, rmm_refuses, tell_refuses}
+use Rattle.command_plans.proofs.SaidPick.{pick_refuses}
 use Rattle.command_ends.proofs.WordEnding.{file_by, format_shown, refusal_of, refused_by}
 
 module _ (run : ℕ) (few : run < 2 ^ 128) (caller : Caller) (words_ : List (List ℕ)) where

@@ -47,10 +47,10 @@ use Rattle.command_words.specs.declared.ended.Ended.{Ended}
 use Rattle.command_words.specs.FolderWords.{named_folder}
 use Rattle.command_ends.specs.BegunCauses.{ShowsEarly, long_entries, wrong_stored}
 use Rattle.command_ends.specs.Causes.{ShowsLongEntries, long_context, long_profile}
-use Rattle.command_line.specs.Command.{context_entered, context_seen, folder_found}
-use Rattle.command_line.specs.Looking.{InFile, Known, Telling}
-use Rattle.command_line.specs.Profile.{entries_by, folder_of, path_by, path_of, profile_name, stored_of, text_of}
-use Rattle.command_line.proofs.LookFound.{file_step, look_deeds}
+use Rattle.command_plans.specs.Command.{context_entered, context_seen, folder_found}
+use Rattle.command_plans.specs.Looking.{InFile, Known, Telling}
+use Rattle.command_plans.specs.Profile.{entries_by, folder_of, path_by, path_of, profile_name, stored_of, text_of}
+use Rattle.command_plans.proofs.LookFound.{file_step, look_deeds}
 
 -- where less is asked of what shows an end
 pub shown_more : (S T : List Deed → Type 0) → ((own : List Deed) → S own → T own) → (own : List Deed) → IsShownBy S own → IsShownBy T own

@@ -38,12 +38,12 @@ use Rattle.command_words.specs.Ended.{plain}
 use Rattle.command_words.specs.declared.ended.Ended.{Ended}
 use Rattle.command_ends.specs.BuildCauses.{BuildsBy, SaysBuilt, ShowsBuildFault, ShowsBuilding, ShowsBuilt, TellsBuilt}
 use Rattle.command_ends.specs.Causes.{ShowsLongEntries, long_context, long_profile}
-use Rattle.command_line.specs.Command.{build_begun, build_job, command, command_by, word_by}
-use Rattle.command_line.specs.CommandNames.{command_of, named}
-use Rattle.command_line.specs.Profile.{entries_by, path_of}
+use Rattle.command_plans.specs.Command.{build_begun, build_job, command, command_by, word_by}
+use Rattle.command_plans.specs.CommandNames.{command_of, named}
+use Rattle.command_plans.specs.Profile.{entries_by, path_of}
 use Rattle.command_ends.specs.WordCauses.{IsRefusedByWords, OfSaid}
-use Rattle.command_line.specs.declared.name.CommandName.TheVariants.{Mhbuild}
-use Rattle.command_line.specs.declared.caller.Caller.{Caller}
+use Rattle.command_plans.specs.declared.name.CommandName.TheVariants.{Mhbuild}
+use Rattle.command_plans.specs.declared.caller.Caller.{Caller}
 use Rattle.command_ends.proofs.BegunParts.{Behind, Later, after_context, after_profile, begun_clean, behind_kept, later_keeps, made_none}
 use Rattle.command_ends.proofs.Begins.{command_keeps, context_then, words_keep}
 use Rattle.command_ends.proofs.WordEnding.{refusal_of, refused_by}

@@ -33,21 +33,21 @@ use Rattle.mh_looks.specs.Scan.{scan}
 use Rattle.mh_looks.specs.ScanJob.{ScanJob}
 use Rattle.mh_looks.proofs.Ending.{ScanShows, no_folder, bad_spec, absent, empty_range, empty_sequence, long_file, long_text, held, meddled, comes_at, ScanEnds, scan_comes}
 use Rattle.command_words.specs.Ended.{plain}
-use Rattle.command_words.specs.ScanWords.{scan_said}
+use Rattle.look_words.specs.ScanWords.{scan_said}
 use Rattle.command_words.specs.declared.ended.Ended.{Ended}
 use Rattle.command_ends.specs.BegunCauses.{ShowsEarly, long_entries, wrong_stored}
 use Rattle.command_ends.specs.Causes.{IsAboveLimit, ShowsCommandFault, ShowsRefusal, long_context, long_profile}
-use Rattle.command_line.specs.Command.{by_words, command, command_by, folder_found, job_of, no_command, scan_begun, word_by}
-use Rattle.command_line.specs.CommandNames.{begins_folders, command_of, named}
-use Rattle.command_line.specs.Looking.{ScanAsked, look_found, scan_asked}
-use Rattle.command_line.specs.Profile.{entries_by, path_by, path_of, profile_name}
+use Rattle.command_plans.specs.Command.{by_words, command, command_by, folder_found, job_of, no_command, scan_begun, word_by}
+use Rattle.command_plans.specs.CommandNames.{begins_folders, command_of, named}
+use Rattle.command_plans.specs.Looking.{ScanAsked, look_found, scan_asked}
+use Rattle.command_plans.specs.Profile.{entries_by, path_by, path_of, profile_name}
 use Rattle.command_ends.specs.WordCauses.{IsRefusedByWords, asked_file, file_in, words_file}
-use Rattle.command_line.specs.declared.caller.Caller.{Caller}
-use Rattle.command_line.specs.declared.name.CommandName.{CommandName}
-use Rattle.command_line.specs.declared.name.CommandName.TheVariants.{Scan}
+use Rattle.command_plans.specs.declared.caller.Caller.{Caller}
+use Rattle.command_plans.specs.declared.name.CommandName.{CommandName}
+use Rattle.command_plans.specs.declared.name.CommandName.TheVariants.{Scan}
 use Rattle.command_ends.proofs.BegunParts.{Found, Profile, after_context, after_profile, found_comes, none_made_looked, numbered_there, profile_comes}
-use Rattle.command_line.proofs.LookFound.{Looked, look_comes, look_deeds}
-use Rattle.command_line.proofs.Refusals.{asked_refuses}
+use Rattle.command_plans.proofs.LookFound.{Looked, look_comes, look_deeds}
+use Rattle.command_plans.proofs.Refusals.{asked_refuses}
 use Rattle.command_ends.proofs.WordEnding.{file_by, format_shown, refusal_of, refused_by, refused_none}
 
 -- what shows the end of `scan` shows that of a command

@@ -30,12 +30,12 @@ use Rattle.inc_plans.specs.IncJob.{IncJob}
 use Rattle.inc_plans.proofs.IncEnds.{inc_ends}
 use Rattle.inc_plans.proofs.IncPledged.{inc_keeps}
 use Rattle.inc_plans.proofs.IncSays.{HasTold, TellsSo, says}
-use Rattle.command_line.specs.Incorporating.{IncAsked, job_writing}
-use Rattle.command_line.specs.Looking.{WritesAs, written_by}
-use Rattle.command_line.specs.Profile.{entries_by, path_of}
+use Rattle.command_plans.specs.Incorporating.{IncAsked, job_writing}
+use Rattle.command_plans.specs.Looking.{WritesAs, written_by}
+use Rattle.command_plans.specs.Profile.{entries_by, path_of}
 use Rattle.command_ends.proofs.BegunParts.{Behind, after_context, behind_kept, clean_looked, none_put_looked, none_taken_looked}
-use Rattle.command_line.proofs.LookFound.{acts_looked, look_behind, look_deeds, look_writes, looked_once, writes_kept}
-use Rattle.command_line.proofs.FirstReadings.{two_once, two_readings}
+use Rattle.command_plans.proofs.LookFound.{acts_looked, look_behind, look_deeds, look_writes, looked_once, writes_kept}
+use Rattle.command_plans.proofs.FirstReadings.{two_once, two_readings}
 
 module _ (run : ℕ) (few : run < 2 ^ 128) (a : Answer) (asked : IncAsked) (b : Answer) (spoken : Standing → Writing) where
   abbrev profile : List NamedValue

@@ -26,18 +26,18 @@ use Rattle.refile_plans.proofs.RefileEnds.{RefileEndsSo, refile_ends}
 use Rattle.refile_plans.proofs.RefilePledged.{EndsRefiled, refile_keeps as refile_pledged}
 use Rattle.refile_plans.proofs.ShownFirst.{ended_first, first_more}
 use Rattle.command_words.specs.Ended.{plain}
-use Rattle.command_words.specs.RefileWords.{refile_said}
+use Rattle.folder_words.specs.RefileWords.{refile_said}
 use Rattle.command_words.specs.declared.ended.Ended.{Ended}
 use Rattle.command_ends.specs.BegunCauses.{ShowsEarly, ShowsFault, ShowsOnFolder, ShowsRefiling, long_entries}
-use Rattle.command_line.specs.Command.{by_words, command, command_by, refile_begun, refile_job, word_by}
-use Rattle.command_line.specs.CommandNames.{command_of, named}
-use Rattle.command_line.specs.Profile.{entries_by, path_of}
-use Rattle.command_line.specs.declared.name.CommandName.TheVariants.{Refile}
-use Rattle.command_line.specs.declared.caller.Caller.{Caller}
+use Rattle.command_plans.specs.Command.{by_words, command, command_by, refile_begun, refile_job, word_by}
+use Rattle.command_plans.specs.CommandNames.{command_of, named}
+use Rattle.command_plans.specs.Profile.{entries_by, path_of}
+use Rattle.command_plans.specs.declared.name.CommandName.TheVariants.{Refile}
+use Rattle.command_plans.specs.declared.caller.Caller.{Caller}
 use Rattle.command_ends.proofs.BegunEnding.{early, refused_shown, said_on}
 use Rattle.command_ends.proofs.Begins.{command_keeps, folder_then, words_keep}
 use Rattle.command_ends.proofs.BegunParts.{Behind, after_context, after_profile, begun_clean, behind_kept, held_none, none_told, put_none, quietly_keeps, taken_none}
-use Rattle.command_line.proofs.Refusals.{refile_refuses}
+use Rattle.command_plans.proofs.Refusals.{refile_refuses}
 use Rattle.command_ends.proofs.WordEnding.{refusal_of, refused_by}
 
 module _ (run : ℕ) (few : run < 2 ^ 128) (caller : Caller) (words_ : List (List ℕ)) where

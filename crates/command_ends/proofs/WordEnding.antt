@@ -10,15 +10,15 @@ use Rattle.message_lines.specs.Finding.{format_by}
 use Rattle.message_lines.specs.MessageText.{Sight, Writing}
 use Rattle.message_lines.specs.declared.standing.Standing.{Standing}
 use Rattle.command_words.specs.declared.ended.Ended.{Ended}
-use Rattle.command_line.specs.Command.{no_command}
-use Rattle.command_line.specs.CommandNames.{named}
-use Rattle.command_line.specs.Profile.{entries_by, path_by}
-use Rattle.command_line.specs.Looking.{InFile, Known, Telling, written_by, written_with}
+use Rattle.command_plans.specs.Command.{no_command}
+use Rattle.command_plans.specs.CommandNames.{named}
+use Rattle.command_plans.specs.Profile.{entries_by, path_by}
+use Rattle.command_plans.specs.Looking.{InFile, Known, Telling, written_by, written_with}
 use Rattle.command_ends.specs.WordCauses.{IsRefusedByWords, by_format, by_words, file_in, named_file, named_refusal, refusal_in, words_file}
-use Rattle.command_line.specs.declared.caller.Caller.{Caller}
-use Rattle.command_line.specs.declared.name.CommandName.{CommandName}
+use Rattle.command_plans.specs.declared.caller.Caller.{Caller}
+use Rattle.command_plans.specs.declared.name.CommandName.{CommandName}
 use Rattle.command_ends.proofs.BegunParts.{after_context, after_profile}
-use Rattle.command_line.proofs.LookFound.{file_refuses, look_deeds}
+use Rattle.command_plans.proofs.LookFound.{file_refuses, look_deeds}
 
 -- what words say is their refusal
 pub refusal_of : {A : Type 0} (value : Result A Ended) (x : Ended) → value ≡ Err x → refusal_in value ≡ Some x.fault

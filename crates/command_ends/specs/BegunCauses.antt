@@ -24,9 +24,9 @@ use Rattle.told_folders.specs.Answers.{HasChanged, ShowsListing, TellsFolder, ch
 use Rattle.told_folders.specs.Tasks.{Task}
 use Rattle.folder_command.specs.Folder.{task_with}
 use Rattle.folder_command.specs.declared.job.FolderJob.{FolderJob}
-use Rattle.pack_command.specs.PackAnswers.{ShowsPack}
-use Rattle.pack_command.specs.PackPledge.{TellsPacked}
-use Rattle.pack_command.specs.declared.job.PackJob.{PackJob}
+use Rattle.pack_plans.specs.PackAnswers.{ShowsPack}
+use Rattle.pack_plans.specs.PackPledge.{TellsPacked}
+use Rattle.pack_plans.specs.declared.job.PackJob.{PackJob}
 use Rattle.inc_plans.specs.IncAnswers.{IsTextOfNew, ShowsIncorporating}
 use Rattle.mhlist_plans.specs.ListAnswers.{IsNoPart, ShowsListing as ShowsPartsListing, TellsFirstRows, TellsRows}
 use Rattle.mhlist_plans.specs.declared.job.ListJob.{ListJob}
@@ -39,26 +39,26 @@ use Rattle.refile_plans.specs.RefileDone.{HasRefiledChosen}
 use Rattle.refile_plans.specs.RmmAnswers.{HasRemovedChosen, rmm_answers}
 use Rattle.refile_plans.specs.declared.job.RefileJob.{RefileJob}
 use Rattle.refile_plans.specs.declared.job.RmmJob.{RmmJob}
-use Rattle.command_words.specs.IncWords.{inc_said}
-use Rattle.command_words.specs.MarkWords.{mark_said}
-use Rattle.command_words.specs.RefileWords.{refile_said}
-use Rattle.command_words.specs.RmmWords.{rmm_said}
-use Rattle.command_words.specs.TellWords.{tell_said}
+use Rattle.look_words.specs.IncWords.{inc_said}
+use Rattle.folder_words.specs.MarkWords.{mark_said}
+use Rattle.folder_words.specs.RefileWords.{refile_said}
+use Rattle.folder_words.specs.RmmWords.{rmm_said}
+use Rattle.folder_words.specs.TellWords.{tell_said}
 use Rattle.command_words.specs.declared.ended.Ended.{Ended}
-use Rattle.command_words.specs.declared.folder.FolderWords.{FolderWords}
+use Rattle.folder_words.specs.declared.folder.FolderWords.{FolderWords}
 use Rattle.sort_words.specs.SortWords.{sort_said}
 use Rattle.list_words.specs.ListWords.{list_said}
 use Rattle.store_words.specs.StoreWords.{store_said}
 use Rattle.command_ends.specs.Causes.{ByReadings, IsWrongStored, ShowsCommandFault, ShowsLongEntries}
-use Rattle.command_line.specs.Command.{anno_job, annotated_by, list_job, mark_job, pack_job, pick_job, picked_by, refile_job, rmm_job, tell_job, sort_job, store_job}
-use Rattle.command_line.specs.CommandNames.{named}
-use Rattle.command_line.specs.Incorporating.{IncAsked, job_by, job_writing}
-use Rattle.command_line.specs.Looking.{WritesAs}
-use Rattle.command_line.specs.Profile.{entries_by, folder_of, path_by, path_of}
+use Rattle.command_plans.specs.Command.{anno_job, annotated_by, list_job, mark_job, pack_job, pick_job, picked_by, refile_job, rmm_job, tell_job, sort_job, store_job}
+use Rattle.command_plans.specs.CommandNames.{named}
+use Rattle.command_plans.specs.Incorporating.{IncAsked, job_by, job_writing}
+use Rattle.command_plans.specs.Looking.{WritesAs}
+use Rattle.command_plans.specs.Profile.{entries_by, folder_of, path_by, path_of}
 use Rattle.command_ends.specs.WordCauses.{AreWordsOf, IsRefusedByWords, OfSaid}
-use Rattle.command_line.specs.declared.name.CommandName.{CommandName}
-use Rattle.command_line.specs.declared.name.CommandName.TheVariants.{Anno, Folder as FolderCommand, Inc, Mark, Mhlist, Mhstore, Pick, Refile, Rmm, Sortm}
-use Rattle.command_line.specs.declared.caller.Caller.{Caller}
+use Rattle.command_plans.specs.declared.name.CommandName.{CommandName}
+use Rattle.command_plans.specs.declared.name.CommandName.TheVariants.{Anno, Folder as FolderCommand, Inc, Mark, Mhlist, Mhstore, Pick, Refile, Rmm, Sortm}
+use Rattle.command_plans.specs.declared.caller.Caller.{Caller}
 
 -- what shows how it ended before it came to a folder, once the words are read
 pub data ShowsEarly : CommandFault → List Deed → Type 0 where

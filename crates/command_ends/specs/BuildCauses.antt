@@ -8,12 +8,12 @@ use Rattle.mhbuild_plans.specs.BuildAnswers.{NotBuilt}
 use Rattle.mhbuild_plans.specs.BuildDone.{PlacedBy}
 use Rattle.mhbuild_plans.specs.BuildPledge.{IsBuilt}
 use Rattle.mhbuild_plans.specs.declared.job.BuildJob.{BuildJob}
-use Rattle.command_line.specs.Command.{build_job}
-use Rattle.command_line.specs.Profile.{entries_by, path_by}
+use Rattle.command_plans.specs.Command.{build_job}
+use Rattle.command_plans.specs.Profile.{entries_by, path_by}
 use Rattle.command_ends.specs.Causes.{ByReadings, ShowsLongEntries}
 use Rattle.command_ends.specs.WordCauses.{AreWordsOf, IsRefusedByWords, OfSaid}
-use Rattle.command_line.specs.declared.name.CommandName.TheVariants.{Mhbuild}
-use Rattle.command_line.specs.declared.caller.Caller.{Caller}
+use Rattle.command_plans.specs.declared.name.CommandName.TheVariants.{Mhbuild}
+use Rattle.command_plans.specs.declared.caller.Caller.{Caller}
 
 -- the words name `mhbuild`, and this is its job by them
 abbrev pub BuildsBy : List NamedValue → List NamedValue → List (List ℕ) → BuildJob → Type 0

@@ -17,7 +17,7 @@ use Rattle.step_plans.specs.declared.command_fault.CommandFault.{CommandFault}
 use Rattle.step_plans.specs.declared.command_fault.CommandFault.TheVariants as fault
 use Rattle.command_stages.specs.Current.{current_change}
 use Rattle.command_stages.specs.Texts.{too_large}
-use Rattle.command_line.specs.Profile.{entries_by, path_by, profile_name, stored_of}
+use Rattle.command_plans.specs.Profile.{entries_by, path_by, profile_name, stored_of}
 
 -- the call read the profile and then the context of the mail directory that it names, and by the two answers this holds
 pub record ByReadings (Holds : Answer → Answer → Type 0) (own : List Deed) : Type 0 where

@@ -11,25 +11,25 @@ use Rattle.file_plans.specs.Asking.{reading_of}
 use Rattle.step_plans.specs.ContextCommit.{LIMIT_BYTES, context_name}
 use Rattle.step_plans.specs.declared.command_fault.CommandFault.{CommandFault}
 use Rattle.message_lines.specs.Finding.{LIMIT_FORMAT, format_by}
-use Rattle.command_words.specs.IncWords.{inc_said}
-use Rattle.command_words.specs.MarkWords.{mark_said}
-use Rattle.command_words.specs.RefileWords.{refile_said}
-use Rattle.command_words.specs.RmmWords.{rmm_said}
-use Rattle.command_words.specs.ScanWords.{scan_said}
-use Rattle.command_words.specs.TellWords.{tell_said}
+use Rattle.look_words.specs.IncWords.{inc_said}
+use Rattle.folder_words.specs.MarkWords.{mark_said}
+use Rattle.folder_words.specs.RefileWords.{refile_said}
+use Rattle.folder_words.specs.RmmWords.{rmm_said}
+use Rattle.look_words.specs.ScanWords.{scan_said}
+use Rattle.folder_words.specs.TellWords.{tell_said}
 use Rattle.command_words.specs.declared.ended.Ended.{Ended}
 use Rattle.sort_words.specs.SortWords.{sort_said}
 use Rattle.list_words.specs.ListWords.{list_said}
 use Rattle.build_words.specs.BuildWords.{build_said}
 use Rattle.store_words.specs.StoreWords.{store_said}
-use Rattle.command_line.specs.Command.{annotated_by, no_command, picked_by}
-use Rattle.command_line.specs.CommandNames.{named}
-use Rattle.command_line.specs.Incorporating.{job_by}
-use Rattle.command_line.specs.Looking.{InFile, Known, Telling, scan_asked}
-use Rattle.command_line.specs.Profile.{entries_by, path_by, profile_name}
-use Rattle.command_line.specs.declared.caller.Caller.{Caller}
-use Rattle.command_line.specs.declared.name.CommandName.{CommandName}
-use Rattle.command_line.specs.declared.name.CommandName.TheVariants.{Anno, Folder as FolderCommand, Inc, Mark, Mhbuild, Mhlist, Mhstore, Pick, Refile, Rmm, Scan, Sortm}
+use Rattle.command_plans.specs.Command.{annotated_by, no_command, picked_by}
+use Rattle.command_plans.specs.CommandNames.{named}
+use Rattle.command_plans.specs.Incorporating.{job_by}
+use Rattle.command_plans.specs.Looking.{InFile, Known, Telling, scan_asked}
+use Rattle.command_plans.specs.Profile.{entries_by, path_by, profile_name}
+use Rattle.command_plans.specs.declared.caller.Caller.{Caller}
+use Rattle.command_plans.specs.declared.name.CommandName.{CommandName}
+use Rattle.command_plans.specs.declared.name.CommandName.TheVariants.{Anno, Folder as FolderCommand, Inc, Mark, Mhbuild, Mhlist, Mhstore, Pick, Refile, Rmm, Scan, Sortm}
 
 -- the words are not refused, and this holds of what they say
 abbrev pub OfSaid : {W : Type 0} → Result W Ended → (W → Type 0) → Type 0

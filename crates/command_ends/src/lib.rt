@@ -1,3 +1,3 @@
-//! What shows how calls end, by their words: each refusal and fault, and what was told. Theorems on the plans of
-//! command_line.
+//! What shows how calls end, by their words: each refusal and fault, and what was told. Theorems on their
+//! plans.
 #![tactic(auto)]

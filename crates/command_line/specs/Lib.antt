@@ -1,7 +1,1 @@
-pub mod Clock
-pub mod Command
-pub mod CommandNames
-pub mod Incorporating
-pub mod LeavesInput
-pub mod Looking
-pub mod Profile
+pub mod NameRows

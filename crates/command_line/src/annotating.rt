@@ -7,14 +7,13 @@ ghost use Rattle.file_plans.specs.Follows.{Follows, by_hand};
 ghost use Rattle.step_plans.specs.CommandFaults.{command_cause};
 ghost use Rattle.command_words.specs.Ended.{ended_cause};
 ghost use Rattle.command_words.specs.Results.{IsSaid};
-ghost use Rattle.command_line.specs.Command.{anno_begun, annotated_by, by_words};
-ghost use Rattle.command_line.specs.Profile.{path_of};
+ghost use Rattle.command_plans.specs.Command.{anno_begun, annotated_by, by_words};
+ghost use Rattle.command_plans.specs.Profile.{path_of};
 
-use crate::Caller;
-use crate::current::enter_folder;
-use crate::profile::{negation, path};
 use anno_command::{AnnoJob, anno};
 use anno_words::{AnnoWords, anno_words};
+use command_context::{enter_folder, negation, path};
+use command_plans::Caller;
 use command_words::Ended;
 use folder_files::Files;
 use mh_profile::Entries;

@@ -7,13 +7,12 @@ ghost use Rattle.file_plans.specs.Follows.{Follows, all};
 ghost use Rattle.step_plans.specs.CommandFaults.{command_cause};
 ghost use Rattle.command_words.specs.Ended.{ended_cause};
 ghost use Rattle.build_words.specs.BuildWords.{build_said};
-ghost use Rattle.command_line.specs.Command.{build_begun, build_job as build_job_of, by_words};
-ghost use Rattle.command_line.specs.Profile.{path_of};
+ghost use Rattle.command_plans.specs.Command.{build_begun, build_job as build_job_of, by_words};
+ghost use Rattle.command_plans.specs.Profile.{path_of};
 ghost use Rattle.mh_profile.specs.Reading.{entries_seen};
 
-use crate::current::{enter_context, stored_folder};
-use crate::profile::{negation, path};
 use build_words::{BuildWords, build_words};
+use command_context::{enter_context, negation, path, stored_folder};
 use command_words::Ended;
 use draft_contents::Forwarding;
 use folder_files::Files;

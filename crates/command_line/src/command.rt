@@ -6,28 +6,23 @@ ghost use Rattle.file_plans.specs.Follows.{Follows, all, by_hand};
 ghost use Rattle.step_plans.specs.CommandFaults.{command_cause};
 ghost use Rattle.command_stages.specs.Texts.{text_read};
 ghost use Rattle.command_words.specs.Ended.{ended_cause};
-ghost use Rattle.command_line.specs.Command.{command as command_plan, command_by, no_command as no_command_of, word_by};
-ghost use Rattle.command_line.specs.CommandNames.{command_of, named};
-ghost use Rattle.command_line.specs.LeavesInput.{LeavesInput};
-ghost use Rattle.command_line.specs.Profile.{profile_name as profile_name_of};
+ghost use Rattle.command_plans.specs.Command.{command as command_plan, command_by, no_command as no_command_of, word_by};
+ghost use Rattle.command_plans.specs.CommandNames.{command_of, named};
+ghost use Rattle.command_plans.specs.LeavesInput.{LeavesInput};
+ghost use Rattle.command_plans.specs.Profile.{profile_name as profile_name_of};
 
-use crate::Caller;
 use crate::annotating::run_anno;
 use crate::building::run_mhbuild;
-use crate::incorporating::run_inc;
 use crate::listing::run_mhlist;
-use crate::marking::run_mark;
-use crate::name::CommandName;
-use crate::picking::run_pick;
-use crate::refiling::run_refile;
-use crate::removing::run_rmm;
-use crate::scanning::run_scan;
+use crate::name::command_named;
 use crate::sorting::run_sortm;
 use crate::storing::run_mhstore;
-use crate::telling::run_folder;
+use command_plans::{Caller, CommandName};
 use command_stages::read_text;
 use command_words::Ended;
+use folder_commands::{run_folder, run_mark, run_pick, run_refile, run_rmm};
 use folder_files::{Files, Place, Refusal};
+use look_commands::{run_inc, run_scan};
 use mh_base::{Bytes, Name, Sink, Source, WordWhy};
 use mh_profile::Entries;
 use std::alloc::{AllocError, Global};
@@ -71,7 +66,7 @@ fn run_word<F: Files, I: Source, O: Sink>(
         (all left (F.state files.new) (I.state input.new) (O.state out.new)) result }
     ensures input { LeavesInput (named word.now) (I.state input.old) (I.state input.new) result }
 {
-    match CommandName::read(word) {
+    match command_named(word) {
         Some(CommandName::Inc) => run_inc(alloc, run, files, out, profile, caller, rest),
         Some(CommandName::Scan) => run_scan(alloc, run, files, out, profile, caller, rest),
         Some(CommandName::Pick) => run_pick(alloc, run, files, out, profile, caller, rest),

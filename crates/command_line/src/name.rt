@@ -1,55 +1,41 @@
 // The commands that there are, by name.
 ghost use Rattle.std.specs.Prelude.{◌≡◌};
-ghost use Rattle.command_line.specs.CommandNames.{named};
+ghost use Rattle.command_plans.specs.CommandNames.{named};
+ghost use Rattle.command_line.specs.NameRows.{found as found_in};
 
-/// A command.
-#[derive(Clone, Copy, Debug, PartialEq, Eq)]
-pub enum CommandName {
-    Inc,
-    Scan,
-    Pick,
-    Mark,
-    Refile,
-    Rmm,
-    Folder,
-    Anno,
-    Sortm,
-    Mhlist,
-    Mhstore,
-    Mhbuild,
-}
+use command_plans::CommandName;
 
-impl CommandName {
-    /// The command of this name, if there is one.
-    pub(crate) fn read(word: &str) -> Option<CommandName>
-        ensures { result ≡ named word.now }
-    {
-        if word == "inc" {
-            Some(CommandName::Inc)
-        } else if word == "scan" {
-            Some(CommandName::Scan)
-        } else if word == "mark" {
-            Some(CommandName::Mark)
-        } else if word == "rmm" {
-            Some(CommandName::Rmm)
-        } else if word == "refile" {
-            Some(CommandName::Refile)
-        } else if word == "pick" {
-            Some(CommandName::Pick)
-        } else if word == "folder" {
-            Some(CommandName::Folder)
-        } else if word == "anno" {
-            Some(CommandName::Anno)
-        } else if word == "sortm" {
-            Some(CommandName::Sortm)
-        } else if word == "mhlist" {
-            Some(CommandName::Mhlist)
-        } else if word == "mhstore" {
-            Some(CommandName::Mhstore)
-        } else if word == "mhbuild" {
-            Some(CommandName::Mhbuild)
-        } else {
-            None
+/// The commands, by name.
+const COMMANDS: [(&str, CommandName); 12] = [
+    ("inc", CommandName::Inc),
+    ("scan", CommandName::Scan),
+    ("mark", CommandName::Mark),
+    ("rmm", CommandName::Rmm),
+    ("refile", CommandName::Refile),
+    ("pick", CommandName::Pick),
+    ("folder", CommandName::Folder),
+    ("anno", CommandName::Anno),
+    ("sortm", CommandName::Sortm),
+    ("mhlist", CommandName::Mhlist),
+    ("mhstore", CommandName::Mhstore),
+    ("mhbuild", CommandName::Mhbuild),
+];
+
+/// The command that stands beside this name first.
+fn found(rows: &[(&str, CommandName)], word: &str) -> Option<CommandName>
+    ensures { result ≡ found_in word.now rows.now }
+{
+    for row in rows {
+        if word == row.0 {
+            return Some(row.1);
         }
     }
+    None
+}
+
+/// The command of this name, if there is one.
+pub(crate) fn command_named(word: &str) -> Option<CommandName>
+    ensures { result ≡ named word.now }
+{
+    found(&COMMANDS, word)
 }

@@ -6,12 +6,11 @@ ghost use Rattle.file_plans.specs.Plan.{Hand as Kept, fresh};
 ghost use Rattle.file_plans.specs.Follows.{Follows, by_hand};
 ghost use Rattle.step_plans.specs.CommandFaults.{command_cause};
 ghost use Rattle.command_words.specs.Ended.{ended_cause};
-ghost use Rattle.command_line.specs.Command.{by_words, sort_begun};
-ghost use Rattle.command_line.specs.Profile.{path_of};
+ghost use Rattle.command_plans.specs.Command.{by_words, sort_begun};
+ghost use Rattle.command_plans.specs.Profile.{path_of};
 ghost use Rattle.sort_words.specs.SortWords.{sort_said};
 
-use crate::current::enter_folder;
-use crate::profile::{negation, path};
+use command_context::{enter_folder, negation, path};
 use command_words::Ended;
 use folder_files::Files;
 use mh_profile::Entries;

@@ -48,8 +48,8 @@ use Rattle.pick_plans.specs.Pick.{pick}
 use Rattle.pick_plans.proofs.PickGiven.{pick_gives}
 use Rattle.folder_command.specs.Folder.{folder as tell}
 use Rattle.folder_command.proofs.FolderAlone.{folder_gives}
-use Rattle.pack_command.specs.Pack.{pack}
-use Rattle.pack_command.proofs.PackGiven.{pack_gives}
+use Rattle.pack_plans.specs.Pack.{pack}
+use Rattle.pack_plans.proofs.PackGiven.{pack_gives}
 use Rattle.refile_plans.specs.Refile.{refile}
 use Rattle.refile_plans.specs.RefileOutcome.{homes_of_all}
 use Rattle.refile_plans.specs.Rmm.{rmm}
@@ -57,16 +57,16 @@ use Rattle.refile_plans.proofs.AllHomesFound.{all_homes_found}
 use Rattle.refile_plans.proofs.RefileGiven.{refile_gives}
 use Rattle.refile_plans.proofs.RmmGiven.{rmm_gives}
 use Rattle.command_words.specs.Ended.{plain}
-use Rattle.command_words.specs.IncWords.{inc_said}
-use Rattle.command_words.specs.MarkWords.{mark_said}
-use Rattle.command_words.specs.RefileWords.{refile_said}
-use Rattle.command_words.specs.RmmWords.{rmm_said}
-use Rattle.command_words.specs.ScanWords.{scan_said}
-use Rattle.command_words.specs.TellWords.{tell_said}
+use Rattle.look_words.specs.IncWords.{inc_said}
+use Rattle.folder_words.specs.MarkWords.{mark_said}
+use Rattle.folder_words.specs.RefileWords.{refile_said}
+use Rattle.folder_words.specs.RmmWords.{rmm_said}
+use Rattle.look_words.specs.ScanWords.{scan_said}
+use Rattle.folder_words.specs.TellWords.{tell_said}
 use Rattle.command_words.specs.declared.ended.Ended.{Ended}
-use Rattle.command_words.specs.declared.folder.FolderWords.{FolderWords}
+use Rattle.folder_words.specs.declared.folder.FolderWords.{FolderWords}
 use Rattle.sort_words.specs.SortWords.{sort_said}
-use Rattle.command_line.specs.Looking.{ScanAsked, look_found, scan_asked}
+use Rattle.command_plans.specs.Looking.{ScanAsked, look_found, scan_asked}
 use Rattle.command_words.proofs.SaidFolder.{IsValid}
 use Rattle.anno_plans.specs.Anno.{anno}
 use Rattle.sortm_plans.specs.Sort.{sortm}
@@ -89,20 +89,20 @@ use Rattle.mhbuild_plans.proofs.HeardBuild.{mhbuild_given}
 use Rattle.mhbuild_plans.proofs.HeardGiven.{given_gives}
 use Rattle.store_words.specs.StoreWords.{store_said}
 use Rattle.store_words.proofs.Said.{store_refuses, store_valid}
-use Rattle.command_line.specs.Command.{anno_begun, anno_job, annotated_by, build_job, by_words, context_entered, context_seen, folder_begun, folder_found, inc_begun, job_of, list_begun, list_job, mark_begun, mark_job, pack_begun, pack_job, pick_begun, pick_job, picked_by, refile_begun, refile_job, rmm_begun, rmm_job, scan_begun, sort_begun, sort_job, store_begun, store_job, task_begun, tell_begun, tell_job}
-use Rattle.command_line.specs.CommandNames.{begins_folders, command_of, makes_folders, named, stores_files}
-use Rattle.command_line.specs.Incorporating.{IncAsked, job_by, job_writing}
+use Rattle.command_plans.specs.Command.{anno_begun, anno_job, annotated_by, build_job, by_words, context_entered, context_seen, folder_begun, folder_found, inc_begun, job_of, list_begun, list_job, mark_begun, mark_job, pack_begun, pack_job, pick_begun, pick_job, picked_by, refile_begun, refile_job, rmm_begun, rmm_job, scan_begun, sort_begun, sort_job, store_begun, store_job, task_begun, tell_begun, tell_job}
+use Rattle.command_plans.specs.CommandNames.{begins_folders, command_of, makes_folders, named, stores_files}
+use Rattle.command_plans.specs.Incorporating.{IncAsked, job_by, job_writing}
 use Rattle.command_outcomes.specs.Outcomes.{Meeting, homes_in, words_work, annos, FolderWork, incs, plainly, of_stage, in_folder, with_context, scans, on_folder, marks, picks, refiles, rmms, word_work, named_work, with_profile, work_by, work_of, alone_meeting, builds, packs, tasks, tells, lists, sorts, stores}
-use Rattle.command_line.specs.Profile.{folder_of, path_of, profile_name}
-use Rattle.command_line.specs.declared.name.CommandName.{CommandName}
-use Rattle.command_line.specs.declared.name.CommandName.TheVariants.{Anno, Folder as FolderCommand, Inc, Mark, Mhbuild, Mhlist, Mhstore, Pick, Refile, Rmm, Scan, Sortm}
-use Rattle.command_line.specs.declared.caller.Caller.{Caller}
-use Rattle.command_line.proofs.Refusals.{folder_refuses, job_refuses, mark_refuses, refile_refuses, rmm_refuses, asked_refuses, tell_refuses}
+use Rattle.command_plans.specs.Profile.{folder_of, path_of, profile_name}
+use Rattle.command_plans.specs.declared.name.CommandName.{CommandName}
+use Rattle.command_plans.specs.declared.name.CommandName.TheVariants.{Anno, Folder as FolderCommand, Inc, Mark, Mhbuild, Mhlist, Mhstore, Pick, Refile, Rmm, Scan, Sortm}
+use Rattle.command_plans.specs.declared.caller.Caller.{Caller}
+use Rattle.command_plans.proofs.Refusals.{folder_refuses, job_refuses, mark_refuses, refile_refuses, rmm_refuses, asked_refuses, tell_refuses}
 use Rattle.command_outcomes.proofs.HeardCommand.{build_given, command_given, given_by, word_given}
 use Rattle.command_outcomes.proofs.LookGives.{fresh_alike, look_gives}
-use Rattle.command_line.proofs.SaidInc.{job_valid}
-use Rattle.command_line.proofs.SaidFolder.{acted_valid, mark_valid, refile_words_valid, rmm_words_valid, tell_words_valid}
-use Rattle.command_line.proofs.SaidPick.{pick_refuses, pick_valid}
+use Rattle.command_plans.proofs.SaidInc.{job_valid}
+use Rattle.command_plans.proofs.SaidFolder.{acted_valid, mark_valid, refile_words_valid, rmm_words_valid, tell_words_valid}
+use Rattle.command_plans.proofs.SaidPick.{pick_refuses, pick_valid}
 use Rattle.opening_plans.specs.MadeFolder.{with_folder_made}
 use Rattle.opening_plans.proofs.FolderMade.{shows_folder_made}
 

@@ -21,12 +21,12 @@ use Rattle.mhbuild_plans.specs.declared.job.BuildJob.{BuildJob}
 use Rattle.mhbuild_plans.proofs.HeardBuild.{mhbuild_given, mhbuild_heeds}
 use Rattle.mhbuild_plans.proofs.Heeding.{Heeds, bind_assoc, heeds_bind, heeds_recall, heeds_same, plain_heeds}
 use Rattle.mhbuild_plans.proofs.PlainBuild.{plain_text_read}
-use Rattle.command_line.specs.Command.{build_begun, build_job, by_words, command, command_by, context_entered, context_seen, no_command, word_by}
-use Rattle.command_line.specs.CommandNames.{command_of, named}
-use Rattle.command_line.specs.Profile.{path_of, profile_name}
-use Rattle.command_line.specs.declared.name.CommandName.{CommandName}
-use Rattle.command_line.specs.declared.name.CommandName.TheVariants.{Mhbuild}
-use Rattle.command_line.specs.declared.caller.Caller.{Caller}
+use Rattle.command_plans.specs.Command.{build_begun, build_job, by_words, command, command_by, context_entered, context_seen, no_command, word_by}
+use Rattle.command_plans.specs.CommandNames.{command_of, named}
+use Rattle.command_plans.specs.Profile.{path_of, profile_name}
+use Rattle.command_plans.specs.declared.name.CommandName.{CommandName}
+use Rattle.command_plans.specs.declared.name.CommandName.TheVariants.{Mhbuild}
+use Rattle.command_plans.specs.declared.caller.Caller.{Caller}
 
 -- the plans in which this was heard
 unfoldable pub build_given : Heard → ℕ → List NamedValue → BuildWords → Commanded Unit

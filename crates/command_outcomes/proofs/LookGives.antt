@@ -21,9 +21,9 @@ use Rattle.message_lines.specs.Finding.{LIMIT_FORMAT, file_read, format_by, form
 use Rattle.message_lines.specs.MessageText.{Sight, Writing, formed}
 use Rattle.message_lines.specs.declared.standing.Standing.{Standing}
 use Rattle.mh_looks.proofs.Folders.{IsFresh}
-use Rattle.command_line.specs.Looking.{InFile, Known, Telling, look_found, written_with}
+use Rattle.command_plans.specs.Looking.{InFile, Known, Telling, look_found, written_with}
 use Rattle.command_outcomes.specs.Outcomes.{format_outside, writing, written_there}
-use Rattle.command_line.proofs.LookFound.{file_refuses, file_step}
+use Rattle.command_plans.proofs.LookFound.{file_refuses, file_step}
 
 -- reading a file gives its format, or the refusal
 outside_format : (path : FilePath) (o : Option (List ℕ)) → format_by path (reading_of (read_file_answer LIMIT_FORMAT o)) ≡ format_outside path o

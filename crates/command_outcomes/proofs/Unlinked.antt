@@ -39,16 +39,16 @@ use Rattle.message_lines.specs.Finding.{file_read, format_by}
 use Rattle.message_lines.specs.MessageText.{Writing, formed}
 use Rattle.mh_looks.specs.Scan.{shown_by, one_shown, all_shown, ordered, chosen_by, lined_by, scan}
 use Rattle.mh_looks.specs.ScanJob.{ScanJob}
-use Rattle.command_line.specs.Command.{by_words, command, command_by, context_entered, context_seen, folder_found, job_of, no_command, scan_begun, word_by}
-use Rattle.command_line.specs.CommandNames.{begins_folders, command_of, named}
-use Rattle.command_line.specs.Profile.{folder_of, path_of, profile_name}
-use Rattle.command_line.specs.declared.name.CommandName.{CommandName}
-use Rattle.command_line.specs.declared.name.CommandName.TheVariants.{Scan}
-use Rattle.command_line.specs.declared.caller.Caller.{Caller}
+use Rattle.command_plans.specs.Command.{by_words, command, command_by, context_entered, context_seen, folder_found, job_of, no_command, scan_begun, word_by}
+use Rattle.command_plans.specs.CommandNames.{begins_folders, command_of, named}
+use Rattle.command_plans.specs.Profile.{folder_of, path_of, profile_name}
+use Rattle.command_plans.specs.declared.name.CommandName.{CommandName}
+use Rattle.command_plans.specs.declared.name.CommandName.TheVariants.{Scan}
+use Rattle.command_plans.specs.declared.caller.Caller.{Caller}
 use Rattle.command_words.specs.Ended.{plain}
-use Rattle.command_words.specs.ScanWords.{scan_said}
+use Rattle.look_words.specs.ScanWords.{scan_said}
 use Rattle.command_words.specs.declared.ended.Ended.{Ended}
-use Rattle.command_line.specs.Looking.{InFile, Known, ScanAsked, Telling, look_found, scan_asked}
+use Rattle.command_plans.specs.Looking.{InFile, Known, ScanAsked, Telling, look_found, scan_asked}
 use Rattle.command_outcomes.proofs.Giving.{IsFirst}
 
 -- any step but a Link

@@ -22,7 +22,7 @@ use Rattle.pick_plans.specs.Outcomes.{pick_work}
 use Rattle.anno_plans.specs.AnnoOutcome.{anno_work}
 use Rattle.sortm_plans.specs.SortOutcome.{sort_work}
 use Rattle.folder_command.specs.Folder.{folder_work}
-use Rattle.pack_command.specs.PackOutcome.{pack_work}
+use Rattle.pack_plans.specs.PackOutcome.{pack_work}
 use Rattle.mhlist_plans.specs.ListOutcome.{mhlist_work}
 use Rattle.mhbuild_plans.specs.BuildOutcome.{build_work, text_found}
 use Rattle.mhbuild_plans.specs.Heard.{Heard}
@@ -32,18 +32,18 @@ use Rattle.opening_plans.specs.MadeFolder.{or_empty, with_folder_made}
 use Rattle.refile_plans.specs.RefileOutcome.{refile_work}
 use Rattle.refile_plans.specs.RmmOutcome.{rmm_work}
 use Rattle.command_words.specs.Ended.{plain}
-use Rattle.command_words.specs.IncWords.{inc_said}
-use Rattle.command_words.specs.MarkWords.{mark_said}
-use Rattle.command_words.specs.RefileWords.{refile_said}
-use Rattle.command_words.specs.RmmWords.{rmm_said}
-use Rattle.command_words.specs.ScanWords.{scan_said}
-use Rattle.command_words.specs.TellWords.{tell_said}
+use Rattle.look_words.specs.IncWords.{inc_said}
+use Rattle.folder_words.specs.MarkWords.{mark_said}
+use Rattle.folder_words.specs.RefileWords.{refile_said}
+use Rattle.folder_words.specs.RmmWords.{rmm_said}
+use Rattle.look_words.specs.ScanWords.{scan_said}
+use Rattle.folder_words.specs.TellWords.{tell_said}
 use Rattle.command_words.specs.declared.ended.Ended.{Ended}
-use Rattle.command_words.specs.declared.folder.FolderWords.{FolderWords}
-use Rattle.command_words.specs.declared.mark.MarkWords.{MarkWords}
-use Rattle.command_words.specs.declared.pick.PickWords.{PickWords}
-use Rattle.command_words.specs.declared.refile.RefileWords.{RefileWords}
-use Rattle.command_words.specs.declared.rmm.RmmWords.{RmmWords}
+use Rattle.folder_words.specs.declared.folder.FolderWords.{FolderWords}
+use Rattle.folder_words.specs.declared.mark.MarkWords.{MarkWords}
+use Rattle.folder_words.specs.declared.pick.PickWords.{PickWords}
+use Rattle.folder_words.specs.declared.refile.RefileWords.{RefileWords}
+use Rattle.folder_words.specs.declared.rmm.RmmWords.{RmmWords}
 use Rattle.anno_words.specs.declared.words.AnnoWords.{AnnoWords}
 use Rattle.sort_words.specs.declared.words.SortWords.{SortWords}
 use Rattle.sort_words.specs.SortWords.{sort_said}
@@ -53,14 +53,14 @@ use Rattle.build_words.specs.BuildWords.{build_said}
 use Rattle.build_words.specs.declared.words.BuildWords.{BuildWords}
 use Rattle.store_words.specs.StoreWords.{store_said}
 use Rattle.store_words.specs.declared.words.StoreWords.{StoreWords}
-use Rattle.command_line.specs.Command.{anno_job, annotated_by, build_job, job_of, list_job, mark_job, no_command, pack_job, pick_job, picked_by, refile_job, rmm_job, tell_job, sort_job, store_job}
-use Rattle.command_line.specs.CommandNames.{named}
-use Rattle.command_line.specs.Incorporating.{IncAsked, job_by, job_writing}
-use Rattle.command_line.specs.Looking.{InFile, Known, ScanAsked, Telling, scan_asked, written_with}
-use Rattle.command_line.specs.Profile.{folder_of, path_of, profile_name}
-use Rattle.command_line.specs.declared.caller.Caller.{Caller}
-use Rattle.command_line.specs.declared.name.CommandName.{CommandName}
-use Rattle.command_line.specs.declared.name.CommandName.TheVariants.{Anno, Folder as FolderCommand, Inc, Mark, Mhbuild, Mhlist, Mhstore, Pick, Refile, Rmm, Scan, Sortm}
+use Rattle.command_plans.specs.Command.{anno_job, annotated_by, build_job, job_of, list_job, mark_job, no_command, pack_job, pick_job, picked_by, refile_job, rmm_job, tell_job, sort_job, store_job}
+use Rattle.command_plans.specs.CommandNames.{named}
+use Rattle.command_plans.specs.Incorporating.{IncAsked, job_by, job_writing}
+use Rattle.command_plans.specs.Looking.{InFile, Known, ScanAsked, Telling, scan_asked, written_with}
+use Rattle.command_plans.specs.Profile.{folder_of, path_of, profile_name}
+use Rattle.command_plans.specs.declared.caller.Caller.{Caller}
+use Rattle.command_plans.specs.declared.name.CommandName.{CommandName}
+use Rattle.command_plans.specs.declared.name.CommandName.TheVariants.{Anno, Folder as FolderCommand, Inc, Mark, Mhbuild, Mhlist, Mhstore, Pick, Refile, Rmm, Scan, Sortm}
 
 abbrev pub plainly : Result Unit CommandFault → Result Unit Ended
 plainly (Ok u) = Ok u

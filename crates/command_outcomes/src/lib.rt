@@ -1,2 +1,2 @@
-//! What calls come to, by their words and a mailbox that nothing else changes. Theorems on the plans of command_line.
+//! What calls come to, by their words and a mailbox that nothing else changes. Theorems on their plans.
 #![tactic(auto)]

@@ -13,8 +13,8 @@ use Rattle.file_plans.proofs.Acting.{acts}
 use Rattle.step_plans.proofs.Past.{did_step}
 use Rattle.sequence_marks.proofs.Sequences.{SameStart}
 use Rattle.opening_plans.proofs.BegunSeen.{NoneUnlinked}
-use Rattle.command_line.specs.Profile.{path_of}
-use Rattle.command_line.proofs.FirstReadings.{two_readings}
+use Rattle.command_plans.specs.Profile.{path_of}
+use Rattle.command_plans.proofs.FirstReadings.{two_readings}
 
 -- the story that a call makes longer starts where it started
 pub start_same : {T E : Type 0} (run : ℕ) (cause : E → Cause) (plan : Plan (Result T E)) (x y : State) (result : Result T E) → Follows run cause plan x y result → SameStart x.files.story y.files.story

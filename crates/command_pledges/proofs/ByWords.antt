@@ -19,32 +19,32 @@ use Rattle.list_words.specs.ListWords.{list_said}
 use Rattle.mhstore_plans.specs.Storing.{mhstore}
 use Rattle.store_words.specs.StoreWords.{store_said}
 use Rattle.folder_command.specs.Folder.{folder as tell}
-use Rattle.pack_command.specs.Pack.{pack}
+use Rattle.pack_plans.specs.Pack.{pack}
 use Rattle.pick_plans.specs.Pick.{pick}
 use Rattle.command_words.specs.Ended.{Ending, plain}
-use Rattle.command_words.specs.IncWords.{inc_said}
-use Rattle.command_words.specs.MarkWords.{mark_said}
-use Rattle.command_words.specs.RefileWords.{refile_said}
-use Rattle.command_words.specs.RmmWords.{rmm_said}
-use Rattle.command_words.specs.ScanWords.{scan_said}
-use Rattle.command_words.specs.TellWords.{tell_said}
+use Rattle.look_words.specs.IncWords.{inc_said}
+use Rattle.folder_words.specs.MarkWords.{mark_said}
+use Rattle.folder_words.specs.RefileWords.{refile_said}
+use Rattle.folder_words.specs.RmmWords.{rmm_said}
+use Rattle.look_words.specs.ScanWords.{scan_said}
+use Rattle.folder_words.specs.TellWords.{tell_said}
 use Rattle.command_words.specs.declared.ended.Ended.{Ended}
-use Rattle.command_words.specs.declared.folder.FolderWords.{FolderWords}
+use Rattle.folder_words.specs.declared.folder.FolderWords.{FolderWords}
 use Rattle.sort_words.specs.SortWords.{sort_said}
-use Rattle.command_line.specs.Looking.{ScanAsked, look_found, scan_asked}
+use Rattle.command_plans.specs.Looking.{ScanAsked, look_found, scan_asked}
 use Rattle.refile_plans.specs.Refile.{refile}
 use Rattle.refile_plans.specs.Rmm.{rmm}
-use Rattle.command_line.specs.Command.{anno_begun, anno_job, annotated_by, build_begun, build_job, by_words, command_by, context_entered, context_seen, folder_begun, folder_found, inc_begun, job_of, list_begun, list_job, mark_begun, mark_job, no_command, pack_begun, pack_job, pick_begun, pick_job, picked_by, refile_begun, refile_job, rmm_begun, rmm_job, scan_begun, sort_begun, sort_job, store_begun, store_job, task_begun, tell_begun, tell_job, word_by}
-use Rattle.command_line.specs.CommandNames.{named}
+use Rattle.command_plans.specs.Command.{anno_begun, anno_job, annotated_by, build_begun, build_job, by_words, command_by, context_entered, context_seen, folder_begun, folder_found, inc_begun, job_of, list_begun, list_job, mark_begun, mark_job, no_command, pack_begun, pack_job, pick_begun, pick_job, picked_by, refile_begun, refile_job, rmm_begun, rmm_job, scan_begun, sort_begun, sort_job, store_begun, store_job, task_begun, tell_begun, tell_job, word_by}
+use Rattle.command_plans.specs.CommandNames.{named}
 use Rattle.build_words.specs.BuildWords.{build_said}
 use Rattle.build_words.specs.declared.words.BuildWords.{BuildWords}
 use Rattle.mhbuild_plans.specs.Building.{mhbuild}
-use Rattle.command_line.specs.Incorporating.{IncAsked, job_by, job_writing}
-use Rattle.command_line.specs.Profile.{folder_of, path_of}
-use Rattle.command_line.specs.declared.name.CommandName.{CommandName}
-use Rattle.command_line.specs.declared.name.CommandName.TheVariants.{Anno, Folder as FolderCommand, Inc, Mark, Mhbuild, Mhlist, Mhstore, Pick, Refile, Rmm, Scan, Sortm}
-use Rattle.command_line.specs.declared.caller.Caller.{Caller}
-use Rattle.command_line.proofs.FirstReadings.{context_step, profile_step}
+use Rattle.command_plans.specs.Incorporating.{IncAsked, job_by, job_writing}
+use Rattle.command_plans.specs.Profile.{folder_of, path_of}
+use Rattle.command_plans.specs.declared.name.CommandName.{CommandName}
+use Rattle.command_plans.specs.declared.name.CommandName.TheVariants.{Anno, Folder as FolderCommand, Inc, Mark, Mhbuild, Mhlist, Mhstore, Pick, Refile, Rmm, Scan, Sortm}
+use Rattle.command_plans.specs.declared.caller.Caller.{Caller}
+use Rattle.command_plans.proofs.FirstReadings.{context_step, profile_step}
 use Rattle.command_pledges.proofs.TwoAnswers.{Onward, rest_by}
 
 -- the context was read so: the folder is named, and the work goes on

@@ -16,21 +16,21 @@ use Rattle.anno_plans.specs.AnnoPledge.{anno_pledge}
 use Rattle.anno_plans.proofs.AnnoMinds.{anno_meets}
 use Rattle.anno_plans.proofs.AnnoPledged.{anno_keeps}
 use Rattle.anno_words.specs.declared.words.AnnoWords.{AnnoWords}
-use Rattle.command_line.specs.Command.{anno_job, list_job, mark_job, pack_job, pick_job, rmm_job, sort_job, store_job, tell_job}
+use Rattle.command_plans.specs.Command.{anno_job, list_job, mark_job, pack_job, pick_job, rmm_job, sort_job, store_job, tell_job}
 use Rattle.command_pledges.specs.CommandMarks.{IsTextName}
-use Rattle.command_line.specs.Profile.{path_of}
+use Rattle.command_plans.specs.Profile.{path_of}
 use Rattle.command_pledges.proofs.Begun.{none_read}
-use Rattle.command_line.proofs.FirstReadings.{two_readings}
+use Rattle.command_plans.proofs.FirstReadings.{two_readings}
 use Rattle.sortm_plans.specs.Sort.{sortm}
 use Rattle.sortm_plans.specs.SortPledge.{sortm_pledge}
 use Rattle.sortm_plans.proofs.SortMinds.{sortm_meets}
 use Rattle.sortm_plans.proofs.SortPledged.{sortm_keeps}
 use Rattle.sort_words.specs.declared.words.SortWords.{SortWords}
-use Rattle.pack_command.specs.Pack.{pack}
-use Rattle.pack_command.specs.PackPledge.{pack_pledge}
-use Rattle.pack_command.proofs.PackMinds.{pack_meets}
-use Rattle.pack_command.proofs.PackPledged.{pack_keeps}
-use Rattle.command_words.specs.declared.folder.FolderWords.{FolderWords}
+use Rattle.pack_plans.specs.Pack.{pack}
+use Rattle.pack_plans.specs.PackPledge.{pack_pledge}
+use Rattle.pack_plans.proofs.PackMinds.{pack_meets}
+use Rattle.pack_plans.proofs.PackPledged.{pack_keeps}
+use Rattle.folder_words.specs.declared.folder.FolderWords.{FolderWords}
 use Rattle.mark_command.specs.declared.job.MarkJob.{MarkJob}
 use Rattle.mark_command.specs.Mark.{look_task, mark, mark_by_act, mark_task}
 use Rattle.mark_command.specs.declared.job.MarkAct.{MarkAct}
@@ -48,8 +48,8 @@ use Rattle.refile_plans.specs.Rmm.{rmm}
 use Rattle.refile_plans.specs.RmmPledge.{rmm_pledge}
 use Rattle.refile_plans.proofs.RmmMinds.{rmm_meets}
 use Rattle.refile_plans.proofs.RmmPledged.{rmm_keeps}
-use Rattle.command_words.specs.declared.mark.MarkWords.{MarkWords}
-use Rattle.command_words.specs.declared.rmm.RmmWords.{RmmWords}
+use Rattle.folder_words.specs.declared.mark.MarkWords.{MarkWords}
+use Rattle.folder_words.specs.declared.rmm.RmmWords.{RmmWords}
 use Rattle.command_pledges.proofs.LooksMarks.{looks_mind}
 use Rattle.command_pledges.proofs.MindingPlans.{NothingMore}
 use Rattle.command_pledges.proofs.MindingWork.{MindingWork, all_minded, own_minded}
@@ -63,7 +63,7 @@ use Rattle.pick_plans.specs.declared.job.PickJob.{PickJob}
 use Rattle.pick_plans.specs.declared.job.PickMarks.{PickMarks}
 use Rattle.pick_plans.proofs.PickMinds.{changes_meet as picks_meet}
 use Rattle.pick_plans.proofs.PickPledged.{pick_keeps}
-use Rattle.command_words.specs.declared.pick.PickWords.{PickWords}
+use Rattle.folder_words.specs.declared.pick.PickWords.{PickWords}
 use Rattle.list_words.specs.declared.words.ListWords.{ListWords}
 use Rattle.store_words.specs.declared.words.StoreWords.{StoreWords}
 use Rattle.mhlist_plans.specs.ListPledge.{list_pledge, task_of}

@@ -26,13 +26,13 @@ use Rattle.inc_plans.specs.IncPledge.{inc_pledge}
 use Rattle.inc_plans.proofs.IncMinds.{inc_meets}
 use Rattle.inc_plans.proofs.IncPledged.{inc_keeps}
 use Rattle.command_pledges.specs.CommandMarks.{IsTextName}
-use Rattle.command_line.specs.Incorporating.{IncAsked, job_writing}
-use Rattle.command_line.specs.Looking.{WritesAs, written_by}
-use Rattle.command_line.specs.Profile.{path_of}
+use Rattle.command_plans.specs.Incorporating.{IncAsked, job_writing}
+use Rattle.command_plans.specs.Looking.{WritesAs, written_by}
+use Rattle.command_plans.specs.Profile.{path_of}
 use Rattle.command_pledges.proofs.Begun.{Any, any_so, none_read}
-use Rattle.command_line.proofs.LookFound.{acts_looked, look_done, look_keeps, look_writes, looked_once, looked_unlinked, writes_kept}
+use Rattle.command_plans.proofs.LookFound.{acts_looked, look_done, look_keeps, look_writes, looked_once, looked_unlinked, writes_kept}
 use Rattle.command_pledges.proofs.Telling.{keeps_telling}
-use Rattle.command_line.proofs.FirstReadings.{two_once, two_readings}
+use Rattle.command_plans.proofs.FirstReadings.{two_once, two_readings}
 use Rattle.command_pledges.proofs.MindingPlans.{NothingMore, minds_own}
 use Rattle.command_pledges.proofs.MindingWork.{MindingWork}
 use Rattle.command_pledges.proofs.ByWords.{inc_acts}

@@ -17,10 +17,10 @@ use Rattle.command_stages.specs.Texts.{too_large}
 use Rattle.refile_plans.specs.HeldLeft.{RemovesUnheld}
 use Rattle.refile_plans.specs.RefileHeld.{TakesUnheld}
 use Rattle.command_words.specs.Ended.{ended_cause, plain}
-use Rattle.command_words.specs.MarkWords.{mark_said}
-use Rattle.command_words.specs.RefileWords.{refile_said}
-use Rattle.command_words.specs.RmmWords.{rmm_said}
-use Rattle.command_words.specs.TellWords.{tell_said}
+use Rattle.folder_words.specs.MarkWords.{mark_said}
+use Rattle.folder_words.specs.RefileWords.{refile_said}
+use Rattle.folder_words.specs.RmmWords.{rmm_said}
+use Rattle.folder_words.specs.TellWords.{tell_said}
 use Rattle.command_words.specs.declared.ended.Ended.{Ended}
 use Rattle.anno_words.proofs.Said.{anno_annotates, anno_valid}
 use Rattle.sort_words.proofs.Said.{sort_valid}
@@ -29,25 +29,25 @@ use Rattle.list_words.specs.ListWords.{list_said}
 use Rattle.store_words.proofs.Said.{store_valid}
 use Rattle.store_words.specs.StoreWords.{store_said}
 use Rattle.sort_words.specs.SortWords.{sort_said}
-use Rattle.command_line.specs.Command.{annotated_by, command, picked_by, build_job, refile_job}
+use Rattle.command_plans.specs.Command.{annotated_by, command, picked_by, build_job, refile_job}
 use Rattle.command_pledges.specs.CommandMarks.{IsTextName, KeepsCommandMarks, KeepsWhere}
-use Rattle.command_line.specs.CommandNames.{command_of, named}
-use Rattle.command_line.specs.Profile.{entries_by, path_of}
-use Rattle.command_line.specs.declared.name.CommandName.{CommandName}
-use Rattle.command_line.specs.declared.name.CommandName.TheVariants.{Anno, Folder as FolderCommand, Inc, Mark, Mhbuild, Mhlist, Mhstore, Pick, Refile, Rmm, Scan, Sortm}
-use Rattle.command_line.specs.declared.caller.Caller.{Caller}
+use Rattle.command_plans.specs.CommandNames.{command_of, named}
+use Rattle.command_plans.specs.Profile.{entries_by, path_of}
+use Rattle.command_plans.specs.declared.name.CommandName.{CommandName}
+use Rattle.command_plans.specs.declared.name.CommandName.TheVariants.{Anno, Folder as FolderCommand, Inc, Mark, Mhbuild, Mhlist, Mhstore, Pick, Refile, Rmm, Scan, Sortm}
+use Rattle.command_plans.specs.declared.caller.Caller.{Caller}
 use Rattle.command_pledges.proofs.MindsMarks.{command_keeps_sequences, minds_sequences, found_minds}
-use Rattle.command_line.proofs.FolderChars.{AreUtf8, anno_chars, chars_texts, mark_chars, pick_chars, refile_chars, rmm_chars, tell_chars, list_chars, sort_chars, store_chars, AreTexts}
-use Rattle.command_line.proofs.SaidFolder.{mark_valid, refile_words_valid, rmm_words_valid, tell_words_valid}
-use Rattle.command_line.proofs.SaidPick.{pick_valid}
+use Rattle.command_plans.proofs.FolderChars.{AreUtf8, anno_chars, chars_texts, mark_chars, pick_chars, refile_chars, rmm_chars, tell_chars, list_chars, sort_chars, store_chars, AreTexts}
+use Rattle.command_plans.proofs.SaidFolder.{mark_valid, refile_words_valid, rmm_words_valid, tell_words_valid}
+use Rattle.command_plans.proofs.SaidPick.{pick_valid}
 use Rattle.command_pledges.proofs.Begun.{start_same}
 use Rattle.sequence_marks.specs.KeepsSequences.{KeepsSequences}
 use Rattle.sequence_marks.proofs.Sequences.{MindsSequences}
 use Rattle.mhbuild_plans.proofs.BuildMinds.{build_minds}
 use Rattle.build_words.specs.BuildWords.{build_said}
-use Rattle.command_words.specs.IncWords.{inc_said}
-use Rattle.command_line.specs.Incorporating.{job_by}
-use Rattle.command_line.proofs.SaidInc.{job_chars, job_valid}
+use Rattle.look_words.specs.IncWords.{inc_said}
+use Rattle.command_plans.specs.Incorporating.{job_by}
+use Rattle.command_plans.proofs.SaidInc.{job_chars, job_valid}
 use Rattle.command_pledges.proofs.MindingPlans.{Minding, NothingMore, all_kept, ended_minding, minding_where}
 use Rattle.command_pledges.proofs.MindingWork.{entries_minded, folder_minding, words_minding}
 use Rattle.command_pledges.proofs.Pledging.{Answered, answers, onward_by, plan_by}

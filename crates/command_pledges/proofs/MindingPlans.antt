@@ -30,8 +30,8 @@ use Rattle.folder_files.specs.declared.place.Place.TheVariants.{Home}
 use Rattle.step_plans.specs.ContextCommit.{LIMIT_BYTES}
 use Rattle.mh_profile.specs.declared.named_value.NamedValue.{NamedValue}
 use Rattle.command_pledges.proofs.TwoAnswers.{keeps_ended}
-use Rattle.command_line.specs.Profile.{path_of, profile_name}
-use Rattle.command_line.proofs.FirstReadings.{profile_step}
+use Rattle.command_plans.specs.Profile.{path_of, profile_name}
+use Rattle.command_plans.proofs.FirstReadings.{profile_step}
 use Rattle.mh_looks.specs.ScanPledge.{scan_pledge}
 
 -- where one folder is acted on, whose name is a text

@@ -21,7 +21,7 @@ use Rattle.command_pledges.proofs.ByWords.{AsksContext, on_context, on_entries, 
 use Rattle.command_stages.specs.Texts.{Commanded}
 use Rattle.command_words.specs.declared.ended.Ended.{Ended}
 use Rattle.command_words.specs.Ended.{Ending}
-use Rattle.command_line.proofs.FolderChars.{HasChars, acted_chars}
+use Rattle.command_plans.proofs.FolderChars.{HasChars, acted_chars}
 use Rattle.folder_files.specs.declared.place.Place.TheVariants.{Home, Mail}
 use Rattle.command_words.proofs.SaidFolder.{IsValid}
 use Rattle.step_plans.specs.ContextCommit.{LIMIT_BYTES, context_name}
@@ -31,15 +31,15 @@ use Rattle.mh_profile.specs.declared.named_value.NamedValue.{NamedValue}
 use Rattle.file_plans.specs.declared.answers.Reading.{Reading}
 use Rattle.opening_plans.proofs.EndedKept.{Still, keeps_more}
 use Rattle.command_pledges.proofs.Pledging.{WorkKeeps, context_keeps, entries_keep, known_sound}
-use Rattle.command_line.proofs.SaidFolder.{acted_valid}
+use Rattle.command_plans.proofs.SaidFolder.{acted_valid}
 use Rattle.file_plans.proofs.Acting.{acts}
-use Rattle.command_line.specs.Profile.{entries_by, folder_of, path_of, profile_name}
+use Rattle.command_plans.specs.Profile.{entries_by, folder_of, path_of, profile_name}
 use Rattle.mh_base.specs.Folders.{is_folder_name}
 use Rattle.command_pledges.proofs.TwoAnswers.{keeps_after}
 use Rattle.step_plans.specs.Hands.{knowing}
 use Rattle.file_plans.specs.Asking.{reading_of}
 use Rattle.mh_looks.specs.ScanPledge.{scan_pledge}
-use Rattle.command_line.proofs.FirstReadings.{two_readings}
+use Rattle.command_plans.proofs.FirstReadings.{two_readings}
 
 ok_one : (v : Result (List ℕ) CommandFault) (x y : List ℕ) → v ≡ Ok x → v ≡ Ok y → x ≡ y
 ok_one v x y e f = cc (e, f)

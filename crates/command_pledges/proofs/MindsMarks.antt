@@ -35,10 +35,10 @@ use Rattle.sequence_marks.proofs.Silence.{private_committed}
 use Rattle.command_stages.specs.Current.{current_name}
 use Rattle.mh_looks.specs.ScanPledge.{MarksCurrent, scan_pledge}
 use Rattle.command_stages.proofs.FolderLines.{current_valid}
-use Rattle.command_line.specs.Command.{command}
+use Rattle.command_plans.specs.Command.{command}
 use Rattle.command_pledges.specs.CommandPledge.{command_pledge, pledge_found}
-use Rattle.command_line.specs.Profile.{entries_by, path_of}
-use Rattle.command_line.specs.declared.caller.Caller.{Caller}
+use Rattle.command_plans.specs.Profile.{entries_by, path_of}
+use Rattle.command_plans.specs.declared.caller.Caller.{Caller}
 use Rattle.command_words.specs.Ended.{ended_cause}
 use Rattle.command_words.specs.declared.ended.Ended.{Ended}
 use Rattle.command_pledges.proofs.Begun.{start_same}

@@ -48,32 +48,32 @@ use Rattle.mhstore_plans.proofs.StorePledged.{store_keeps}
 use Rattle.store_words.specs.StoreWords.{store_said}
 use Rattle.folder_command.specs.Folder.{folder as tell, pledge_by as tell_pledge_by}
 use Rattle.folder_command.proofs.FolderPledged.{folder_keeps}
-use Rattle.pack_command.proofs.PackPledged.{pack_keeps}
+use Rattle.pack_plans.proofs.PackPledged.{pack_keeps}
 use Rattle.pick_plans.specs.Pick.{pick}
 use Rattle.pick_plans.specs.PickPledge.{pledge_by as pick_pledge_by}
 use Rattle.pick_plans.specs.declared.job.PickMarks.{PickMarks}
 use Rattle.pick_plans.proofs.PickPledged.{pick_keeps}
 use Rattle.command_words.specs.Ended.{Ending, ended_cause, plain}
-use Rattle.command_words.specs.IncWords.{inc_said}
-use Rattle.command_words.specs.MarkWords.{mark_said}
-use Rattle.command_words.specs.RefileWords.{refile_said}
-use Rattle.command_words.specs.RmmWords.{rmm_said}
-use Rattle.command_words.specs.ScanWords.{scan_said}
-use Rattle.command_words.specs.TellWords.{tell_said}
+use Rattle.look_words.specs.IncWords.{inc_said}
+use Rattle.folder_words.specs.MarkWords.{mark_said}
+use Rattle.folder_words.specs.RefileWords.{refile_said}
+use Rattle.folder_words.specs.RmmWords.{rmm_said}
+use Rattle.look_words.specs.ScanWords.{scan_said}
+use Rattle.folder_words.specs.TellWords.{tell_said}
 use Rattle.command_words.specs.declared.ended.Ended.{Ended}
-use Rattle.command_words.specs.declared.folder.FolderWords.{FolderWords}
-use Rattle.command_words.specs.declared.mark.MarkWords.{MarkWords}
-use Rattle.command_words.specs.declared.pick.PickWords.{PickWords}
+use Rattle.folder_words.specs.declared.folder.FolderWords.{FolderWords}
+use Rattle.folder_words.specs.declared.mark.MarkWords.{MarkWords}
+use Rattle.folder_words.specs.declared.pick.PickWords.{PickWords}
 use Rattle.sort_words.specs.SortWords.{sort_said}
-use Rattle.command_line.specs.Looking.{ScanAsked, WritesAs, scan_asked, written_by}
+use Rattle.command_plans.specs.Looking.{ScanAsked, WritesAs, scan_asked, written_by}
 use Rattle.command_words.proofs.SaidFolder.{IsValid}
 use Rattle.refile_plans.specs.Refile.{refile}
 use Rattle.refile_plans.specs.declared.job.RefileJob.{RefileJob}
 use Rattle.refile_plans.proofs.RefileMoved.{HasHeldNone}
 use Rattle.refile_plans.proofs.RefilePledged.{EndsRefiled, refile_keeps}
 use Rattle.refile_plans.proofs.RmmPledged.{rmm_keeps}
-use Rattle.command_line.specs.Command.{anno_job, annotated_by, build_job, command, command_by, context_seen, job_of, list_job, mark_job, no_command, pack_job, pick_job, picked_by, refile_job, rmm_job, sort_job, store_job, tell_job}
-use Rattle.command_line.specs.CommandNames.{command_of, named}
+use Rattle.command_plans.specs.Command.{anno_job, annotated_by, build_job, command, command_by, context_seen, job_of, list_job, mark_job, no_command, pack_job, pick_job, picked_by, refile_job, rmm_job, sort_job, store_job, tell_job}
+use Rattle.command_plans.specs.CommandNames.{command_of, named}
 use Rattle.build_words.specs.BuildWords.{build_said}
 use Rattle.build_words.specs.declared.words.BuildWords.{BuildWords}
 use Rattle.build_words.proofs.Said.{build_valid}
@@ -82,15 +82,15 @@ use Rattle.mhbuild_plans.specs.BuildPledge.{build_pledge}
 use Rattle.mhbuild_plans.specs.Building.{mhbuild}
 use Rattle.mhbuild_plans.specs.declared.job.BuildJob.{BuildJob}
 use Rattle.mhbuild_plans.proofs.BuildPledged.{build_keeps}
-use Rattle.command_line.specs.Incorporating.{IncAsked, job_by, job_writing}
-use Rattle.command_line.specs.Profile.{entries_by, folder_of, path_by, path_of, profile_name, text_of}
-use Rattle.command_line.specs.declared.name.CommandName.{CommandName}
-use Rattle.command_line.specs.declared.name.CommandName.TheVariants.{Anno, Folder as FolderCommand, Inc, Mark, Mhbuild, Mhlist, Mhstore, Pick, Refile, Rmm, Scan, Sortm}
-use Rattle.command_line.specs.declared.caller.Caller.{Caller}
-use Rattle.command_line.proofs.LookFound.{acts_looked, look_done, look_keeps, look_writes, looked_once, looked_only, looked_settled, writes_kept}
+use Rattle.command_plans.specs.Incorporating.{IncAsked, job_by, job_writing}
+use Rattle.command_plans.specs.Profile.{entries_by, folder_of, path_by, path_of, profile_name, text_of}
+use Rattle.command_plans.specs.declared.name.CommandName.{CommandName}
+use Rattle.command_plans.specs.declared.name.CommandName.TheVariants.{Anno, Folder as FolderCommand, Inc, Mark, Mhbuild, Mhlist, Mhstore, Pick, Refile, Rmm, Scan, Sortm}
+use Rattle.command_plans.specs.declared.caller.Caller.{Caller}
+use Rattle.command_plans.proofs.LookFound.{acts_looked, look_done, look_keeps, look_writes, looked_once, looked_only, looked_settled, writes_kept}
 use Rattle.command_pledges.proofs.Telling.{keeps_telling}
-use Rattle.command_line.proofs.SaidFolder.{acted_valid, asked_valid}
-use Rattle.command_line.proofs.FirstReadings.{context_step, profile_step, two_once, two_readings}
+use Rattle.command_plans.proofs.SaidFolder.{acted_valid, asked_valid}
+use Rattle.command_plans.proofs.FirstReadings.{context_step, profile_step, two_once, two_readings}
 use Rattle.command_pledges.proofs.TwoAnswers.{Onward, TwoAnswers, acts_begin_with, follows_so, keeps_after, keeps_ended, rest_by, two_answers}
 use Rattle.command_pledges.specs.CommandPledge.{IsDone, KeepsPledge, TellsAsked, asked_pledge, command_pledge, pledge_by_words, pledge_found, task_pledge, word_pledge}
 use Rattle.command_pledges.proofs.ByWords.{AsksContext, build_acts, inc_acts, named_onward, on_context, on_context_plainly, on_entries, on_entries_plainly, on_folder, scan_acts, task_acts, word_onward, word_plan, words_onward, words_plan}

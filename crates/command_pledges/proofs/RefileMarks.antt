@@ -19,10 +19,10 @@ use Rattle.refile_plans.proofs.FolderNames.{first_or_later, first_there, later_t
 use Rattle.refile_plans.proofs.FoldersMinded.{AreToldApart, IsToldAll}
 use Rattle.refile_plans.proofs.RefileMinds.{MindsTaking, begun_names, refile_meets}
 use Rattle.command_pledges.specs.CommandMarks.{IsTextName}
-use Rattle.command_line.specs.Profile.{path_of}
+use Rattle.command_plans.specs.Profile.{path_of}
 use Rattle.command_pledges.proofs.Begun.{none_read}
-use Rattle.command_line.proofs.FolderChars.{AreTexts}
-use Rattle.command_line.proofs.FirstReadings.{two_readings}
+use Rattle.command_plans.proofs.FolderChars.{AreTexts}
+use Rattle.command_plans.proofs.FirstReadings.{two_readings}
 use Rattle.command_pledges.proofs.ToldApart.{told_by}
 use Rattle.command_pledges.proofs.MindingPlans.{minds_all}
 use Rattle.command_pledges.proofs.MindingWork.{MindingWork, met_minded}

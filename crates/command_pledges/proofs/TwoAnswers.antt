@@ -16,7 +16,7 @@ use Rattle.step_plans.specs.Pledges.{Pledge}
 use Rattle.step_plans.proofs.FirstAnswer.{BeginsWith, answered, over_these}
 use Rattle.step_plans.proofs.Going.{Sound}
 use Rattle.step_plans.proofs.Ruling.{rules_of}
-use Rattle.command_line.proofs.FirstReadings.{may_read}
+use Rattle.command_plans.proofs.FirstReadings.{may_read}
 
 -- how a plan goes on after its first step: it ends, or makes this one
 abbrev pub Onward : {R : Type 0} → Step → Plan R → Type 0

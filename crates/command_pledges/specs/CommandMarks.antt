@@ -11,8 +11,8 @@ use Rattle.sequence_marks.specs.KeepsSequences.{KeepsSequences}
 use Rattle.sequence_marks.specs.KeepsSequencesOf.{KeepsSequencesOf, SequencesStaySoundOf}
 use Rattle.refile_plans.specs.HeldLeft.{RemovesUnheld}
 use Rattle.refile_plans.specs.RefileHeld.{TakesUnheld}
-use Rattle.command_line.specs.declared.name.CommandName.{CommandName}
-use Rattle.command_line.specs.declared.name.CommandName.TheVariants.{Anno, Folder as FolderCommand, Inc, Mark, Mhbuild, Mhlist, Mhstore, Pick, Refile, Rmm, Scan, Sortm}
+use Rattle.command_plans.specs.declared.name.CommandName.{CommandName}
+use Rattle.command_plans.specs.declared.name.CommandName.TheVariants.{Anno, Folder as FolderCommand, Inc, Mark, Mhbuild, Mhlist, Mhstore, Pick, Refile, Rmm, Scan, Sortm}
 
 -- the name is a text of characters
 abbrev pub IsTextName : List ℕ → Type 0

@@ -22,31 +22,31 @@ use Rattle.mhlist_plans.specs.ListPledge.{list_pledge}
 use Rattle.mhbuild_plans.specs.BuildPledge.{build_pledge}
 use Rattle.mhstore_plans.specs.StorePledge.{store_pledge}
 use Rattle.folder_command.specs.Folder.{pledge_by as tell_pledge_by}
-use Rattle.pack_command.specs.PackPledge.{pack_pledge}
+use Rattle.pack_plans.specs.PackPledge.{pack_pledge}
 use Rattle.message_lines.specs.MessageText.{Writing}
 use Rattle.message_lines.specs.declared.standing.Standing.{Standing}
 use Rattle.inc_plans.specs.IncPledge.{TellsNew, inc_pledge}
 use Rattle.refile_plans.specs.RefilePledge.{refile_pledge}
 use Rattle.refile_plans.specs.RmmPledge.{rmm_pledge}
-use Rattle.command_words.specs.IncWords.{inc_said}
-use Rattle.command_words.specs.MarkWords.{mark_said}
-use Rattle.command_words.specs.RefileWords.{refile_said}
-use Rattle.command_words.specs.RmmWords.{rmm_said}
-use Rattle.command_words.specs.TellWords.{tell_said}
+use Rattle.look_words.specs.IncWords.{inc_said}
+use Rattle.folder_words.specs.MarkWords.{mark_said}
+use Rattle.folder_words.specs.RefileWords.{refile_said}
+use Rattle.folder_words.specs.RmmWords.{rmm_said}
+use Rattle.folder_words.specs.TellWords.{tell_said}
 use Rattle.command_words.specs.declared.ended.Ended.{Ended}
-use Rattle.command_words.specs.declared.folder.FolderWords.{FolderWords}
+use Rattle.folder_words.specs.declared.folder.FolderWords.{FolderWords}
 use Rattle.sort_words.specs.SortWords.{sort_said}
 use Rattle.list_words.specs.ListWords.{list_said}
 use Rattle.build_words.specs.BuildWords.{build_said}
 use Rattle.store_words.specs.StoreWords.{store_said}
-use Rattle.command_line.specs.Command.{anno_job, annotated_by, build_job, list_job, mark_job, pack_job, pick_job, picked_by, refile_job, rmm_job, tell_job, sort_job, store_job}
-use Rattle.command_line.specs.CommandNames.{command_of, named}
-use Rattle.command_line.specs.Incorporating.{IncAsked, job_by, job_writing}
-use Rattle.command_line.specs.Looking.{WritesAs}
-use Rattle.command_line.specs.Profile.{entries_by, folder_of, path_by, path_of, profile_name}
-use Rattle.command_line.specs.declared.name.CommandName.{CommandName}
-use Rattle.command_line.specs.declared.name.CommandName.TheVariants.{Anno, Folder as FolderCommand, Inc, Mark, Mhbuild, Mhlist, Mhstore, Pick, Refile, Rmm, Scan, Sortm}
-use Rattle.command_line.specs.declared.caller.Caller.{Caller}
+use Rattle.command_plans.specs.Command.{anno_job, annotated_by, build_job, list_job, mark_job, pack_job, pick_job, picked_by, refile_job, rmm_job, tell_job, sort_job, store_job}
+use Rattle.command_plans.specs.CommandNames.{command_of, named}
+use Rattle.command_plans.specs.Incorporating.{IncAsked, job_by, job_writing}
+use Rattle.command_plans.specs.Looking.{WritesAs}
+use Rattle.command_plans.specs.Profile.{entries_by, folder_of, path_by, path_of, profile_name}
+use Rattle.command_plans.specs.declared.name.CommandName.{CommandName}
+use Rattle.command_plans.specs.declared.name.CommandName.TheVariants.{Anno, Folder as FolderCommand, Inc, Mark, Mhbuild, Mhlist, Mhstore, Pick, Refile, Rmm, Scan, Sortm}
+use Rattle.command_plans.specs.declared.caller.Caller.{Caller}
 
 -- the run made no step; or its first step read the profile, with this answer; and if it made a second one, that read
 -- the context of the mail directory that the profile names, with this answer

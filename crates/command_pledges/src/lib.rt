@@ -1,3 +1,3 @@
-//! What calls keep, by their words: the pledge of each command, and the marks of messages. Theorems on the plans of
-//! command_line.
+//! What calls keep, by their words: the pledge of each command, and the marks of messages. Theorems on their
+//! plans.
 #![tactic(auto)]

@@ -1,14 +1,28 @@
-// Words and profiles, and how a refusal is shown.
-use command_words::{Ended, FormatWords};
+// Words and profiles, and how what they say stands beside a row's text.
+use crate::wanted::Wanted;
+use command_words::Ended;
 use folder_files::Refusal;
-use mh_base::{Bytes, FolderName, Text, TextList};
+use look_words::FormatWords;
+use mh_base::{Bytes, FolderName, Text, TextList, WordWhy};
 use mh_profile::Entries;
 use std::alloc::{AllocError, Global};
-use std::str;
 use step_plans::CommandFault;
 
+/// A text of the profile, the command's words, and how what they say is shown.
+pub type Row = (&'static str, &'static str, &'static str);
+
+/// What may stand as a row's text.
+pub trait Shown {
+    fn is_shown(&self, wanted: &mut Wanted) -> bool;
+}
+
+/// What the words of a command say.
+pub trait Said: Shown + Drop {
+    fn read(alloc: Global, entries: &Entries, words: &[String]) -> Result<Self, Ended>;
+}
+
 /// The words between spaces. An empty text has no word.
-pub fn words(alloc: Global, line: &str) -> Result<Vec<String>, AllocError> {
+fn words(alloc: Global, line: &str) -> Result<Vec<String>, AllocError> {
     let mut words = Vec::new(alloc);
     for word in line.split(' ') {
         if !word.is_empty() {
@@ -18,9 +32,36 @@ pub fn words(alloc: Global, line: &str) -> Result<Vec<String>, AllocError> {
     Ok(words)
 }
 
-/// The entries of this profile.
-pub fn profile(alloc: Global, text: &str) -> Result<Entries, AllocError> {
-    Entries::read(alloc, text.as_bytes())
+fn is_all_shown<S: Shown>(shown: &S, text: &str) -> bool {
+    let mut wanted = Wanted {
+        rest: text,
+        between: ' ',
+    };
+    shown.is_shown(&mut wanted) && wanted.rest.is_empty()
+}
+
+/// Whether one of the two is shown so.
+fn is_either_shown<S: Shown + Drop, E: Shown + Drop>(said: Result<S, E>, text: &str) -> bool {
+    match said {
+        Ok(said) => is_all_shown(&said, text),
+        Err(ended) => is_all_shown(&ended, text),
+    }
+}
+
+fn is_right<S: Said>(alloc: Global, row: &Row) -> Result<bool, AllocError> {
+    let entries = Entries::read(alloc, row.0.as_bytes())?;
+    let words = words(alloc, row.1)?;
+    Ok(is_either_shown(S::read(alloc, &entries, words.as_slice()), row.2))
+}
+
+/// The first row that doesn't say so.
+pub fn wrong_row<S: Said>(alloc: Global, rows: &[Row]) -> Option<Row> {
+    for row in rows {
+        if is_right::<S>(alloc, row) != Ok(true) {
+            return Some(*row);
+        }
+    }
+    None
 }
 
 /// The folder, or a dash where there is none.
@@ -39,62 +80,71 @@ pub fn word_text(word: &Option<Text>) -> &str {
     }
 }
 
+pub fn flag_text(flag: bool) -> &'static str {
+    if flag { "true" } else { "false" }
+}
+
 /// The format that words name: the word, its file behind an `@`, or a dash where there is none.
-pub fn format_text(alloc: Global, format: &FormatWords) -> Result<String, AllocError> {
+pub fn is_format(wanted: &mut Wanted, format: &FormatWords) -> bool {
     match format {
-        FormatWords::Default => format!(in alloc; "-"),
-        FormatWords::Word(word) => {
-            let word = word.as_str();
-            format!(in alloc; "{word}")
-        }
-        FormatWords::File(path) => {
-            let path = path.as_str();
-            format!(in alloc; "@{path}")
-        }
+        FormatWords::Default => wanted.is("-"),
+        FormatWords::Word(word) => wanted.is(word.as_str()),
+        FormatWords::File(path) => wanted.is_between("@", path.as_str(), ""),
     }
 }
 
-/// Each text, with a space before it.
-pub fn push_texts(shown: &mut String, texts: &TextList) -> Result<(), AllocError> {
+pub fn are_texts(wanted: &mut Wanted, texts: &TextList) -> bool {
     for text in texts.as_slice() {
-        shown.push(' ')?;
-        shown.push_str(text.as_str())?;
+        if !wanted.is(text.as_str()) {
+            return false;
+        }
     }
-    Ok(())
+    true
+}
+
+fn why_text(why: WordWhy) -> &'static str {
+    match why {
+        WordWhy::NoCommand => "NoCommand",
+        WordWhy::Unknown => "Unknown",
+        WordWhy::Ambiguous => "Ambiguous",
+        WordWhy::NoValue => "NoValue",
+        WordWhy::BadValue => "BadValue",
+        WordWhy::Missing => "Missing",
+        WordWhy::Extra => "Extra",
+    }
+}
+
+fn is_refusal(wanted: &mut Wanted, refusal: &Refusal) -> bool {
+    match refusal {
+        Refusal::BadSwitch { place, why } => {
+            wanted.is(why_text(*why)) && wanted.is_number("@", *place)
+        }
+        Refusal::BadFolder(text) => {
+            wanted.is("bad") && wanted.is("folder") && wanted.is(text.as_str())
+        }
+        Refusal::BadSequenceName(text) => {
+            wanted.is("bad") && wanted.is("sequence") && wanted.is(text.as_str())
+        }
+        _ => false,
+    }
 }
 
 /// The word that a refusal speaks of, in brackets, or nothing.
-fn word_shown(alloc: Global, word: &Option<Bytes>) -> Result<String, AllocError> {
+fn is_word(wanted: &mut Wanted, word: &Option<Bytes>) -> bool {
     match word {
-        Some(word) => {
-            let text = str::from_utf8(word.as_slice()).unwrap_or("no text");
-            format!(in alloc; " [{text}]")
-        }
-        None => Ok(String::new(alloc)),
-    }
-}
-
-fn fault_shown(alloc: Global, fault: &CommandFault) -> Result<String, AllocError> {
-    match fault {
-        CommandFault::Refused(Refusal::BadSwitch { place, why }) => {
-            format!(in alloc; "{why:?} @{place}")
-        }
-        CommandFault::Refused(Refusal::BadFolder(text)) => {
-            format!(in alloc; "bad folder {}", text.as_str())
-        }
-        CommandFault::Refused(Refusal::BadSequenceName(text)) => {
-            format!(in alloc; "bad sequence {}", text.as_str())
-        }
-        _ => String::from_str(alloc, "another fault"),
+        Some(word) => wanted.is_bytes_between("[", word.as_slice(), "]"),
+        None => true,
     }
 }
 
 /// The fault, and the word that it speaks of.
-pub fn ended_shown(alloc: Global, ended: &Ended) -> Result<String, AllocError> {
-    let mut shown = fault_shown(alloc, &ended.fault)?;
-    shown.push_str(&word_shown(alloc, &ended.word)?)?;
-    Ok(shown)
+impl Shown for Ended {
+    fn is_shown(&self, wanted: &mut Wanted) -> bool {
+        match &self.fault {
+            CommandFault::Refused(refusal) => {
+                is_refusal(wanted, refusal) && is_word(wanted, &self.word)
+            }
+            _ => false,
+        }
+    }
 }
-
-/// A text of the profile, the command's words, and how what they say is shown.
-pub type Row<'a> = (&'a str, &'a str, &'a str);

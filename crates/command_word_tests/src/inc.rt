@@ -1,24 +1,26 @@
 // Words of `inc` and what they say, worked out by hand.
-use crate::given::{Row, ended_shown, folder_text, format_text, profile, word_text, words};
-use command_words::{Ended, IncWords, inc_words};
-use std::alloc::{AllocError, Global};
-use std::test::Fail;
+use crate::given::{Row, Said, Shown, flag_text, folder_text, is_format, word_text, wrong_row};
+use crate::wanted::Wanted;
+use command_words::Ended;
+use look_words::{IncWords, inc_words};
+use mh_profile::Entries;
+use std::alloc::Global;
 
-fn said_shown(alloc: Global, said: &IncWords) -> Result<String, AllocError> {
-    let folder = folder_text(&said.folder);
-    let (file, format) = (
-        word_text(&said.file),
-        format_text(alloc, &said.look.format)?,
-    );
-    let (truncate, silent, cur) = (said.truncate, said.silent, said.change_cur);
-    let width = said.look.width;
-    format!(in alloc; "{folder} {file} {truncate} {silent} {cur} {format} {width}")
+impl Shown for IncWords {
+    fn is_shown(&self, wanted: &mut Wanted) -> bool {
+        wanted.is(folder_text(&self.folder))
+            && wanted.is(word_text(&self.file))
+            && wanted.is(flag_text(self.truncate))
+            && wanted.is(flag_text(self.silent))
+            && wanted.is(flag_text(self.change_cur))
+            && is_format(wanted, &self.look.format)
+            && wanted.is_number("", u64::from(self.look.width))
+    }
 }
 
-fn shown(alloc: Global, said: &Result<IncWords, Ended>) -> Result<String, AllocError> {
-    match said {
-        Ok(said) => said_shown(alloc, said),
-        Err(ended) => ended_shown(alloc, ended),
+impl Said for IncWords {
+    fn read(alloc: Global, entries: &Entries, words: &[String]) -> Result<IncWords, Ended> {
+        inc_words(alloc, entries, words)
     }
 }
 
@@ -53,11 +55,6 @@ const ROWS: &[Row] = &[
 ];
 
 #[test]
-fn words_of_inc(rt: HostRuntime) -> Result<(), Fail> {
-    let alloc = rt.alloc();
-    for (entries, line, want) in ROWS {
-        let said = inc_words(alloc, &profile(alloc, entries)?, &words(alloc, line)?);
-        assert_eq!(rt; shown(alloc, &said)?.as_str(), *want, "{entries} {line}");
-    }
-    Ok(())
+fn words_of_inc(rt: HostRuntime) {
+    assert_eq!(rt; wrong_row::<IncWords>(rt.alloc(), ROWS), None);
 }

@@ -11,3 +11,5 @@ mod listing;
 mod mark;
 #[cfg(test)]
 mod scan;
+#[cfg(test)]
+mod wanted;

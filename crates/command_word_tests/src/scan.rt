@@ -1,25 +1,25 @@
 // Words of `scan` and what they say, worked out by hand.
-use crate::given::{Row, ended_shown, folder_text, format_text, profile, push_texts, words};
-use command_words::{Ended, ScanWords, read_folder, scan_words};
+use crate::given::{Row, Said, Shown, are_texts, flag_text, folder_text, is_format, wrong_row};
+use crate::wanted::Wanted;
+use command_words::{Ended, read_folder};
+use look_words::{ScanWords, scan_words};
 use mh_base::Text;
+use mh_profile::Entries;
 use std::alloc::{AllocError, Global};
-use std::test::Fail;
 
-fn said_shown(alloc: Global, said: &ScanWords) -> Result<String, AllocError> {
-    let (folder, format) = (
-        folder_text(&said.folder),
-        format_text(alloc, &said.look.format)?,
-    );
-    let (reverse, width) = (said.reverse, said.look.width);
-    let mut shown = format!(in alloc; "{folder} {reverse} {format} {width}")?;
-    push_texts(&mut shown, &said.specs)?;
-    Ok(shown)
+impl Shown for ScanWords {
+    fn is_shown(&self, wanted: &mut Wanted) -> bool {
+        wanted.is(folder_text(&self.folder))
+            && wanted.is(flag_text(self.reverse))
+            && is_format(wanted, &self.look.format)
+            && wanted.is_number("", u64::from(self.look.width))
+            && are_texts(wanted, &self.specs)
+    }
 }
 
-fn shown(alloc: Global, said: &Result<ScanWords, Ended>) -> Result<String, AllocError> {
-    match said {
-        Ok(said) => said_shown(alloc, said),
-        Err(ended) => ended_shown(alloc, ended),
+impl Said for ScanWords {
+    fn read(alloc: Global, entries: &Entries, words: &[String]) -> Result<ScanWords, Ended> {
+        scan_words(alloc, entries, words)
     }
 }
 
@@ -49,23 +49,20 @@ const ROWS: &[Row] = &[
 ];
 
 #[test]
-fn words_of_scan(rt: HostRuntime) -> Result<(), Fail> {
-    let alloc = rt.alloc();
-    for (entries, line, want) in ROWS {
-        let said = scan_words(alloc, &profile(alloc, entries)?, &words(alloc, line)?);
-        assert_eq!(rt; shown(alloc, &said)?.as_str(), *want, "{entries} {line}");
+fn words_of_scan(rt: HostRuntime) {
+    assert_eq!(rt; wrong_row::<ScanWords>(rt.alloc(), ROWS), None);
+}
+
+fn names_folder(alloc: Global, word: &str) -> Result<bool, AllocError> {
+    let word = Text::from_str(alloc, word)?;
+    match read_folder(alloc, &word) {
+        Ok(name) => Ok(name.text().as_str() == "a/b"),
+        Err(_) => Ok(false),
     }
-    Ok(())
 }
 
 #[test]
-fn a_folder_has_its_plus_sign_or_none(rt: HostRuntime) -> Result<(), Fail> {
-    let alloc = rt.alloc();
-    for word in ["+a/b", "a/b"] {
-        match read_folder(alloc, &Text::from_str(alloc, word)?) {
-            Ok(name) => assert_eq!(rt; name.text().as_str(), "a/b"),
-            Err(_) => assert!(rt; false, "{word}"),
-        }
-    }
-    Ok(())
+fn a_folder_has_its_plus_sign_or_none(rt: HostRuntime) {
+    assert!(rt; names_folder(rt.alloc(), "+a/b") == Ok(true));
+    assert!(rt; names_folder(rt.alloc(), "a/b") == Ok(true));
 }

@@ -4,7 +4,7 @@ use Rattle.std.specs.List.{flat_map}
 use Rattle.std.proofs.lemmas.List.{drop_all}
 use Rattle.mh_words.specs.declared.item.Item.{Item}
 use Rattle.step_plans.proofs.Rounds.{next}
-use Rattle.command_words.specs.LookWords.{last_behind}
+use Rattle.command_words.specs.Switches.{last_behind}
 
 last_both : {A : Type 0} (before : A) (xs ys : List A) → last_behind before (xs ++ ys) ≡ last_behind (last_behind before xs) ys
 last_both before [] ys = refl

@@ -2,17 +2,13 @@
 use Rattle.std.proofs.Common.{◌≡◌, ℕ, List, Option, None, Some, Result, Ok, Err, sym, ap, subst}
 use Rattle.std.specs.Prelude.{option_map}
 use Rattle.std.specs.Borrow.{Bor}
-use Rattle.mh_profile.specs.declared.named_value.NamedValue.{NamedValue}
 use Rattle.mh_words.specs.Whole.{Wrong, read_in}
 use Rattle.mh_words.specs.declared.item.Item.{Item}
 use Rattle.mh_words.specs.declared.table.SwitchTable.{SwitchTable}
 use Rattle.command_words.specs.Ended.{wrong_at, items_or_wrong}
-use Rattle.command_words.specs.MarkWords.{mark_items, mark_line, mark_said}
 use Rattle.command_words.specs.Results.{IsOneFolder, IsSaid}
 use Rattle.command_words.specs.Saying.{said_unless_wrong, words_said}
-use Rattle.command_words.specs.Tables.{mark_table}
 use Rattle.command_words.specs.declared.ended.Ended.{Ended}
-use Rattle.command_words.specs.declared.mark.MarkWords.{MarkWords}
 
 ok_same : (a b : List Item) → ◌≡◌ {A = Result (List Item) Ended} (Ok a) (Ok b) → a ≡ b
 ok_same a b same = cc
@@ -33,13 +29,6 @@ read_on said all line table given items result tabled whole read is =
     subst (λ a. IsSaid (words_said said table a) result) whole
     (subst (λ t. IsSaid (words_said said t all) result) tabled
     (subst (λ r. IsSaid (said_unless_wrong (said all) all r) result) at_items is))
-
--- the words of `mark`
-pub mark_on : (profile : List NamedValue) (words all : List (List ℕ)) (table : SwitchTable) (items : List Item)
-    (result : Result MarkWords Ended) → table ≡ mark_table → all ≡ mark_line profile words →
-    items_or_wrong all (read_in table 0 all) ≡ Ok items → IsSaid (mark_items all items) result →
-    IsSaid (mark_said profile words) result
-mark_on profile words all table items result tabled whole read said = read_on mark_items all (mark_line profile words) mark_table table items result tabled whole read said
 
 -- the word of the one folder
 pub word_is : (value : Result (Option (List ℕ)) Wrong) (word : Option (Bor (List ℕ))) → IsOneFolder value (Ok word) → value ≡ Ok (option_map (λ w. w.now) word)

@@ -8,6 +8,11 @@ abbrev pub first_of : List ℕ → Option ℕ
 first_of [] = None
 first_of (place ∷ places) = Some place
 
+-- the second of these places
+abbrev pub second_of : List ℕ → Option ℕ
+second_of [] = None
+second_of (place ∷ places) = first_of places
+
 -- a word that is too many, or before it the first value that is wrong, at this place
 abbrev pub earliest : Option ℕ → Wrong → Wrong
 earliest None wrong = wrong

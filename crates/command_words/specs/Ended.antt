@@ -1,6 +1,7 @@
 -- How a command ends before its end.
-use Rattle.std.specs.Prelude.{ℕ, List, Option, None, Some, Result, Ok, Err}
+use Rattle.std.specs.Prelude.{ℕ, length, List, Option, None, Some, Result, Ok, Err}
 use Rattle.std.specs.Str.{encode_utf8_all}
+use Rattle.mh_base.specs.declared.word.WordWhy.TheVariants.{Missing}
 use Rattle.mh_words.specs.Whole.{Wrong}
 use Rattle.mh_words.specs.declared.item.Item.{Item}
 use Rattle.folder_files.specs.declared.refusal.Refusal.TheVariants as refusal
@@ -26,6 +27,10 @@ wrong_word wrong word = record { fault = fault.Refused (refusal.BadSwitch wrong.
 -- the word at the place of what is wrong, in bytes
 abbrev pub wrong_at : List (List ℕ) → Wrong → Ended
 wrong_at words wrong = wrong_word wrong (Some (encode_utf8_all (word_at words wrong.place)))
+
+-- a word is missing after the last of these
+abbrev pub missing_after : List (List ℕ) → Wrong
+missing_after words = record { place = length words; why = Missing }
 
 -- the items, or the refusal of the earliest wrong word
 abbrev pub items_or_wrong : List (List ℕ) → Result (List Item) Wrong → Result (List Item) Ended

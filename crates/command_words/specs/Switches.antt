@@ -46,3 +46,8 @@ values at items = flat_map (value_in at) items
 -- the last of these
 abbrev pub last_of : List (List ℕ) → Option (List ℕ)
 last_of values = slice_get values (length values - 1)
+
+-- the last of these, or what was before where there are none
+abbrev pub last_behind : {A : Type 0} → A → List A → A
+last_behind before [] = before
+last_behind before (x ∷ xs) = last_behind x xs

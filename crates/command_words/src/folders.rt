@@ -1,13 +1,7 @@
 // The folder that words name.
 ghost use Rattle.std.specs.Prelude.{option_map};
-ghost use Rattle.command_words.specs.FolderWords.{
-  folders as folders_of,
-  one_folder,
-  named_folder,
-  IsFolderSeen,
-  IsSaidFolder,
-};
-ghost use Rattle.command_words.specs.IncWords.{alone};
+ghost use Rattle.command_words.specs.FolderWords.{folders as folders_of, one_folder, named_folder, IsFolderSeen, IsSaidFolder};
+ghost use Rattle.command_words.specs.MessagePlaces.{alone};
 ghost use Rattle.command_words.specs.Results.{IsNamed, IsOneFolder};
 
 use folder_files::Refusal;
@@ -54,7 +48,7 @@ pub fn folder_word(items: &ItemList) -> Result<Option<&Text>, u64>
 }
 
 /// The same beside messages' names of which this place is one too many: the earliest word that is.
-pub(crate) fn folder_beside(items: &ItemList, extra: Option<u64>) -> Result<Option<&Text>, u64>
+pub fn folder_beside(items: &ItemList, extra: Option<u64>) -> Result<Option<&Text>, u64>
     ensures { IsOneFolder (alone (one_folder (folders_of items.now)) extra) result }
 {
     match folder_word(items) {

@@ -17,7 +17,7 @@ fn push_message(alloc: Global, words: &mut TextList, item: &Item) -> Result<(), 
 }
 
 /// The messages' names, in their order.
-pub(crate) fn messages(alloc: Global, items: &ItemList) -> Result<TextList, AllocError>
+pub fn messages(alloc: Global, items: &ItemList) -> Result<TextList, AllocError>
     ensures { IfOk result (λ words. words ≡ messages_of items.now) }
 {
     let mut words = List::new(alloc);

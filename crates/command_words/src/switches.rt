@@ -1,15 +1,6 @@
 // Which switches are among the items of words.
 ghost use Rattle.std.specs.Prelude.{◌≡◌, ◌++◌, IfOk, OnOk};
-ghost use Rattle.command_words.specs.Switches.{
-  choice_in,
-  last_or,
-  last_choice as last_choice_of,
-  is_switch as is_switch_of,
-  is_given as is_given_of,
-  value_in,
-  values as values_of,
-  last_of,
-};
+ghost use Rattle.command_words.specs.Switches.{choice_in, last_or, last_choice as last_choice_of, is_switch as is_switch_of, is_given as is_given_of, value_in, values as values_of, last_of};
 
 use mh_base::{Duplicate, List, Text, TextList};
 use mh_words::{Item, ItemList};
@@ -54,7 +45,7 @@ fn is_switch(at: u64, item: &Item) -> bool
 }
 
 /// Whether the switch at this index is given.
-pub(crate) fn is_given(at: u64, items: &ItemList) -> bool
+pub fn is_given(at: u64, items: &ItemList) -> bool
     ensures { result ≡ is_given_of at items.now }
 {
     items.as_slice().iter().any(|item| is_switch(at, item))

@@ -1,5 +1,5 @@
 -- Runs that commit as their pledges say replace texts as the law asks.
-use Rattle.std.proofs.Common.{◌≡◌, ◌⊎◌, inl, inr, ◌++◌, ℕ, true, List, [], ◌∷◌, refl, sym, ◌∙◌, ap, subst, append_assoc}
+use Rattle.std.proofs.Common.{◌≡◌, inl, inr, ◌++◌, ℕ, true, List, [], ◌∷◌, refl, sym, ◌∙◌, subst, append_assoc}
 use Rattle.folder_files.specs.Deeds.{Deed, did, WasDone}
 use Rattle.folder_files.specs.Histories.{world_after, own, IsLegal, AreCareful}
 use Rattle.folder_files.specs.Named.{is_committed}
@@ -15,11 +15,10 @@ use Rattle.folder_files.specs.declared.world.World.{World}
 use Rattle.step_plans.specs.Commits.{text_at}
 use Rattle.step_plans.specs.Moments.{IsTriedAt}
 use Rattle.step_plans.specs.Pledges.{Pledge}
-use Rattle.step_plans.specs.Safety.{CommitsItsMarks, ReplacesText}
+use Rattle.step_plans.specs.Safety.{CommitsItsMarks}
 use Rattle.step_plans.specs.Starts.{HasNoneOfTheirs}
 use Rattle.step_plans.proofs.Drops.{own_split}
 use Rattle.step_plans.proofs.Past.{own_deliver, own_crash, own_end}
-use Rattle.commit_fold.specs.Counting.{done_in}
 use Rattle.commit_fold.specs.Folding.{Replaces, OwnAreReplacing, Makes, IsFold}
 use Rattle.commit_fold.specs.Pledged.{IsBack, as_pledged}
 use Rattle.commit_fold.proofs.Folding.{of_each_run}

@@ -1,6 +1,6 @@
 -- A commit, step by step: such a history meets the premises of the law on commits, and its text is the fold of that one commit.
 use Rattle.std.proofs.Common.{◌≡◌, ℕ, inl, List, [], ◌∷◌, refl, ap, subst, ◌∙◌, ◌++◌}
-use Rattle.folder_files.specs.Careful.{commits, looks}
+use Rattle.folder_files.specs.Careful.{looks}
 use Rattle.folder_files.specs.Deeds.{WasDone, HasFailed, now, on}
 use Rattle.folder_files.specs.Histories.{world_after, own}
 use Rattle.folder_files.specs.declared.step.Answer.TheVariants.{Gone, Failed}

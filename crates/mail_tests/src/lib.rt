@@ -6,8 +6,6 @@ mod careful;
 #[cfg(test)]
 mod disk;
 #[cfg(test)]
-mod given;
-#[cfg(test)]
 mod mail;
 #[cfg(test)]
 mod odd;

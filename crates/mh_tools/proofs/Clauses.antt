@@ -43,19 +43,19 @@ use Rattle.opening_plans.specs.Endings.{IsEndedBy}
 use Rattle.refile_plans.specs.RefileAnswers.{IsEndedFirst}
 use Rattle.command_ends.specs.BegunCauses.{ShowsFault, ShowsOnFolder}
 use Rattle.command_ends.specs.BuildCauses.{ShowsBuilt}
-use Rattle.command_line.specs.Command.{command}
+use Rattle.command_plans.specs.Command.{command}
 use Rattle.command_words.specs.Ended.{ended_cause}
-use Rattle.command_line.specs.LeavesInput.{IsNotOfInput, LeavesInput}
-use Rattle.command_line.specs.CommandNames.{begins_folders, command_of, makes_folders, stores_files}
+use Rattle.command_plans.specs.LeavesInput.{IsNotOfInput, LeavesInput}
+use Rattle.command_plans.specs.CommandNames.{begins_folders, command_of, makes_folders, stores_files}
 use Rattle.command_outcomes.specs.Outcomes.{work_of}
-use Rattle.command_line.specs.declared.name.CommandName.{CommandName}
-use Rattle.command_line.specs.declared.name.CommandName.TheVariants.{Anno, Folder as FolderCommand, Inc, Mark, Mhbuild, Mhlist, Mhstore, Pick, Refile, Rmm, Scan, Sortm}
+use Rattle.command_plans.specs.declared.name.CommandName.{CommandName}
+use Rattle.command_plans.specs.declared.name.CommandName.TheVariants.{Anno, Folder as FolderCommand, Inc, Mark, Mhbuild, Mhlist, Mhstore, Pick, Refile, Rmm, Scan, Sortm}
 use Rattle.command_words.specs.declared.ended.Ended.{Ended}
 use Rattle.command_ends.proofs.BegunEnding.{run_ends_by, run_tells}
 use Rattle.command_ends.proofs.BuildEnding.{StopsBuilt, run_build_ends_by, run_build_tells}
 use Rattle.command_ends.proofs.Ending.{EndsAs, ShowsLooked, run_ends}
 use Rattle.command_outcomes.proofs.Giving.{IsLateEnd, DecidesEnd, ByFault, CommandEnds, command_gives}
-use Rattle.command_line.proofs.FolderChars.{AreUtf8}
+use Rattle.command_plans.proofs.FolderChars.{AreUtf8}
 use Rattle.command_outcomes.proofs.HeardCommand.{IsNotDone, command_given, command_heeds, given_same}
 use Rattle.command_pledges.proofs.MarksKept.{command_keeps_marks}
 use Rattle.command_pledges.proofs.Pledging.{command_clean, command_keeps}

@@ -1,5 +1,5 @@
 -- Who calls, by the setting.
-use Rattle.command_line.specs.declared.caller.Caller.{Caller}
+use Rattle.command_plans.specs.declared.caller.Caller.{Caller}
 use Rattle.mh_tools.specs.Setting.{SettingParts}
 
 abbrev pub caller_of : SettingParts → Caller

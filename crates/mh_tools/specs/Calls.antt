@@ -6,8 +6,8 @@ use Rattle.folder_files.specs.Story.{FilesState}
 use Rattle.file_plans.specs.Follows.{State, all}
 use Rattle.file_plans.specs.Plan.{Hand}
 use Rattle.file_plans.specs.Sightings.{AreMade}
-use Rattle.command_line.specs.CommandNames.{begins_folders, command_of, makes_folders, stores_files}
-use Rattle.command_line.specs.declared.name.CommandName.TheVariants.{Mhbuild}
+use Rattle.command_plans.specs.CommandNames.{begins_folders, command_of, makes_folders, stores_files}
+use Rattle.command_plans.specs.declared.name.CommandName.TheVariants.{Mhbuild}
 use Rattle.mh_tools.specs.Setting.{SettingParts}
 use Rattle.mh_tools.specs.declared.status.Status.{Status}
 

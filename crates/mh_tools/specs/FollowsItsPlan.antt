@@ -6,9 +6,9 @@ use Rattle.mh_base.specs.Counts.{Rose}
 use Rattle.mh_base.specs.Streams.{SinkState, Adds, AddsPart}
 use Rattle.file_plans.specs.Plan.{Hand, fresh}
 use Rattle.file_plans.specs.Follows.{Follows}
-use Rattle.command_line.specs.Command.{command}
-use Rattle.command_line.specs.CommandNames.{command_of}
-use Rattle.command_line.specs.LeavesInput.{LeavesInput}
+use Rattle.command_plans.specs.Command.{command}
+use Rattle.command_plans.specs.CommandNames.{command_of}
+use Rattle.command_plans.specs.LeavesInput.{LeavesInput}
 use Rattle.command_words.specs.Ended.{ended_cause}
 use Rattle.command_words.specs.declared.ended.Ended.{Ended}
 use Rattle.mh_tools.specs.Calls.{Call, begins, ends}

@@ -19,9 +19,9 @@ use Rattle.refile_plans.specs.RefileAnswers.{IsShownFirst}
 use Rattle.command_ends.specs.BegunCauses.{ShowsFault, ShowsOnFolder, TellsOnFolder}
 use Rattle.command_ends.specs.BuildCauses.{ShowsBuildFault, ShowsBuilt, TellsBuilt}
 use Rattle.command_ends.specs.Causes.{ShowsRefusal}
-use Rattle.command_line.specs.CommandNames.{command_of, shows_ends}
+use Rattle.command_plans.specs.CommandNames.{command_of, shows_ends}
 use Rattle.command_ends.specs.WordCauses.{IsRefusedByWords}
-use Rattle.command_line.specs.declared.name.CommandName.TheVariants.{Refile}
+use Rattle.command_plans.specs.declared.name.CommandName.TheVariants.{Refile}
 use Rattle.mh_tools.specs.Calls.{Builds, Call, LooksOnly, MadeBy}
 use Rattle.mh_tools.specs.TellsWhatItSaw.{outcome_on}
 use Rattle.mh_tools.specs.declared.status.Status.TheVariants.{Done, Refused, Faulted, Locked, Meddled}

@@ -5,8 +5,8 @@ use Rattle.folder_files.specs.declared.step.Answer.{Answer}
 use Rattle.file_plans.specs.Plan.{fresh}
 use Rattle.step_plans.specs.Promises.{Promises}
 use Rattle.command_pledges.specs.CommandMarks.{KeepsCommandMarks}
-use Rattle.command_line.specs.CommandNames.{command_of}
-use Rattle.command_line.specs.Profile.{entries_by, path_by}
+use Rattle.command_plans.specs.CommandNames.{command_of}
+use Rattle.command_plans.specs.Profile.{entries_by, path_by}
 use Rattle.command_pledges.specs.CommandPledge.{HaveBegun, IsDone, command_pledge}
 use Rattle.mh_tools.specs.Calls.{Call, MadeBy, begins, ends}
 use Rattle.mh_tools.specs.declared.status.Status.TheVariants.{Done}

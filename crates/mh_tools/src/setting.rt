@@ -3,7 +3,7 @@ ghost use Rattle.std.specs.Prelude.{◌≡◌, MatchOption};
 ghost use Rattle.mail_dates.specs.Clocks.{IsSetting};
 ghost use Rattle.mh_tools.specs.Callers.{caller_of};
 
-use command_line::{Caller, Clock};
+use command_plans::{Caller, Clock};
 use mh_base::Text;
 use std::marker::Model;
 

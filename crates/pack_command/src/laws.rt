@@ -5,8 +5,8 @@ ghost use Rattle.message_places.specs.Order.{StandInOrder};
 ghost use Rattle.message_places.specs.Places.{is_in, slots};
 ghost use Rattle.mh_sequences.specs.Runs.{AreRuns, has, numbers_of};
 ghost use Rattle.mh_sequences.specs.declared.run.Run.{Run};
-ghost use Rattle.pack_command.specs.PackOutcome.{moved_at};
-ghost use Rattle.pack_command.specs.Places.{listing_moves, packed_listing, places_of};
+ghost use Rattle.pack_plans.specs.PackOutcome.{moved_at};
+ghost use Rattle.pack_plans.specs.Places.{listing_moves, packed_listing, places_of};
 
 /// Where a folder has messages at just the listed numbers, the moves bring the k-th of them to the number k, and no
 /// other number has a message then; and where each ended at its place, the numbers that are told are those from 1 on.

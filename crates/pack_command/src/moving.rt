@@ -5,7 +5,7 @@ ghost use Rattle.message_places.specs.Places.{froms};
 ghost use Rattle.step_plans.specs.Hands.{mail_place};
 ghost use Rattle.step_plans.specs.PlanFaults.{plan_cause};
 ghost use Rattle.sortm_plans.specs.Moving.{sequences_after};
-ghost use Rattle.pack_command.specs.Pack.{renumbered};
+ghost use Rattle.pack_plans.specs.Pack.{renumbered};
 
 use folder_files::Files;
 use message_places::Move;

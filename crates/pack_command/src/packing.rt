@@ -7,59 +7,78 @@ ghost use Rattle.step_plans.specs.Hands.{mail_place};
 ghost use Rattle.command_stages.specs.Endings.{of_plan};
 ghost use Rattle.message_places.specs.Order.{moves_of};
 ghost use Rattle.sortm_plans.specs.Moving.{sequences_after};
-ghost use Rattle.pack_command.specs.Pack.{opened_packed, pack as pack_plan, renumbered, told_of};
-ghost use Rattle.pack_command.specs.PackAlone.{PacksIfUnfaulted};
-ghost use Rattle.pack_command.specs.PackPledge.{PromisesSteps};
+ghost use Rattle.pack_plans.specs.Pack.{line_of, line_told, opened_packed, pack as pack_plan, renumbered};
+ghost use Rattle.pack_plans.specs.PackAlone.{PacksIfUnfaulted};
+ghost use Rattle.pack_plans.specs.PackPledge.{PromisesSteps};
+ghost use Rattle.pack_plans.specs.Places.{listing_after};
 
 use crate::PackJob;
 use crate::moving::renumber;
-use crate::places::{count, listing_after, places};
-use command_stages::{fault_in, folder_place, make_current, numbers};
-use folder_command::{FolderJob, say_summary};
+use crate::standing::{Standing, by_place};
+use crate::telling::tell_line;
+use command_stages::{fault_in, folder_place};
 use folder_files::Files;
-use mh_base::{Bytes, Duplicate, List, MsgNum, Sink};
+use mh_base::{Duplicate, List, MsgNum, Sink};
+use mh_sequences::Sequences;
 use opened_folders::{Opened, end, open};
 use sortm_command::moves;
-use std::alloc::{AllocError, Global};
+use std::alloc::Global;
 use step_plans::{CommandFault, Hand};
 
-/// What `folder` is to tell of.
-fn told(alloc: Global, job: &PackJob) -> Result<FolderJob, AllocError>
-    ensures { IfOk result (λ told. told ≡ told_of job.now) }
-{
-    let folder = job.folder.duplicate(alloc)?;
-    Ok(FolderJob {
-        folder,
-        specs: List::new(alloc),
-        negation: Bytes::new(alloc),
-    })
-}
-
-/// The messages of these numbers come to stand at these places; where those ended that moved.
+/// The messages come to stand at their places; where those ended that moved.
 fn pack_messages<F: Files>(
     alloc: Global,
     hand: &mut Hand,
     files: &mut F,
     job: &PackJob,
     opened: &mut Opened,
-    numbers: &[MsgNum],
-    places: &[MsgNum],
+    standing: &Standing,
 ) -> Result<List<MsgNum>, CommandFault>
     ensures plan { Follows hand.old.run command_cause
         (lifted (of_plan job.now.folder)
-        (renumbered hand.old.run (mail_place hand.old) opened.old (moves_of numbers.now places.now)))
+        (renumbered hand.old.run (mail_place hand.old) opened.old
+        (moves_of standing.now.numbers.items standing.now.places)))
         (by_hand hand.old.kept (F.state files.old)) (by_hand hand.new.kept (F.state files.new)) result }
     ensures left { IfOk result
-        (λ ends. opened.new.sequences ≡ sequences_after (moves_of numbers.now places.now) ends opened.old.sequences) }
+        (λ ends.
+        opened.new.sequences
+        ≡ sequences_after (moves_of standing.now.numbers.items standing.now.places) ends opened.old.sequences) }
     ensures run { hand.new.run ≡ hand.old.run }
     ensures mail { hand.new.mail ≡ hand.old.mail }
 {
-    let moves = moves(alloc, numbers, places)?;
+    let moves = moves(
+        alloc,
+        standing.numbers.as_slice(),
+        standing.places.as_slice(),
+    )?;
     let folder = job.folder.duplicate(alloc)?;
     match renumber(alloc, hand, files, opened, moves.as_slice()) {
         Ok(ends) => Ok(ends),
         Err(fault) => Err(fault_in(folder, fault)),
     }
+}
+
+/// The folder is told of, where the messages that moved ended at these numbers.
+fn tell_packed<F: Files, O: Sink>(
+    alloc: Global,
+    hand: &mut Hand,
+    files: &mut F,
+    out: &mut O,
+    job: &PackJob,
+    standing: &Standing,
+    ends: &[MsgNum],
+    sequences: &Sequences,
+) -> Result<(), CommandFault>
+    ensures plan { Follows hand.old.run command_cause
+        (line_told hand.old.run hand.old.mail job.now
+        (line_of job.now (listing_after standing.now.numbers.items standing.now.places ends.now) sequences.now))
+        (by_out hand.old.kept (F.state files.old) (O.state out.old))
+        (by_out hand.new.kept (F.state files.new) (O.state out.new)) result }
+    ensures run { hand.new.run ≡ hand.old.run }
+    ensures mail { hand.new.mail ≡ hand.old.mail }
+{
+    let listing = standing.after(alloc, ends)?;
+    tell_line(alloc, hand, files, out, job, &listing, sequences)
 }
 
 /// The work on a folder that was begun.
@@ -77,26 +96,18 @@ fn pack_opened<F: Files, O: Sink>(
     ensures run { hand.new.run ≡ hand.old.run }
     ensures mail { hand.new.mail ≡ hand.old.mail }
 {
-    let told = told(alloc, job)?;
-    let numbers = numbers(alloc, opened.listing())?;
-    let places = places(alloc, count(opened.listing()))?;
-    let ends = pack_messages(
+    let standing = by_place(alloc, opened.listing())?;
+    let ends = pack_messages(alloc, hand, files, job, &mut opened, &standing)?;
+    tell_packed(
         alloc,
         hand,
         files,
+        out,
         job,
-        &mut opened,
-        numbers.as_slice(),
-        places.as_slice(),
-    )?;
-    let listing = listing_after(
-        alloc,
-        numbers.as_slice(),
-        places.as_slice(),
+        &standing,
         ends.as_slice(),
-    )?;
-    say_summary(alloc, out, &told, &listing, opened.sequences())?;
-    make_current(alloc, hand, files, &job.folder)
+        opened.sequences(),
+    )
 }
 
 /// Numbers the messages of a folder anew, from 1 on, in the order that they have, in a folder that is begun. Marks and

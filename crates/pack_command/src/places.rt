@@ -3,7 +3,7 @@ ghost use Rattle.std.specs.Prelude.{◌≡◌, ◌≤◌, length, IfOk};
 ghost use Rattle.std.specs.List.{range_with_len};
 ghost use Rattle.mh_base.specs.Numbers.{IsMsgNum};
 ghost use Rattle.mh_sequences.specs.Runs.{numbers_of};
-ghost use Rattle.pack_command.specs.Places.{listing_after as listing_after_of, staying as staying_of};
+ghost use Rattle.pack_plans.specs.Places.{listing_after as listing_after_of, staying as staying_of};
 
 use mh_base::{List, MsgNum};
 use mh_sequences::NumSet;

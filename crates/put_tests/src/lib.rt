@@ -8,3 +8,5 @@ mod notes;
 mod places;
 #[cfg(test)]
 mod puts;
+#[cfg(test)]
+mod rooms;

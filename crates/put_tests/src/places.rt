@@ -1,31 +1,23 @@
 // Messages of one folder that change places, in the mailbox in memory.
-use crate::notes::inbox;
+use crate::rooms::{Change, left};
+use folder_files::{Files, Place};
 use message_places::{Move, arrange};
-use mh_base::{Bytes, List, MsgNum};
-use row_mailboxes::place;
-use row_rooms::Scene;
-use row_text::words;
-use std::alloc::Global;
+use mh_base::{List, MsgNum};
+use std::alloc::{AllocError, Global};
 use std::test::Fail;
 
-/// A number that a message may have.
-fn number(n: u32) -> Result<MsgNum, Fail> {
-    match MsgNum::new(n) {
-        Some(number) => Ok(number),
-        None => Err("no number of a message".into()),
-    }
-}
+/// The first message goes to the third place and the third to the first.
+struct Swapping;
 
 /// The messages that are held aside.
-fn takes(alloc: Global, one: MsgNum, three: MsgNum) -> Result<List<MsgNum>, Fail> {
+fn takes(alloc: Global, one: MsgNum, three: MsgNum) -> Result<List<MsgNum>, AllocError> {
     let mut takes = List::new(alloc);
     takes.push(one)?;
     takes.push(three)?;
     Ok(takes)
 }
 
-/// The first message goes to the third place and the third to the first.
-fn moves(alloc: Global, one: MsgNum, three: MsgNum) -> Result<List<Move>, Fail> {
+fn moves(alloc: Global, one: MsgNum, three: MsgNum) -> Result<List<Move>, AllocError> {
     let mut moves = List::new(alloc);
     moves.push(Move {
         from: one,
@@ -39,43 +31,44 @@ fn moves(alloc: Global, one: MsgNum, three: MsgNum) -> Result<List<Move>, Fail> 
 }
 
 /// Whether each ended there.
-fn are_arranged(alloc: Global, scene: &mut Scene) -> Result<bool, Fail> {
-    let (one, three) = (number(1)?, number(3)?);
-    let mail = Bytes::from_slice(alloc, b"Mail")?;
-    let place = place(alloc, &mail, b"+inbox")?;
+fn is_swapped<F: Files>(
+    alloc: Global,
+    files: &mut F,
+    place: &Place,
+    one: MsgNum,
+    three: MsgNum,
+) -> Result<bool, Fail> {
     let takes = takes(alloc, one, three)?;
     let moves = moves(alloc, one, three)?;
-    let room = &mut *scene.room;
-    match arrange(
+    let ends = arrange(
         alloc,
         7,
-        room,
-        &place,
+        files,
+        place,
         takes.as_slice(),
         moves.as_slice(),
         3,
-    ) {
-        Ok(ends) => Ok(ends.as_slice() == [three, one].as_slice()),
-        Err(_) => Ok(false),
+    );
+    Ok(
+        ends.ok()
+            .is_some_and(|ends| ends.as_slice() == [three, one].as_slice()),
+    )
+}
+
+impl Change for Swapping {
+    fn is_made<F: Files>(alloc: Global, files: &mut F, place: &Place) -> Result<bool, Fail> {
+        match (MsgNum::new(1), MsgNum::new(3)) {
+            (Some(one), Some(three)) => is_swapped(alloc, files, place, one, three),
+            _ => Ok(false),
+        }
     }
 }
 
 const WANTED: &[u8] = b"+inbox 1=\"three\" 2=\"two\" 3=\"one\"\n";
 
-/// What is shown of the folder then.
-fn left(alloc: Global) -> Result<Bytes, Fail> {
-    let mut scene = inbox(alloc)?;
-    let mut told = Bytes::new(alloc);
-    if are_arranged(alloc, &mut scene)? {
-        scene.line(&words(alloc, b"show +inbox")?, &mut told)?;
-    }
-    Ok(told)
-}
-
 #[test]
 fn messages_change_places(rt: HostRuntime) -> Result<(), Fail> {
-    let alloc = rt.alloc();
-    let told = left(alloc)?;
+    let told = left::<Swapping>(rt.alloc(), b"+inbox 1 one 2 two 3 three")?;
     assert!(rt; told.as_slice() == WANTED);
     Ok(())
 }

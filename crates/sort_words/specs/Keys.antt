@@ -5,10 +5,10 @@ use Rattle.std.specs.Str.{encode_utf8_all}
 use Rattle.mh_words.specs.declared.item.Item.{Item}
 use Rattle.mh_words.specs.declared.item.Item.TheVariants.{Folder, Message, Switch, Component}
 use Rattle.command_words.specs.FieldNames.{is_field_name}
-use Rattle.command_words.specs.LookWords.{last_behind}
 use Rattle.sortm_plans.specs.declared.job.SortKey.{SortKey}
 use Rattle.sortm_plans.specs.declared.job.SortKey.TheVariants as key
 use Rattle.sort_words.specs.declared.table.TheConstants.{DATEFIELD, TEXTFIELD}
+use Rattle.command_words.specs.Switches.{last_behind}
 
 -- the field for dates, or the one for texts, that an item names
 abbrev pub key_in : Item → List SortKey

@@ -2,8 +2,8 @@
 ghost use Rattle.std.specs.Prelude.{◌≡◌, codes, IfOk};
 ghost use Rattle.std.specs.Str.{encode_utf8_all};
 ghost use Rattle.command_words.specs.BadValues.{first_of};
-ghost use Rattle.command_words.specs.LookWords.{last_behind};
 ghost use Rattle.sort_words.specs.Keys.{key_in, key_of, wrong_in, wrong_names};
+ghost use Rattle.command_words.specs.Switches.{last_behind};
 
 use crate::table::{DATEFIELD, TEXTFIELD};
 use command_words::is_field_name;

@@ -1,5 +1,5 @@
 -- What the words of `mhstore` say: a refusal; or a folder that is a folder's name.
-use Rattle.std.proofs.Common.{◌≡◌, ℕ, List, Result, Ok, Err}
+use Rattle.std.proofs.Common.{◌≡◌, ℕ, List, Ok, Err}
 use Rattle.mh_profile.specs.declared.named_value.NamedValue.{NamedValue}
 use Rattle.step_plans.proofs.Refusals.{IsRefusal}
 use Rattle.command_words.specs.declared.ended.Ended.{Ended}

@@ -1,17 +1,6 @@
-use Rattle.std.proofs.Common.{ap, ◌∙◌, ◌∷◌, [], ◌++◌, List}
-use Rattle.std.specs.Prelude.{codes}
 use Rattle.std.specs.Str.{chars}
-use Rattle.mh_words.specs.declared.table.Kind.TheVariants.{Flag, Value}
-use Rattle.mh_words.specs.declared.table.Switch.{Switch}
-use Rattle.command_words.specs.Tables.{switch, table_of}
 use Rattle.anno_words.proofs.table.anno_table.Goals as goal
 
 pub returns : goal.returns
 unfolding chars
-returns c =
-    let put = λ (s : Switch) (l : List Switch). l ++ s ∷ [] in
-    ap table_of
-    (c.in_ok-push_switch-4.ensures ∙ ap (put (switch (codes "nodate") Flag))
-    (c.in_ok-push_switch-3.ensures ∙ ap (put (switch (codes "date") Flag))
-    (c.in_ok-push_switch-2.ensures ∙ ap (put (switch (codes "text") Value))
-    (c.in_ok-push_switch.ensures ∙ ap (put (switch (codes "component") Value)) c.new-switches.ensures))))
+returns c = c.switch_table.ensures

@@ -1,6 +1,6 @@
 use Rattle.std.proofs.Common.{refl}
 use Rattle.file_plans.proofs.Following.{go, no_room, stop, whole}
-use Rattle.command_line.specs.Command.{anno_begun}
+use Rattle.command_plans.specs.Command.{anno_begun}
 use Rattle.command_line.proofs.annotating.begin_anno.Goals as goal
 
 pub returns-in_err-folder : goal.returns-in_err-folder

@@ -5,8 +5,8 @@ use Rattle.file_plans.specs.Plan.{fresh}
 use Rattle.file_plans.proofs.Following.{no_room, lift_ok}
 use Rattle.step_plans.specs.CommandFaults.{command_cause}
 use Rattle.command_words.specs.Ended.{plain, ended_cause}
-use Rattle.command_line.specs.Command.{anno_begun, annotated_by, by_words}
-use Rattle.command_line.proofs.Plans.{ends_off, plain_same, refused_words, words_on}
+use Rattle.command_plans.specs.Command.{anno_begun, annotated_by, by_words}
+use Rattle.command_plans.proofs.Plans.{ends_off, plain_same, refused_words, words_on}
 use Rattle.anno_words.proofs.Said.{anno_refuses}
 use Rattle.command_line.proofs.annotating.run_anno.Goals as goal
 

@@ -1,8 +1,8 @@
 use Rattle.std.proofs.Common.{refl}
 use Rattle.file_plans.proofs.Following.{beside, go, no_room, recalled, stop, whole}
 use Rattle.mhbuild_plans.specs.Building.{mhbuild}
-use Rattle.command_line.specs.Command.{build_begun, build_job}
-use Rattle.command_line.specs.Profile.{path_of}
+use Rattle.command_plans.specs.Command.{build_begun, build_job}
+use Rattle.command_plans.specs.Profile.{path_of}
 use Rattle.command_line.proofs.building.begin_mhbuild.Goals as goal
 use Rattle.mh_profile.specs.Reading.{entries_seen}
 

@@ -6,8 +6,8 @@ use Rattle.file_plans.proofs.Following.{no_room, lift_ok}
 use Rattle.step_plans.specs.CommandFaults.{command_cause}
 use Rattle.command_words.specs.Ended.{plain, ended_cause}
 use Rattle.build_words.specs.BuildWords.{build_said}
-use Rattle.command_line.specs.Command.{build_begun, by_words}
-use Rattle.command_line.proofs.Plans.{ends_off, plain_same, refused_words, words_on}
+use Rattle.command_plans.specs.Command.{build_begun, by_words}
+use Rattle.command_plans.proofs.Plans.{ends_off, plain_same, refused_words, words_on}
 use Rattle.build_words.proofs.Said.{build_refuses}
 use Rattle.command_line.proofs.building.run_mhbuild.Goals as goal
 

@@ -1,8 +1,8 @@
 use Rattle.std.proofs.Common.{refl}
 use Rattle.file_plans.specs.Plan.{fresh}
 use Rattle.file_plans.proofs.Following.{beside, go_from, stop_from, whole, no_room}
-use Rattle.command_line.specs.Command.{command}
-use Rattle.command_line.proofs.Plans.{memory_unsourced, plain_same, text_unsourced}
+use Rattle.command_plans.specs.Command.{command}
+use Rattle.command_plans.proofs.Plans.{memory_unsourced, plain_same, text_unsourced}
 use Rattle.command_line.proofs.command.run_command.Goals as goal
 
 pub returns-in_err-text-clause-plan : goal.returns-in_err-text-clause-plan

@@ -2,7 +2,7 @@ use Rattle.std.proofs.Common.{refl, rules, map}
 use Rattle.std.specs.Prelude.{None}
 use Rattle.std.specs.String.{string_bytes}
 use Rattle.file_plans.specs.Plan.{fresh}
-use Rattle.command_line.proofs.Plans.{input_some, named_none, named_some, none_unsourced}
+use Rattle.command_plans.proofs.Plans.{input_some, named_none, named_some, none_unsourced}
 use Rattle.command_line.proofs.command.run_named.Goals as goal
 
 pub returns-in-None-clause-plan : goal.returns-in-None-clause-plan

@@ -4,22 +4,22 @@ use Rattle.std.specs.Str.{chars}
 use Rattle.std.specs.String.{string_bytes}
 use Rattle.file_plans.specs.Plan.{fresh}
 use Rattle.file_plans.proofs.Following.{beside, no_room, whole}
-use Rattle.command_words.specs.IncWords.{inc_said}
-use Rattle.command_words.specs.MarkWords.{mark_said}
-use Rattle.command_words.specs.RefileWords.{refile_said}
-use Rattle.command_words.specs.RmmWords.{rmm_said}
-use Rattle.command_words.specs.ScanWords.{scan_said}
-use Rattle.command_words.specs.TellWords.{tell_said}
+use Rattle.look_words.specs.IncWords.{inc_said}
+use Rattle.folder_words.specs.MarkWords.{mark_said}
+use Rattle.folder_words.specs.RefileWords.{refile_said}
+use Rattle.folder_words.specs.RmmWords.{rmm_said}
+use Rattle.look_words.specs.ScanWords.{scan_said}
+use Rattle.folder_words.specs.TellWords.{tell_said}
 use Rattle.sort_words.specs.SortWords.{sort_said}
 use Rattle.list_words.specs.ListWords.{list_said}
 use Rattle.store_words.specs.StoreWords.{store_said}
-use Rattle.command_line.specs.Command.{annotated_by, anno_begun, by_words, folder_begun, inc_begun, list_begun, mark_begun, pick_begun, picked_by, refile_begun, rmm_begun, scan_begun, sort_begun, store_begun}
-use Rattle.command_line.specs.CommandNames.{named}
-use Rattle.command_line.specs.Incorporating.{job_by}
-use Rattle.command_line.specs.Looking.{scan_asked}
-use Rattle.command_line.specs.Profile.{path_of}
-use Rattle.command_line.specs.declared.name.CommandName.TheVariants.{Anno, Folder, Inc, Mark, Mhlist, Mhstore, Pick, Refile, Rmm, Scan, Sortm}
-use Rattle.command_line.proofs.Plans.{hand_unsourced, memory_unsourced, none_unsourced, unsourced, word_none, word_on}
+use Rattle.command_plans.specs.Command.{annotated_by, anno_begun, by_words, folder_begun, inc_begun, list_begun, mark_begun, pick_begun, picked_by, refile_begun, rmm_begun, scan_begun, sort_begun, store_begun}
+use Rattle.command_plans.specs.CommandNames.{named}
+use Rattle.command_plans.specs.Incorporating.{job_by}
+use Rattle.command_plans.specs.Looking.{scan_asked}
+use Rattle.command_plans.specs.Profile.{path_of}
+use Rattle.command_plans.specs.declared.name.CommandName.TheVariants.{Anno, Folder, Inc, Mark, Mhlist, Mhstore, Pick, Refile, Rmm, Scan, Sortm}
+use Rattle.command_plans.proofs.Plans.{hand_unsourced, memory_unsourced, none_unsourced, unsourced, word_none, word_on}
 use Rattle.command_line.proofs.command.run_word.Goals as goal
 
 pub returns-in_err-word-in-None-clause-plan : goal.returns-in_err-word-in-None-clause-plan

@@ -1,6 +1,6 @@
 use Rattle.std.proofs.Common.{refl}
 use Rattle.file_plans.proofs.Following.{go, no_room, stop, whole}
-use Rattle.command_line.specs.Command.{list_begun}
+use Rattle.command_plans.specs.Command.{list_begun}
 use Rattle.command_line.proofs.listing.begin_mhlist.Goals as goal
 
 pub returns-in_err-name : goal.returns-in_err-name

@@ -6,8 +6,8 @@ use Rattle.file_plans.proofs.Following.{no_room, lift_ok}
 use Rattle.step_plans.specs.CommandFaults.{command_cause}
 use Rattle.command_words.specs.Ended.{plain, ended_cause}
 use Rattle.list_words.specs.ListWords.{list_said}
-use Rattle.command_line.specs.Command.{by_words, list_begun}
-use Rattle.command_line.proofs.Plans.{ends_off, plain_same, refused_words, words_on}
+use Rattle.command_plans.specs.Command.{by_words, list_begun}
+use Rattle.command_plans.proofs.Plans.{ends_off, plain_same, refused_words, words_on}
 use Rattle.list_words.proofs.Said.{list_refuses}
 use Rattle.command_line.proofs.listing.run_mhlist.Goals as goal
 

@@ -1,6 +1,6 @@
 use Rattle.std.proofs.Common.{refl}
 use Rattle.file_plans.proofs.Following.{go, no_room, stop, whole}
-use Rattle.command_line.specs.Command.{sort_begun}
+use Rattle.command_plans.specs.Command.{sort_begun}
 use Rattle.command_line.proofs.sorting.begin_sortm.Goals as goal
 
 pub returns-in_err-folder : goal.returns-in_err-folder

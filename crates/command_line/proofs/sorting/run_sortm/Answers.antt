@@ -6,8 +6,8 @@ use Rattle.file_plans.proofs.Following.{no_room, lift_ok}
 use Rattle.step_plans.specs.CommandFaults.{command_cause}
 use Rattle.command_words.specs.Ended.{plain, ended_cause}
 use Rattle.sort_words.specs.SortWords.{sort_said}
-use Rattle.command_line.specs.Command.{by_words, sort_begun}
-use Rattle.command_line.proofs.Plans.{ends_off, plain_same, refused_words, words_on}
+use Rattle.command_plans.specs.Command.{by_words, sort_begun}
+use Rattle.command_plans.proofs.Plans.{ends_off, plain_same, refused_words, words_on}
 use Rattle.sort_words.proofs.Said.{sort_refuses}
 use Rattle.command_line.proofs.sorting.run_sortm.Goals as goal
 

@@ -6,8 +6,8 @@ use Rattle.file_plans.proofs.Following.{no_room, lift_ok}
 use Rattle.step_plans.specs.CommandFaults.{command_cause}
 use Rattle.command_words.specs.Ended.{plain, ended_cause}
 use Rattle.store_words.specs.StoreWords.{store_said}
-use Rattle.command_line.specs.Command.{by_words, store_begun}
-use Rattle.command_line.proofs.Plans.{ends_off, plain_same, refused_words, words_on}
+use Rattle.command_plans.specs.Command.{by_words, store_begun}
+use Rattle.command_plans.proofs.Plans.{ends_off, plain_same, refused_words, words_on}
 use Rattle.store_words.proofs.Said.{store_refuses}
 use Rattle.command_line.proofs.storing.run_mhstore.Goals as goal
 

@@ -1,4 +1,4 @@
-use Rattle.pack_command.proofs.InPlace.{in_order, just_places, told_places}
+use Rattle.pack_plans.proofs.InPlace.{in_order, just_places, told_places}
 use Rattle.pack_command.proofs.laws.numbered_from_one.Goals as goal
 
 pub returns-clause-order : goal.returns-clause-order

@@ -2,9 +2,9 @@ use Rattle.std.proofs.Common.{refl}
 use Rattle.file_plans.proofs.Following.{go, no_room, stop, whole}
 use Rattle.opening_plans.proofs.EndingParts.{ends_so}
 use Rattle.opening_plans.proofs.EndsBeside.{ends_whole}
-use Rattle.pack_command.specs.Pack.{pack}
-use Rattle.pack_command.proofs.PackAlone.{pack_alone}
-use Rattle.pack_command.proofs.PackPledged.{pack_promises}
+use Rattle.pack_plans.specs.Pack.{pack}
+use Rattle.pack_plans.proofs.PackAlone.{pack_alone}
+use Rattle.pack_plans.proofs.PackPledged.{pack_promises}
 use Rattle.pack_command.proofs.packing.pack.Goals as goal
 
 pub returns-in_err-place-clause-plan : goal.returns-in_err-place-clause-plan

@@ -13,7 +13,7 @@ pub returns-in_err-folder-clause-plan : goal.returns-in_err-folder-clause-plan
 returns-in_err-folder-clause-plan g c = no_room _ c.from_residual-in_err-folder.ensures refl
 
 pub returns-in-Ok-clause-plan : goal.returns-in-Ok-clause-plan
-returns-in-Ok-clause-plan g c = lift_ok _ plan_cause command_cause (of_plan c.args.job.now.folder) _ _ _ _ (rw (c.as_slice.ensures, c.in_ok-moves.ensures) at c.in-Ok.ensures.plan)
+returns-in-Ok-clause-plan g c = lift_ok _ plan_cause command_cause (of_plan c.args.job.now.folder) _ _ _ _ (rw (c.as_slice-3.ensures, c.in_ok-moves.ensures, c.as_slice.ensures.value, c.as_slice-2.ensures) at c.in-Ok.ensures.plan)
 
 pub returns-clause-plan : goal.returns-clause-plan
-returns-clause-plan g c = lift_err _ plan_cause command_cause (of_plan c.args.job.now.folder) _ _ _ _ _ (plan_same _) (rw c.in_ok-folder.ensures at c.fault_in.ensures) (rw (c.as_slice.ensures, c.in_ok-moves.ensures) at c.in-Err.ensures.plan)
+returns-clause-plan g c = lift_err _ plan_cause command_cause (of_plan c.args.job.now.folder) _ _ _ _ _ (plan_same _) (rw c.in_ok-folder.ensures at c.fault_in.ensures) (rw (c.as_slice-3.ensures, c.in_ok-moves.ensures, c.as_slice.ensures.value, c.as_slice-2.ensures) at c.in-Err.ensures.plan)

@@ -1,4 +1,4 @@
-use Rattle.pack_command.proofs.Counted.{one_placed}
+use Rattle.pack_plans.proofs.Counted.{one_placed}
 use Rattle.pack_command.proofs.places.places.Goals as goal
 
 pub loop-k-preserved : goal.loop-k-preserved

@@ -1,5 +1,5 @@
 use Rattle.std.proofs.Common.{◌≤◌, subst}
-use Rattle.pack_command.proofs.Stood.{all_seen}
+use Rattle.pack_plans.proofs.Stood.{all_seen}
 use Rattle.pack_command.proofs.places.staying.Goals as goal
 
 pub returns : goal.returns

@@ -1,5 +1,5 @@
 use Rattle.std.proofs.Common.{◌≡◌, ◌++◌, drop}
-use Rattle.pack_command.specs.Places.{staying}
+use Rattle.pack_plans.specs.Places.{staying}
 use Rattle.pack_command.proofs.places.staying.Given as goal
 
 abbrev pub invariant-loop-i : goal.invariant-loop-i

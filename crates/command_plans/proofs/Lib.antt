@@ -1,0 +1,9 @@
+pub mod FirstReadings
+pub mod FolderChars
+pub mod FormatRefuses
+pub mod LookFound
+pub mod Plans
+pub mod Refusals
+pub mod SaidFolder
+pub mod SaidInc
+pub mod SaidPick

@@ -1,0 +1,4 @@
+pub mod RefileFolders
+pub mod SaidMark
+pub mod SaidRefileFolders
+pub mod SaidSound

@@ -1,0 +1,13 @@
+use Rattle.std.proofs.Common.{◌++◌, map}
+use Rattle.std.specs.Prelude.{codes}
+use Rattle.std.specs.Str.{chars}
+use Rattle.std.specs.String.{string_bytes}
+use Rattle.folder_words.specs.RmmWords.{rmm_items}
+use Rattle.folder_words.specs.Tables.{rmm_table}
+use Rattle.command_words.specs.Words.{profile_words}
+use Rattle.command_words.proofs.Said.{read_on}
+use Rattle.folder_words.proofs.rmm.rmm_words.Goals as goal
+
+pub returns : goal.returns
+returns c =
+    read_on rmm_items _ (profile_words (codes "rmm") c.args.profile.now ++ map chars (map string_bytes c.args.words.now)) rmm_table _ _ _ c.in_ok-table.ensures c.in_ok-all.ensures c.in_ok-items.ensures c.items_said.ensures

@@ -1,0 +1,2 @@
+pub mod SaidSound
+pub mod Widths

@@ -1,0 +1,8 @@
+use Rattle.std.proofs.Common.{◌≡◌, drop}
+use Rattle.std.specs.List.{flat_map}
+use Rattle.look_words.specs.LookWords.{look_of, width_in}
+use Rattle.look_words.proofs.look.last_width.Given as goal
+use Rattle.command_words.specs.Switches.{last_behind}
+
+abbrev pub invariant-loop-item : goal.invariant-loop-item
+invariant-loop-item l = last_behind l.width (flat_map width_in (drop l.item-index l.item-items)) ≡ (look_of l.item-items).width

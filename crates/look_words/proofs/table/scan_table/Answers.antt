@@ -1,0 +1,6 @@
+use Rattle.std.specs.Str.{chars}
+use Rattle.look_words.proofs.table.scan_table.Goals as goal
+
+pub returns : goal.returns
+unfolding chars
+returns c = c.switch_table.ensures
