@@ -66,7 +66,8 @@ pub(crate) fn run_anno<F: Files>(
 ) -> Result<(), Ended>
     ensures { (left : Kept)
         × Follows run ended_cause
-        (by_words (anno_begun run profile.now) (annotated_by caller.now profile.now (map chars (map string_bytes words.now))))
+        (by_words (anno_begun run profile.now)
+        (annotated_by caller.now profile.now (map chars (map string_bytes words.now))))
         (by_hand fresh (F.state files.old)) (by_hand left (F.state files.new)) result }
 {
     let words = words_of(alloc, profile, caller, words)?;

@@ -72,7 +72,8 @@ pub fn run_pick<F: Files, O: Sink>(
 ) -> Result<(), Ended>
     ensures { (left : Kept)
         × Follows run ended_cause
-        (by_words (pick_begun run profile.now) (picked_by caller.now profile.now (map chars (map string_bytes words.now))))
+        (by_words (pick_begun run profile.now)
+        (picked_by caller.now profile.now (map chars (map string_bytes words.now))))
         (by_out fresh (F.state files.old) (O.state out.old))
         (by_out left (F.state files.new) (O.state out.new)) result }
 {
