@@ -165,7 +165,8 @@ STEPS = [
      earlier(f"unlink   {INBOX}/own-held_3", f"link     {INBOX}/own-held_2")),
     ("a cut that is not the last", steps.cut_last, "inc", earlier("cut", "rename")),
     ("a cut without its lock", steps.cut_last, "inc", without("lock     drop")),
-    ("a drop that is read without its lock", steps.read_shared, "inc", without("share    drop")),
+    ("a drop that is read without its lock", steps.read_locked, "inc", without("lock     drop")),
+    ("a drop that is read without its lock file", steps.read_locked, "inc", without("link     drop.lock.mh -> drop.lock")),
     ("a change without the lock", steps.under_lock, "mark", without(f"lock     {INBOX}")),
     ("a change after the lock", steps.under_lock, "mark", earlier(f"unlock   {INBOX}", "create")),
     ("a change that is never synced", steps.safe_at_last, "rmm", lambda lines: [it for it in lines if it != f"sync     {INBOX}"]),
@@ -188,7 +189,7 @@ def of_ends(room):
     yield "an unknown status", faults.ended_clearly(ran(101, b"mh: x\n")), faults.ended_clearly(ran(0, b""))
     yield "a death by a signal", hostile.ended_well("drop", ran(-11, b"")), hostile.ended_well("drop", ran(1, b"mh: not a mail drop\n"))
     yield "a drop that was not taken in", hostile.drop_taken(case, box, ran(0, b"")), []
-    scene = rivals.Scene("none", f"{room}/rivals", random.Random(1), 0)
+    scene = rivals.Scene("none", f"{room}/rivals", random.Random(1), 0, False)
     scene.lines(b"   1 12 message 1 plain\n")
     torn_line, scene.bad = scene.bad, []
     scene.lines(f"   1 {len(scene.known['message 1 plain'])} message 1 plain\n".encode())

@@ -13,8 +13,9 @@ import time
 from books import NOBODY, NOTE, Box, acknowledged, bare, drop_of, left_aside, message, moved, newcomers, read_drop, taken_in, torn
 
 SOURCE = "inbox"
-FAULT = re.compile(rb"mh: (fault of files|fault of output|no setting)\n")
-REFUSAL = re.compile(rb"mh: [^\n]+\n")
+# Behind a fault of files, a change meanwhile and a wrong word a second line tells more.
+FAULT = re.compile(rb"mh: (fault of files\n(mh: [^\n]+\n)?|fault of output\n|no setting\n)")
+REFUSAL = re.compile(rb"(mh: [^\n]+\n){1,2}")
 
 # The commands that write to the output where all is well.
 TELL = ("inc", "scan", "folder", "folder with a message")

@@ -9,16 +9,19 @@ import time
 import traceback
 
 import broken
+import drops
 import dying
 import faults
 import hostile
+import owners
+import power
 import rivals
 import steps
 from books import Count
 
 # Each part with its weight: its share of the seconds that are left when it begins.
-PARTS = [("broken", broken, 0.1), ("steps", steps, 1), ("dying", dying, 14), ("rivals", rivals, 5), ("faults", faults, 4),
-         ("hostile", hostile, 5)]
+PARTS = [("broken", broken, 0.1), ("steps", steps, 1), ("dying", dying, 14), ("power", power, 4), ("drops", drops, 8), ("owners", owners, 1),
+         ("rivals", rivals, 5), ("faults", faults, 4), ("hostile", hostile, 5)]
 
 
 def program_in(room, given):

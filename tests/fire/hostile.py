@@ -10,8 +10,9 @@ import time
 from books import NOBODY, Box, drop_of, message, read_drop, write
 
 LONGEST = 10
-ERROR_LINE = re.compile(rb"mh: [ -~]+\n")
-FAULT_LINE = re.compile(rb"mh: (fault of (files|output)|no setting)\n")
+# The top call's line, and one of the program's behind it.
+ERROR_LINE = re.compile(rb"(mh: [ -~]+\n){1,2}")
+FAULT_LINE = re.compile(rb"mh: (fault of files\n(mh: [^\x00-\x1f\x7f]+\n)?|fault of output\n|no setting\n|word \d+ is no UTF-8 text\n)")
 
 # Pieces that mean something to the program, by what is mutated.
 PIECES = {

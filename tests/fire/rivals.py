@@ -16,7 +16,7 @@ NOTED = (4, 5)
 FORMAT = ["-format", "%4(msg) %(size) %{subject}", "-width", "200"]
 LINE = re.compile(r"^ *(\d+) (\d+) (message \d+ \w+)$")
 
-# The ends that are allowed, by command and status, and why. Nobody waits for a lock, so each may be told that a directory is locked (3).
+# The ends that are allowed, by command and status, and why. Who isn't called with --wait may be told that a directory is locked (3).
 LOCKED = r"(\+[ab]|mail directory) is locked"
 ALLOWED = {
     # a number may have left between the look at the folder and the run
@@ -31,8 +31,8 @@ ALLOWED = {
     "anno": {0: r"", 3: LOCKED},
     # the sequence may be empty
     "rmm": {0: r"", 1: r"no messages in sequence: victims", 3: LOCKED},
-    # the drop may be empty, or have grown when it is to be cut; a fault (2) only where a delivery had the drop's lock meanwhile
-    "inc": {0: r"", 1: r"(no mail to incorporate|mail drop has grown)", 2: r"fault of files", 3: LOCKED},
+    # the drop may be empty
+    "inc": {0: r"", 1: r"no mail to incorporate", 3: LOCKED},
     # scan takes no lock of the folder: what it listed may leave (4)
     "scan": {0: r"", 3: r"mail directory is locked", 4: r"name \d+ in \+[ab] was changed meanwhile"},
 }
@@ -50,9 +50,10 @@ Ended = collections.namedtuple("Ended", "status out err begin")
 class Scene:
     """What the rivals share: the mailbox, all messages there ever were, by subject, and what was told and complained of."""
 
-    def __init__(self, program, home, rng, seconds):
+    def __init__(self, program, home, rng, seconds, waits):
         self.rng, self.known, self.count_of = rng, {}, 0
-        self.bad, self.runs, self.told, self.deliveries, self.killed = [], collections.Counter(), [], [], 0
+        self.front = ["--wait", "60"] if waits else []
+        self.bad, self.runs, self.told, self.killed = [], collections.Counter(), [], 0
         folders = {it: {n: self.new("red" if n == 2 else "plain") for n in STAY + NOTED} for it in "ab"}
         for it in "ab":
             folders[it].update({n: self.new() for n in range(6, 16)})
@@ -75,12 +76,12 @@ class Scene:
     def run(self, *words, kill=False, rng=None):
         """Runs a command, or kills it at a random moment; its status must be one that is allowed."""
         begin = time.monotonic()
-        process = self.box.start(*words)
+        process = self.box.start(*self.front, *words)
         if kill:
             time.sleep(rng.uniform(0, self.usual))
             process.kill()
         try:
-            out, err = process.communicate(timeout=30)
+            out, err = process.communicate(timeout=90)
         except subprocess.TimeoutExpired:
             process.kill()
             self.bad.append(f"{' '.join(words)} hangs")
@@ -91,8 +92,10 @@ class Scene:
         self.usual = 0.9 * self.usual + 0.1 * (time.monotonic() - begin)
         self.runs[words[0], process.returncode] += 1
         line = err.decode("utf-8", "replace")
-        pattern = ALLOWED[words[0]].get(process.returncode)
-        if pattern is None or not re.fullmatch(f"(mh: {pattern}\n)" if pattern else "", line):
+        pattern = ALLOWED[words[0]].get(process.returncode) if process.returncode != 3 or not self.front else None
+        # behind a change meanwhile a second line may tell of the file
+        more = "(mh: .+\n)?" if process.returncode == 4 else ""
+        if pattern is None or not re.fullmatch(f"(mh: {pattern}\n{more})" if pattern else "", line):
             self.bad.append(f"{' '.join(words)} ended in {process.returncode}: {line.strip()}")
         return Ended(process.returncode, out, line, begin)
 
@@ -113,10 +116,6 @@ class Scene:
         """Whether the message has this size, with lines of anno in front or none."""
         more = size - len(self.known[name])
         return more >= 0 and more % len(NOTE) == 0
-
-    def delivery_during(self, begin):
-        """Whether a delivery had the drop's lock at some time since then."""
-        return any(end is None or end >= begin for _, end in list(self.deliveries))
 
 
 def refiler(source, target):
@@ -217,11 +216,9 @@ def janitor(scene, rng):
 
 
 def incorporator(scene, rng):
-    """Takes new mail in; a fault is allowed only beside a delivery. What it told must be there at the end."""
+    """Takes new mail in. What it told must be there at the end."""
     ran = scene.run("inc", "+a", *FORMAT, kill=rng.random() < 0.05, rng=rng)
     scene.told += scene.lines(ran.out)
-    if ran.status == 2 and not scene.delivery_during(ran.begin):
-        scene.bad.append("inc ended in a fault though no delivery had the drop's lock")
 
 
 def deliverer(scene, rng):
@@ -232,11 +229,9 @@ def deliverer(scene, rng):
         return
     texts = [scene.new() for _ in range(rng.randint(1, 3))]
     with open(path, "ab") as f:
-        scene.deliveries.append([time.monotonic(), None])
         fcntl.flock(f, fcntl.LOCK_EX)
         f.write(drop_of(texts))
         f.flush()
-        scene.deliveries[-1][1] = time.monotonic() + 0.05
     time.sleep(rng.uniform(0, 10 * scene.usual))
 
 
@@ -292,9 +287,9 @@ def books(scene, markers):
     return bad + sequences_sound(look, markers)
 
 
-def episode(program, home, rng, seconds):
-    """One mailbox with its rivals, for so many seconds: the scene, and all complaints."""
-    scene, markers, teller = Scene(program, home, rng, seconds), [Marker("ours", "mine"), Marker("theirs", "hers")], Teller()
+def episode(program, home, rng, seconds, waits):
+    """One mailbox with its rivals, for so many seconds: the scene, and all complaints. Where they wait for each other none may be told of a lock."""
+    scene, markers, teller = Scene(program, home, rng, seconds, waits), [Marker("ours", "mine"), Marker("theirs", "hers")], Teller()
     # The refilers, which need both locks, rest less than the others.
     steps = [(refiler("a", "b"), 1.5), (refiler("b", "a"), 1.5), (markers[0].step, 4), (markers[1].step, 4), (teller.step, 4), (picker, 4),
              (annotator, 4), (janitor, 6), (incorporator, 4), (deliverer, 1), (reader, 1)]
@@ -312,7 +307,7 @@ def run(program, seconds, room, count, rng, only=""):
     runs, killed, episodes, messages = collections.Counter(), 0, 0, 0
     end = time.monotonic() + seconds
     while not episodes or time.monotonic() + 3 < end:
-        scene, bad = episode(program, f"{room}/box", rng, max(3, min(10, end - time.monotonic() - 1)))
+        scene, bad = episode(program, f"{room}/box", rng, max(3, min(10, end - time.monotonic() - 1)), episodes % 2 == 0)
         count.check(f"rivals, episode {episodes + 1}", bad, [("box", f"{room}/box")])
         runs += scene.runs
         killed, episodes, messages = killed + scene.killed, episodes + 1, messages + len(scene.known)

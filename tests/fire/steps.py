@@ -7,6 +7,8 @@ from books import Box, drop_of, message
 
 HERE = os.path.dirname(os.path.abspath(__file__))
 DEAD = "0" * 31 + "5"
+# The number of the temporary name by which a link is tried before a message is held aside.
+TRIAL = 2 ** 64 - 2
 TRACED = ("mkdir,mkdirat,open,openat,close,read,write,fsync,fdatasync,link,linkat,unlink,unlinkat,rename,renameat,renameat2,"
           "ftruncate,truncate,flock,fcntl,getdents64")
 
@@ -107,7 +109,7 @@ class Trace:
         for kind, run in re.findall(r"\.mh_(temp|held)_([0-9a-f]{32})", name):
             self.runs.setdefault(run, "own" if len(self.runs) == 1 else f"run{len(self.runs)}")
             name = name.replace(f".mh_{kind}_{run}", f"{self.runs[run]}-{kind}")
-        return name
+        return name.replace(f"own-temp_{TRIAL}", "own-temp_trial")
 
     def events(self, lines):
         """The events of these lines."""
@@ -133,8 +135,10 @@ class Trace:
         if call == "flock" and file:
             kind = "share" if "LOCK_SH" in given else "lock"
             return Event(kind, [os.path.dirname(file)] if file.endswith(".mh_lock") else [file], answer)
-        if call in ("write", "fsync", "fdatasync", "ftruncate", "fcntl") and file:
-            return Event({"write": "write", "fcntl": "fcntl", "ftruncate": "cut"}.get(call, "sync"), [file], answer)
+        if call == "fcntl":
+            return Event("range", [file], answer) if file and "SETLK" in given else None
+        if call in ("write", "fsync", "fdatasync", "ftruncate") and file:
+            return Event({"write": "write", "ftruncate": "cut"}.get(call, "sync"), [file], answer)
         kinds = {"mkdir": "mkdir", "mkdirat": "mkdir", "link": "link", "linkat": "link", "unlink": "unlink", "unlinkat": "unlink",
                  "rename": "rename", "renameat": "rename", "renameat2": "rename", "truncate": "cut"}
         return Event(kinds[call], names, answer) if call in kinds and all(names) else None
@@ -186,6 +190,11 @@ def place(name):
 def is_number(name):
     """Whether a name is a message's number."""
     return os.path.basename(name).isdigit()
+
+
+def of_drop_lock(event):
+    """Whether a call is about the drop's lock file, which stands beside the drop and is no part of the mailbox."""
+    return all(it.startswith("drop.lock") for it in event.names)
 
 
 def synced_files(events):
@@ -253,17 +262,24 @@ def cut_last(events):
     cuts = [k for k, it in enumerate(events) if it.kind == "cut"]
     bad = ["the drop is cut more than once"] if len(cuts) > 1 else []
     for k in cuts:
-        behind = [it for it in events[k + 1:] if it.kind != "unlock" and (it.kind, it.names) != ("sync", ["drop"])]
+        behind = [it for it in events[k + 1:] if it.kind != "unlock" and (it.kind, it.names) != ("sync", ["drop"]) and not of_drop_lock(it)]
         bad += [f"behind the cut: {it.line()}" for it in behind]
-        if not any(it.kind == "lock" and it.names == ["drop"] and not it.answer for it in events[:k]):
-            bad.append("the drop is cut without its lock")
+        bad += [f"the drop is cut without its lock: {it}" for it in missing_locks(events[:k])]
     return bad
 
 
-def read_shared(events):
-    """A drop is read under its lock, which others may share."""
-    return [f"the drop is read without its lock, as call {k}" for k, it in enumerate(events)
-            if it.kind == "read" and it.names == ["drop"] and not any(one.kind == "share" and one.names == ["drop"] and not one.answer for one in events[:k])]
+def missing_locks(events):
+    """The drop's locks that are not had after these calls, of the three under which others deliver."""
+    had = {(it.kind, it.names[-1]) for it in events if not it.answer}
+    gone = any(it.kind == "unlink" and it.names == ["drop.lock"] for it in events)
+    wanted = {("lock", "drop"): "flock", ("link", "drop.lock"): "the lock file"}
+    return [what for it, what in wanted.items() if it not in had or gone and it[0] == "link"]
+
+
+def read_locked(events):
+    """A drop is read under all its locks."""
+    return [f"the drop is read without its lock, as call {k}: {what}" for k, it in enumerate(events)
+            if it.kind == "read" and it.names == ["drop"] for what in missing_locks(events[:k])]
 
 
 def under_lock(events):
@@ -274,7 +290,7 @@ def under_lock(events):
             locked.add(it.names[0])
         elif it.kind == "unlock":
             locked.discard(it.names[0])
-        elif it.kind in ("create", "link", "rename", "unlink"):
+        elif it.kind in ("create", "link", "rename", "unlink") and not of_drop_lock(it):
             bad += [f"without the lock of {place(name)}: {it.line()}" for name in it.names if place(name) not in locked]
     return bad
 
@@ -283,6 +299,8 @@ def safe_at_last(events):
     """Each directory is synced after the last change of a name there, but for one that takes a temporary name away or mends."""
     bad = []
     for k, it in enumerate(events):
+        if of_drop_lock(it):
+            continue
         if it.kind in ("link", "rename") and not it.answer or it.kind == "unlink" and "-temp_" not in it.names[0]:
             bad += [f"never made safe: {it.line()}" for name in it.names if not synced(list(enumerate(events))[k:], place(name))]
     return bad
@@ -297,12 +315,12 @@ def replaced_never(events):
             takes = old.isdigit() and new in (f"own-held_{old}", f",{old}")
             if not takes and not (old.startswith("own-temp_") and new in (".mh_sequences", "context")):
                 bad.append(f"not allowed: {it.line()}")
-        elif it.kind == "create" and not os.path.basename(it.names[0]).startswith("own-temp_"):
+        elif it.kind == "create" and not os.path.basename(it.names[0]).startswith("own-temp_") and not of_drop_lock(it):
             bad.append(f"not allowed: {it.line()}")
     return bad
 
 
-RULES = [synced_files, synced_lines, synced_discards, cut_last, read_shared, under_lock, safe_at_last, replaced_never]
+RULES = [synced_files, synced_lines, synced_discards, cut_last, read_locked, under_lock, safe_at_last, replaced_never]
 
 
 def expected(name):

@@ -1,57 +1,50 @@
-// The system's lock on a drop (`flock`), under which others deliver.
+// The system's lock on an open drop, under which others deliver (`flock`). The one of `fcntl` can't be had here: of the kit's
+// libraries only one that reaches past the handles has it.
 use crate::fault::HostFault;
 use std::fs::{File, TryLockError};
+use std::io;
 use std::io::ErrorKind;
-use std::thread;
-use std::time::Duration;
 
-/// How often a lock is tried that another has.
-const TRIES: u32 = 100;
+/// What a try to lock came to.
+#[derive(Drop)]
+pub(crate) enum Try {
+    Got,
+    Busy,
+    /// There are no such locks here.
+    Unable(io::Error),
+}
 
-/// The wait behind each try, in milliseconds: two seconds for all.
-const WAIT: u64 = 20;
+/// Whether this error says that a file system has no such locks, and not that something failed.
+fn is_unable(error: &io::Error) -> bool {
+    match error.raw_os_error() {
+        Some(code) => error.kind() == ErrorKind::Unsupported || code == NO_LOCKS,
+        None => false,
+    }
+}
 
-/// Whether a try got the lock.
-fn got(outcome: Result<(), TryLockError>) -> Result<bool, HostFault> {
+/// The system's ENOLCK.
+const NO_LOCKS: i32 = 37;
+
+fn refused(error: io::Error) -> Result<Try, HostFault> {
+    if error.kind() == ErrorKind::WouldBlock {
+        Ok(Try::Busy)
+    } else if is_unable(&error) {
+        Ok(Try::Unable(error))
+    } else {
+        Err(HostFault::from(error))
+    }
+}
+
+/// Tries the lock, a shared one where the drop may only be read. It falls where the file is closed.
+pub(crate) fn try_flock(file: &File, is_shared: bool) -> Result<Try, HostFault> {
+    let outcome = if is_shared {
+        file.try_lock_shared()
+    } else {
+        file.try_lock()
+    };
     match outcome {
-        Ok(()) => Ok(true),
-        Err(TryLockError::WouldBlock) => Ok(false),
-        Err(TryLockError::Error(_)) => Err(HostFault::Failed),
+        Ok(()) => Ok(Try::Got),
+        Err(TryLockError::WouldBlock) => Ok(Try::Busy),
+        Err(TryLockError::Error(error)) => refused(error),
     }
-}
-
-/// The same of one who only reads: where the file system has no locks, nobody has one.
-fn got_to_read(outcome: Result<(), TryLockError>) -> Result<bool, HostFault> {
-    match outcome {
-        Err(TryLockError::Error(error)) => {
-            if error.kind() == ErrorKind::Unsupported {
-                Ok(true)
-            } else {
-                Err(HostFault::Failed)
-            }
-        }
-        outcome => got(outcome),
-    }
-}
-
-/// Waits until nobody delivers under the lock, so that no part of a message is read. It falls where the file is closed.
-pub(crate) fn lock_to_read(rt: &HostRuntime, file: &File) -> Result<(), HostFault> {
-    for _ in 0..TRIES {
-        if got_to_read(file.try_lock_shared())? {
-            return Ok(());
-        }
-        thread::sleep(rt, Duration::from_millis(WAIT));
-    }
-    Err(HostFault::Failed)
-}
-
-/// Waits until nobody delivers or reads under the lock. Without it nothing is cut.
-pub(crate) fn lock_to_cut(rt: &HostRuntime, file: &File) -> Result<(), HostFault> {
-    for _ in 0..TRIES {
-        if got(file.try_lock())? {
-            return Ok(());
-        }
-        thread::sleep(rt, Duration::from_millis(WAIT));
-    }
-    Err(HostFault::Failed)
 }

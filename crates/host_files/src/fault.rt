@@ -3,10 +3,16 @@ use std::alloc::{AllocError, AllocFailed};
 use std::io;
 use std::io::ErrorKind;
 
+/// Failed by this error, of the system's or of words of our own; or for want of memory.
 #[derive(Drop)]
 pub(crate) enum HostFault {
-    Failed,
+    Failed(io::Error),
     Memory,
+}
+
+/// A fault that is no error of the system's.
+pub(crate) fn fault(words: &str) -> HostFault {
+    HostFault::Failed(io::Error::other(words))
 }
 
 impl From<AllocError> for HostFault {
@@ -26,7 +32,7 @@ impl From<io::Error> for HostFault {
         if error.kind() == ErrorKind::OutOfMemory {
             HostFault::Memory
         } else {
-            HostFault::Failed
+            HostFault::Failed(error)
         }
     }
 }
@@ -35,15 +41,15 @@ impl From<io::Error> for HostFault {
 pub(crate) fn changed<T: Drop>(outcome: io::Result<T>) -> Result<T, HostFault> {
     match outcome {
         Ok(value) => Ok(value),
-        Err(_) => Err(HostFault::Failed),
+        Err(error) => Err(HostFault::Failed(error)),
     }
 }
 
 /// What came after a change: want of memory would say that nothing was made.
 pub(crate) fn after_change<T: Drop>(outcome: Result<T, HostFault>) -> Result<T, HostFault> {
     match outcome {
-        Ok(value) => Ok(value),
-        Err(_) => Err(HostFault::Failed),
+        Err(HostFault::Memory) => Err(fault("out of memory")),
+        outcome => outcome,
     }
 }
 
@@ -64,5 +70,14 @@ pub(crate) fn looked_up<T: Drop>(outcome: io::Result<T>) -> Result<Found<T>, Hos
             ErrorKind::AlreadyExists => Ok(Found::Exists),
             _ => Err(HostFault::from(error)),
         },
+    }
+}
+
+/// What must be there once something else was: that it is gone, or that its name is taken, is a fault.
+pub(crate) fn must_be_there<T: Drop>(found: Found<T>) -> Result<T, HostFault> {
+    match found {
+        Found::There(value) => Ok(value),
+        Found::Gone => Err(fault("it went away meanwhile")),
+        Found::Exists => Err(fault("the name is taken")),
     }
 }

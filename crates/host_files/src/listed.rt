@@ -1,25 +1,26 @@
 // What the last listing of a directory told of its names.
-use crate::fault::{Found, HostFault, looked_up};
+use crate::fault::{Found, HostFault, looked_up, must_be_there};
+use crate::names::{OpenDirectory, names_in};
 use crate::paths::{Paths, below, text};
 use folder_files::Place;
-use mh_base::{Bytes, Duplicate, Name, NameList};
+use mh_base::{Duplicate, Name, NameList};
 use std::alloc::{AllocError, Global};
 use std::fs;
-use std::fs::DirEntry;
 
 /// A name that is no directory's, and the length of a plain file.
 #[derive(Drop)]
 struct ListedName {
-    name: String,
+    name: Name,
     length: Option<u64>,
 }
 
-/// The names of the directory that was listed last, in byte order. A name may have changed since.
+/// What the directory that was listed last told of its names, in byte order, where each was asked what it is. A name
+/// may have changed since.
 #[derive(Drop)]
 pub(crate) struct LastListing {
     place: Place,
     directory: String,
-    names: Vec<ListedName>,
+    asked: Vec<ListedName>,
 }
 
 /// The path of a name, and the length of a plain file that was listed there.
@@ -29,76 +30,134 @@ pub(crate) struct ListedPath {
     pub(crate) length: Option<u64>,
 }
 
-/// The name of an entry, unless it is a directory's; one that went away since it was listed is none.
-fn listed_name(
+/// A listing, and the names for its answer.
+#[derive(Drop)]
+pub(crate) struct Listed {
+    pub(crate) listing: LastListing,
+    pub(crate) names: NameList,
+}
+
+/// All names, and whether none is a directory's.
+#[derive(Drop)]
+struct AllNames {
+    names: Vec<Name>,
+    are_flat: bool,
+}
+
+/// Lists an open directory. Its links are counted again afterwards: a subdirectory may have come.
+fn all_names(
+    rt: &HostRuntime,
     alloc: Global,
-    entry: &DirEntry<HostRuntime, Global>,
+    path: &str,
+    directory: OpenDirectory,
+) -> Result<AllNames, HostFault> {
+    let counts = directory.has_two_links()? && directory.is_counted_above(rt, alloc, path)?;
+    let mut names = names_in(rt, alloc, path)?;
+    names.sort_unstable_by(|a, b| a.bytes().cmp(b.bytes()));
+    let are_flat = counts && directory.has_two_links()?;
+    Ok(AllNames { names, are_flat })
+}
+
+/// A name with its length, unless it is a directory's; one that went away since it was listed is none.
+fn asked_name(
+    rt: &HostRuntime,
+    alloc: Global,
+    directory: &str,
+    name: Name,
 ) -> Result<Option<ListedName>, HostFault> {
-    let length = match looked_up(entry.metadata())? {
+    let path = below(alloc, directory, text(name.bytes())?)?;
+    let length = match looked_up(fs::symlink_metadata(rt, path.as_str()))? {
         Found::There(what) if what.is_dir() => return Ok(None),
         Found::There(what) if what.is_file() => Some(what.len()),
         _ => None,
     };
-    let name = String::from_str(alloc, entry.file_name())?;
     Ok(Some(ListedName { name, length }))
+}
+
+fn ask_names(
+    rt: &HostRuntime,
+    alloc: Global,
+    directory: &str,
+    names: Vec<Name>,
+) -> Result<Vec<ListedName>, HostFault> {
+    let mut asked = Vec::new(alloc);
+    for name in names {
+        if let Some(name) = asked_name(rt, alloc, directory, name)? {
+            asked.push(name)?;
+        }
+    }
+    Ok(asked)
+}
+
+fn names_of(alloc: Global, asked: &[ListedName]) -> Result<NameList, HostFault> {
+    let mut names = NameList::new(alloc);
+    for listed in asked {
+        names.push(listed.name.duplicate(alloc)?)?;
+    }
+    Ok(names)
+}
+
+/// A listing that knows nothing of its names.
+fn unasked(alloc: Global, place: Place, directory: String) -> LastListing {
+    LastListing {
+        place,
+        directory,
+        asked: Vec::new(alloc),
+    }
+}
+
+fn listed_of(
+    rt: &HostRuntime,
+    alloc: Global,
+    place: Place,
+    directory: String,
+    all: AllNames,
+) -> Result<Listed, HostFault> {
+    if all.are_flat {
+        return Ok(Listed {
+            listing: unasked(alloc, place, directory),
+            names: NameList::from_vec(all.names),
+        });
+    }
+    let asked = ask_names(rt, alloc, directory.as_str(), all.names)?;
+    let names = names_of(alloc, asked.as_slice())?;
+    let listing = LastListing {
+        place,
+        directory,
+        asked,
+    };
+    Ok(Listed { listing, names })
 }
 
 impl LastListing {
     /// Nothing was listed yet.
     pub(crate) fn new(alloc: Global) -> Result<LastListing, AllocError> {
-        Ok(LastListing {
-            place: Place::Work,
-            directory: String::from_str(alloc, ".")?,
-            names: Vec::new(alloc),
-        })
+        Ok(unasked(alloc, Place::Work, String::from_str(alloc, ".")?))
     }
 
-    /// Lists a directory, all but its directories.
+    /// Lists a directory, all but its directories. Where its count of links says that it has none, no name is asked.
     pub(crate) fn read(
         rt: &HostRuntime,
         alloc: Global,
         paths: &Paths,
         place: &Place,
-    ) -> Result<Found<LastListing>, HostFault> {
-        let directory = paths.place(alloc, place)?;
-        let entries = match looked_up(fs::read_dir(rt, directory.as_str()))? {
-            Found::There(entries) => entries,
+    ) -> Result<Found<Listed>, HostFault> {
+        let path = paths.place(alloc, place)?;
+        let opened = match OpenDirectory::open(rt, alloc, path.as_str())? {
             Found::Gone => return Ok(Found::Gone),
-            Found::Exists => return Err(HostFault::Failed),
+            found => must_be_there(found)?,
         };
-        let mut names = Vec::new(alloc);
-        for entry in entries {
-            if let Some(listed) = listed_name(alloc, &entry?)? {
-                names.push(listed)?;
-            }
-        }
-        names.sort_unstable_by(|a, b| a.name.cmp(&b.name));
-        let place = place.duplicate(alloc)?;
-        Ok(Found::There(LastListing {
-            place,
-            directory,
-            names,
-        }))
+        let all = all_names(rt, alloc, path.as_str(), opened)?;
+        let listed = listed_of(rt, alloc, place.duplicate(alloc)?, path, all)?;
+        Ok(Found::There(listed))
     }
 
-    /// The names that a message or another entry can have.
-    pub(crate) fn names(&self, alloc: Global) -> Result<NameList, HostFault> {
-        let mut names = NameList::new(alloc);
-        for listed in &self.names {
-            let text = Bytes::from_slice(alloc, listed.name.as_bytes())?;
-            if let Some(name) = Name::new(text) {
-                names.push(name)?;
-            }
-        }
-        Ok(names)
-    }
-
-    /// How long the plain file of this name was, if it was listed.
-    fn length(&self, name: &str) -> Option<u64> {
+    /// How long the plain file of this name was, if it was asked.
+    fn length(&self, name: &Name) -> Option<u64> {
         let found = self
-            .names
-            .binary_search_by(|listed| listed.name.as_str().cmp(name));
-        self.names.get(found.ok()?)?.length
+            .asked
+            .binary_search_by(|listed| listed.name.bytes().cmp(name.bytes()));
+        self.asked.get(found.ok()?)?.length
     }
 
     /// The path of a name, of which the listing knows more where it is of this directory.
@@ -115,9 +174,8 @@ impl LastListing {
                 length: None,
             });
         }
-        let name = text(name.bytes())?;
         Ok(ListedPath {
-            path: below(alloc, self.directory.as_str(), name)?,
+            path: below(alloc, self.directory.as_str(), text(name.bytes())?)?,
             length: self.length(name),
         })
     }

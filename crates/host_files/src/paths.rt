@@ -1,5 +1,5 @@
 // The paths of places, names and outside files.
-use crate::fault::HostFault;
+use crate::fault::{HostFault, fault};
 use folder_files::{FilePath, Place};
 use mh_base::{Bytes, Name};
 use std::alloc::Global;
@@ -15,7 +15,7 @@ pub(crate) struct Paths {
 pub(crate) fn text(bytes: &[u8]) -> Result<&str, HostFault> {
     match str::from_utf8(bytes) {
         Ok(text) => Ok(text),
-        Err(_) => Err(HostFault::Failed),
+        Err(_) => Err(fault("a path that is no UTF-8")),
     }
 }
 

@@ -1,9 +1,8 @@
 // Steps that look.
 ghost use Rattle.std.specs.Prelude.{IfOk, length as count, ◌≤◌};
-ghost use Rattle.folder_files.specs.Rows.{IsNamesRow, IsReadRow, IsPieceRow};
+ghost use Rattle.folder_files.specs.Rows.{IsNamesRow, IsReadRow};
 
-use crate::drop_lock::lock_to_read;
-use crate::fault::{Found, HostFault, looked_up};
+use crate::fault::{Found, HostFault, fault, looked_up, must_be_there};
 use crate::listed::{LastListing, ListedPath};
 use crate::paths::Paths;
 use crate::room::ReadRoom;
@@ -24,9 +23,9 @@ pub(crate) fn list(
     ensures { IfOk result IsNamesRow }
 {
     match LastListing::read(rt, alloc, paths, place)? {
-        Found::There(listing) => {
-            *last = listing;
-            Ok(Answer::Names(last.names(alloc)?))
+        Found::There(listed) => {
+            *last = listed.listing;
+            Ok(Answer::Names(listed.names))
         }
         _ => Ok(Answer::Gone),
     }
@@ -38,7 +37,7 @@ fn plain_length(rt: &HostRuntime, path: &str) -> Result<Found<u64>, HostFault> {
     match looked_up(fs::metadata(rt, path))? {
         Found::There(what) if what.is_file() => Ok(Found::There(what.len())),
         Found::Gone => Ok(Found::Gone),
-        _ => Err(HostFault::Failed),
+        _ => Err(fault("no plain file")),
     }
 }
 
@@ -51,15 +50,13 @@ fn open_plain(
     let length = match listed {
         Some(length) => length,
         None => match plain_length(rt, path)? {
-            Found::There(length) => length,
             Found::Gone => return Ok(Found::Gone),
-            Found::Exists => return Err(HostFault::Failed),
+            found => must_be_there(found)?,
         },
     };
     match looked_up(File::open(rt, path))? {
-        Found::There(file) => Ok(Found::There((file, length))),
         Found::Gone => Ok(Found::Gone),
-        Found::Exists => Err(HostFault::Failed),
+        found => Ok(Found::There((must_be_there(found)?, length))),
     }
 }
 
@@ -94,9 +91,8 @@ fn read_within(
     ensures { IfOk result IsReadRow }
 {
     let (file, length) = match open_plain(rt, path, listed)? {
-        Found::There(opened) => opened,
         Found::Gone => return Ok(Answer::Gone),
-        Found::Exists => return Err(HostFault::Failed),
+        found => must_be_there(found)?,
     };
     if length > limit {
         return Ok(Answer::Long(length));
@@ -141,7 +137,7 @@ pub(crate) fn read_file(
 }
 
 /// A piece of an open file of this length, and nothing of what was written behind it since.
-fn read_piece(
+pub(crate) fn read_piece(
     alloc: Global,
     room: &mut ReadRoom,
     mut file: File,
@@ -155,32 +151,7 @@ fn read_piece(
     file.seek(SeekFrom::Start(from))?;
     let piece = read_most(alloc, room, file, wanted, wanted)?;
     if piece.len() as u64 > wanted {
-        return Err(HostFault::Failed);
+        return Err(fault("more was read than there is"));
     }
     Ok(piece)
-}
-
-pub(crate) fn read_drop(
-    rt: &HostRuntime,
-    alloc: Global,
-    paths: &Paths,
-    room: &mut ReadRoom,
-    path: &FilePath,
-    from: u64,
-    most: u64,
-) -> Result<Answer, HostFault>
-    ensures { IfOk result (IsPieceRow most) }
-{
-    let path = paths.file(alloc, path)?;
-    let (file, _) = match open_plain(rt, path.as_str(), None)? {
-        Found::There(opened) => opened,
-        Found::Gone => return Ok(Answer::Gone),
-        Found::Exists => return Err(HostFault::Failed),
-    };
-    lock_to_read(rt, &file)?;
-    let length = file.metadata()?.len();
-    Ok(Answer::Piece {
-        bytes: read_piece(alloc, room, file, from, most, length)?,
-        length,
-    })
 }

@@ -1,7 +1,7 @@
 // Room into which files are read.
 ghost use Rattle.std.specs.Prelude.{◌≤◌, length as count, IfOk};
 
-use crate::fault::HostFault;
+use crate::fault::{HostFault, fault};
 use std::alloc::Global;
 use std::fs::File;
 use std::io::{ErrorKind, Read, Take};
@@ -44,7 +44,7 @@ fn fill(file: &mut Take<File>, room: &mut [u8], likely: u64) -> Result<usize, Ho
             Err(error) => return Err(HostFault::from(error)),
         }
     }
-    Err(HostFault::Failed)
+    Err(fault("reads that do not end"))
 }
 
 impl ReadRoom {

@@ -1,36 +1,11 @@
 // Where the mail directory is, as the first page of help says it.
-use crate::help::say;
+use crate::profile::{below, read_profile};
 use crate::start::StartFault;
 use mh_profile::Entries;
 use std::fs;
-use std::io::ErrorKind;
 
-/// A name below a directory, or the name itself where it is absolute.
-fn below(rt: &HostRuntime, directory: &str, name: &str) -> Result<String, StartFault> {
-    let alloc = rt.alloc();
-    if name.starts_with('/') {
-        return Ok(String::from_str(alloc, name)?);
-    }
-    let mut path = String::from_str(alloc, directory)?;
-    path.push('/')?;
-    path.push_str(name)?;
-    Ok(path)
-}
-
-/// The profile's text; none where it can't be read.
-fn profile_text(rt: &HostRuntime, home: &str) -> Result<String, StartFault> {
-    let path = below(rt, home, ".mh_profile")?;
-    match fs::read_to_string(rt, path.as_str()) {
-        Ok(text) => Ok(text),
-        Err(error) if error.kind() == ErrorKind::OutOfMemory => Err(StartFault::Memory),
-        Err(_) => Ok(String::new(rt.alloc())),
-    }
-}
-
-/// The path of the mail directory.
-fn mail_directory(rt: &HostRuntime, home: &str) -> Result<String, StartFault> {
-    let text = profile_text(rt, home)?;
-    let profile = Entries::read(rt.alloc(), text.as_bytes())?;
+/// The path of the mail directory by these entries.
+fn named(rt: &HostRuntime, home: &str, profile: &Entries) -> Result<String, StartFault> {
     match profile.get(b"Path")? {
         Some(path) => below(
             rt,
@@ -41,6 +16,15 @@ fn mail_directory(rt: &HostRuntime, home: &str) -> Result<String, StartFault> {
     }
 }
 
+/// The path of the mail directory; a profile that can't be read counts as none.
+fn mail_directory(rt: &HostRuntime, home: &str) -> Result<String, StartFault> {
+    match read_profile(rt, home) {
+        Ok(profile) => named(rt, home, &profile),
+        Err(StartFault::Memory) => Err(StartFault::Memory),
+        Err(_) => below(rt, home, "Mail"),
+    }
+}
+
 /// What to do where there is no mail directory.
 const MISSING: &str = "\
 It isn't there yet: mh inc makes it when it takes new mail in. If your mail is
@@ -48,15 +32,14 @@ elsewhere, a line such as `Path: mail` in .mh_profile of your home directory
 says where.
 ";
 
-/// Says where the mail directory is, and what to do where it is missing.
-pub fn say_mail_directory(rt: &HostRuntime, home: &str) -> Result<(), StartFault> {
+/// Where the mail directory is, and what to do where it is missing.
+pub fn told_mail_directory(rt: &HostRuntime, home: &str) -> Result<String, StartFault> {
     let path = mail_directory(rt, home)?;
-    say(rt, "Your mail directory is ")?;
-    say(rt, path.as_str())?;
-    say(rt, ".\n")?;
-    if fs::exists(rt, path.as_str()).unwrap_or(true) {
-        Ok(())
-    } else {
-        say(rt, MISSING)
+    let mut text = String::from_str(rt.alloc(), "Your mail directory is ")?;
+    text.push_str(path.as_str())?;
+    text.push_str(".\n")?;
+    if !fs::exists(rt, path.as_str()).unwrap_or(true) {
+        text.push_str(MISSING)?;
     }
+    Ok(text)
 }

@@ -1,5 +1,5 @@
-// What the system says of the user, the moment and the words.
-use crate::help::is_command;
+// What the system says of the user and the moment.
+use crate::lines::{line_with, warn_if_there};
 use crate::offset::read_offset;
 use mh_base::{Bytes, Text};
 use mh_tools::Setting;
@@ -14,7 +14,16 @@ use std::{env, io};
 #[derive(Drop)]
 pub enum StartFault {
     NoSetting,
+    /// The word at this place behind the program's name, from 1, is no text.
+    NoText(usize),
+    /// `--wait` without a number of seconds, or with another word in its place.
+    NoWait,
+    BadWait,
+    /// There is no page of help on this word.
+    NoHelp(String),
     Output,
+    /// The output is a pipe whose reader is gone.
+    NoReader,
     Memory,
 }
 
@@ -40,41 +49,19 @@ impl From<io::Error> for StartFault {
     }
 }
 
-/// The words of the call, the home directory, and the setting.
+/// What does not change from one try of a call to the next.
 #[derive(Drop)]
-pub struct Start {
-    pub words: Vec<String>,
-    pub home: Bytes,
-    pub setting: Setting,
+pub struct Surroundings {
+    pub home: String,
+    offset_minutes: i32,
 }
 
 /// The last segment of a path.
-fn last_segment(path: &str) -> &str {
+pub fn last_segment(path: &str) -> &str {
     match path.rsplit_once('/') {
         Some((_, name)) => name,
         None => path,
     }
-}
-
-/// The command of whose name the program is called, if it is one.
-fn called_command(program: &str) -> Option<&str> {
-    let name = last_segment(program);
-    if is_command(name) { Some(name) } else { None }
-}
-
-/// The words behind the program's name; a command by whose name it is called stands before them.
-pub fn read_words(rt: &HostRuntime) -> Result<Vec<String>, StartFault> {
-    let mut words = Vec::new(rt.alloc());
-    let mut args = env::args(rt)?;
-    if let Some(program) = args.next() {
-        if let Some(command) = called_command(program.as_str()) {
-            words.push(String::from_str(rt.alloc(), command)?)?;
-        }
-    }
-    for word in args {
-        words.push(word)?;
-    }
-    Ok(words)
 }
 
 /// A variable of the environment, where it is there.
@@ -95,12 +82,41 @@ pub fn read_home(rt: &HostRuntime) -> Result<String, StartFault> {
     }
 }
 
-/// `MH_OFFSET` in minutes; zero where it is missing or not written `+hhmm` or `-hhmm`.
+/// Says that an offset is not written as one is.
+fn warn_of_offset(rt: &HostRuntime, text: &str) {
+    let line = line_with(
+        rt.alloc(),
+        "MH_OFFSET is \"",
+        text,
+        "\", which is neither +hhmm nor -hhmm: times are in UTC",
+    );
+    warn_if_there(rt, line.map(Some));
+}
+
+/// The minutes of an offset; one that is not written `+hhmm` or `-hhmm` is named, and counts as none.
+fn offset_of(rt: &HostRuntime, text: &str) -> i32 {
+    match read_offset(text) {
+        Some(minutes) => minutes,
+        None => {
+            warn_of_offset(rt, text);
+            0
+        }
+    }
+}
+
+/// `MH_OFFSET` in minutes; zero where it is missing or empty.
 fn offset(rt: &HostRuntime) -> Result<i32, StartFault> {
     match variable(rt, "MH_OFFSET")? {
-        Some(text) => Ok(read_offset(text.as_str()).unwrap_or(0)),
-        None => Ok(0),
+        Some(text) if !text.is_empty() => Ok(offset_of(rt, text.as_str())),
+        _ => Ok(0),
     }
+}
+
+pub fn read_surroundings(rt: &HostRuntime) -> Result<Surroundings, StartFault> {
+    Ok(Surroundings {
+        home: read_home(rt)?,
+        offset_minutes: offset(rt)?,
+    })
 }
 
 /// Seconds from 1970-01-01 00:00:00 UTC.
@@ -111,9 +127,9 @@ fn now(rt: &HostRuntime) -> Result<i64, StartFault> {
     }
 }
 
-/// The user's name: the last segment of the home directory.
+/// The user's name: the last segment of the home directory, whatever slashes stand behind it.
 fn user(alloc: Global, home: &str) -> Result<Text, AllocError> {
-    Text::from_str(alloc, last_segment(home))
+    Text::from_str(alloc, last_segment(home.trim_end_matches('/')))
 }
 
 /// A run number that no other run has, as far as 16 random bytes can promise.
@@ -123,15 +139,15 @@ fn run_number(rt: &HostRuntime) -> Result<u128, StartFault> {
     Ok(u128::from_le_bytes(bytes))
 }
 
-/// What a command is called with, by these words.
-pub fn read_start(rt: &HostRuntime, words: Vec<String>) -> Result<Start, StartFault> {
-    let alloc = rt.alloc();
-    let home = read_home(rt)?;
-    let user = user(alloc, home.as_str())?;
-    let setting = Setting::new(run_number(rt)?, now(rt)?, offset(rt)?, user);
-    Ok(Start {
-        words,
-        home: Bytes::from_slice(alloc, home.as_str().as_bytes())?,
-        setting: setting.ok_or(StartFault::NoSetting)?,
-    })
+impl Surroundings {
+    pub fn home_bytes(&self, alloc: Global) -> Result<Bytes, AllocError> {
+        Bytes::from_slice(alloc, self.home.as_str().as_bytes())
+    }
+
+    /// The setting of a run that begins now.
+    pub fn setting(&self, rt: &HostRuntime) -> Result<Setting, StartFault> {
+        let user = user(rt.alloc(), self.home.as_str())?;
+        let setting = Setting::new(run_number(rt)?, now(rt)?, self.offset_minutes, user);
+        setting.ok_or(StartFault::NoSetting)
+    }
 }

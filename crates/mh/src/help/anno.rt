@@ -1,9 +1,6 @@
 // `anno`.
 
-pub const PAGE: &str = "\
-usage: mh anno [+folder] [messages] -component NAME [-text TEXT]
-               [-date | -nodate]
-
+pub const PAGE: &str = "\n\
 Puts lines in front of messages, of the current one if none is named: a field
 of this name with the date and time of now, and one with the text.
 

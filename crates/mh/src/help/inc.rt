@@ -1,20 +1,16 @@
 // `inc`.
 
-pub const PAGE: &str = "\
-usage: mh inc [+folder] [-file DROP] [-truncate | -notruncate]
-              [-changecur | -nochangecur] [-format TEXT | -form FILE]
-              [-width COLUMNS] [-silent | -nosilent]
-
-Takes new mail in: each message of the mail drop becomes a file of the folder,
+pub const PAGE: &str = "\n\
+Takes new mail in: each message of the mail file becomes a file of the folder,
 above its highest number. A message's line is printed once it is safe on disk.
 The folder is made where it is missing; without one it is the profile's Inbox,
-or +inbox. The drop is the profile's MailDrop, below the home directory, or
-/var/mail/ and the user's name.
+or +inbox. The mail file is the profile's MailDrop, below the home directory,
+or /var/mail/ and the user's name.
 
-  -file DROP       another drop, which stays as it is without -truncate
-  -truncate        the drop is emptied when all of it is stored, as it is
+  -file DROP       another mail file, which stays as it is without -truncate
+  -truncate        the mail file is emptied when all of it is stored, as it is
                    without -file
-  -notruncate      the drop stays as it is
+  -notruncate      the mail file stays as it is
   -changecur       the first new message becomes the current one, as without
                    either
   -nochangecur     the current message stays

@@ -1,9 +1,6 @@
 // `mark`.
 
-pub const PAGE: &str = "\
-usage: mh mark [+folder] [messages] [-sequence NAME].. [-add | -delete]
-               [-zero | -nozero] [-public | -nopublic] [-list]
-
+pub const PAGE: &str = "\n\
 Adds messages to sequences, the current one if none is named, takes them out,
 or lists sequences.
 

@@ -1,9 +1,6 @@
 // `mhbuild`.
 
-pub const PAGE: &str = "\
-usage: mh mhbuild NAME
-       mh mhbuild -
-
+pub const PAGE: &str = "\n\
 Makes a message of a draft. With a name it reads that file of the current
 directory: the message takes the name, and the draft stays beside it as
 ,NAME.orig. With - it reads the input, and writes the message to the output.

@@ -1,13 +1,13 @@
 // `pick`.
 
-pub const PAGE: &str = "\
-usage: mh pick [+folder] [messages] [tests] [-datefield NAME]
-               [-sequence NAME].. [-zero | -nozero] [-public | -nopublic]
-               [-list | -nolist]
-
+pub const PAGE: &str = "\n\
 Prints the numbers of the messages that pass the tests, of all messages if none
 is named, or brings them into sequences. If none passes it prints 0 and ends
-with status 1.
+with status 1. Where it would list, it also prints 0 when it is refused or
+fails before it has printed a number: 0 is no message, so mh rmm $(mh pick ..)
+then removes nothing. In a script look at the status too:
+
+  m=$(mh pick -from ann -before -30) && mh rmm $m
 
   -from -to -cc -subject -date PATTERN   some field of this name has it
   --NAME PATTERN                         so has a field of any other name
@@ -25,9 +25,12 @@ with status 1.
   -nolist          they are not
 
 A lower-case letter of a pattern is both cases; . is any byte, [abc] one of
-these, * any number of what stands before it, ^ the begin, $ the end. A date is
-today, yesterday, tomorrow, a weekday, -7 (a week ago), 2026-06-01, or as mail
-has it.
+these, * any number of what is before it, ^ the begin, $ the end. Fields
+and bodies are searched as they are written in the message's file.
+
+A date is today, yesterday, tomorrow, a weekday (the last one before today), -7
+(a week ago), 2026-06-01, or '1 jun 2026 9:30 +0200'. Without a time it is
+midnight at the begin of the day, without a zone in that of MH_OFFSET.
 
   mh scan $(mh pick -from ann -after -7)
   mh pick -subject lunch -or -search noon -sequence meals

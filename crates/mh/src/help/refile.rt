@@ -1,8 +1,6 @@
 // `refile`.
 
-pub const PAGE: &str = "\
-usage: mh refile [messages] +folder.. [-src +folder] [-link | -nolink]
-
+pub const PAGE: &str = "\n\
 Moves messages, the current one if none is named, to these folders, which are
 made where they are missing. Each gets a file of its own in each of them, above
 its highest number, and leaves its folder once all are safe on disk.

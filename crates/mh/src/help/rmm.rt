@@ -1,8 +1,6 @@
 // `rmm`.
 
-pub const PAGE: &str = "\
-usage: mh rmm [+folder] [messages] [-unlink | -nounlink]
-
+pub const PAGE: &str = "\n\
 Removes messages, the current one if none is named. Each becomes a file that
 has a comma before its number, which no command reads, and leaves all sequences
 of the folder.

@@ -1,9 +1,6 @@
 // `scan`.
 
-pub const PAGE: &str = "\
-usage: mh scan [+folder] [messages] [-format TEXT | -form FILE]
-               [-width COLUMNS] [-reverse | -noreverse]
-
+pub const PAGE: &str = "\n\
 Prints a line for each of the messages, all of them if none is named, and makes
 the folder the current one. Without a folder it is the current one.
 
@@ -15,5 +12,6 @@ the folder the current one. Without a folder it is the current one.
   -noreverse       the first message comes first, as without either
 
   mh scan +inbox last:10
+  mh scan -width $COLUMNS
   mh scan -format '%(msg) %{subject}' unseen
 ";

@@ -1,11 +1,9 @@
 // `sortm`.
 
-pub const PAGE: &str = "\
-usage: mh sortm [+folder] [messages] [-datefield NAME | -textfield NAME]
-
+pub const PAGE: &str = "\n\
 Puts messages in order, all of the folder if none is named: the first of them
-gets the least of the numbers that they have, and so on. Marks go with their
-messages, and so does the current message. Of messages that come together the
+gets the least of the numbers that they have, and so on. Sequences and the
+current message go with them. Of messages that come together the
 one with the lesser number stays first.
 
   -datefield NAME   by the date in the field of this name; without either by

@@ -1,4 +1,0 @@
-use Rattle.host_files.proofs.changing.+make_all.Given as goal
-
-abbrev pub decreases-make_all : goal.decreases-make_all
-decreases-make_all l = l.depth

@@ -1,4 +1,0 @@
-use Rattle.host_files.proofs.changing.+sync_above.Given as goal
-
-abbrev pub decreases-sync_above : goal.decreases-sync_above
-decreases-sync_above l = l.depth

@@ -1,0 +1,83 @@
+// Second names of files.
+ghost use Rattle.std.specs.Prelude.{IfOk};
+ghost use Rattle.folder_files.specs.Rows.{IsNewRow, IsOldRow};
+
+use crate::copying::link_copy;
+use crate::fault::{Found, HostFault, looked_up};
+use crate::link_trials::{LinkTrials, is_not_allowed};
+use crate::paths::Paths;
+use crate::same_file::are_one;
+use crate::unlinking::done_or_gone;
+use folder_files::{Answer, Place};
+use mh_base::{Entry, Name, entry_of};
+use std::alloc::Global;
+use std::fs;
+
+pub(crate) fn link(
+    rt: &HostRuntime,
+    alloc: Global,
+    paths: &Paths,
+    run: u128,
+    place: &Place,
+    from: &Name,
+    to: &Name,
+) -> Result<Answer, HostFault>
+    ensures { IfOk result IsNewRow }
+{
+    let from = paths.entry(alloc, place, from)?;
+    let to = paths.entry(alloc, place, to)?;
+    let found = match fs::hard_link(rt, from.as_str(), to.as_str()) {
+        Err(error) if is_not_allowed(&error) => {
+            link_copy(rt, alloc, run, from.as_str(), to.as_str())?
+        }
+        outcome => looked_up(outcome)?,
+    };
+    match found {
+        Found::There(()) => Ok(Answer::Done),
+        Found::Exists => Ok(Answer::Exists),
+        Found::Gone => Ok(Answer::Gone),
+    }
+}
+
+/// Whether both names lead to one file. The system leaves both where one is renamed to the other. Mostly there is no
+/// second.
+fn are_one_file(rt: &HostRuntime, from: &str, to: &str) -> Result<bool, HostFault> {
+    let Found::There(to) = looked_up(fs::symlink_metadata(rt, to))? else {
+        return Ok(false);
+    };
+    let Found::There(from) = looked_up(fs::symlink_metadata(rt, from))? else {
+        return Ok(false);
+    };
+    Ok(are_one(&from, &to))
+}
+
+/// Whether a message is held aside by this change of its name: from there it comes back by a Link alone.
+fn is_take(from: &Name, to: &Name) -> bool {
+    matches!(entry_of(from.bytes()), Entry::Number(_))
+        && matches!(entry_of(to.bytes()), Entry::Held(_, _))
+}
+
+pub(crate) fn rename(
+    rt: &HostRuntime,
+    alloc: Global,
+    paths: &Paths,
+    trials: &mut LinkTrials,
+    run: u128,
+    place: &Place,
+    from: &Name,
+    to: &Name,
+) -> Result<Answer, HostFault>
+    ensures { IfOk result IsOldRow }
+{
+    let is_itself = from.same(to);
+    let takes = is_take(from, to);
+    let from = paths.entry(alloc, place, from)?;
+    let to = paths.entry(alloc, place, to)?;
+    if !is_itself && are_one_file(rt, from.as_str(), to.as_str())? {
+        return done_or_gone(looked_up(fs::remove_file(rt, from.as_str()))?);
+    }
+    if takes {
+        trials.see(rt, alloc, run, from.as_str())?;
+    }
+    done_or_gone(looked_up(fs::rename(rt, from.as_str(), to.as_str()))?)
+}
