@@ -59,7 +59,7 @@ def leaves(name, message):
 
 def ends():
     """What is refused, and what fails."""
-    ended("no words", mh(), 1, b"missing word")
+    ended("no words", mh(), 1, b'missing word\nmh: "mh help mhbuild" tells its switches')
     ended("a draft that is not there", mh("none"), 1, b"no such file: none")
     ended("an input with a wrong line", mh("-", given=b"Subject: t\n\n#begin mixed\nhi\n"), 1, b"bad draft at line 3")
     ended("a field that is the message's own", mh("-", given=b"Subject: t\nMIME-Version: 1.0\n\nhi\n"), 1, b"bad draft at line 2")

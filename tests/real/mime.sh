@@ -94,8 +94,8 @@ rm "$work"/*
     cd "$work" && trap '' XFSZ && ulimit -f 0
     env -i HOME="$home" "$room/mh" mhstore 5
     echo $?
-) 2>&1 | cat > "$room/said.txt"
-same 'a device that takes no bytes' "$room/said.txt" 'mh: fault of files\n2\n'
+) 2>&1 | sed 's/temp_[0-9a-f]*_/temp_/' > "$room/said.txt"
+same 'a device that takes no bytes' "$room/said.txt" 'mh: fault of files\nmh: ./.mh_temp_0: File too large\n2\n'
 rm -f "$work"/.mh_temp_*
 names 'no file has its name there' "$work" ''
 (

@@ -5,6 +5,8 @@
 mod call;
 mod ending;
 mod help;
+#[cfg(test)]
+mod input_tests;
 mod kept_input;
 mod lines;
 mod mail_directory;
