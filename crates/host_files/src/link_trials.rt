@@ -1,7 +1,7 @@
 // Trials of links. A rename is allowed to whoever may write to the directory, a link is not always: so before a
 // message is held aside it is seen that it can come back.
 use crate::copying::{COPY, temp_beside};
-use crate::fault::{Found, HostFault, changed, fault, looked_up};
+use crate::fault::{HostFault, changed, fault};
 use crate::new_file::create_new;
 use std::alloc::Global;
 use std::fs::{File, Metadata};
@@ -134,20 +134,18 @@ impl LinkTrials {
         }
     }
 
-    /// Sees that the message at this path can come back from where it is held; one that isn't there needs nothing.
+    /// Sees that this message, which stands at this path, can come back from where it is held.
     pub(crate) fn see(
         &mut self,
         rt: &HostRuntime,
         alloc: Global,
         run: u128,
         path: &str,
+        what: &Metadata,
     ) -> Result<(), HostFault> {
-        let Found::There(what) = looked_up(fs::symlink_metadata(rt, path))? else {
-            return Ok(());
-        };
-        if self.has_linked(&rights_of(&what)) {
+        if self.has_linked(&rights_of(what)) {
             return Ok(());
         }
-        self.try_rights(rt, alloc, run, path, &what)
+        self.try_rights(rt, alloc, run, path, what)
     }
 }

@@ -12,6 +12,8 @@ use folder_files::{Answer, Place};
 use mh_base::{Entry, Name, entry_of};
 use std::alloc::Global;
 use std::fs;
+use std::fs::Metadata;
+use std::os::unix::fs::MetadataExt;
 
 pub(crate) fn link(
     rt: &HostRuntime,
@@ -39,16 +41,16 @@ pub(crate) fn link(
     }
 }
 
-/// Whether both names lead to one file. The system leaves both where one is renamed to the other. Mostly there is no
-/// second.
-fn are_one_file(rt: &HostRuntime, from: &str, to: &str) -> Result<bool, HostFault> {
-    let Found::There(to) = looked_up(fs::symlink_metadata(rt, to))? else {
+/// Whether the other name leads to this file too. The system leaves both where one is renamed to the other. A file of one
+/// name has no other.
+fn has_name_too(rt: &HostRuntime, file: &Metadata, other: &str) -> Result<bool, HostFault> {
+    if file.nlink() < 2 {
         return Ok(false);
-    };
-    let Found::There(from) = looked_up(fs::symlink_metadata(rt, from))? else {
-        return Ok(false);
-    };
-    Ok(are_one(&from, &to))
+    }
+    match looked_up(fs::symlink_metadata(rt, other))? {
+        Found::There(found) => Ok(are_one(file, &found)),
+        _ => Ok(false),
+    }
 }
 
 /// Whether a message is held aside by this change of its name: from there it comes back by a Link alone.
@@ -73,11 +75,14 @@ pub(crate) fn rename(
     let takes = is_take(from, to);
     let from = paths.entry(alloc, place, from)?;
     let to = paths.entry(alloc, place, to)?;
-    if !is_itself && are_one_file(rt, from.as_str(), to.as_str())? {
+    let Found::There(what) = looked_up(fs::symlink_metadata(rt, from.as_str()))? else {
+        return Ok(Answer::Gone);
+    };
+    if !is_itself && has_name_too(rt, &what, to.as_str())? {
         return done_or_gone(looked_up(fs::remove_file(rt, from.as_str()))?);
     }
     if takes {
-        trials.see(rt, alloc, run, from.as_str())?;
+        trials.see(rt, alloc, run, from.as_str(), &what)?;
     }
     done_or_gone(looked_up(fs::rename(rt, from.as_str(), to.as_str()))?)
 }
