@@ -3,7 +3,7 @@ ghost use Rattle.std.specs.Prelude.{IfOk};
 ghost use Rattle.folder_files.specs.Rows.{IsNewRow, IsOldRow};
 
 use crate::copying::link_copy;
-use crate::fault::{Found, HostFault, looked_up};
+use crate::fault::{Found, HostFault, fault, looked_up};
 use crate::link_trials::{LinkTrials, is_not_allowed};
 use crate::paths::Paths;
 use crate::same_file::are_one;
@@ -78,6 +78,9 @@ pub(crate) fn rename(
     let Found::There(what) = looked_up(fs::symlink_metadata(rt, from.as_str()))? else {
         return Ok(Answer::Gone);
     };
+    if what.is_dir() {
+        return Err(fault("it is a directory"));
+    }
     if !is_itself && has_name_too(rt, &what, to.as_str())? {
         return done_or_gone(looked_up(fs::remove_file(rt, from.as_str()))?);
     }
