@@ -3,7 +3,7 @@ ghost use Rattle.std.specs.Prelude.{IfOk};
 ghost use Rattle.folder_files.specs.Rows.{IsNewRow, IsOldRow};
 
 use crate::copying::link_copy;
-use crate::fault::{Found, HostFault, looked_up};
+use crate::fault::{Found, HostFault, fault, looked_up};
 use crate::link_trials::{LinkTrials, is_not_allowed};
 use crate::paths::Paths;
 use crate::same_file::are_one;
@@ -57,6 +57,15 @@ fn is_take(from: &Name, to: &Name) -> bool {
         && matches!(entry_of(to.bytes()), Entry::Held(_, _))
 }
 
+/// Sees that no directory would get another name: a listing has none, and a folder is not what is asked for. A trial link
+/// sees it too.
+fn see_no_directory(rt: &HostRuntime, path: &str) -> Result<(), HostFault> {
+    match looked_up(fs::symlink_metadata(rt, path))? {
+        Found::There(what) if what.is_dir() => Err(fault("it is a directory")),
+        _ => Ok(()),
+    }
+}
+
 pub(crate) fn rename(
     rt: &HostRuntime,
     alloc: Global,
@@ -78,6 +87,8 @@ pub(crate) fn rename(
     }
     if takes {
         trials.see(rt, alloc, run, from.as_str())?;
+    } else {
+        see_no_directory(rt, from.as_str())?;
     }
     done_or_gone(looked_up(fs::rename(rt, from.as_str(), to.as_str()))?)
 }

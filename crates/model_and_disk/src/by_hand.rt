@@ -137,7 +137,9 @@ impl Pair {
             return Ok(false);
         };
         fs::create_dir(rt, path.as_str())?;
-        self.meddled.directories.push(MadeDirectory { place, name, path })?;
+        self.meddled
+            .directories
+            .push(MadeDirectory { place, name, path })?;
         Ok(true)
     }
 
@@ -152,15 +154,29 @@ impl Pair {
     }
 
     /// The model has a link as a file with the bytes to which it leads, or else its own.
-    fn add_link(&mut self, place: &Place, name: Name, leads: Leads, bytes: &[u8]) -> Result<(), Fail> {
+    fn add_link(
+        &mut self,
+        place: &Place,
+        name: Name,
+        leads: Leads,
+        bytes: &[u8],
+    ) -> Result<(), Fail> {
         let mut world = self.copied_world()?;
         let file = free_id(&world);
         let bytes = Bytes::from_slice(self.alloc, bytes)?;
         let safe = true;
-        world.files.push(File { id: file, bytes, safe })?;
+        world.files.push(File {
+            id: file,
+            bytes,
+            safe,
+        })?;
         if let Some(number) = directory_place(&world, place) {
             if number < world.directories.len() {
-                world.directories.get_mut(number).pending.push(Change::Set(name, file))?;
+                world
+                    .directories
+                    .get_mut(number)
+                    .pending
+                    .push(Change::Set(name, file))?;
             }
         }
         self.meddled.links.push(MadeLink { file, leads })?;

@@ -87,11 +87,13 @@ impl Counts {
             }
         }
         let times = 1;
-        Ok(self.counts.push(Count {
-            made,
-            answer,
-            times,
-        })?)
+        Ok(
+            self.counts.push(Count {
+                made,
+                answer,
+                times,
+            })?,
+        )
     }
 
     fn times(&self, made: &str, answer: &str) -> u64 {

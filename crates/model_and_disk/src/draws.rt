@@ -1,11 +1,11 @@
 // Steps that are drawn.
 use crate::dice::Dice;
-use crate::model::names_in;
+use crate::model::{bytes_of, led, names_in};
 use crate::model_look::outside_bytes;
 use crate::names::{any_name, held_name, number_name, take_names, temp_name};
 use crate::pair::run_number;
 use crate::sites::{ALL, DROPS, MISSING, Outside, Site};
-use crate::texts::{limit, near_length, text};
+use crate::texts::{limit, near, near_length, text};
 use folder_files::{Place, Step, World};
 use mh_base::{Duplicate, Name};
 use std::alloc::Global;
@@ -63,10 +63,23 @@ impl Scene<'_> {
         }
     }
 
+    /// How long the file of a name is; 0 where there is none.
+    fn length(&self, place: &Place, name: &Name) -> Result<u64, Fail> {
+        match led(self.alloc, self.world, place, name)? {
+            Some(file) => Ok(bytes_of(self.world, file)?.len() as u64),
+            None => Ok(0),
+        }
+    }
+
     fn read(&self, dice: &mut Dice) -> Result<Step, Fail> {
         let place = self.place(dice)?;
         let name = self.likely(dice, &place)?;
-        Ok(Step::Read(place, name, limit(dice)?))
+        let most = if dice.one_in(2) {
+            near(dice, self.length(&place, &name)?)
+        } else {
+            limit(dice)?
+        };
+        Ok(Step::Read(place, name, most))
     }
 
     fn create(&self, dice: &mut Dice) -> Result<Step, Fail> {
@@ -93,7 +106,7 @@ impl Scene<'_> {
 
     /// What is mostly linked to a number, or any name.
     fn link_from(&self, dice: &mut Dice, place: &Place) -> Result<Name, Fail> {
-        match dice.below(4) {
+        match dice.below(7) {
             0 => temp_name(self.alloc, dice, self.run),
             1 => {
                 let run = self.named_run(dice);
@@ -145,7 +158,11 @@ impl Scene<'_> {
 
     fn read_drop(&self, dice: &mut Dice) -> Result<Step, Fail> {
         let path = self.outside(dice)?.file_path(self.alloc)?;
-        let from = if dice.one_in(2) { 0 } else { near_length(dice)? };
+        let from = if dice.one_in(2) {
+            0
+        } else {
+            near_length(dice)?
+        };
         let most = limit(dice)?;
         Ok(Step::ReadDrop { path, from, most })
     }

@@ -67,7 +67,11 @@ fn tell_lines(rt: &HostRuntime, lines: &[String]) -> Result<(), Fail> {
 
 fn tell(rt: &HostRuntime, seed: u64, trial: &Trial) -> Result<(), Fail> {
     println!(rt; "seed {seed}")?;
-    println!(rt; "{} steps in {} directories", trial.counts.steps(), trial.directories)?;
+    println!(rt;
+        "{} steps in {} directories",
+        trial.counts.steps(),
+        trial.directories
+    )?;
     tell_lines(rt, &trial.counts.lines()?)?;
     tell_lines(rt, &trial.lines)?;
     println!(rt; "{} differences", trial.differences)?;

@@ -79,9 +79,9 @@ pub fn led(alloc: Global, world: &World, place: &Place, name: &Name) -> Result<O
     }
 }
 
-pub fn bytes_of(alloc: Global, world: &World, id: u64) -> Result<Bytes, Fail> {
+pub fn bytes_of(world: &World, id: u64) -> Result<&Bytes, Fail> {
     match world.files.as_slice().iter().find(|file| file.id == id) {
-        Some(file) => Ok(file.bytes.duplicate(alloc)?),
+        Some(file) => Ok(&file.bytes),
         None => Err("a name that leads to no file".into()),
     }
 }

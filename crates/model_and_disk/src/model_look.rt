@@ -1,35 +1,62 @@
 // What the model has.
 use crate::model::{bytes_of, names_in};
-use crate::seen::{Seen, add_all, seen_directory};
+use crate::seen::{Extent, Seen, add_all, seen_directory};
 use crate::sites::{ALL, At, DROPS, Outside, Site};
 use folder_files::{Slot, World};
 use mh_base::{Bytes, Duplicate};
 use std::alloc::Global;
 use std::test::Fail;
 
-fn seen_slot(alloc: Global, world: &World, at: At, slot: &Slot) -> Result<Seen, Fail> {
-    Ok(Seen {
-        directory: at.label(),
-        name: Bytes::from_slice(alloc, slot.name.bytes())?,
-        bytes: bytes_of(alloc, world, slot.file)?,
-        file: Some(slot.file),
-    })
+/// What is looked at, and how.
+#[derive(Clone, Copy)]
+struct Looking<'a> {
+    alloc: Global,
+    world: &'a World,
+    extent: Extent,
 }
 
-fn seen_slots(alloc: Global, world: &World, at: At, slots: &[Slot]) -> Result<Vec<Seen>, Fail> {
-    let mut all = Vec::new(alloc);
-    all.push(seen_directory(alloc, at.label()))?;
-    for slot in slots {
-        all.push(seen_slot(alloc, world, at, slot)?)?;
+impl Looking<'_> {
+    /// Adds a file's length, and its bytes where they are seen.
+    fn add_bytes(&self, seen: &mut Seen, bytes: &Bytes) -> Result<(), Fail> {
+        seen.length = bytes.len() as u64;
+        if self.extent.has(seen.length) {
+            seen.bytes = bytes.duplicate(self.alloc)?;
+        }
+        Ok(())
     }
-    Ok(all)
-}
 
-fn seen_at(alloc: Global, world: &World, site: &Site, at: At) -> Result<Vec<Seen>, Fail> {
-    let place = site.place(alloc, at)?;
-    match names_in(alloc, world, &place)? {
-        Some(slots) => seen_slots(alloc, world, at, &slots),
-        None => Ok(Vec::new(alloc)),
+    fn slot(&self, at: At, slot: &Slot) -> Result<Seen, Fail> {
+        let mut seen = seen_directory(self.alloc, at.label());
+        seen.name.extend(slot.name.bytes())?;
+        seen.file = Some(slot.file);
+        self.add_bytes(&mut seen, bytes_of(self.world, slot.file)?)?;
+        Ok(seen)
+    }
+
+    fn slots(&self, at: At, slots: &[Slot]) -> Result<Vec<Seen>, Fail> {
+        let mut all = Vec::new(self.alloc);
+        all.push(seen_directory(self.alloc, at.label()))?;
+        for slot in slots {
+            all.push(self.slot(at, slot)?)?;
+        }
+        Ok(all)
+    }
+
+    fn directory(&self, site: &Site, at: At) -> Result<Vec<Seen>, Fail> {
+        let place = site.place(self.alloc, at)?;
+        match names_in(self.alloc, self.world, &place)? {
+            Some(slots) => self.slots(at, &slots),
+            None => Ok(Vec::new(self.alloc)),
+        }
+    }
+
+    fn add_drop(&self, drop: &Outside, all: &mut Vec<Seen>) -> Result<(), Fail> {
+        if let Some(bytes) = outside_bytes(self.alloc, self.world, drop)? {
+            let mut seen = seen_directory(self.alloc, drop.path);
+            self.add_bytes(&mut seen, &bytes)?;
+            all.push(seen)?;
+        }
+        Ok(())
     }
 }
 
@@ -43,23 +70,19 @@ pub fn outside_bytes(alloc: Global, world: &World, drop: &Outside) -> Result<Opt
     }
 }
 
-fn see_drop(alloc: Global, world: &World, drop: &Outside, all: &mut Vec<Seen>) -> Result<(), Fail> {
-    if let Some(bytes) = outside_bytes(alloc, world, drop)? {
-        let mut seen = seen_directory(alloc, drop.path);
-        seen.bytes = bytes;
-        all.push(seen)?;
-    }
-    Ok(())
-}
-
 /// All names of all directories that are there, and the drops.
-pub fn look(alloc: Global, world: &World, site: &Site) -> Result<Vec<Seen>, Fail> {
+pub fn look(alloc: Global, world: &World, site: &Site, extent: Extent) -> Result<Vec<Seen>, Fail> {
+    let looking = Looking {
+        alloc,
+        world,
+        extent,
+    };
     let mut all = Vec::new(alloc);
     for at in ALL {
-        add_all(&mut all, seen_at(alloc, world, site, *at)?)?;
+        add_all(&mut all, looking.directory(site, *at)?)?;
     }
     for drop in DROPS {
-        see_drop(alloc, world, drop, &mut all)?;
+        looking.add_drop(drop, &mut all)?;
     }
     Ok(all)
 }

@@ -44,11 +44,6 @@ impl Run {
 }
 
 /// One step of a run, on whatever files.
-pub fn act<F: Files>(
-    alloc: Global,
-    files: &mut F,
-    run: u128,
-    step: &Step,
-) -> Result<Answer, Fail> {
+pub fn act<F: Files>(alloc: Global, files: &mut F, run: u128, step: &Step) -> Result<Answer, Fail> {
     Ok(files.act(alloc, run, step)?)
 }

@@ -3,14 +3,36 @@ use mh_base::Bytes;
 use std::alloc::Global;
 use std::test::Fail;
 
-/// A name in a directory, its file's bytes, and a number that tells its file from others; or the directory itself,
-/// where it is there, with no name and no file.
+/// Of which files the bytes are seen, beside their lengths.
+#[derive(Clone, Copy)]
+pub enum Extent {
+    /// Of those up to a thousand bytes.
+    Short,
+    All,
+}
+
+/// The length above which a file is a long one.
+const LONG: u64 = 1_000;
+
+/// A name in a directory, its file's length and bytes, and a number that tells its file from others; or the directory
+/// itself, where it is there, with no name and no file.
 #[derive(Drop)]
 pub struct Seen {
     pub directory: &'static str,
     pub name: Bytes,
+    pub length: u64,
     pub bytes: Bytes,
     pub file: Option<u64>,
+}
+
+impl Extent {
+    /// Whether the bytes of a file of this length are seen.
+    pub fn has(self, length: u64) -> bool {
+        match self {
+            Extent::Short => length <= LONG,
+            Extent::All => true,
+        }
+    }
 }
 
 /// A directory that is there.
@@ -18,6 +40,7 @@ pub fn seen_directory(alloc: Global, directory: &'static str) -> Seen {
     Seen {
         directory,
         name: Bytes::new(alloc),
+        length: 0,
         bytes: Bytes::new(alloc),
         file: None,
     }
@@ -29,7 +52,10 @@ fn first(all: &[Seen], file: Option<u64>) -> Option<usize> {
 }
 
 fn are_same(one: &Seen, other: &Seen) -> bool {
-    one.directory == other.directory && one.name.same(&other.name) && one.bytes.same(&other.bytes)
+    one.directory == other.directory
+        && one.length == other.length
+        && one.name.same(&other.name)
+        && one.bytes.same(&other.bytes)
 }
 
 /// Where both have the same, and the file is of the same earlier names.

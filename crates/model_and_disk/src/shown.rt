@@ -192,8 +192,9 @@ pub fn seen_line(alloc: Global, seen: Option<&Seen>) -> Result<String, Fail> {
         Some(seen) => {
             let directory = seen.directory;
             let name = named(alloc, seen.name.as_slice())?;
+            let length = seen.length;
             let bytes = quoted(alloc, seen.bytes.as_slice())?;
-            Ok(format!(in alloc; "{directory} {name} {bytes}")?)
+            Ok(format!(in alloc; "{directory} {name} of {length} {bytes}")?)
         }
         None => Ok(String::from_str(alloc, "nothing more")?),
     }

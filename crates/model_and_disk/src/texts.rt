@@ -35,6 +35,15 @@ pub fn text(alloc: Global, dice: &mut Dice) -> Result<Bytes, Fail> {
     Ok(Bytes::from_vec(bytes))
 }
 
+/// This length, or one more or less.
+pub fn near(dice: &mut Dice, length: u64) -> u64 {
+    match dice.below(3) {
+        0 => length.saturating_sub(1),
+        1 => length.saturating_add(1),
+        _ => length,
+    }
+}
+
 /// One of the lengths, or one more or less.
 pub fn near_length(dice: &mut Dice) -> Result<u64, Fail> {
     let length = if dice.one_in(4) {
@@ -42,11 +51,7 @@ pub fn near_length(dice: &mut Dice) -> Result<u64, Fail> {
     } else {
         dice.one_of(SHORT)?
     };
-    match dice.below(3) {
-        0 => Ok(length.saturating_sub(1)),
-        1 => Ok(length.saturating_add(1)),
-        _ => Ok(length),
-    }
+    Ok(near(dice, length))
 }
 
 /// How many bytes at most: often all.

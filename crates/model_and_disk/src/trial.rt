@@ -6,7 +6,7 @@ use crate::dice::Dice;
 use crate::draws::Scene;
 use crate::happenings::Chance;
 use crate::pair::Pair;
-use crate::seen::differing;
+use crate::seen::{Extent, differing};
 use crate::shown::{answer_line, answer_word, seen_line, step_line, word_of};
 use crate::sites::one_site;
 use crate::{disk_look, model_look};
@@ -23,6 +23,9 @@ const LENGTH: u64 = 200;
 
 /// Of more differences only the number is told.
 const SHOWN: usize = 20;
+
+/// After every so many steps the bytes of long files are compared too.
+const WHOLE: u64 = 20;
 
 #[derive(Drop)]
 pub struct Trial {
@@ -78,17 +81,20 @@ fn maker(pair: &Pair, run: usize, step: &Step) -> usize {
 fn lost_directory(rt: &HostRuntime, pair: &Pair) -> Result<Option<String>, Fail> {
     for made in pair.meddled.directories.iter() {
         if !fs::metadata(rt, made.path.as_str()).is_ok_and(|what| what.is_dir()) {
-            return Ok(Some(format!(in rt.alloc(); "the directory {} is gone", made.path.as_str())?));
+            return Ok(Some(format!(in rt.alloc();
+                "the directory {} is gone",
+                made.path.as_str()
+            )?));
         }
     }
     Ok(None)
 }
 
 /// What stands on the disk and not in the model, or the other way round.
-fn state_difference(rt: &HostRuntime, pair: &Pair) -> Result<Option<String>, Fail> {
+fn state_difference(rt: &HostRuntime, pair: &Pair, extent: Extent) -> Result<Option<String>, Fail> {
     let alloc = rt.alloc();
-    let model = model_look::look(alloc, pair.world(), &pair.site)?;
-    let disk = disk_look::look(rt, &pair.site)?;
+    let model = model_look::look(alloc, pair.world(), &pair.site, extent)?;
+    let disk = disk_look::look(rt, &pair.site, extent)?;
     let Some(place) = differing(&model, &disk) else {
         return lost_directory(rt, pair);
     };
@@ -107,10 +113,15 @@ fn answer_difference(alloc: Global, answers: &Answers) -> Result<Option<String>,
     Ok(Some(format!(in alloc; "the model answers {model}, the disk {disk}")?))
 }
 
-fn difference(rt: &HostRuntime, pair: &Pair, answers: &Answers) -> Result<Option<String>, Fail> {
+fn difference(
+    rt: &HostRuntime,
+    pair: &Pair,
+    answers: &Answers,
+    extent: Extent,
+) -> Result<Option<String>, Fail> {
     match answer_difference(rt.alloc(), answers)? {
         Some(line) => Ok(Some(line)),
-        None => state_difference(rt, pair),
+        None => state_difference(rt, pair, extent),
     }
 }
 
@@ -181,16 +192,26 @@ impl Trial {
         Ok(())
     }
 
-    /// One step: how it differed.
+    /// What is compared after the newest step.
+    fn extent(&self) -> Extent {
+        if self.counts.steps() % WHOLE == 0 {
+            Extent::All
+        } else {
+            Extent::Short
+        }
+    }
+
+    /// One step: whether it differed.
     fn act(&mut self, rt: &HostRuntime, pair: &mut Pair) -> Result<bool, Fail> {
         let drawn = self.dice.place(pair.count_of_runs());
         let step = self.draw(pair, drawn)?;
         let run = maker(pair, drawn, &step);
         let answers = pair.act(run, &step)?;
-        self.counts.add_step(word_of(&step), answer_word(&answers.disk))?;
+        self.counts
+            .add_step(word_of(&step), answer_word(&answers.disk))?;
         let line = self.line(run, &step)?;
         self.tell(rt, line.as_str(), &answers)?;
-        match difference(rt, pair, &answers)? {
+        match difference(rt, pair, &answers, self.extent())? {
             Some(how) => {
                 self.add_difference(format!(in self.alloc; "{line}: {how}")?)?;
                 Ok(true)
