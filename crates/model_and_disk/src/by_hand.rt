@@ -31,21 +31,6 @@ fn append(rt: &HostRuntime, path: &str, piece: &Bytes) -> Result<(), Fail> {
     Ok(options.open(rt, path)?.write_all(piece.as_slice())?)
 }
 
-/// The file to which a drop leads that is a symbolic link.
-fn linked_path(alloc: Global, drop: &Outside) -> Result<String, Fail> {
-    Ok(format!(in alloc; "{}.file", drop.path)?)
-}
-
-/// A drop that is a link into its own directory.
-fn link_drop(rt: &HostRuntime, drop: &Outside) -> Result<(), Fail> {
-    let path = linked_path(rt.alloc(), drop)?;
-    let name = match path.as_str().rsplit_once('/') {
-        Some((_, name)) => name,
-        None => path.as_str(),
-    };
-    Ok(symlink(rt, name, drop.path)?)
-}
-
 /// The world with this piece behind the file's bytes.
 fn grown(alloc: Global, mut world: World, drop: &Outside, piece: &Bytes) -> Result<World, Fail> {
     let path = drop.file_path(alloc)?;
@@ -90,7 +75,7 @@ impl Pair {
     ) -> Result<(), Fail> {
         let is_there = outside_bytes(self.alloc, self.world(), drop)?.is_some();
         if as_link && !is_there {
-            link_drop(rt, drop)?;
+            symlink(rt, drop.link_text, drop.path)?;
         }
         append(rt, drop.path, piece)?;
         let world = self.copied_world()?;
@@ -110,8 +95,7 @@ impl Pair {
             return Ok(false);
         };
         fs::remove_file(rt, drop.path)?;
-        let linked = linked_path(self.alloc, drop)?;
-        let _ = fs::remove_file(rt, linked.as_str());
+        let _ = fs::remove_file(rt, drop.link_path);
         self.forget(drop, &bytes)?;
         Ok(true)
     }

@@ -20,7 +20,8 @@ pub struct Chance<'a> {
 
 impl Chance<'_> {
     fn end(&mut self, rt: &HostRuntime, end: End, word: &'static str) -> Result<(), Fail> {
-        let place = self.dice.place(self.pair.count_of_runs());
+        let count = self.pair.count_of_runs();
+        let place = self.dice.place(count);
         self.pair.end_run(rt, place, end)?;
         self.counts.add("a run", word)
     }
@@ -42,8 +43,9 @@ impl Chance<'_> {
     }
 
     fn name(&mut self, rt: &HostRuntime) -> Result<Name, Fail> {
-        let began = self.dice.below(self.pair.began).saturating_add(1);
-        any_name(rt.alloc(), self.dice, run_number(began))
+        let began = self.pair.began;
+        let place = self.dice.below(began).saturating_add(1);
+        any_name(rt.alloc(), self.dice, run_number(place))
     }
 
     fn make_directory(&mut self, rt: &HostRuntime) -> Result<(), Fail> {
@@ -66,7 +68,8 @@ impl Chance<'_> {
     }
 
     fn remove_directory(&mut self, rt: &HostRuntime) -> Result<(), Fail> {
-        let number = self.dice.place(self.pair.meddled.directories.len());
+        let count = self.pair.meddled.directories.len();
+        let number = self.dice.place(count);
         if self.pair.remove_directory(rt, number)? {
             self.counts.add("a directory by hand", "went away")?;
         }

@@ -98,6 +98,9 @@ pub struct Outside {
     home: bool,
     text: &'static str,
     pub path: &'static str,
+    /// A file beside it, to which it may be a link.
+    pub link_text: &'static str,
+    pub link_path: &'static str,
 }
 
 /// The files that mail is delivered to.
@@ -106,11 +109,15 @@ pub const DROPS: &[Outside] = &[
         home: true,
         text: "spool/a",
         path: "../home/spool/a",
+        link_text: "a.file",
+        link_path: "../home/spool/a.file",
     },
     Outside {
         home: false,
         text: "spool/b",
         path: "spool/b",
+        link_text: "b.file",
+        link_path: "spool/b.file",
     },
 ];
 
@@ -120,11 +127,15 @@ pub const MISSING: &[Outside] = &[
         home: true,
         text: "spool/none",
         path: "../home/spool/none",
+        link_text: "none.file",
+        link_path: "../home/spool/none.file",
     },
     Outside {
         home: false,
         text: "nowhere/none",
         path: "nowhere/none",
+        link_text: "none.file",
+        link_path: "nowhere/none.file",
     },
 ];
 
