@@ -19,6 +19,8 @@ REFUSAL = re.compile(rb"(mh: [^\n]+\n){1,2}")
 
 # The commands that write to the output where all is well.
 TELL = ("inc", "scan", "folder", "folder with a message")
+# Those of them that change nothing: they are silent where their reader has gone.
+LOOK = ("scan", "folder")
 
 # The words of anno that put its line in front of messages.
 NOTING = ["-component", NOTE.decode().split(":")[0], "-text", NOTE.decode().split(": ")[1].strip(), "-nodate"]
@@ -47,9 +49,9 @@ def mailbox(program, home, lines=30):
     return Box(program, home).make(folders, drop, sequences, b"Kept: yes\nCurrent-Folder: a\n")
 
 
-def ended_clearly(ran):
-    """Done; or a refusal, a lock, a change meanwhile; or a fault: each of them with its one line."""
-    if ran.returncode == 0 and ran.stderr == b"":
+def ended_clearly(ran, silent=False):
+    """Done; or a refusal, a lock, a change meanwhile; or a fault: each of them with its one line. That a reader has gone is no news to tell."""
+    if ran.returncode == 0 and ran.stderr == b"" or silent and ran.returncode == 2 and ran.stderr == b"":
         return []
     if ran.returncode == 2 and FAULT.fullmatch(ran.stderr) or ran.returncode in (1, 3, 4, 5) and REFUSAL.fullmatch(ran.stderr):
         return []
@@ -125,10 +127,10 @@ class Tally:
     def __init__(self, count, room):
         self.count, self.room, self.ends = count, room, collections.defaultdict(collections.Counter)
 
-    def tried(self, kind, name, how, box, before, ran, mend, faulty=False):
+    def tried(self, kind, name, how, box, before, ran, mend, faulty=False, silent=False):
         """Checks one run under a fault: its end, the books, and that it goes on when the fault is gone."""
         self.ends[kind][ran.returncode] += 1
-        bad = ended_clearly(ran)
+        bad = ended_clearly(ran, silent)
         if faulty and ran.returncode != 2:
             bad.append(f"status {ran.returncode} where there is a fault")
         mend()
@@ -252,7 +254,8 @@ def bad_output(program, tally, rng):
         before = box.look()
         ran = with_output(box, kind, COMMANDS[name][0])
         tally.count.check(f"{name}, bad output: {kind}: nothing is written elsewhere", written_elsewhere(box))
-        yield tally.tried("bad output", name, kind, box, before, ran, lambda: None, faulty=kind != "closed" and name in TELL)
+        yield tally.tried("bad output", name, kind, box, before, ran, lambda: None, faulty=kind != "closed" and name in TELL,
+                          silent=kind == "gone" and name in LOOK)
 
 
 def with_output(box, kind, words):
@@ -290,18 +293,19 @@ def failing_calls(program, tally, rng):
         return
     calls = {name: calls_of(program, tally.room, name) for name in COMMANDS}
     for name in endless(rng, COMMANDS):
-        call, k = rng.choice(calls[name])
+        call, k, must = rng.choice(calls[name])
         box = mailbox(program, f"{tally.room}/calls")
         before = box.look()
         inject = ["strace", "-qq", "-o", "/dev/null", "-e", f"trace={call}", "-e", f"inject={call}:error={ERRORS[call]}:when={k}"]
         process = box.start(*COMMANDS[name][0], before=inject)
         out, err = process.communicate(timeout=60)
         ran = subprocess.CompletedProcess([], process.returncode, out, err)
-        yield tally.tried("failing calls", name, f"{call} {k}", box, before, ran, lambda: None, faulty=True)
+        yield tally.tried("failing calls", name, f"{call} {k}", box, before, ran, lambda: None, faulty=must)
 
 
 def calls_of(program, room, name):
-    """The calls that a command makes from the first look at the home directory on: each by its name and its place among those."""
+    """The calls that a command makes from the first look at the home directory on: each by its name, its place among those, and whether it is a fault that it
+    fails. It is none where what an open file is can't be told, which then isn't kept open for its next sync, or how many links a directory above has."""
     box, trace = mailbox(program, f"{room}/calls"), f"{room}/calls.trace"
     box.start(*COMMANDS[name][0], before=["strace", "-qq", "-o", trace, "-e", f"trace={','.join(ERRORS)}"]).communicate()
     counts, found, seen = collections.Counter(), [], False
@@ -311,7 +315,8 @@ def calls_of(program, room, name):
             if call:
                 counts[call.group(1)] += 1
                 seen = seen or box.home in line
-                found += [(call.group(1), counts[call.group(1)])] if seen else []
+                must = re.match(r'statx\((\d+, ""|AT_FDCWD, "[^"]*/\.\.")', line) is None
+                found += [(call.group(1), counts[call.group(1)], must)] if seen else []
     return found
 
 
