@@ -1,6 +1,7 @@
-"""What the model of the disk allows after a power cut: each directory holds what some front part of its changes makes of it, which reaches the last
-sync of the directory, and each file that was synced holds its bytes. One thing more is let pass: btrfs keeps the temporary name of a file that was synced
-before earlier changes of its directory. The changes are read from what strace recorded."""
+"""What may stand after a power cut: each directory holds what some front part of its changes makes of it, which reaches the last sync of the
+directory, and each file that was synced holds its bytes. That is more than the model of the disk asks for, which lets any later change be missing whose
+names no other one changes (docs/DISK.md, "What is assumed of the outside"); but for one thing it is so: btrfs keeps the temporary name of a file
+that was synced before earlier changes of other names. The changes are read from what strace recorded."""
 import os
 import re
 
