@@ -6,11 +6,12 @@ ghost use Rattle.mh_sequences.specs.declared.run.Run.{Run as RunValue};
 ghost use Rattle.mh_sequences.specs.Marks.{moved as moved_numbers, moved_to};
 ghost use Rattle.mh_sequences.specs.Placing.{alone};
 ghost use Rattle.mh_sequences.specs.Runs.{has};
-ghost use Rattle.mh_sequences.specs.Sequences.{told};
+ghost use Rattle.mh_sequences.specs.Sequences.{told, told_entry};
 
 use crate::join::Join;
 use crate::user::User;
-use crate::{NumSet, PairList, Pile, Run};
+use crate::user_map::UserMap;
+use crate::{NumSet, PairList, Pile, Run, SeqName, UserSequence};
 use mh_base::MsgNum;
 use std::alloc::{AllocError, Global};
 
@@ -97,19 +98,20 @@ fn changed(alloc: Global, numbers: &NumSet, change: Change<'_>) -> Result<NumSet
 fn keep(
     alloc: Global,
     kept: &mut Vec<User>,
-    user: &User,
+    name: &SeqName,
+    user: &UserSequence,
     change: Change<'_>,
 ) -> Result<(), AllocError>
     requires { IsReady change }
     ensures { OnOk result
         ((runs : List RunValue) × IsChanged (change_of change.entry) user.now.numbers.runs runs
-        × (map told kept.new.items ≡ map told kept.old.items ++ alone user.now.name user.now.public runs)) }
+        × (map told kept.new.items ≡ map told kept.old.items ++ alone name.now user.now.public runs)) }
 {
     let numbers = changed(alloc, &user.numbers, change)?;
     if numbers.is_empty() {
         return Ok(());
     }
-    let name = user.name.copy(alloc)?;
+    let name = name.copy(alloc)?;
     kept.push(User {
         name,
         numbers,
@@ -118,18 +120,18 @@ fn keep(
     Ok(())
 }
 
-/// The sequences changed.
+/// The sequences changed, in the same order.
 pub(crate) fn change_all(
     alloc: Global,
-    users: &[User],
+    users: &UserMap,
     change: Change<'_>,
 ) -> Result<Vec<User>, AllocError>
     requires { IsReady change }
-    ensures { IfOk result (λ v. IsEach (change_of change.entry) (map told users.now) (map told v.items)) }
+    ensures { IfOk result (λ v. IsEach (change_of change.entry) (map told_entry users.now.entries) (map told v.items)) }
 {
     let mut kept = Vec::new(alloc);
-    for user in users {
-        keep(alloc, &mut kept, user, change)?;
+    for (name, user) in users {
+        keep(alloc, &mut kept, name, user, change)?;
     }
     Ok(kept)
 }

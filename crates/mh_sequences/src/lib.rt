@@ -24,6 +24,8 @@ mod sequences;
 mod slots;
 mod stretch;
 mod user;
+mod user_map;
+mod user_sequence;
 
 pub use join::Join;
 pub use mark::{Mark, MarkList, Pair, PairList, SeqNameList};
@@ -33,4 +35,4 @@ pub use pile::Pile;
 pub use run::Run;
 pub use seq_name::{SeqFault, SeqName};
 pub use sequences::Sequences;
-pub use user::User;
+pub use user_sequence::UserSequence;
