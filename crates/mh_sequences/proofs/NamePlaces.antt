@@ -147,7 +147,7 @@ set_user [] i v lt = absurd (omega arith)
 set_user (x ∷ xs) zero v lt = refl
 set_user (x ∷ xs) (suc i) v lt = ap (λ l. x ∷ l) (set_user xs i v (omega arith))
 
-some_alone : (name : List ℕ) (p : Bool) (runs : List Run) → length runs == 0 ≡ false → alone name p runs ≡ record { name = name; runs = runs; public = p } ∷ []
+pub some_alone : (name : List ℕ) (p : Bool) (runs : List Run) → length runs == 0 ≡ false → alone name p runs ≡ record { name = name; runs = runs; public = p } ∷ []
 some_alone name p [] e = cc
 some_alone name p (r ∷ rs) e = refl
 

@@ -1,16 +1,16 @@
 -- Sequences under their names, told as a list.
-use Rattle.std.proofs.Common.{◌≡◌, ℕ, ◌≤◌, Bool, true, false, Some, None, List, [], ◌∷◌, ◌++◌, length, map, refl, sym, ◌∙◌, ap, subst, arith}
+use Rattle.std.proofs.Common.{◌≡◌, ℕ, ◌≤◌, Bool, true, false, Some, None, List, [], ◌∷◌, ◌++◌, length, map, refl, sym, ◌∙◌, ap, subst, arith, append_assoc}
 use Rattle.std.specs.Prelude.{bytes_eq, ◌==◌, cond, if◌then◌else◌}
 use Rattle.std.specs.BTreeMap.{insert_entry, is_at}
 use Rattle.std.specs.Map.{lookup, remove_entry}
 use Rattle.std.specs.Ordering.{is_eq, match_ordering, ordering_reverse}
 use Rattle.std.specs.declared.cmp.Ordering.{Ordering}
 use Rattle.std.specs.declared.cmp.Ordering.TheVariants.{Less, Equal, Greater}
+use Rattle.std.proofs.lemmas.Bool.{eqb-true}
 use Rattle.std.proofs.lemmas.Cmp.{nat_list_cmp_total}
 use Rattle.std.proofs.lemmas.Map.Text.{is_eq-slice_cmp}
 use Rattle.mh_sequences.specs.declared.run.Run.{Run}
 use Rattle.mh_sequences.specs.declared.user_sequence.UserSequence.{UserSequence}
-use Rattle.mh_sequences.specs.Names.{is_seq_name}
 use Rattle.mh_sequences.specs.Placing.{alone, by_order, placed}
 use Rattle.mh_sequences.specs.Sequences.{Sequence, told_entry, Precedes, AreSequences, told_of, runs_of, public_of, order}
 use Rattle.mh_sequences.proofs.NamePlaces.{same_by, same_is, before_all, some_alone}
@@ -50,7 +50,7 @@ none_removed name [] h = refl
 none_removed name (e ∷ es) h = rw h.0 (ap (λ l. told_entry e ∷ l) (none_removed name es h.1))
 
 -- without the sequence of a name
-pub removed : (name : List ℕ) (p : Bool) (es : List (List ℕ × UserSequence)) → AreSequences (map told_entry es) → map told_entry (remove_entry (is_at (order name)) es) ≡ placed name p [] (map told_entry es)
+removed : (name : List ℕ) (p : Bool) (es : List (List ℕ × UserSequence)) → AreSequences (map told_entry es) → map told_entry (remove_entry (is_at (order name)) es) ≡ placed name p [] (map told_entry es)
 removed name p [] h = refl
 removed name p (e ∷ es) h = by_cases (order name e.0) refl (removed name p es h.2)
   where
@@ -58,6 +58,13 @@ removed name p (e ∷ es) h = by_cases (order name e.0) refl (removed name p es 
     by_cases Less is ih = ap (λ l. told_entry e ∷ l) (none_removed name es (before_all name e.0 (map told_entry es) is h.1))
     by_cases Equal is ih = refl
     by_cases Greater is ih = ap (λ l. told_entry e ∷ l) ih
+
+none_in : (runs : List Run) → length runs == 0 ≡ true → runs ≡ []
+none_in [] e = refl
+none_in (r ∷ rs) e = let zero = eqb-true (length (r ∷ rs)) 0 e in absurd (omega arith)
+
+pub removed_empty : (name : List ℕ) (p : Bool) (runs : List Run) (es : List (List ℕ × UserSequence)) → AreSequences (map told_entry es) → length runs == 0 ≡ true → map told_entry (remove_entry (is_at (order name)) es) ≡ placed name p runs (map told_entry es)
+removed_empty name p runs es h e = removed name p es h ∙ ap (λ rs. placed name p rs (map told_entry es)) (sym (none_in runs e))
 
 -- with one under a name
 pub inserted : (name : List ℕ) (u : UserSequence) (es : List (List ℕ × UserSequence)) → length u.numbers.runs == 0 ≡ false → map told_entry (insert_entry order es name u) ≡ placed name u.public u.numbers.runs (map told_entry es)
@@ -87,10 +94,6 @@ placed_last (x ∷ xs) s h =
     ap (λ o. by_order o (alone s.name s.public s.runs ++ (x ∷ xs)) (alone s.name s.public s.runs ++ xs) (x ∷ placed s.name s.public s.runs xs)) greater
     ∙ ap (λ l. x ∷ l) (placed_last xs s h.2)
 
-pub last_named : (ss : List Sequence) (s : Sequence) → AreSequences (ss ++ s ∷ []) → is_seq_name s.name ≡ true
-last_named [] s h = h.0.name
-last_named (x ∷ xs) s h = last_named xs s h.2
-
 precedes_front : (q : List ℕ) (ss ts : List Sequence) → Precedes q (ss ++ ts) → Precedes q ss
 precedes_front q [] ts h = tt
 precedes_front q (x ∷ xs) ts h = (h.0, precedes_front q xs ts h.1)
@@ -99,3 +102,6 @@ precedes_front q (x ∷ xs) ts h = (h.0, precedes_front q xs ts h.1)
 pub front_valid : (ss ts : List Sequence) → AreSequences (ss ++ ts) → AreSequences ss
 front_valid [] ts h = tt
 front_valid (x ∷ xs) ts h = (h.0, precedes_front x.name xs ts h.1, front_valid xs ts h.2)
+
+pub up_to_one : (ss : List Sequence) (s : Sequence) (ts all : List Sequence) → ss ++ (s ∷ ts) ≡ all → AreSequences all → AreSequences (ss ++ s ∷ [])
+up_to_one ss s ts all e h = front_valid (ss ++ s ∷ []) ts (subst AreSequences (sym (append_assoc ss (s ∷ []) ts ∙ e)) h)

@@ -11,6 +11,7 @@ mod join;
 mod lists;
 mod mark;
 mod mention;
+mod moving;
 mod num_set;
 mod pile;
 mod place;

@@ -165,13 +165,13 @@ impl SeqName {
         ensures value { IfOk result (λ n. n ≡ self.now) }
         ensures valid { IsTrue (is_seq_name self.now) }
     {
-        self.copy(alloc)
+        Ok(SeqName(self.0.duplicate(alloc)?))
     }
 
     /// The same name again.
     pub fn copy(&self, alloc: Global) -> Result<SeqName, AllocError>
         ensures { IfOk result (λ n. n ≡ self.now) }
     {
-        Ok(SeqName(self.0.duplicate(alloc)?))
+        self.key(alloc)
     }
 }

@@ -13,9 +13,10 @@ ghost use Rattle.mh_sequences.specs.Reading.{IsReading, suffix};
 ghost use Rattle.mh_sequences.specs.Runs.{AreRuns, has};
 ghost use Rattle.mh_sequences.specs.Sequences.{AreSequences, Marked, member, runs_of, public_of, told_entry};
 
-use crate::change::{Change, change_all, new_number, sources};
+use crate::change::{Change, change_all};
 use crate::escape::suffix_of;
 use crate::join::Join;
+use crate::moving::{in_order, new_number, sources};
 use crate::printing::{private_list, put_cur, put_lines};
 use crate::reading::{read_cur, read_users};
 use crate::user_map::{UserMap, by_names, put};
@@ -190,6 +191,18 @@ impl Sequences {
         self.cur = cur;
     }
 
+    /// Moves numbers in all sequences.
+    fn move_all(&mut self, pairs: &PairList) -> Result<(), AllocError>
+        ensures valid { AreSequences self.new.users }
+        ensures ok { OnOk result (IsAllChanged (moved pairs.now) self.old.users self.new.users) }
+        ensures cur { self.new.cur ≡ self.old.cur }
+        ensures err { OnErr result (self.new ≡ self.old) }
+    {
+        let ordered = in_order(self.alloc, pairs)?;
+        let sources = sources(self.alloc, &ordered)?;
+        self.change(Change::Move(&ordered, &sources))
+    }
+
     fn move_numbers(&mut self, pairs: &PairList) -> Result<(), AllocError>
         ensures valid { AreSequences self.new.users }
         ensures ok { OnOk result
@@ -197,8 +210,7 @@ impl Sequences {
             × (self.new.cur ≡ moved_cur pairs.now self.old.cur)) }
         ensures err { OnErr result (self.new ≡ self.old) }
     {
-        let sources = sources(self.alloc, pairs)?;
-        self.change(Change::Move(pairs, &sources))?;
+        self.move_all(pairs)?;
         self.cur = match self.cur {
             Some(cur) => Some(new_number(pairs, cur)),
             None => None,

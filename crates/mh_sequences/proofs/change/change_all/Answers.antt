@@ -8,10 +8,9 @@ use Rattle.mh_sequences.proofs.change.change_all.Goals as goal
 
 pub loop-name-preserved : goal.loop-name-preserved
 loop-name-preserved c =
-    let x = (c.in-Some.name, c.in-Some.user) in
-    let left = rest_more deref_pair c.loop-name.name-iterator c.next.new.self c.next.result x c.in-Some.is c.next.ensures.steps in
+    let left = rest_more deref_pair c.loop-name.name-iterator c.next.new.self c.next.result (c.in-Some.name, c.in-Some.user) c.in-Some.is c.next.ensures.steps in
     one_kept (change_of c.args.change) (map told_entry c.args.users.now.entries) (map told c.loop-name.kept.items) (map told c.keep.new.kept.items)
-    (map told_entry c.next.new.self) (told_entry (deref_pair x)) c.in_ok-keep.ensures.0 c.in_ok-keep.ensures.1 c.in_ok-keep.ensures.2
+    (map told_entry c.next.new.self) (told_entry (c.in-Some.name.now, c.in-Some.user.now)) c.in_ok-keep.ensures.0 c.in_ok-keep.ensures.1 c.in_ok-keep.ensures.2
     (rw left at c.loop-name.invariant)
 
 pub returns : goal.returns

@@ -9,6 +9,5 @@ use Rattle.mh_sequences.proofs.printing.put_lines.Goals as goal
 
 pub loop-name-preserved : goal.loop-name-preserved
 loop-name-preserved c =
-    let x = (c.in-Some.name, c.in-Some.user) in
-    let left = rest_more deref_pair c.loop-name.name-iterator c.next.new.self c.next.result x c.in-Some.is c.next.ensures.steps in
-    line_more c.args.before _ c.loop-name.text c.put_user.new.text (told_entry (deref_pair x)) (map told_entry c.next.new.self) c.in_ok-put_user.ensures (rw left at c.loop-name.invariant)
+    let left = rest_more deref_pair c.loop-name.name-iterator c.next.new.self c.next.result (c.in-Some.name, c.in-Some.user) c.in-Some.is c.next.ensures.steps in
+    line_more c.args.before _ c.loop-name.text c.put_user.new.text (told_entry (c.in-Some.name.now, c.in-Some.user.now)) (map told_entry c.next.new.self) c.in_ok-put_user.ensures (rw left at c.loop-name.invariant)
