@@ -1,4 +1,4 @@
-use Rattle.std.proofs.Common.{◌≤◌, arith}
+use Rattle.std.proofs.Common.{◌≤◌, arith, rules}
 use Rattle.mh_sequences.proofs.MovedPairs.{moving_between, moving_ordered}
 use Rattle.mh_sequences.proofs.moving.moving_in.Goals as goal
 
@@ -17,4 +17,4 @@ slice_bounds-result-start c = ordered c
 pub returns : goal.returns
 returns c =
     moving_between c.args.run.now c.args.pairs.now _ c.ends-from.result.0 c.ends-from.result.1 c.passed-start.result c.passed-end.result
-    c.requires.order c.requires.run c.ends-from.ensures.value.0 c.ends-from.ensures.value.1 c.passed-start.ensures.value c.passed-end.ensures.value _
+    c.requires.order c.requires.run c.ends-from.ensures.value.0 c.ends-from.ensures.value.1 c.passed-start.ensures.value c.passed-end.ensures.value (search rules)
