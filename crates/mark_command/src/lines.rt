@@ -129,7 +129,7 @@ fn push_all_beside(
     users: btree_map::Iter<'_, SeqName, UserSequence>,
     before: bool,
 ) -> Result<(), AllocError>
-    ensures { OnOk result (lines.new ≡ lines.old ++ lines_beside before (map told_entry users)) }
+    ensures { OnOk result (lines.new ≡ lines.old ++ lines_beside before (map told_entry users.entry)) }
 {
     for (name, user) in users {
         push_beside(alloc, lines, name, user, before)?;

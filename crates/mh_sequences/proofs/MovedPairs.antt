@@ -1,8 +1,8 @@
 -- Pairs that move numbers of runs.
-use Rattle.std.proofs.Common.{◌≡◌, ℕ, zero, suc, ◌+◌, ◌-◌, ◌<◌, ◌≤◌, Bool, true, false, List, [], ◌∷◌, length, get_or, take, drop, refl, sym, ◌∙◌, ap, subst, arith, add-one, drop-cons}
-use Rattle.std.specs.Prelude.{not, ◌&&◌, ◌||◌, ◌==◌, nat_lt, nat_le, if◌then◌else◌}
+use Rattle.std.proofs.Common.{◌≡◌, ℕ, suc, ◌+◌, ◌-◌, ◌<◌, ◌≤◌, Bool, true, false, List, [], ◌∷◌, length, get_or, take, drop, refl, sym, ◌∙◌, ap, arith, add-one, drop-cons}
+use Rattle.std.specs.Prelude.{not, ◌&&◌, ◌||◌, ◌==◌, nat_lt, if◌then◌else◌}
 use Rattle.std.specs.List.{list_any, prefix_len}
-use Rattle.std.specs.List.Sorted.{IsNonDecreasingBy, IsPermutation}
+use Rattle.std.specs.List.Sorted.{IsPermutation}
 use Rattle.std.proofs.lemmas.Bool.{ltb-true, ltb-false}
 use Rattle.std.proofs.lemmas.Bool.Decides.{nat_tests}
 use Rattle.std.proofs.lemmas.List.Sorted.{list_any-IsPermutation}
@@ -165,9 +165,9 @@ targets_more ps all now new i r lt is put was =
 pub targets_all : (ps : List Pair) (all now : List Run) (i : ℕ) → length all ≤ i → AreTargetsSoFar ps all now (drop i all) → (n : ℕ) → has now n ≡ list_any (λ p. n == p.to && has all p.from) ps
 targets_all ps all now i le was n =
     sym (
-      ap (λ l. has now n || list_any (λ p. n == p.to && has l p.from) ps) (past all i le)
-      ∙ ap (λ b. has now n || b) (none_of_none (λ p. n == p.to) ps)
-      ∙ or_nothing (has now n)
+    ap (λ l. has now n || list_any (λ p. n == p.to && has l p.from) ps) (past all i le)
+    ∙ ap (λ b. has now n || b) (none_of_none (λ p. n == p.to) ps)
+    ∙ or_nothing (has now n)
     )
     ∙ was.same n
 

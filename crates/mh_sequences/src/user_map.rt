@@ -12,11 +12,7 @@ use std::collections::BTreeMap;
 pub(crate) type UserMap = BTreeMap<SeqName, UserSequence>;
 
 /// Puts a sequence under its name, or away where its set is empty.
-pub(crate) fn put(
-    users: &mut UserMap,
-    name: SeqName,
-    user: UserSequence,
-) -> Result<(), AllocError>
+pub(crate) fn put(users: &mut UserMap, name: SeqName, user: UserSequence) -> Result<(), AllocError>
     requires users { AreSequences (map told_entry users.old.entries) }
     requires name { IsTrue (is_seq_name name) }
     ensures ok { OnOk result

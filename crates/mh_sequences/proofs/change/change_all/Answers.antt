@@ -1,9 +1,9 @@
-use Rattle.std.proofs.Common.{map, ap, subst}
+use Rattle.std.proofs.Common.{map}
 use Rattle.std.proofs.lemmas.Map.Iter.{rest_all, rest_more}
 use Rattle.std.specs.Map.Iter.{deref_pair}
 use Rattle.mh_sequences.specs.Changes.{change_of}
 use Rattle.mh_sequences.specs.Sequences.{told, told_entry}
-use Rattle.mh_sequences.proofs.Changing.{IsSoFar, one_kept, ended}
+use Rattle.mh_sequences.proofs.Changing.{one_kept, ended}
 use Rattle.mh_sequences.proofs.change.change_all.Goals as goal
 
 pub loop-name-preserved : goal.loop-name-preserved

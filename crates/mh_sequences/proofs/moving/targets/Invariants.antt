@@ -1,7 +1,4 @@
-use Rattle.std.proofs.Common.{◌≡◌, ℕ, drop}
-use Rattle.std.specs.Prelude.{◌&&◌, ◌||◌, ◌==◌}
-use Rattle.std.specs.List.{list_any}
-use Rattle.mh_sequences.specs.Runs.{has}
+use Rattle.std.proofs.Common.{drop}
 use Rattle.mh_sequences.proofs.MovedPairs.{AreTargetsSoFar}
 use Rattle.mh_sequences.proofs.moving.targets.Given as goal
 

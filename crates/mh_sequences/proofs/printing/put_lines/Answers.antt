@@ -1,8 +1,6 @@
-use Rattle.std.proofs.Common.{◌≡◌, ◌++◌, map, filter, subst, sym, ◌∙◌, ap, append-nil}
-use Rattle.std.proofs.lemmas.Map.Iter.{rest_all, rest_more}
+use Rattle.std.proofs.Common.{map}
+use Rattle.std.proofs.lemmas.Map.Iter.{rest_more}
 use Rattle.std.specs.Map.Iter.{deref_pair}
-use Rattle.mh_profile.specs.Printing.{printed}
-use Rattle.mh_sequences.specs.Printing.{entry_of, is_shown}
 use Rattle.mh_sequences.specs.Sequences.{told_entry}
 use Rattle.mh_sequences.proofs.PrintedTexts.{line_more}
 use Rattle.mh_sequences.proofs.printing.put_lines.Goals as goal
