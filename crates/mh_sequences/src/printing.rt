@@ -84,7 +84,8 @@ fn is_before_cur(name: &[u8]) -> bool
 }
 
 fn is_shown(name: &SeqName, public: bool, before: bool) -> bool
-    ensures { (runs : List RunValue) → result ≡ stands_in_text before (record { name = name.now; runs = runs; public = public }) }
+    ensures { (runs : List RunValue)
+        → result ≡ stands_in_text before (record { name = name.now; runs = runs; public = public }) }
 {
     if before {
         public && is_before_cur(name.bytes())
@@ -101,7 +102,8 @@ fn put_user(
     before: bool,
 ) -> Result<(), AllocError>
     ensures { OnOk result
-        (text.new ≡ text.old ++ printed (map entry_of (filter (stands_in_text before) (told_entry (name.now, user.now) ∷ [])))) }
+        (text.new ≡ text.old
+        ++ printed (map entry_of (filter (stands_in_text before) (told_entry (name.now, user.now) ∷ [])))) }
 {
     if !is_shown(name, user.public, before) {
         return Ok(());
@@ -118,7 +120,8 @@ pub(crate) fn put_lines(
     before: bool,
 ) -> Result<(), AllocError>
     ensures { OnOk result
-        (text.new ≡ text.old ++ printed (map entry_of (filter (stands_in_text before) (map told_entry users.now.entries)))) }
+        (text.new ≡ text.old
+        ++ printed (map entry_of (filter (stands_in_text before) (map told_entry users.now.entries)))) }
 {
     for (name, user) in users {
         put_user(alloc, text, name, user, before)?;
@@ -174,7 +177,8 @@ fn push_private(
     user: &UserSequence,
     ending: &[u8],
 ) -> Result<(), AllocError>
-    ensures { OnOk result (entries.new ≡ entries.old ++ private_entries ending.now (told_entry (name.now, user.now) ∷ [])) }
+    ensures { OnOk result
+        (entries.new ≡ entries.old ++ private_entries ending.now (told_entry (name.now, user.now) ∷ [])) }
 {
     if user.public {
         return Ok(());

@@ -16,7 +16,8 @@ pub(crate) fn put(users: &mut UserMap, name: SeqName, user: UserSequence) -> Res
     requires users { AreSequences (map told_entry users.old.entries) }
     requires name { IsTrue (is_seq_name name) }
     ensures ok { OnOk result
-        (map told_entry users.new.entries ≡ placed name user.public user.numbers.runs (map told_entry users.old.entries)) }
+        (map told_entry users.new.entries
+        ≡ placed name user.public user.numbers.runs (map told_entry users.old.entries)) }
     ensures valid { AreSequences (map told_entry users.new.entries) }
     ensures err { OnErr result (map told_entry users.new.entries ≡ map told_entry users.old.entries) }
 {
