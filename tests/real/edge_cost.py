@@ -30,7 +30,7 @@ def fresh(count):
 
 
 def cost(words):
-    """The least processor seconds of five runs, and the greatest resident size in bytes."""
+    """The least processor seconds of five runs, and the greatest resident size in bytes; that of this script is its least."""
     best, size = None, 0
     for _ in range(5):
         pid = os.fork()
@@ -71,6 +71,15 @@ def beside(count):
         print(line, flush=True)
 
 
+def with_subdirectory(count):
+    """The same with a subdirectory that has a number for its name, which is no message."""
+    os.mkdir(f"{MAIL}/inbox/{count + 1}")
+    said = subprocess.run([PROGRAM, "folder", "+inbox"], env={"HOME": ROOM}, capture_output=True, text=True).stdout
+    ours, _ = cost([PROGRAM, "folder", "+inbox"])
+    told = "is not counted" if f"has {count} messages (1-{count})" in said else f"IS COUNTED: {said.strip()}"
+    print(f"{count:,} names and a subdirectory named {count + 1}, which {told}: folder {ours:.3f} s", flush=True)
+
+
 def refile_calls():
     made = {}
     for count in (10, 110):
@@ -81,6 +90,7 @@ def refile_calls():
 
 for count in COUNTS:
     beside(count)
+    with_subdirectory(count)
 if shutil.which("strace"):
     refile_calls()
 shutil.rmtree(ROOM, ignore_errors=True)

@@ -78,6 +78,7 @@ pub(crate) fn rename(
     let Found::There(what) = looked_up(fs::symlink_metadata(rt, from.as_str()))? else {
         return Ok(Answer::Gone);
     };
+    // A listing has no directories, and a folder is not what is asked for.
     if what.is_dir() {
         return Err(fault("it is a directory"));
     }

@@ -119,7 +119,13 @@ pub(crate) fn read(
 {
     let ListedPath { path, length } = last.path(alloc, paths, place, name)?;
     let listed = length.filter(|length| *length <= limit);
-    read_within(rt, alloc, room, path.as_str(), listed, limit)
+    match read_within(rt, alloc, room, path.as_str(), listed, limit)? {
+        // The listed length is an old one: how long the file is now is asked for.
+        Answer::Long(_) if listed.is_some() => {
+            read_within(rt, alloc, room, path.as_str(), None, limit)
+        }
+        answer => Ok(answer),
+    }
 }
 
 pub(crate) fn read_file(
