@@ -24,5 +24,11 @@ pub(crate) fn line(
 ) -> Result<Bytes, AllocError>
     ensures { IfOk result (λ text. text ≡ line_of (lined lines.entry) number message.now) }
 {
-    message_line(alloc, lines.look, lines.unseen.standing(number), number, message)
+    message_line(
+        alloc,
+        lines.look,
+        lines.unseen.standing(number),
+        number,
+        message,
+    )
 }

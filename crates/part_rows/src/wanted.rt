@@ -32,10 +32,7 @@ impl<'a> Model for Wanted<'a> {
         → contains_by (λ k. slice_cmp nat_cmp path k.now) w.keys ≡ list_any (λ p. bytes_eq p path) w.paths.now };
 }
 
-fn keys_of<'a>(
-    alloc: Global,
-    paths: &'a [PartPath],
-) -> Result<BTreeSet<&'a [u64]>, AllocError>
+fn keys_of<'a>(alloc: Global, paths: &'a [PartPath]) -> Result<BTreeSet<&'a [u64]>, AllocError>
     ensures { IfOk result
         (λ keys. (path : List ℕ)
         → contains_by (λ k. slice_cmp nat_cmp path k.now) keys ≡ list_any (λ p. bytes_eq p path) paths.now) }
