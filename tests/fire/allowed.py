@@ -1,5 +1,6 @@
 """What the model of the disk allows after a power cut: each directory holds what some front part of its changes makes of it, which reaches the last
-sync of the directory, and each file that was synced holds its bytes. The changes are read from what strace recorded."""
+sync of the directory, and each file that was synced holds its bytes. One thing more is let pass: btrfs keeps the temporary name of a file that was synced
+before earlier changes of its directory. The changes are read from what strace recorded."""
 import os
 import re
 
@@ -121,12 +122,17 @@ class Recorded:
                 bad += [f"the directory {at} is gone"] if at in self.safe_directories() else []
                 continue
             names = set(os.listdir(place))
-            fits = [it for it in directory.states[directory.safe:] if set(it) == names]
+            fits = [it for it in (self.with_early(directory, state, names) for state in directory.states[directory.safe:]) if set(it) == names]
             if not fits:
                 bad.append(f"{at} holds {sorted(names)}, which no front part of its changes makes that reaches its last sync")
             elif not any(self.are_whole(place, it, written) for it in fits):
                 bad.append(f"a file of {at} that was synced has other bytes")
         return bad
+
+    def with_early(self, directory, state, names):
+        """A state of a directory with those of these names that a file's own sync may have kept."""
+        early = {name: file for it in directory.states for name, file in it.items() if name.startswith(".mh_temp_") and file in self.synced}
+        return {**{name: early[name] for name in names if name in early}, **state}
 
     def are_whole(self, place, names, written):
         """Whether the synced files among these names have their bytes."""

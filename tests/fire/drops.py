@@ -126,11 +126,13 @@ begin authenticators
 
 
 def by_procmail(path, text):
-    """The real program, which writes one byte of a message first."""
+    """The real program, which writes one byte of a message first. It reads no rules out of a directory that others may write to, as exim needs one."""
     home = os.path.dirname(path)
-    if not os.path.exists(f"{home}/rc"):
-        write(f"{home}/rc", PROCMAIL.format(home, path).encode())
-    subprocess.run(["procmail", f"{home}/rc"], input=FROM + text, env={"HOME": home, "PATH": os.environ["PATH"]}, timeout=60, capture_output=True)
+    rules = f"{home}/procmail/rc"
+    if not os.path.exists(rules):
+        os.makedirs(os.path.dirname(rules), 0o755, exist_ok=True)
+        write(rules, PROCMAIL.format(home, path).encode())
+    subprocess.run(["procmail", rules], input=FROM + text, env={"HOME": home, "PATH": os.environ["PATH"]}, timeout=60, capture_output=True, check=True)
 
 
 def by_exim(path, text):
@@ -141,7 +143,7 @@ def by_exim(path, text):
         os.chmod(path, 0o666)
         write(f"{home}/conf", EXIM.format(home, path).encode())
     subprocess.run(["/usr/sbin/exim4", "-C", f"{home}/conf", "-odi", "-f", "u@many.example", "bob@many.example"], input=text, timeout=60,
-                   capture_output=True)
+                   capture_output=True, check=True)
 
 
 # Those that take the lock file, and so keep each other out too.
