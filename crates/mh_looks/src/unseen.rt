@@ -26,7 +26,7 @@ impl<'a> Model for Unseen<'a> {
     ghost use Rattle.mh_sequences.specs.Runs.{has};
     ghost use Rattle.mh_sequences.specs.Sequences.{member};
     ghost use Rattle.message_lines.specs.Standings.{is_marked_in};
-    ghost use Rattle.mh_looks.specs.Lines.{UnseenIn};
+    ghost use Rattle.mh_looks.specs.UnseenIn.{UnseenIn};
 
     ghost Value = { UnseenIn };
 
