@@ -10,4 +10,3 @@ pub mod Pledging
 pub mod Reading
 pub mod Scanning
 pub mod Showing
-pub mod UnseenNumbers

@@ -7,7 +7,6 @@ pub mod Lists
 pub mod Marks
 pub mod Mentions
 pub mod Names
-pub mod PairOrder
 pub mod Placing
 pub mod Printing
 pub mod Reading

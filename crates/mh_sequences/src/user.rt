@@ -1,10 +1,10 @@
-// One sequence with its name.
+// One sequence.
 use crate::{NumSet, SeqName};
 
 /// A user's sequence: its name, its numbers, of which there is one at least, and whether it is public.
 #[derive(Drop)]
-pub(crate) struct User {
-    pub(crate) name: SeqName,
-    pub(crate) numbers: NumSet,
-    pub(crate) public: bool,
+pub struct User {
+    pub name: SeqName,
+    pub numbers: NumSet,
+    pub public: bool,
 }

@@ -5,5 +5,4 @@ mod Missing
 pub mod Naming
 pub mod Once
 pub mod Walking
-mod WantedKeys
 mod Worked

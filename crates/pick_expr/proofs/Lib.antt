@@ -12,6 +12,5 @@ mod OneBit
 mod PassedBytes
 pub mod Picks
 mod ReaderFaults
-mod Skipping
 mod WordPlaces
 mod WordValues
