@@ -1,7 +1,8 @@
 // The lines that tell of sequences.
 ghost use Rattle.std.specs.Prelude.{◌≡◌, ◌++◌, ◌∷◌, [], map, IfOk, OnOk};
 ghost use Rattle.mh_sequences.specs.Printing.{is_before_cur as stands_before_cur, list_text};
-ghost use Rattle.mh_sequences.specs.Sequences.{runs_of, told};
+ghost use Rattle.mh_sequences.specs.Sequences.{runs_of, told_entry};
+ghost use Rattle.mh_sequences.specs.declared.user_sequence.UserSequence.{UserSequence as UserSequenceValue};
 ghost use Rattle.mark_command.specs.Lines.{
   all_lines as all_lines_of,
   cur_line as cur_line_of,
@@ -17,9 +18,10 @@ ghost use Rattle.mark_command.specs.Lines.{
 
 use itoa::Buffer;
 use mh_base::{Bytes, BytesList, List, MsgNum};
-use mh_sequences::{SeqName, SeqNameList, Sequences, User};
+use mh_sequences::{SeqName, SeqNameList, Sequences, UserSequence};
 use std::alloc::{AllocError, Global};
 use std::cmp::Ordering;
+use std::collections::btree_map;
 
 fn privacy(public: bool) -> &'static [u8]
     ensures { result.now ≡ privacy_of public }
@@ -52,11 +54,11 @@ fn line(alloc: Global, name: &SeqName, list: &[u8], public: bool) -> Result<Byte
     Ok(line)
 }
 
-fn user_line(alloc: Global, user: &User) -> Result<Bytes, AllocError>
-    ensures { IfOk result (λ l. l ≡ line_of (told user.now)) }
+fn user_line(alloc: Global, name: &SeqName, user: &UserSequence) -> Result<Bytes, AllocError>
+    ensures { IfOk result (λ l. l ≡ line_of (told_entry (name.now, user.now))) }
 {
     let list = user.numbers.list(alloc)?;
-    line(alloc, &user.name, list.as_slice(), user.public)
+    line(alloc, name, list.as_slice(), user.public)
 }
 
 /// The numbers of the sequence of this name; none where there is no such sequence.
@@ -98,22 +100,23 @@ fn is_before_cur(name: &[u8]) -> bool
 }
 
 /// Whether the sequence stands on this side of `cur`.
-fn is_beside_cur(user: &User, before: bool) -> bool
-    ensures { result ≡ stands_beside_cur before (told user.now) }
+fn is_beside_cur(name: &SeqName, before: bool) -> bool
+    ensures { (user : UserSequenceValue) → result ≡ stands_beside_cur before (told_entry (name.now, user)) }
 {
-    is_before_cur(user.name.bytes()) == before
+    is_before_cur(name.bytes()) == before
 }
 
 fn push_beside(
     alloc: Global,
     lines: &mut BytesList,
-    user: &User,
+    name: &SeqName,
+    user: &UserSequence,
     before: bool,
 ) -> Result<(), AllocError>
-    ensures { OnOk result (lines.new ≡ lines.old ++ lines_beside before (told user.now ∷ [])) }
+    ensures { OnOk result (lines.new ≡ lines.old ++ lines_beside before (told_entry (name.now, user.now) ∷ [])) }
 {
-    if is_beside_cur(user, before) {
-        lines.push(user_line(alloc, user)?)
+    if is_beside_cur(name, before) {
+        lines.push(user_line(alloc, name, user)?)
     } else {
         Ok(())
     }
@@ -123,13 +126,13 @@ fn push_beside(
 fn push_all_beside(
     alloc: Global,
     lines: &mut BytesList,
-    users: &[User],
+    users: btree_map::Iter<'_, SeqName, UserSequence>,
     before: bool,
 ) -> Result<(), AllocError>
-    ensures { OnOk result (lines.new ≡ lines.old ++ lines_beside before (map told users.now)) }
+    ensures { OnOk result (lines.new ≡ lines.old ++ lines_beside before (map told_entry users.entry)) }
 {
-    for user in users {
-        push_beside(alloc, lines, user, before)?;
+    for (name, user) in users {
+        push_beside(alloc, lines, name, user, before)?;
     }
     Ok(())
 }

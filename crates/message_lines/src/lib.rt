@@ -11,4 +11,4 @@ pub use finding::{named_format, read_format};
 pub use format::LineFormat;
 pub use line::message_line;
 pub use look::Look;
-pub use standing::{Standing, is_current, is_marked};
+pub use standing::{Standing, is_current};

@@ -10,3 +10,4 @@ pub mod Pledging
 pub mod Reading
 pub mod Scanning
 pub mod Showing
+pub mod UnseenNumbers

@@ -4,4 +4,5 @@ pub mod Outcomes
 pub mod Scan
 pub mod ScanJob
 pub mod ScanPledge
+pub mod UnseenIn
 pub mod Values

@@ -5,6 +5,7 @@ mod job;
 mod lines;
 mod looking;
 mod sequences;
+mod unseen;
 
 pub use job::ScanJob;
 pub use looking::scan;

@@ -21,6 +21,7 @@ ghost use Rattle.mh_looks.specs.Values.{IsListed};
 use crate::ScanJob;
 use crate::lines::{Lines, line};
 use crate::sequences::sequences_in;
+use crate::unseen::Unseen;
 use command_stages::{
     LIMIT, choose, folder_place, list_folder, listed_numbers, make_current, numbers,
     read_sequences_text,
@@ -152,10 +153,10 @@ pub fn scan<F: Files, O: Sink>(
     let sequences = sequences_in(alloc, text.as_slice(), hand, &job.folder)?;
     let mut found = chosen(alloc, job, &names, &sequences)?;
     ordered(&mut found, job.reverse);
+    let unseen = Unseen::of(alloc, &sequences, job.unseen.as_slice())?;
     let lines = Lines {
         look: &job.look,
-        sequences: &sequences,
-        unseen: &job.unseen,
+        unseen: &unseen,
     };
     show_all(
         alloc,

@@ -12,6 +12,8 @@ pub mod Joined
 pub mod Joining
 pub mod ListText
 pub mod Mentioning
+pub mod MovedPairs
+pub mod NamedEntries
 pub mod NamePlaces
 pub mod OneRun
 pub mod OrderedRuns

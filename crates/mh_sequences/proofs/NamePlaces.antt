@@ -1,12 +1,10 @@
 -- Sequences by name, in byte order.
-use Rattle.std.proofs.Common.{◌≡◌, ℕ, zero, suc, ◌+◌, ◌<◌, Bool, true, false, List, [], ◌∷◌, ◌++◌, length, map, take, drop, get_or, refl, sym, ◌∙◌, ap, subst, arith, add-one, ltb, Some, append-nil}
+use Rattle.std.proofs.Common.{◌≡◌, ℕ, zero, suc, ◌+◌, ◌<◌, Bool, true, false, List, [], ◌∷◌, ◌++◌, length, map, take, drop, get_or, refl, sym, ◌∙◌, ap, subst, arith, add-one, append-nil}
 use Rattle.std.proofs.Math.Seq.{drop-length}
-use Rattle.std.specs.Prelude.{bytes_eq, slice_index_or, slice_get, slice_set, ◌==◌, if◌then◌else◌}
+use Rattle.std.specs.Prelude.{bytes_eq, slice_index_or, slice_set, ◌==◌, if◌then◌else◌}
 use Rattle.std.specs.Ordering.{is_eq}
 use Rattle.std.specs.declared.cmp.Ordering.{Ordering}
 use Rattle.std.specs.declared.cmp.Ordering.TheVariants.{Less, Equal, Greater}
-use Rattle.std.proofs.lemmas.Bool.{eqb-true, ltb-true}
-use Rattle.std.proofs.lemmas.List.{take-append-drop}
 use Rattle.std.proofs.lemmas.Cmp.{nat_list_cmp_total}
 use Rattle.std.proofs.lemmas.Map.Text.{is_eq-slice_cmp}
 use Rattle.std.proofs.lemmas.Slice.Eq.{bytes_eq-Decides}
@@ -147,24 +145,9 @@ set_user [] i v lt = absurd (omega arith)
 set_user (x ∷ xs) zero v lt = refl
 set_user (x ∷ xs) (suc i) v lt = ap (λ l. x ∷ l) (set_user xs i v (omega arith))
 
-some_alone : (name : List ℕ) (p : Bool) (runs : List Run) → length runs == 0 ≡ false → alone name p runs ≡ record { name = name; runs = runs; public = p } ∷ []
+pub some_alone : (name : List ℕ) (p : Bool) (runs : List Run) → length runs == 0 ≡ false → alone name p runs ≡ record { name = name; runs = runs; public = p } ∷ []
 some_alone name p [] e = cc
 some_alone name p (r ∷ rs) e = refl
-
-no_alone : (name : List ℕ) (p : Bool) (runs : List Run) → length runs == 0 ≡ true → alone name p runs ≡ []
-no_alone name p [] e = refl
-no_alone name p (r ∷ rs) e = absurd (apart (length rs) e)
-  where
-    apart : (n : ℕ) → suc n == 0 ≡ true → ⊥
-    apart n e = let z = eqb-true (suc n) 0 e in omega arith
-
--- the list without the sequence of this name
-pub put_none : (us : List User) (i : ℕ) (name : List ℕ) (p : Bool) (runs : List Run) → IsAt name (map told us) i → length runs == 0 ≡ true → map told (take i us ++ drop (suc i) us) ≡ placed name p runs (map told us)
-put_none us i name p runs is e =
-    told_cut us [] i (suc i)
-    ∙ ap (λ l. take i (map told us) ++ (l ++ drop (suc i) (map told us))) (sym (no_alone name p runs e))
-    ∙ ap (λ j. take i (map told us) ++ (alone name p runs ++ drop j (map told us))) (sym (add-one i))
-    ∙ sym (is.put p runs)
 
 -- with its numbers and its state changed
 pub put_there : (us : List User) (i : ℕ) (name : List ℕ) (u v : User) → IsAt name (map told us) i → u ≡ get_or us i u → v.name ≡ u.name → length v.numbers.runs == 0 ≡ false → map told (slice_set us i v) ≡ placed name v.public v.numbers.runs (map told us)
@@ -186,19 +169,3 @@ put_new us i name v is same e =
     ∙ ap (λ n. take i (map told us) ++ (record { name = n; runs = v.numbers.runs; public = v.public } ∷ drop i (map told us))) same
     ∙ ap (λ l. take i (map told us) ++ (l ++ drop i (map told us))) (sym (some_alone name v.public v.numbers.runs e))
     ∙ sym (is.put v.public v.numbers.runs)
-
--- or as it was
-pub put_nothing : (us : List User) (i : ℕ) (name : List ℕ) (p : Bool) (runs : List Run) → IsBefore name (map told us) i → length runs == 0 ≡ true → map told us ≡ placed name p runs (map told us)
-put_nothing us i name p runs is e =
-    sym (take-append-drop i (map told us))
-    ∙ ap (λ l. take i (map told us) ++ (l ++ drop i (map told us))) (sym (no_alone name p runs e))
-    ∙ sym (is.put p runs)
-
-name_here : (us : List User) (i : ℕ) (u : User) → i < length us → u ≡ get_or us i u → slice_get (map (λ (s : Sequence). s.name) (map told us)) i ≡ Some u.name
-name_here [] i u lt e = absurd (omega arith)
-name_here (x ∷ xs) zero u lt e = ap (λ (y : User). Some y.name) (sym e)
-name_here (x ∷ xs) (suc i) u lt e = name_here xs i u (omega arith) e
-
--- what `get` says of a name
-pub name_looked_up : (us : List User) (i : ℕ) (u : User) → true ≡ ltb i (length us) → u ≡ get_or us i u → slice_get (map (λ (s : Sequence). s.name) (map told us)) i ≡ Some u.name
-name_looked_up us i u t e = name_here us i u (ltb-true i (length us) (sym t)) e

@@ -24,7 +24,7 @@ pub runs_rise : (rs : List Run) → AreRuns rs → IsNonDecreasingBy (λ r. r.to
 runs_rise rs h = ends_rise 1 rs h
 
 -- a partition point is the length of the longest prefix that passes
-pub point_is_prefix : (p : Run → Bool) (xs : List Run) (i : ℕ) (d : Run) → i ≤ length xs → IsPartitionPoint (λ y. p y ≡ true) (λ y. p y ≡ false) xs i → i ≡ prefix_len p xs
+pub point_is_prefix : {X : Type 0} (p : X → Bool) (xs : List X) (i : ℕ) (d : X) → i ≤ length xs → IsPartitionPoint (λ y. p y ≡ true) (λ y. p y ≡ false) xs i → i ≡ prefix_len p xs
 point_is_prefix p xs i d le point = sym (prefix_len_is p xs i d le (λ k lt. point.0 k d (omega arith) lt) (λ lt. point.1 i d (omega arith) lt))
 
 found : (xs : List Run) (k : ℕ) (q : Run) → k < length xs → q ≡ get_or xs k q → slice_get xs k ≡ Some q

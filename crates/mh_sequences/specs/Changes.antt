@@ -8,6 +8,7 @@ use Rattle.mh_sequences.specs.declared.change.Change.TheVariants.{Keep, Withdraw
 use Rattle.mh_sequences.specs.declared.join.Join.{Join}
 use Rattle.mh_sequences.specs.Joins.{joins}
 use Rattle.mh_sequences.specs.Marks.{moved, set_to}
+use Rattle.mh_sequences.specs.PairOrder.{IsInOrder}
 use Rattle.mh_sequences.specs.Placing.{alone}
 use Rattle.mh_sequences.specs.Runs.{AreRuns, has}
 use Rattle.mh_sequences.specs.Sequences.{Marked, Sequence, member, public_of}
@@ -22,11 +23,11 @@ change_of (Move pairs sources) old n = moved pairs.now old n
 abbrev pub AreSources : List Pair → List Run → Type 0
 AreSources pairs sources = (n : ℕ) → has sources n ≡ list_any (λ p. n == p.from) pairs
 
--- a move comes with the numbers that it moves
+-- the pairs of a move are in order, and come with the numbers that they move
 abbrev pub IsReady : Change → Type 0
 IsReady (Keep listing) = Unit {0}
 IsReady (Withdraw numbers) = Unit {0}
-IsReady (Move pairs sources) = AreSources pairs.now sources.now.runs
+IsReady (Move pairs sources) = IsInOrder pairs.now × AreSources pairs.now sources.now.runs
 
 -- one set is another changed
 abbrev pub IsChanged : ((ℕ → Bool) → ℕ → Bool) → List Run → List Run → Type 0

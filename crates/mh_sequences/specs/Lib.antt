@@ -7,6 +7,7 @@ pub mod Lists
 pub mod Marks
 pub mod Mentions
 pub mod Names
+pub mod PairOrder
 pub mod Placing
 pub mod Printing
 pub mod Reading

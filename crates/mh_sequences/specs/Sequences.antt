@@ -6,6 +6,7 @@ use Rattle.std.specs.declared.cmp.Ordering.TheVariants.{Less}
 use Rattle.std.specs.Cmp.Lexicographic.{slice_cmp}
 use Rattle.mh_sequences.specs.declared.run.Run.{Run}
 use Rattle.mh_sequences.specs.declared.user.User.{User}
+use Rattle.mh_sequences.specs.declared.user_sequence.UserSequence.{UserSequence}
 use Rattle.mh_sequences.specs.Names.{is_seq_name}
 use Rattle.mh_sequences.specs.Runs.{AreRuns, has}
 
@@ -17,6 +18,10 @@ pub record Sequence : Type 0 where
 
 abbrev pub told : User → Sequence
 told u = record { name = u.name; runs = u.numbers.runs; public = u.public }
+
+-- the same of a sequence under its name
+abbrev pub told_entry : List ℕ × UserSequence → Sequence
+told_entry e = record { name = e.0; runs = e.1.numbers.runs; public = e.1.public }
 
 -- how two names stand to one another in byte order
 abbrev pub order : List ℕ → List ℕ → Ordering

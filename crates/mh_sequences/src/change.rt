@@ -1,17 +1,16 @@
 // Changes of every sequence.
-ghost use Rattle.std.specs.Prelude.{◌≡◌, ◌≤◌, ◌==◌, ◌&&◌, ◌++◌, ℕ, List, not, map, IfOk, OnOk};
-ghost use Rattle.std.specs.List.{list_any};
-ghost use Rattle.mh_sequences.specs.Changes.{change_of, AreSources, IsChanged, IsEach, IsReady};
+ghost use Rattle.std.specs.Prelude.{◌≡◌, ◌++◌, ℕ, List, map, IfOk, OnOk};
+ghost use Rattle.mh_sequences.specs.Changes.{change_of, IsChanged, IsEach, IsReady};
 ghost use Rattle.mh_sequences.specs.declared.run.Run.{Run as RunValue};
-ghost use Rattle.mh_sequences.specs.Marks.{moved as moved_numbers, moved_to};
 ghost use Rattle.mh_sequences.specs.Placing.{alone};
 ghost use Rattle.mh_sequences.specs.Runs.{has};
-ghost use Rattle.mh_sequences.specs.Sequences.{told};
+ghost use Rattle.mh_sequences.specs.Sequences.{told, told_entry};
 
 use crate::join::Join;
+use crate::moving::moved;
 use crate::user::User;
-use crate::{NumSet, PairList, Pile, Run};
-use mh_base::MsgNum;
+use crate::user_map::UserMap;
+use crate::{NumSet, Pair, SeqName, UserSequence};
 use std::alloc::{AllocError, Global};
 
 /// What happens to every sequence.
@@ -19,67 +18,8 @@ use std::alloc::{AllocError, Global};
 pub(crate) enum Change<'a> {
     Keep(&'a NumSet),
     Withdraw(&'a NumSet),
-    /// The pairs, and all numbers that they move.
-    Move(&'a PairList, &'a NumSet),
-}
-
-fn one(n: MsgNum) -> Run
-    ensures value { result ≡ record { from = n; to = n } }
-    ensures order { result.from ≤ result.to }
-{
-    Run { from: n, to: n }
-}
-
-/// The numbers that pairs move.
-pub(crate) fn sources(alloc: Global, pairs: &PairList) -> Result<NumSet, AllocError>
-    ensures { IfOk result (λ s. AreSources pairs.now s.runs) }
-{
-    let mut pile = Pile::new(alloc);
-    for pair in pairs.as_slice() {
-        pile.add_run(one(pair.from))?;
-    }
-    pile.into_set()
-}
-
-/// The new numbers of those that pairs move.
-fn targets(alloc: Global, numbers: &NumSet, pairs: &PairList) -> Result<NumSet, AllocError>
-    ensures { IfOk result
-        (λ s. (n : ℕ) → has s.runs n ≡ list_any (λ p. n == p.to && has numbers.now.runs p.from) pairs.now) }
-{
-    let mut pile = Pile::new(alloc);
-    for pair in pairs.as_slice() {
-        if numbers.has(pair.from) {
-            pile.add_run(one(pair.to))?;
-        }
-    }
-    pile.into_set()
-}
-
-/// The numbers with the new ones of those that move.
-fn moved(
-    alloc: Global,
-    numbers: &NumSet,
-    pairs: &PairList,
-    sources: &NumSet,
-) -> Result<NumSet, AllocError>
-    requires { AreSources pairs.now sources.now.runs }
-    ensures { IfOk result (λ s. (n : ℕ) → has s.runs n ≡ moved_numbers pairs.now (has numbers.now.runs) n) }
-{
-    let left = numbers.join(alloc, sources, Join::FirstAlone)?;
-    let new = targets(alloc, numbers, pairs)?;
-    new.join(alloc, &left, Join::Either)
-}
-
-/// The number that a number becomes.
-pub(crate) fn new_number(pairs: &PairList, n: MsgNum) -> MsgNum
-    ensures { result ≡ moved_to pairs.now n }
-{
-    for pair in pairs.as_slice() {
-        if n.get() == pair.from.get() {
-            return pair.to;
-        }
-    }
-    n
+    /// Pairs in order of the numbers that they move, and all these numbers.
+    Move(&'a [Pair], &'a NumSet),
 }
 
 fn changed(alloc: Global, numbers: &NumSet, change: Change<'_>) -> Result<NumSet, AllocError>
@@ -97,19 +37,20 @@ fn changed(alloc: Global, numbers: &NumSet, change: Change<'_>) -> Result<NumSet
 fn keep(
     alloc: Global,
     kept: &mut Vec<User>,
-    user: &User,
+    name: &SeqName,
+    user: &UserSequence,
     change: Change<'_>,
 ) -> Result<(), AllocError>
     requires { IsReady change }
     ensures { OnOk result
         ((runs : List RunValue) × IsChanged (change_of change.entry) user.now.numbers.runs runs
-        × (map told kept.new.items ≡ map told kept.old.items ++ alone user.now.name user.now.public runs)) }
+        × (map told kept.new.items ≡ map told kept.old.items ++ alone name.now user.now.public runs)) }
 {
     let numbers = changed(alloc, &user.numbers, change)?;
     if numbers.is_empty() {
         return Ok(());
     }
-    let name = user.name.copy(alloc)?;
+    let name = name.copy(alloc)?;
     kept.push(User {
         name,
         numbers,
@@ -118,18 +59,18 @@ fn keep(
     Ok(())
 }
 
-/// The sequences changed.
+/// The sequences changed, in the same order.
 pub(crate) fn change_all(
     alloc: Global,
-    users: &[User],
+    users: &UserMap,
     change: Change<'_>,
 ) -> Result<Vec<User>, AllocError>
     requires { IsReady change }
-    ensures { IfOk result (λ v. IsEach (change_of change.entry) (map told users.now) (map told v.items)) }
+    ensures { IfOk result (λ v. IsEach (change_of change.entry) (map told_entry users.now.entries) (map told v.items)) }
 {
     let mut kept = Vec::new(alloc);
-    for user in users {
-        keep(alloc, &mut kept, user, change)?;
+    for (name, user) in users {
+        keep(alloc, &mut kept, name, user, change)?;
     }
     Ok(kept)
 }

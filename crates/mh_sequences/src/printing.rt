@@ -1,15 +1,16 @@
 // Sequences as text.
-ghost use Rattle.std.specs.Prelude.{◌≡◌, ◌++◌, ◌∷◌, [], ℕ, Option, decimal, map, filter, codes, IfOk, IfSome, OnOk};
+ghost use Rattle.std.specs.Prelude.{◌≡◌, ◌++◌, ◌∷◌, [], ℕ, List, Option, decimal, map, filter, codes, IfOk, IfSome, OnOk};
 ghost use Rattle.std.specs.List.{flat_map};
 ghost use Rattle.mh_base.specs.Numbers.{IsMsgNum};
 ghost use Rattle.mh_profile.specs.declared.named_value.NamedValue.{NamedValue as EntryValue};
 ghost use Rattle.mh_profile.specs.Printing.{printed, printed_entry};
+ghost use Rattle.mh_sequences.specs.declared.run.Run.{Run as RunValue};
 ghost use Rattle.mh_sequences.specs.Printing.{cur_entry, entry_of, is_before_cur as stands_before_cur, is_private as stands_in_context, is_shown as stands_in_text, list_text, private_entries, private_entry as private_entry_of, run_text};
 ghost use Rattle.mh_sequences.specs.Reading.{attribute};
-ghost use Rattle.mh_sequences.specs.Sequences.{told};
+ghost use Rattle.mh_sequences.specs.Sequences.{told_entry};
 
-use crate::user::User;
-use crate::{NumSet, Run};
+use crate::user_map::UserMap;
+use crate::{NumSet, Run, SeqName, UserSequence};
 use itoa::Buffer;
 use mh_base::{Bytes, List, MsgNum};
 use mh_profile::{EntryList, NamedValue};
@@ -82,39 +83,48 @@ fn is_before_cur(name: &[u8]) -> bool
     name.cmp(&b"cur".as_slice()) == Ordering::Less
 }
 
-fn is_shown(user: &User, before: bool) -> bool
-    ensures { result ≡ stands_in_text before (told user.now) }
+fn is_shown(name: &SeqName, public: bool, before: bool) -> bool
+    ensures { (runs : List RunValue)
+        → result ≡ stands_in_text before (record { name = name.now; runs = runs; public = public }) }
 {
     if before {
-        user.public && is_before_cur(user.name.bytes())
+        public && is_before_cur(name.bytes())
     } else {
-        user.public && !is_before_cur(user.name.bytes())
+        public && !is_before_cur(name.bytes())
     }
 }
 
-fn put_user(alloc: Global, text: &mut Bytes, user: &User, before: bool) -> Result<(), AllocError>
+fn put_user(
+    alloc: Global,
+    text: &mut Bytes,
+    name: &SeqName,
+    user: &UserSequence,
+    before: bool,
+) -> Result<(), AllocError>
     ensures { OnOk result
-        (text.new ≡ text.old ++ printed (map entry_of (filter (stands_in_text before) (told user.now ∷ [])))) }
+        (text.new ≡ text.old
+        ++ printed (map entry_of (filter (stands_in_text before) (told_entry (name.now, user.now) ∷ [])))) }
 {
-    if !is_shown(user, before) {
+    if !is_shown(name, user.public, before) {
         return Ok(());
     }
     let list = list_of(alloc, user.numbers.as_slice())?;
-    put_line(text, user.name.bytes(), list.as_slice())
+    put_line(text, name.bytes(), list.as_slice())
 }
 
 /// Writes the lines of the public sequences before `cur`, or behind it.
 pub(crate) fn put_lines(
     alloc: Global,
     text: &mut Bytes,
-    users: &[User],
+    users: &UserMap,
     before: bool,
 ) -> Result<(), AllocError>
     ensures { OnOk result
-        (text.new ≡ text.old ++ printed (map entry_of (filter (stands_in_text before) (map told users.now)))) }
+        (text.new ≡ text.old
+        ++ printed (map entry_of (filter (stands_in_text before) (map told_entry users.now.entries)))) }
 {
-    for user in users {
-        put_user(alloc, text, user, before)?;
+    for (name, user) in users {
+        put_user(alloc, text, name, user, before)?;
     }
     Ok(())
 }
@@ -146,11 +156,16 @@ fn attribute_of(alloc: Global, name: &[u8], ending: &[u8]) -> Result<Bytes, Allo
     Ok(text)
 }
 
-fn private_entry(alloc: Global, user: &User, ending: &[u8]) -> Result<NamedValue, AllocError>
-    ensures { IfOk result (λ e. e ≡ private_entry_of ending.now (told user.now)) }
+fn private_entry(
+    alloc: Global,
+    name: &SeqName,
+    user: &UserSequence,
+    ending: &[u8],
+) -> Result<NamedValue, AllocError>
+    ensures { IfOk result (λ e. e ≡ private_entry_of ending.now (told_entry (name.now, user.now))) }
 {
     Ok(NamedValue {
-        name: attribute_of(alloc, user.name.bytes(), ending)?,
+        name: attribute_of(alloc, name.bytes(), ending)?,
         value: list_of(alloc, user.numbers.as_slice())?,
     })
 }
@@ -158,28 +173,30 @@ fn private_entry(alloc: Global, user: &User, ending: &[u8]) -> Result<NamedValue
 fn push_private(
     alloc: Global,
     entries: &mut EntryList,
-    user: &User,
+    name: &SeqName,
+    user: &UserSequence,
     ending: &[u8],
 ) -> Result<(), AllocError>
-    ensures { OnOk result (entries.new ≡ entries.old ++ private_entries ending.now (told user.now ∷ [])) }
+    ensures { OnOk result
+        (entries.new ≡ entries.old ++ private_entries ending.now (told_entry (name.now, user.now) ∷ [])) }
 {
     if user.public {
         return Ok(());
     }
-    entries.push(private_entry(alloc, user, ending)?)
+    entries.push(private_entry(alloc, name, user, ending)?)
 }
 
 /// The entries of the private sequences.
 pub(crate) fn private_list(
     alloc: Global,
-    users: &[User],
+    users: &UserMap,
     ending: &[u8],
 ) -> Result<EntryList, AllocError>
-    ensures { IfOk result (λ es. es ≡ private_entries ending.now (map told users.now)) }
+    ensures { IfOk result (λ es. es ≡ private_entries ending.now (map told_entry users.now.entries)) }
 {
     let mut entries = List::new(alloc);
-    for user in users {
-        push_private(alloc, &mut entries, user, ending)?;
+    for (name, user) in users {
+        push_private(alloc, &mut entries, name, user, ending)?;
     }
     Ok(entries)
 }

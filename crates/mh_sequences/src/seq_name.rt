@@ -1,11 +1,15 @@
 // Names of sequences.
-ghost use Rattle.std.specs.Prelude.{◌≡◌, ◌↔◌, false, IsTrue, IsErrOf, IfOk, length, nat_le, bytes_eq};
+ghost use Rattle.std.specs.Prelude.{◌≡◌, ◌↔◌, false, IsTrue, IsErrOf, IfOk, length, nat_eq, nat_le, bytes_eq, refl, Some};
+ghost use Rattle.std.specs.Cmp.{partial_equiv_from_equiv};
+ghost use Rattle.std.specs.Cmp.Lexicographic.{nat_list_cmp_total, nat_list_eq_equiv, pointwise, slice_cmp, texts_po, texts_ties};
 ghost use Rattle.std.specs.List.{list_all};
 ghost use Rattle.std.specs.Char.{is_ascii_alphanumeric};
+ghost use Rattle.std.specs.Ordering.{nat_cmp};
 ghost use Rattle.mh_sequences.specs.Names.{is_seq_name, is_reserved as is_reserved_name, begins_with_letter, IsNameIn};
 
 use mh_base::{Duplicate, Text};
 use std::alloc::{AllocError, Global};
+use std::cmp::Ordering;
 use std::marker::Model;
 use std::str;
 use thiserror::Error;
@@ -74,6 +78,45 @@ pub(crate) fn is_name(name: &[u8]) -> bool
     has_letter_first(name) && has_name_bytes(name) && is_short(name) && !is_reserved(name)
 }
 
+impl PartialEq for SeqName {
+    ghost eq = { pointwise nat_eq };
+
+    ghost laws = { partial_equiv_from_equiv nat_list_eq_equiv };
+
+    fn eq(&self, other: &SeqName) -> bool {
+        self.bytes() == other.bytes()
+    }
+}
+
+impl Eq for SeqName {
+    ghost laws = { nat_list_eq_equiv };
+}
+
+impl PartialOrd for SeqName {
+    ghost partial_cmp = { λ x y. Some (slice_cmp nat_cmp x y) };
+
+    ghost laws = { texts_po };
+
+    fn partial_cmp(&self, other: &SeqName) -> Option<Ordering> {
+        Some(self.cmp(other))
+    }
+}
+
+/// Names stand in byte order.
+impl Ord for SeqName {
+    ghost cmp = { slice_cmp nat_cmp };
+
+    ghost total = { nat_list_cmp_total };
+
+    ghost matches_partial_cmp = { λ x y. refl };
+
+    ghost matches_eq = { texts_ties };
+
+    fn cmp(&self, other: &SeqName) -> Ordering {
+        self.bytes().cmp(&other.bytes())
+    }
+}
+
 impl SeqName {
     /// Reads a name; letters of both cases are told apart.
     pub fn read(alloc: Global, text: &Text) -> Result<SeqName, SeqFault>
@@ -117,10 +160,18 @@ impl SeqName {
         self.0.as_str().as_bytes()
     }
 
+    /// The same name again, as one under which a sequence stands.
+    pub(crate) fn key(&self, alloc: Global) -> Result<SeqName, AllocError>
+        ensures value { IfOk result (λ n. n ≡ self.now) }
+        ensures valid { IsTrue (is_seq_name self.now) }
+    {
+        Ok(SeqName(self.0.duplicate(alloc)?))
+    }
+
     /// The same name again.
     pub fn copy(&self, alloc: Global) -> Result<SeqName, AllocError>
         ensures { IfOk result (λ n. n ≡ self.now) }
     {
-        Ok(SeqName(self.0.duplicate(alloc)?))
+        self.key(alloc)
     }
 }

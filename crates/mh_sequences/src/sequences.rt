@@ -11,19 +11,20 @@ ghost use Rattle.mh_sequences.specs.Placing.{placed};
 ghost use Rattle.mh_sequences.specs.Printing.{private_entries, text_of, HasJust};
 ghost use Rattle.mh_sequences.specs.Reading.{IsReading, suffix};
 ghost use Rattle.mh_sequences.specs.Runs.{AreRuns, has};
-ghost use Rattle.mh_sequences.specs.Sequences.{AreSequences, Marked, member, runs_of, public_of, told};
+ghost use Rattle.mh_sequences.specs.Sequences.{AreSequences, Marked, member, runs_of, public_of, told_entry};
 
-use crate::change::{Change, change_all, new_number, sources};
+use crate::change::{Change, change_all};
 use crate::escape::suffix_of;
 use crate::join::Join;
-use crate::place::{Position, place_of};
+use crate::moving::{in_order, new_number, sources};
 use crate::printing::{private_list, put_cur, put_lines};
 use crate::reading::{read_cur, read_users};
-use crate::user::User;
-use crate::{Mark, NumSet, PairList, SeqName};
+use crate::user_map::{UserMap, by_names, put};
+use crate::{Mark, NumSet, PairList, SeqName, UserSequence};
 use mh_base::{Bytes, FolderName, MsgNum};
 use mh_profile::{Entries, EntryList};
 use std::alloc::{AllocError, Global};
+use std::collections::btree_map;
 use std::marker::Model;
 
 /// The sequences of a folder and its current message. Contracts see the user's sequences in byte
@@ -31,58 +32,19 @@ use std::marker::Model;
 #[derive(Drop)]
 pub struct Sequences {
     alloc: Global,
-    users: Vec<User>,
+    users: UserMap,
     cur: Option<MsgNum>,
 }
 
 impl Model for Sequences {
     ghost use Rattle.std.specs.Prelude.{map};
-    ghost use Rattle.mh_sequences.specs.Sequences.{AreSequences, Marked, marked_of, told};
+    ghost use Rattle.mh_sequences.specs.Sequences.{AreSequences, Marked, marked_of, told_entry};
 
     ghost Value = { Marked };
 
-    ghost view = { λ s. marked_of (map told s.users.items) s.cur };
+    ghost view = { λ s. marked_of (map told_entry s.users.entries) s.cur };
 
-    ghost invariant = { λ s. AreSequences (map told s.users.items) };
-}
-
-/// Puts a sequence at its place, or away where the set is empty.
-fn put(
-    alloc: Global,
-    users: &mut Vec<User>,
-    name: &SeqName,
-    numbers: NumSet,
-    public: bool,
-) -> Result<(), AllocError>
-    requires { AreSequences (map told users.old.items) }
-    ensures ok { OnOk result
-        (map told users.new.items ≡ placed name.now public numbers.runs (map told users.old.items)) }
-    ensures valid { AreSequences (map told users.new.items) }
-    ensures err { OnErr result (map told users.new.items ≡ map told users.old.items) }
-{
-    match place_of(users, name.bytes()) {
-        Position::At(at) if numbers.is_empty() => {
-            let _ = users.remove(at);
-        }
-        Position::At(at) => {
-            let user = &mut users[at];
-            user.numbers = numbers;
-            user.public = public;
-        }
-        Position::Before(_) if numbers.is_empty() => {}
-        Position::Before(at) => {
-            let name = name.copy(alloc)?;
-            users.insert(
-                at,
-                User {
-                    name,
-                    numbers,
-                    public,
-                },
-            )?;
-        }
-    }
-    Ok(())
+    ghost invariant = { λ s. AreSequences (map told_entry s.users.entries) };
 }
 
 impl Sequences {
@@ -96,6 +58,7 @@ impl Sequences {
         ensures valid { IfOk result (λ s. AreSequences s.users) }
     {
         let users = read_users(alloc, public, context, folder)?;
+        let users = by_names(alloc, users)?;
         let cur = read_cur(alloc, public)?;
         Ok(Sequences { alloc, users, cur })
     }
@@ -117,11 +80,11 @@ impl Sequences {
     }
 
     /// The user's sequences, in byte order of their names.
-    pub fn users(&self) -> &[User]
-        ensures value { map told result.now ≡ self.now.users }
+    pub fn users(&self) -> btree_map::Iter<'_, SeqName, UserSequence>
+        ensures value { map told_entry result ≡ self.now.users }
         ensures valid { AreSequences self.now.users }
     {
-        self.users.as_slice()
+        self.users.iter()
     }
 
     /// How many user's sequences there are.
@@ -132,25 +95,14 @@ impl Sequences {
         self.users.len() as u64
     }
 
-    /// The name at this place in byte order, from 0.
-    pub fn name_at(&self, index: u64) -> Option<&SeqName>
-        ensures { MatchOption result (length self.now.users ≤ index)
-            (λ n. slice_get (map (λ s. s.name) self.now.users) index ≡ Some n.now) }
-    {
-        match self.users.get(index as usize) {
-            Some(user) => Some(&user.name),
-            None => None,
-        }
-    }
-
     /// The numbers of the sequence of this name, where there is one.
     pub fn get(&self, name: &SeqName) -> Option<&NumSet>
         ensures { MatchOption result (runs_of self.now.users name.now ≡ [])
             (λ s. s.now.runs ≡ runs_of self.now.users name.now) }
     {
-        match place_of(&self.users, name.bytes()) {
-            Position::At(at) => Some(&self.users[at].numbers),
-            Position::Before(_) => None,
+        match self.users.get(name) {
+            Some(user) => Some(&user.numbers),
+            None => None,
         }
     }
 
@@ -158,9 +110,9 @@ impl Sequences {
     pub fn is_public(&self, name: &SeqName) -> bool
         ensures { result ≡ public_of self.now.users name.now }
     {
-        match place_of(&self.users, name.bytes()) {
-            Position::At(at) => self.users[at].public,
-            Position::Before(_) => true,
+        match self.users.get(name) {
+            Some(user) => user.public,
+            None => true,
         }
     }
 
@@ -204,9 +156,10 @@ impl Sequences {
         ensures ok { OnOk result (IsJoined name.now numbers.now.runs how public self.old self.new) }
         ensures err { OnErr result (self.new ≡ self.old) }
     {
-        let joined = self.joined(name, numbers, how)?;
+        let numbers = self.joined(name, numbers, how)?;
         let public = self.state(name, public);
-        put(self.alloc, &mut self.users, name, joined, public)
+        let name = name.key(self.alloc)?;
+        put(&mut self.users, name, UserSequence { numbers, public })
     }
 
     fn change(&mut self, change: Change<'_>) -> Result<(), AllocError>
@@ -216,7 +169,8 @@ impl Sequences {
         ensures cur { self.new.cur ≡ self.old.cur }
         ensures err { OnErr result (self.new ≡ self.old) }
     {
-        self.users = change_all(self.alloc, &self.users, change)?;
+        let changed = change_all(self.alloc, &self.users, change)?;
+        self.users = by_names(self.alloc, changed)?;
         Ok(())
     }
 
@@ -237,6 +191,18 @@ impl Sequences {
         self.cur = cur;
     }
 
+    /// Moves numbers in all sequences.
+    fn move_all(&mut self, pairs: &PairList) -> Result<(), AllocError>
+        ensures valid { AreSequences self.new.users }
+        ensures ok { OnOk result (IsAllChanged (moved pairs.now) self.old.users self.new.users) }
+        ensures cur { self.new.cur ≡ self.old.cur }
+        ensures err { OnErr result (self.new ≡ self.old) }
+    {
+        let ordered = in_order(self.alloc, pairs)?;
+        let sources = sources(self.alloc, &ordered)?;
+        self.change(Change::Move(&ordered, &sources))
+    }
+
     fn move_numbers(&mut self, pairs: &PairList) -> Result<(), AllocError>
         ensures valid { AreSequences self.new.users }
         ensures ok { OnOk result
@@ -244,8 +210,7 @@ impl Sequences {
             × (self.new.cur ≡ moved_cur pairs.now self.old.cur)) }
         ensures err { OnErr result (self.new ≡ self.old) }
     {
-        let sources = sources(self.alloc, pairs)?;
-        self.change(Change::Move(pairs, &sources))?;
+        self.move_all(pairs)?;
         self.cur = match self.cur {
             Some(cur) => Some(new_number(pairs, cur)),
             None => None,

@@ -5,4 +5,5 @@ mod Missing
 pub mod Naming
 pub mod Once
 pub mod Walking
+mod WantedKeys
 mod Worked

@@ -7,5 +7,5 @@ use Rattle.part_rows.specs.PartViews.{PartView}
 
 -- whether a choice has a part
 abbrev pub chooses : Choice → PartView → Bool
-chooses (Listed wanted) part = is_listed wanted.now part
-chooses (Stored wanted) part = is_stored wanted.now part
+chooses (Listed wanted) part = is_listed wanted part
+chooses (Stored wanted) part = is_stored wanted part

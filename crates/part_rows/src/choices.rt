@@ -1,44 +1,32 @@
 // Which parts are chosen.
-ghost use Rattle.std.specs.Prelude.{◌≡◌, ℕ, List, bytes_eq};
-ghost use Rattle.std.specs.List.{list_any};
+ghost use Rattle.std.specs.Prelude.{◌≡◌, ℕ, List};
 ghost use Rattle.part_rows.specs.Choices.{is_listed as stands_listed, is_named as stands_named, is_stored as stands_stored};
 ghost use Rattle.part_rows.specs.Chosen.{chooses};
 ghost use Rattle.part_rows.specs.PartViews.{view_of};
 
-use mime_tree::{Part, PartPath};
+use crate::wanted::Wanted;
+use mime_tree::Part;
 
 /// The parts of which rows tell, or those that are stored, where these paths are wanted.
-#[derive(Clone, Copy)]
+#[derive(Drop)]
 pub(crate) enum Choice<'a> {
-    Listed(&'a [PartPath]),
-    Stored(&'a [PartPath]),
+    Listed(Wanted<'a>),
+    Stored(Wanted<'a>),
 }
 
-fn same_path(a: &PartPath, b: &PartPath) -> bool
-    ensures { result ≡ bytes_eq a.now b.now }
+fn is_named(wanted: &Wanted<'_>, part: &Part) -> bool
+    ensures { (bytes : List ℕ) → result ≡ stands_named wanted.now (view_of bytes part.now) }
 {
-    a.numbers().as_slice() == b.numbers().as_slice()
+    wanted.has(&part.path)
 }
 
-fn is_among(paths: &[PartPath], path: &PartPath) -> bool
-    ensures { result ≡ list_any (λ p. bytes_eq p path.now) paths.now }
-{
-    paths.iter().any(|one| same_path(one, path))
-}
-
-fn is_named(paths: &[PartPath], part: &Part) -> bool
-    ensures { (bytes : List ℕ) → result ≡ stands_named paths.now (view_of bytes part.now) }
-{
-    is_among(paths, &part.path)
-}
-
-fn is_listed(wanted: &[PartPath], part: &Part) -> bool
+fn is_listed(wanted: &Wanted<'_>, part: &Part) -> bool
     ensures { (bytes : List ℕ) → result ≡ stands_listed wanted.now (view_of bytes part.now) }
 {
     wanted.is_empty() || is_named(wanted, part)
 }
 
-fn is_stored(wanted: &[PartPath], part: &Part) -> bool
+fn is_stored(wanted: &Wanted<'_>, part: &Part) -> bool
     ensures { (bytes : List ℕ) → result ≡ stands_stored wanted.now (view_of bytes part.now) }
 {
     if wanted.is_empty() {
@@ -49,8 +37,8 @@ fn is_stored(wanted: &[PartPath], part: &Part) -> bool
 }
 
 impl Choice<'_> {
-    pub(crate) fn has(self, part: &Part) -> bool
-        ensures { (bytes : List ℕ) → result ≡ chooses self.entry (view_of bytes part.now) }
+    pub(crate) fn has(&self, part: &Part) -> bool
+        ensures { (bytes : List ℕ) → result ≡ chooses self.now (view_of bytes part.now) }
     {
         match self {
             Choice::Listed(wanted) => is_listed(wanted, part),

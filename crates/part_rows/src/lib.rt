@@ -12,6 +12,7 @@ mod rows;
 mod spans;
 mod texts;
 mod walk;
+mod wanted;
 
 pub use files::{file_name, storing_line};
 pub use message::MessageParts;

@@ -11,6 +11,7 @@ use crate::columns::line;
 use crate::rows::part_columns;
 use crate::spans::text_of;
 use crate::walk::push_chosen;
+use crate::wanted::Wanted;
 use mh_base::{Bytes, BytesList, List, MsgNum};
 use mime_tree::{Part, PartPath, Tree};
 use std::alloc::{AllocError, Global};
@@ -59,10 +60,10 @@ impl<'a> MessageParts<'a> {
         None
     }
 
-    fn chosen(&self, alloc: Global, choice: Choice<'_>) -> Result<Vec<&Part>, AllocError>
+    fn chosen(&self, alloc: Global, choice: &Choice<'_>) -> Result<Vec<&Part>, AllocError>
         ensures { IfOk result
             (λ parts.
-            map (λ p. view_of self.now p.now) parts.items ≡ filter (chooses choice.entry) (parts_of self.now)) }
+            map (λ p. view_of self.now p.now) parts.items ≡ filter (chooses choice.now) (parts_of self.now)) }
     {
         let mut parts = Vec::new(alloc);
         push_chosen(&mut parts, choice, self.tree.root())?;
@@ -75,7 +76,7 @@ impl<'a> MessageParts<'a> {
         ensures { IfOk result
             (λ parts. map (λ p. view_of self.now p.now) parts.items ≡ stored_of wanted.now (parts_of self.now)) }
     {
-        self.chosen(alloc, Choice::Stored(wanted))
+        self.chosen(alloc, &Choice::Stored(Wanted::of(alloc, wanted)?))
     }
 
     /// The bytes that a part of this message carries.
@@ -114,7 +115,7 @@ impl<'a> MessageParts<'a> {
     ) -> Result<BytesList, AllocError>
         ensures { IfOk result (λ rows. rows ≡ rows_of number wanted.now self.now) }
     {
-        let parts = self.chosen(alloc, Choice::Listed(wanted))?;
+        let parts = self.chosen(alloc, &Choice::Listed(Wanted::of(alloc, wanted)?))?;
         let mut rows = List::new(alloc);
         for part in &parts {
             rows.push(self.row(alloc, number, part)?)?;

@@ -13,13 +13,13 @@ use std::alloc::AllocError;
 /// Adds a part where it is chosen.
 fn push_one<'a>(
     parts: &mut Vec<&'a Part>,
-    choice: Choice<'_>,
+    choice: &Choice<'_>,
     part: &'a Part,
 ) -> Result<(), AllocError>
     ensures { (bytes : List ℕ)
         → OnOk result
         (map (λ p. view_of bytes p.now) parts.new.items ≡ map (λ p. view_of bytes p.now) parts.old.items
-        ++ filter (chooses choice.entry) (view_of bytes part.now ∷ [])) }
+        ++ filter (chooses choice.now) (view_of bytes part.now ∷ [])) }
 {
     if choice.has(part) {
         parts.push(part)?;
@@ -30,14 +30,14 @@ fn push_one<'a>(
 /// Adds those of a part and the parts below it that are chosen, each before its kids.
 pub(crate) fn push_chosen<'a>(
     parts: &mut Vec<&'a Part>,
-    choice: Choice<'_>,
+    choice: &Choice<'_>,
     part: &'a Part,
 ) -> Result<(), AllocError>
     ensures { (levels : ℕ) (bytes : List ℕ) (fallback : Fallback) (path : List ℕ) (span : Span)
         → IsPart levels bytes fallback path span part.now
         → OnOk result
         (map (λ p. view_of bytes p.now) parts.new.items ≡ map (λ p. view_of bytes p.now) parts.old.items
-        ++ filter (chooses choice.entry) (parts_at levels bytes fallback path span)) }
+        ++ filter (chooses choice.now) (parts_at levels bytes fallback path span)) }
 {
     push_one(parts, choice, part)?;
     for kid in part.kids.as_slice() {

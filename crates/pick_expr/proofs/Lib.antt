@@ -12,5 +12,6 @@ mod OneBit
 mod PassedBytes
 pub mod Picks
 mod ReaderFaults
+mod Skipping
 mod WordPlaces
 mod WordValues

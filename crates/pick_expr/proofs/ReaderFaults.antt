@@ -12,8 +12,8 @@ use Rattle.pick_expr.specs.declared.one_test.Test.TheVariants.{Search}
 use Rattle.pick_expr.specs.declared.sign.Sign.{Sign}
 use Rattle.pick_expr.specs.declared.sign.Sign.TheVariants.{Aside, Field, Word, BadPattern, BadDate}
 use Rattle.pick_expr.specs.Grammar.{Tree, Every, IsExpression, no_words, some_words}
-use Rattle.pick_expr.specs.Progress.{ended, fault_in, IsFaultOf, passed, place_behind, words_in}
-use Rattle.pick_expr.specs.Refusals.{AreNone, BeginExpression, IsReadAs, IsRefused, IsRefusedFor, place_behind_all, StandBefore}
+use Rattle.pick_expr.specs.Progress.{ended, fault_in, IsFaultOf, passed, words_in}
+use Rattle.pick_expr.specs.Refusals.{AreNone, BeginExpression, IsReadAs, IsRefused, IsRefusedFor, StandBefore}
 use Rattle.mh_words.specs.declared.item.Item.{Item}
 use Rattle.pick_expr.specs.Signs.{Day, Placed, place_of, sign_of, signs_in, with_sign}
 use Rattle.pick_expr.specs.Steps.{Spot, step, may_end, at_start}
@@ -88,10 +88,6 @@ stand_more : (front : List Lexeme) (place : ℕ) (w : Lexeme) (rest placed : Lis
 stand_more [] place w rest placed h = (place, rest, h, refl)
 stand_more (x ∷ front) place w rest placed (p, behind, e, h) = (p, behind, e, stand_more front place w rest behind h)
 
-behind_stand : (front : List Lexeme) (p : Placed) (rest placed : List Placed) (q : ℕ) → StandBefore front (p ∷ rest) placed → place_behind_all q placed ≡ place_behind_all p.place rest
-behind_stand [] p rest placed q h = ap (place_behind_all q) h
-behind_stand (x ∷ front) p rest placed q (place, behind, e, h) = ap (place_behind_all q) e ∙ behind_stand front p rest behind place h
-
 pub record IsFilled (words : List Lexeme) : Type 0 where
   pub first : Lexeme
   pub others : List Lexeme
@@ -101,10 +97,10 @@ filled : (front : List Lexeme) (w : Lexeme) → IsFilled (front ++ w ∷ [])
 filled [] w = record { first = w; others = []; is = refl }
 filled (x ∷ front) w = record { first = x; others = front ++ w ∷ []; is = refl }
 
--- the place of the last word before the rest
-abbrev pub LastIs : Option ℕ → List Lexeme → List Placed → List Placed → Type 0
-LastIs None front rest placed = front ≡ []
-LastIs (Some p) front rest placed = IsFilled front × (place_behind_all 0 placed ≡ place_behind_all p rest)
+-- there were words before the rest, or none
+abbrev pub BegunBy : Bool → List Lexeme → Type 0
+BegunBy false front = front ≡ []
+BegunBy true front = IsFilled front
 
 abbrev pub IsPart : Sign → Type 0
 IsPart Aside = ⊥
@@ -122,61 +118,61 @@ pub record IsSomeTree (words : List Lexeme) : Type 0 where
   pub tree : Tree
   pub whole : IsExpression words tree
 
-abbrev pub Verdict : List Placed → List Lexeme → List Placed → Option ExprFault → Type 0
-Verdict placed front rest None = StandBefore (front ++ words_in rest) [] placed × IsSomeTree (front ++ words_in rest)
-Verdict placed front rest (Some fault) = IsRefusedFor placed fault
+abbrev pub Verdict : ℕ → List Placed → List Lexeme → List Placed → Option ExprFault → Type 0
+Verdict end placed front rest None = StandBefore (front ++ words_in rest) [] placed × IsSomeTree (front ++ words_in rest)
+Verdict end placed front rest (Some fault) = IsRefusedFor end placed fault
 
 none_filled : (words : List Lexeme) (s : Spot) → IsFilled words → spot_behind words at_start ≡ Some s → may_end s ≡ false → AreNone words
 none_filled words s f h still =
     subst (λ z. AreNone z) (sym f.is) (ends_none f.first f.others s (ap (λ z. spot_behind z at_start) (sym f.is) ∙ h) still)
 
-end_verdict : (placed : List Placed) (front : List Lexeme) (s : Spot) (last : Option ℕ) → StandBefore front [] placed → spot_behind front at_start ≡ Some s → LastIs last front [] placed → Verdict placed front [] (ended s last)
-end_verdict placed front s None stand h empty = (
+end_verdict : (end : ℕ) (placed : List Placed) (front : List Lexeme) (s : Spot) (begun : Bool) → StandBefore front [] placed → spot_behind front at_start ≡ Some s → BegunBy begun front → Verdict end placed front [] (ended end s begun)
+end_verdict end placed front s false stand h empty = (
   subst (λ (z : List Lexeme). StandBefore z [] placed) (sym (append-nil front)) stand,
   subst (λ (z : List Lexeme). IsSomeTree z) (sym (append-nil front ∙ empty)) (record { tree = Every; whole = no_words }),
 )
-end_verdict placed front s (Some p) stand h (f, behind) = choose (may_end s) refl
+end_verdict end placed front s true stand h f = choose (may_end s) refl
   where
-    choose : (t : Bool) → may_end s ≡ t → Verdict placed front [] (if t then None else Some (BadExpr (place_behind p)))
+    choose : (t : Bool) → may_end s ≡ t → Verdict end placed front [] (if t then None else Some (BadExpr end))
     choose true e =
         let whole = is_either front (ap (λ z. passes z at_start) (sym (append-nil front)) ∙ passes_behind front [] at_start ∙ ap (then_ends (passes [])) h ∙ e) in (
           subst (λ (z : List Lexeme). StandBefore z [] placed) (sym (append-nil front)) stand,
           subst (λ (z : List Lexeme). IsSomeTree z) (sym (append-nil front)) (record { tree = whole.tree; whole = some_words whole.is }),
         )
-    choose false e = record { before = front; rest = []; stand = stand; begin = begins front s h; wrong = (none_filled front s f h e, ap BadExpr (sym behind)) }
+    choose false e = record { before = front; rest = []; stand = stand; begin = begins front s h; wrong = (none_filled front s f h e, refl) }
 
-regroup : (placed : List Placed) (front : List Lexeme) (place : ℕ) (w : Lexeme) (ps : List Placed) (o : Option ExprFault) → Verdict placed (front ++ w ∷ []) ps o → Verdict placed front (record { place = place; sign = Word w } ∷ ps) o
-regroup placed front place w ps None v =
+regroup : (end : ℕ) (placed : List Placed) (front : List Lexeme) (place : ℕ) (w : Lexeme) (ps : List Placed) (o : Option ExprFault) → Verdict end placed (front ++ w ∷ []) ps o → Verdict end placed front (record { place = place; sign = Word w } ∷ ps) o
+regroup end placed front place w ps None v =
     let same : (front ++ w ∷ []) ++ words_in ps ≡ front ++ (w ∷ words_in ps) = append_assoc front (w ∷ []) (words_in ps) in
     (subst (λ (z : List Lexeme). StandBefore z [] placed) same v.0, subst (λ (z : List Lexeme). IsSomeTree z) same v.1)
-regroup placed front place w ps (Some fault) v = v
+regroup end placed front place w ps (Some fault) v = v
 
-word_verdict : (placed : List Placed) (front : List Lexeme) (s : Spot) (place : ℕ) (w : Lexeme) (ps : List Placed) → StandBefore front (record { place = place; sign = Word w } ∷ ps) placed → spot_behind front at_start ≡ Some s
-    → ((t : Spot) → spot_behind (front ++ w ∷ []) at_start ≡ Some t → Verdict placed (front ++ w ∷ []) ps (fault_in ps t (Some place)))
-    → Verdict placed front (record { place = place; sign = Word w } ∷ ps) (passed place (step w s) (λ next. fault_in ps next (Some place)))
-word_verdict placed front s place w ps stand h on = choose (step w s) refl
+word_verdict : (end : ℕ) (placed : List Placed) (front : List Lexeme) (s : Spot) (place : ℕ) (w : Lexeme) (ps : List Placed) → StandBefore front (record { place = place; sign = Word w } ∷ ps) placed → spot_behind front at_start ≡ Some s
+    → ((t : Spot) → spot_behind (front ++ w ∷ []) at_start ≡ Some t → Verdict end placed (front ++ w ∷ []) ps (fault_in end ps t true))
+    → Verdict end placed front (record { place = place; sign = Word w } ∷ ps) (passed place (step w s) (λ next. fault_in end ps next true))
+word_verdict end placed front s place w ps stand h on = choose (step w s) refl
   where
     goes : spot_behind (front ++ w ∷ []) at_start ≡ step w s
     goes = spot_behind-append front w at_start ∙ ap (then_goes (step w)) h
 
-    choose : (o : Option Spot) → step w s ≡ o → Verdict placed front (record { place = place; sign = Word w } ∷ ps) (passed place o (λ next. fault_in ps next (Some place)))
+    choose : (o : Option Spot) → step w s ≡ o → Verdict end placed front (record { place = place; sign = Word w } ∷ ps) (passed place o (λ next. fault_in end ps next true))
     choose None e = record { before = front; rest = record { place = place; sign = Word w } ∷ ps; stand = stand; begin = begins front s h; wrong = (begins_none (front ++ w ∷ []) (goes ∙ e), refl) }
-    choose (Some t) e = regroup placed front place w ps (fault_in ps t (Some place)) (on t (goes ∙ e))
+    choose (Some t) e = regroup end placed front place w ps (fault_in end ps t true) (on t (goes ∙ e))
 
 -- what is read is an expression, or the first fault is that of the first word that is refused
-verdict : (placed : List Placed) (rest : List Placed) → AreParts rest → (front : List Lexeme) (s : Spot) (last : Option ℕ) → StandBefore front rest placed → spot_behind front at_start ≡ Some s → LastIs last front rest placed
-    → Verdict placed front rest (fault_in rest s last)
-verdict placed [] parts front s last stand h l = end_verdict placed front s last stand h l
-verdict placed (p ∷ ps) parts front s last stand h l =
+verdict : (end : ℕ) (placed : List Placed) (rest : List Placed) → AreParts rest → (front : List Lexeme) (s : Spot) (begun : Bool) → StandBefore front rest placed → spot_behind front at_start ≡ Some s → BegunBy begun front
+    → Verdict end placed front rest (fault_in end rest s begun)
+verdict end placed [] parts front s begun stand h l = end_verdict end placed front s begun stand h l
+verdict end placed (p ∷ ps) parts front s begun stand h l =
     one p.place p.sign parts.0 stand
-    (λ w st t e. verdict placed ps parts.1 (front ++ w ∷ []) t (Some p.place) (stand_more front p.place w ps placed st) e (filled front w, behind_stand front p ps placed 0 stand))
+    (λ w st t e. verdict end placed ps parts.1 (front ++ w ∷ []) t true (stand_more front p.place w ps placed st) e (filled front w))
   where
     one : (place : ℕ) (sign : Sign) → IsPart sign → StandBefore front (record { place = place; sign = sign } ∷ ps) placed
-        → ((w : Lexeme) → StandBefore front (record { place = place; sign = Word w } ∷ ps) placed → (t : Spot) → spot_behind (front ++ w ∷ []) at_start ≡ Some t → Verdict placed (front ++ w ∷ []) ps (fault_in ps t (Some place)))
-        → Verdict placed front (record { place = place; sign = sign } ∷ ps) (fault_in (record { place = place; sign = sign } ∷ ps) s last)
+        → ((w : Lexeme) → StandBefore front (record { place = place; sign = Word w } ∷ ps) placed → (t : Spot) → spot_behind (front ++ w ∷ []) at_start ≡ Some t → Verdict end placed (front ++ w ∷ []) ps (fault_in end ps t true))
+        → Verdict end placed front (record { place = place; sign = sign } ∷ ps) (fault_in end (record { place = place; sign = sign } ∷ ps) s begun)
     one place Aside part st on = absurd part
     one place (Field name) part st on = absurd part
-    one place (Word w) part st on = word_verdict placed front s place w ps st h (on w st)
+    one place (Word w) part st on = word_verdict end placed front s place w ps st h (on w st)
     one place BadPattern part st on = record { before = front; rest = record { place = place; sign = BadPattern } ∷ ps; stand = st; begin = begins front s h; wrong = refl }
     one place BadDate part st on = record { before = front; rest = record { place = place; sign = BadDate } ∷ ps; stand = st; begin = begins front s h; wrong = refl }
 
@@ -191,12 +187,12 @@ are_parts : (day : Day) (items : List Item) (field : List ℕ) → AreParts (sig
 are_parts day [] field = tt
 are_parts day (i ∷ items) field = sign_part (place_of i) (sign_of day field i) field (signs_in day items) (λ f. are_parts day items f)
 
-all_read : (day : Day) (items : List Item) → Verdict (signs_in day items (codes "date")) [] (signs_in day items (codes "date")) (fault_in (signs_in day items (codes "date")) at_start None)
-all_read day items = verdict (signs_in day items (codes "date")) (signs_in day items (codes "date")) (are_parts day items (codes "date")) [] at_start None refl refl refl
+all_read : (end : ℕ) (day : Day) (items : List Item) → Verdict end (signs_in day items (codes "date")) [] (signs_in day items (codes "date")) (fault_in end (signs_in day items (codes "date")) at_start false)
+all_read end day items = verdict end (signs_in day items (codes "date")) (signs_in day items (codes "date")) (are_parts day items (codes "date")) [] at_start false refl refl refl
 
-pub is_read : (day : Day) (items : List Item) (e : Expr) → (fault_in (signs_in day items (codes "date")) at_start None ≡ None) × (e.words ≡ words_in (signs_in day items (codes "date"))) → IsReadAs (signs_in day items (codes "date")) e
-is_read day items e (fine, words) =
-    let v = subst (λ (z : Option ExprFault). Verdict (signs_in day items (codes "date")) [] (signs_in day items (codes "date")) z) fine (all_read day items) in
+pub is_read : (end : ℕ) (day : Day) (items : List Item) (e : Expr) → (fault_in end (signs_in day items (codes "date")) at_start false ≡ None) × (e.words ≡ words_in (signs_in day items (codes "date"))) → IsReadAs (signs_in day items (codes "date")) e
+is_read end day items e (fine, words) =
+    let v = subst (λ (z : Option ExprFault). Verdict end (signs_in day items (codes "date")) [] (signs_in day items (codes "date")) z) fine (all_read end day items) in
     let t = v.1 in
     record {
       stand = subst (λ (z : List Lexeme). StandBefore z [] (signs_in day items (codes "date"))) (sym words) v.0;
@@ -204,21 +200,21 @@ is_read day items e (fine, words) =
       whole = subst (λ (z : List Lexeme). IsExpression z t.tree) (sym words) t.whole;
     }
 
-refused_by : (day : Day) (items : List Item) (e : ExprFault) → fault_in (signs_in day items (codes "date")) at_start None ≡ Some e → IsRefusedFor (signs_in day items (codes "date")) e
-refused_by day items e fault =
-    subst (λ (z : Option ExprFault). Verdict (signs_in day items (codes "date")) [] (signs_in day items (codes "date")) z) fault (all_read day items)
+refused_by : (end : ℕ) (day : Day) (items : List Item) (e : ExprFault) → fault_in end (signs_in day items (codes "date")) at_start false ≡ Some e → IsRefusedFor end (signs_in day items (codes "date")) e
+refused_by end day items e fault =
+    subst (λ (z : Option ExprFault). Verdict end (signs_in day items (codes "date")) [] (signs_in day items (codes "date")) z) fault (all_read end day items)
 
-pub is_refused : (day : Day) (items : List Item) (e : ExprFault) → IsFaultOf (fault_in (signs_in day items (codes "date")) at_start None) e → IsRefused (signs_in day items (codes "date")) e
-is_refused day items (BadExpr place) fault = refused_by day items (BadExpr place) fault
-is_refused day items (BadDateAt place) fault = refused_by day items (BadDateAt place) fault
-is_refused day items Memory fault = tt
+pub is_refused : (end : ℕ) (day : Day) (items : List Item) (e : ExprFault) → IsFaultOf (fault_in end (signs_in day items (codes "date")) at_start false) e → IsRefused end (signs_in day items (codes "date")) e
+is_refused end day items (BadExpr place) fault = refused_by end day items (BadExpr place) fault
+is_refused end day items (BadDateAt place) fault = refused_by end day items (BadDateAt place) fault
+is_refused end day items Memory fault = tt
 
-pub read_ok : (day : Day) (items : List Item) (r : Result Expr ExprFault)
-    → IfOk r (λ e. (fault_in (signs_in day items (codes "date")) at_start None ≡ None) × (e.words ≡ words_in (signs_in day items (codes "date")))) → IfOk r (IsReadAs (signs_in day items (codes "date")))
-read_ok day items (Ok e) h = is_read day items e h
-read_ok day items (Err e) h = tt
+pub read_ok : (end : ℕ) (day : Day) (items : List Item) (r : Result Expr ExprFault)
+    → IfOk r (λ e. (fault_in end (signs_in day items (codes "date")) at_start false ≡ None) × (e.words ≡ words_in (signs_in day items (codes "date")))) → IfOk r (IsReadAs (signs_in day items (codes "date")))
+read_ok end day items (Ok e) h = is_read end day items e h
+read_ok end day items (Err e) h = tt
 
-pub read_err : (day : Day) (items : List Item) (r : Result Expr ExprFault)
-    → IfErr r (IsFaultOf (fault_in (signs_in day items (codes "date")) at_start None)) → IfErr r (IsRefused (signs_in day items (codes "date")))
-read_err day items (Ok e) h = tt
-read_err day items (Err e) h = is_refused day items e h
+pub read_err : (end : ℕ) (day : Day) (items : List Item) (r : Result Expr ExprFault)
+    → IfErr r (IsFaultOf (fault_in end (signs_in day items (codes "date")) at_start false)) → IfErr r (IsRefused end (signs_in day items (codes "date")))
+read_err end day items (Ok e) h = tt
+read_err end day items (Err e) h = is_refused end day items e h

@@ -11,6 +11,7 @@ pub mod Reading
 pub mod Refusals
 pub mod Resting
 pub mod Signs
+pub mod Skipping
 pub mod Spots
 pub mod Steps
 pub mod Switches

@@ -1,5 +1,5 @@
 -- How far the words of an expression were read.
-use Rattle.std.specs.Prelude.{◌≡◌, ℕ, ◌+◌, min, List, [], ◌∷◌, ◌++◌, Option, Some, None, if◌then◌else◌}
+use Rattle.std.specs.Prelude.{◌≡◌, ℕ, Bool, true, false, List, [], ◌∷◌, ◌++◌, Option, Some, None, if◌then◌else◌}
 use Rattle.pick_expr.specs.declared.expr.Progress.{Progress}
 use Rattle.pick_expr.specs.declared.fault.ExprFault.{ExprFault}
 use Rattle.pick_expr.specs.declared.fault.ExprFault.TheVariants.{BadExpr, BadDate as BadDateAt, Memory}
@@ -10,14 +10,10 @@ use Rattle.pick_expr.specs.Signs.{Placed}
 use Rattle.pick_expr.specs.Spots.{spot_of}
 use Rattle.pick_expr.specs.Steps.{Spot, step, may_end}
 
--- the place behind a word, which stands still at the last number
-abbrev pub place_behind : ℕ → ℕ
-place_behind place = min (place + 1) 18446744073709551615
-
--- what is wrong at the end, behind the word at this place
-abbrev pub ended : Spot → Option ℕ → Option ExprFault
-ended s None = None
-ended s (Some place) = if may_end s then None else Some (BadExpr (place_behind place))
+-- what is wrong at the end, where there were words of an expression or none; this place is behind all words
+abbrev pub ended : ℕ → Spot → Bool → Option ExprFault
+ended behind s false = None
+ended behind s true = if may_end s then None else Some (BadExpr behind)
 
 abbrev pub passed : ℕ → Option Spot → (Spot → Option ExprFault) → Option ExprFault
 passed place None rest = Some (BadExpr place)
@@ -30,10 +26,10 @@ passed_sign place (Word word) s rest = passed place (step word s) rest
 passed_sign place BadPattern s rest = Some (BadExpr place)
 passed_sign place BadDate s rest = Some (BadDateAt place)
 
--- the first fault of these words, if there is one
-abbrev pub fault_in : List Placed → Spot → Option ℕ → Option ExprFault
-fault_in [] s last = ended s last
-fault_in (p ∷ ps) s last = passed_sign p.place p.sign s (λ next. fault_in ps next (Some p.place))
+-- the first fault of these words, if there is one; this place is behind all words
+abbrev pub fault_in : ℕ → List Placed → Spot → Bool → Option ExprFault
+fault_in behind [] s begun = ended behind s begun
+fault_in behind (p ∷ ps) s begun = passed_sign p.place p.sign s (λ next. fault_in behind ps next true)
 
 abbrev pub word_of : Sign → List Lexeme
 word_of Aside = []
@@ -51,11 +47,11 @@ pub record IsPassed (place : ℕ) (word : Lexeme) (old new : Progress) : Type 0 
   pub spot : step word (spot_of old.reader) ≡ Some (spot_of new.reader)
   pub words : new.words ≡ old.words ++ word ∷ []
   pub field : new.field ≡ old.field
-  pub last : new.last ≡ Some place
+  pub is_begun : new.is_begun ≡ true
 
 -- what is left to read comes to the same as before
 pub record Continues (old new : Progress) (signs rest : List Placed) : Type 0 where
-  pub fault : fault_in signs (spot_of old.reader) old.last ≡ fault_in rest (spot_of new.reader) new.last
+  pub fault : (behind : ℕ) → fault_in behind signs (spot_of old.reader) old.is_begun ≡ fault_in behind rest (spot_of new.reader) new.is_begun
   pub words : old.words ++ words_in signs ≡ new.words ++ words_in rest
 
 abbrev pub IsFaultOf : Option ExprFault → ExprFault → Type 0

@@ -7,7 +7,6 @@ use Rattle.pick_expr.specs.declared.lexeme.Lexeme.{Lexeme}
 use Rattle.pick_expr.specs.declared.sign.Sign.{Sign}
 use Rattle.pick_expr.specs.declared.sign.Sign.TheVariants.{Aside, Field, Word, BadPattern, BadDate}
 use Rattle.pick_expr.specs.Grammar.{Tree, IsExpression}
-use Rattle.pick_expr.specs.Progress.{place_behind}
 use Rattle.pick_expr.specs.Signs.{Placed}
 
 -- these words of an expression stand before the rest
@@ -34,29 +33,25 @@ IsWrong before place (Word word) fault = (BeginExpression (before ++ word ∷ []
 IsWrong before place BadPattern fault = fault ≡ BadExpr place
 IsWrong before place BadDate fault = fault ≡ BadDateAt place
 
--- the place behind the last of these words
-abbrev pub place_behind_all : ℕ → List Placed → ℕ
-place_behind_all last [] = place_behind last
-place_behind_all last (p ∷ placed) = place_behind_all p.place placed
+-- behind these words the next is wrong, or the words end too early: then the place is the one behind all words
+abbrev pub IsWrongBehind : ℕ → List Lexeme → List Placed → ExprFault → Type 0
+IsWrongBehind end before [] fault = AreNone before × (fault ≡ BadExpr end)
+IsWrongBehind end before (p ∷ behind) fault = IsWrong before p.place p.sign fault
 
--- behind these words the next is wrong, or the words end too early
-abbrev pub IsWrongBehind : List Lexeme → List Placed → List Placed → ExprFault → Type 0
-IsWrongBehind before placed [] fault = AreNone before × (fault ≡ BadExpr (place_behind_all 0 placed))
-IsWrongBehind before placed (p ∷ behind) fault = IsWrong before p.place p.sign fault
-
--- the first word that is refused stands behind words with which an expression begins
-pub record IsRefusedFor (placed : List Placed) (fault : ExprFault) : Type 0 where
+-- the first word that is refused stands behind words with which an expression begins; the end is the place behind all
+-- words
+pub record IsRefusedFor (end : ℕ) (placed : List Placed) (fault : ExprFault) : Type 0 where
   pub before : List Lexeme
   pub rest : List Placed
   pub stand : StandBefore before rest placed
   pub begin : BeginExpression before
-  pub wrong : IsWrongBehind before placed rest fault
+  pub wrong : IsWrongBehind end before rest fault
 
 -- nothing is said of want of memory
-abbrev pub IsRefused : List Placed → ExprFault → Type 0
-IsRefused placed (BadExpr place) = IsRefusedFor placed (BadExpr place)
-IsRefused placed (BadDateAt place) = IsRefusedFor placed (BadDateAt place)
-IsRefused placed Memory = Unit {0}
+abbrev pub IsRefused : ℕ → List Placed → ExprFault → Type 0
+IsRefused end placed (BadExpr place) = IsRefusedFor end placed (BadExpr place)
+IsRefused end placed (BadDateAt place) = IsRefusedFor end placed (BadDateAt place)
+IsRefused end placed Memory = Unit {0}
 
 -- all words are those of the expression
 pub record IsReadAs (placed : List Placed) (expr : Expr) : Type 0 where

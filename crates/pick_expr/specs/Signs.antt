@@ -1,5 +1,5 @@
 -- What the words of a command line are to an expression.
-use Rattle.std.specs.Prelude.{ℕ, ℤ, pos, ◌+ℤ◌, ◌*ℤ◌, List, [], ◌∷◌, Option, Some, None, codes}
+use Rattle.std.specs.Prelude.{ℕ, ◌+◌, ◌-◌, min, ℤ, pos, ◌+ℤ◌, ◌*ℤ◌, List, [], ◌∷◌, length, slice_get, Option, Some, None, codes}
 use Rattle.std.specs.Int.{int_div_euclid}
 use Rattle.std.specs.Str.{encode_utf8_all}
 use Rattle.mail_dates.specs.Picking.{picked}
@@ -89,6 +89,26 @@ place_of (Folder text place) = place
 place_of (Message text place) = place
 place_of (Switch index value place) = place
 place_of (Component name value place) = place
+
+-- the place behind a word, and behind so many: it stands still at the last number
+abbrev pub place_behind : ℕ → ℕ → ℕ
+place_behind count place = min (place + count) 18446744073709551615
+
+-- the place behind an item: a value is a word of its own
+abbrev pub behind_item : Item → ℕ
+behind_item (Folder text place) = place_behind 1 place
+behind_item (Message text place) = place_behind 1 place
+behind_item (Switch index None place) = place_behind 1 place
+behind_item (Switch index (Some value) place) = place_behind 2 place
+behind_item (Component name value place) = place_behind 2 place
+
+abbrev pub behind_some : Option Item → ℕ
+behind_some None = 0
+behind_some (Some item) = behind_item item
+
+-- the place behind all words of these items, those of messages and folders too
+abbrev pub behind_all : List Item → ℕ
+behind_all items = behind_some (slice_get items (length items - 1))
 
 -- a word of an expression, at its place
 pub record Placed : Type 0 where

@@ -1,11 +1,11 @@
 // Expressions, as they are read.
-ghost use Rattle.std.specs.Prelude.{◌≡◌, ℕ, ℤ, List as ListOf, [], ◌∷◌, ◌++◌, Some, None, IfOk, IfErr, codes};
+ghost use Rattle.std.specs.Prelude.{◌≡◌, ℕ, ℤ, true, false, List as ListOf, [], ◌∷◌, ◌++◌, Some, None, IfOk, IfErr, codes};
 ghost use Rattle.mail_dates.specs.Clocks.{IsSetting};
 ghost use Rattle.mail_dates.specs.Picking.{IsToday};
 ghost use Rattle.mh_words.specs.declared.item.Item.{Item as ItemValue};
-ghost use Rattle.pick_expr.specs.Progress.{Continues, ended, fault_in, IsFaultOf, IsPassed, passed, place_behind, words_in};
+ghost use Rattle.pick_expr.specs.Progress.{Continues, ended, fault_in, IsFaultOf, IsPassed, passed, words_in};
 ghost use Rattle.pick_expr.specs.Refusals.{IsReadAs, IsRefused};
-ghost use Rattle.pick_expr.specs.Signs.{day_of, Placed, place_of, sign_of, signs_in, with_sign};
+ghost use Rattle.pick_expr.specs.Signs.{behind_all, behind_item, day_of, Placed, place_of, sign_of, signs_in, with_sign};
 ghost use Rattle.pick_expr.specs.Spots.{spot_of};
 ghost use Rattle.pick_expr.specs.Steps.{at_start, step};
 ghost use Rattle.pick_expr.specs.Whole.{IsExprOf, expr_in};
@@ -23,27 +23,27 @@ pub struct Expr {
     pub(crate) words: List<Lexeme>,
 }
 
-/// How far the words were read: what may follow, the words of the expression, the field whose dates
-/// are tested, and the place of the last word.
+/// How far the words were read: what may follow, the words of the expression, and the field whose dates are tested.
 #[derive(Drop)]
 pub(crate) struct Progress {
     reader: Reader,
     words: List<Lexeme>,
     field: Bytes,
-    last: Option<u64>,
+    /// Whether there was a word of the expression.
+    is_begun: bool,
 }
 
 fn start(alloc: Global) -> Result<Progress, AllocError>
     ensures reader { IfOk result (λ p. spot_of p.reader ≡ at_start) }
     ensures words { IfOk result (λ p. p.words ≡ []) }
     ensures field { IfOk result (λ p. p.field ≡ codes "date") }
-    ensures last { IfOk result (λ p. p.last ≡ None) }
+    ensures begun { IfOk result (λ p. p.is_begun ≡ false) }
 {
     Ok(Progress {
         reader: Reader::new(alloc),
         words: List::new(alloc),
         field: Bytes::from_slice(alloc, b"date")?,
-        last: None,
+        is_begun: false,
     })
 }
 
@@ -58,6 +58,37 @@ fn place(item: &Item) -> u64
     }
 }
 
+/// The place behind an item, whose value is a word of its own.
+fn behind(item: &Item) -> u64
+    ensures { result ≡ behind_item item.now }
+{
+    match item {
+        Item::Folder { place, .. }
+        | Item::Message { place, .. }
+        | Item::Switch {
+            value: None,
+            place,
+            ..
+        } => place.saturating_add(1),
+        Item::Switch {
+            value: Some(_),
+            place,
+            ..
+        }
+        | Item::Component { place, .. } => place.saturating_add(2),
+    }
+}
+
+/// The place behind all words.
+fn end_of(items: &[Item]) -> u64
+    ensures { result ≡ behind_all items.now }
+{
+    match items.last() {
+        Some(item) => behind(item),
+        None => 0,
+    }
+}
+
 impl Progress {
     /// Passes a word of the expression.
     fn pass(&mut self, place: u64, word: Lexeme) -> Result<(), ExprFault>
@@ -68,7 +99,7 @@ impl Progress {
             return Err(ExprFault::BadExpr(place));
         }
         self.words.push(word)?;
-        self.last = Some(place);
+        self.is_begun = true;
         Ok(())
     }
 
@@ -77,8 +108,8 @@ impl Progress {
         ensures ok { IfOk result (λ _. (rest : ListOf ℕ → ListOf Placed)
             → Continues self.old self.new (with_sign place sign self.old.field rest) (rest self.new.field)) }
         ensures err { IfErr result (λ e. (rest : ListOf ℕ → ListOf Placed)
-            → IsFaultOf (fault_in (with_sign place sign self.old.field rest) (spot_of self.old.reader) self.old.last)
-            e) }
+            → (end : ℕ)
+            → IsFaultOf (fault_in end (with_sign place sign self.old.field rest) (spot_of self.old.reader) self.old.is_begun) e) }
     {
         match sign {
             Sign::Aside => Ok(()),
@@ -102,29 +133,31 @@ impl Progress {
             (signs_in (day_of today setting.now.offset_minutes) items self.new.field)) }
         ensures err { (today : ℤ) → IsToday setting.now.moment setting.now.offset_minutes today
             → IfErr result (λ e. (items : ListOf ItemValue)
-            → IsFaultOf (fault_in
+            → (end : ℕ)
+            → IsFaultOf (fault_in end
             (signs_in (day_of today setting.now.offset_minutes) (item.now ∷ items) self.old.field)
-            (spot_of self.old.reader) self.old.last) e) }
+            (spot_of self.old.reader) self.old.is_begun) e) }
     {
         let sign = read_sign(alloc, setting, &self.field, item)?;
         self.take(place(item), sign)
     }
 
-    /// The expression, if it may end here.
-    fn finish(self) -> Result<Expr, ExprFault>
+    /// The expression, if it may end here, where this is the place behind all words.
+    fn finish(self, end: u64) -> Result<Expr, ExprFault>
         ensures ok { IfOk result (λ e. e.words ≡ self.words) }
-        ensures fine { IfOk result (λ _. ended (spot_of self.reader) self.last ≡ None) }
-        ensures err { IfErr result (λ e. IsFaultOf (ended (spot_of self.reader) self.last) e) }
+        ensures fine { IfOk result (λ _. ended end (spot_of self.reader) self.is_begun ≡ None) }
+        ensures err { IfErr result (λ e. IsFaultOf (ended end (spot_of self.reader) self.is_begun) e) }
     {
         let Progress {
             reader,
             words,
-            last,
+            is_begun,
             ..
         } = self;
-        match last {
-            Some(place) if !reader.may_end() => Err(ExprFault::BadExpr(place.saturating_add(1))),
-            _ => Ok(Expr { words }),
+        if is_begun && !reader.may_end() {
+            Err(ExprFault::BadExpr(end))
+        } else {
+            Ok(Expr { words })
         }
     }
 }
@@ -134,11 +167,13 @@ fn read_items(alloc: Global, items: &[Item], setting: &Setting) -> Result<Expr, 
     requires { IsSetting setting.now.moment setting.now.offset_minutes }
     ensures ok { (today : ℤ) → IsToday setting.now.moment setting.now.offset_minutes today
         → IfOk result (λ e.
-        (fault_in (signs_in (day_of today setting.now.offset_minutes) items.now (codes "date")) at_start None ≡ None)
+        (fault_in (behind_all items.now) (signs_in (day_of today setting.now.offset_minutes) items.now (codes "date"))
+        at_start false ≡ None)
         × (e.words ≡ words_in (signs_in (day_of today setting.now.offset_minutes) items.now (codes "date")))) }
     ensures err { (today : ℤ) → IsToday setting.now.moment setting.now.offset_minutes today
         → IfErr result (IsFaultOf
-        (fault_in (signs_in (day_of today setting.now.offset_minutes) items.now (codes "date")) at_start None)) }
+        (fault_in (behind_all items.now) (signs_in (day_of today setting.now.offset_minutes) items.now (codes "date"))
+        at_start false)) }
 {
     let mut progress = start(alloc)?;
     for item in items {
@@ -147,7 +182,7 @@ fn read_items(alloc: Global, items: &[Item], setting: &Setting) -> Result<Expr, 
             Err(fault) => return Err(fault),
         }
     }
-    progress.finish()
+    progress.finish(end_of(items))
 }
 
 /// Reads the expression of a command line, whose words were read with the switches of `pick`. The dates
@@ -162,7 +197,8 @@ pub fn read_expr(
     ensures expression { (today : ℤ) → IsToday now offset_minutes today
         → IfOk result (IsReadAs (signs_in (day_of today offset_minutes) words.now.items (codes "date"))) }
     ensures refusal { (today : ℤ) → IsToday now offset_minutes today
-        → IfErr result (IsRefused (signs_in (day_of today offset_minutes) words.now.items (codes "date"))) }
+        → IfErr result (IsRefused (behind_all words.now.items)
+        (signs_in (day_of today offset_minutes) words.now.items (codes "date"))) }
     ensures value { IsExprOf (expr_in now offset_minutes words.now.items) result }
 {
     let setting = Setting {

@@ -1,5 +1,6 @@
 // What words come to between braces.
 ghost use Rattle.std.specs.Prelude.{◌≡◌, ◌||◌, not};
+ghost use Rattle.pick_expr.specs.Skipping.{is_settled};
 ghost use Rattle.pick_expr.specs.Values.{absorbed, fresh, next_choice as next_choice_of};
 
 /// Whether an alternative before holds, whether what is joined so far holds, and whether the operand
@@ -26,6 +27,13 @@ impl Frame {
         ensures { result ≡ (self.any || self.all) }
     {
         self.any || self.all
+    }
+
+    /// Whether what comes next, up to `-or`, no longer counts.
+    pub fn is_settled(self) -> bool
+        ensures { result ≡ is_settled self }
+    {
+        self.any || !self.all
     }
 
     /// Behind an operand of this value.

@@ -1,22 +1,20 @@
 // Of which messages expressions hold.
-ghost use Rattle.std.specs.Prelude.{◌≡◌, ◌↔◌, ◌∷◌, [], ◌&&◌, ◌||◌, ℕ, List as ListOf, IfOk, IsTrue, OnOk};
+ghost use Rattle.std.specs.Prelude.{◌≡◌, ◌↔◌, ◌&&◌, ◌||◌, IfOk, IsTrue};
 ghost use Rattle.std.specs.List.{list_any};
 ghost use Rattle.mail_dates.specs.Reading.{date_in};
 ghost use Rattle.mail_headers.specs.Fields.{fields_of, first_value, same_name};
 ghost use Rattle.mail_headers.specs.Message.{body_of};
 ghost use Rattle.mail_headers.specs.Unfolding.{unfolded};
 ghost use Rattle.mail_headers.specs.View.{field_text};
-ghost use Rattle.pick_expr.specs.declared.lexeme.Lexeme.{Lexeme as LexemeValue};
 ghost use Rattle.pick_expr.specs.Finishing.{is_match};
 ghost use Rattle.pick_expr.specs.Grammar.{IsExpression, Tree};
 ghost use Rattle.pick_expr.specs.Picks.{picks};
 ghost use Rattle.pick_expr.specs.Truth.{date_of, field_line, Holds, lines_of};
-ghost use Rattle.pick_expr.specs.Values.{clock_of_date, fields_match, fresh, is_after, is_before, some_line, test_value, value_of};
+ghost use Rattle.pick_expr.specs.Values.{clock_of_date, fields_match, is_after, is_before, some_line, test_value};
 
-use crate::frame::Frame;
 use crate::lines::matches_line;
-use crate::stack::Stack;
-use crate::{Expr, Lexeme, Pattern, Test};
+use crate::shortened::words_value;
+use crate::{Expr, Pattern, Test};
 use mail_dates::MailDate;
 use mail_headers::{Field, Message, unfold};
 use mh_base::Bytes;
@@ -179,7 +177,11 @@ fn after_holds(
 }
 
 /// Whether a test holds of a message.
-fn test_holds(alloc: Global, test: &Test, message: &Message<'_>) -> Result<bool, AllocError>
+pub(crate) fn test_holds(
+    alloc: Global,
+    test: &Test,
+    message: &Message<'_>,
+) -> Result<bool, AllocError>
     ensures { IfOk result (λ r. r ≡ test_value test.now message.now) }
 {
     match test {
@@ -193,81 +195,6 @@ fn test_holds(alloc: Global, test: &Test, message: &Message<'_>) -> Result<bool,
         Test::Before { field, clock } => before_holds(alloc, field.as_slice(), *clock, message),
         Test::After { field, clock } => after_holds(alloc, field.as_slice(), *clock, message),
     }
-}
-
-/// What the words come to that were passed: in the innermost braces, and in those around.
-#[derive(Drop)]
-pub(crate) struct Evaluation {
-    frame: Frame,
-    around: Stack<Frame>,
-}
-
-impl Evaluation {
-    fn open(&mut self) -> Result<(), AllocError>
-        ensures { OnOk result ((self.new.frame ≡ fresh) × (self.new.around ≡ self.old.frame ∷ self.old.around)) }
-    {
-        self.around.push(self.frame)?;
-        self.frame = Frame::new();
-        Ok(())
-    }
-
-    fn close(&mut self)
-        ensures { (message : ListOf ℕ) (rest : ListOf LexemeValue)
-            → value_of message (Lexeme.Close ∷ rest) self.old.frame self.old.around
-            ≡ value_of message rest self.new.frame self.new.around }
-    {
-        match self.around.pop() {
-            Some(outer) => self.frame = outer.absorb(self.frame.value()),
-            None => {}
-        }
-    }
-
-    /// Passes a word.
-    fn pass(
-        &mut self,
-        alloc: Global,
-        word: &Lexeme,
-        message: &Message<'_>,
-    ) -> Result<(), AllocError>
-        ensures { OnOk result ((rest : ListOf LexemeValue)
-            → value_of message.now (word.now ∷ rest) self.old.frame self.old.around
-            ≡ value_of message.now rest self.new.frame self.new.around) }
-    {
-        match word {
-            Lexeme::And => Ok(()),
-            Lexeme::Or => {
-                self.frame = self.frame.next_choice();
-                Ok(())
-            }
-            Lexeme::Not => {
-                self.frame = self.frame.negate();
-                Ok(())
-            }
-            Lexeme::Open => self.open(),
-            Lexeme::Close => {
-                self.close();
-                Ok(())
-            }
-            Lexeme::Test(test) => {
-                let value = test_holds(alloc, test, message)?;
-                self.frame = self.frame.absorb(value);
-                Ok(())
-            }
-        }
-    }
-}
-
-fn words_value(alloc: Global, words: &[Lexeme], message: &Message<'_>) -> Result<bool, AllocError>
-    ensures { IfOk result (λ r. r ≡ value_of message.now words.now fresh []) }
-{
-    let mut evaluation = Evaluation {
-        frame: Frame::new(),
-        around: Stack::new(alloc),
-    };
-    for word in words {
-        evaluation.pass(alloc, word, message)?;
-    }
-    Ok(evaluation.frame.value())
 }
 
 /// Whether the expression holds of the message.

@@ -130,7 +130,9 @@ const REFUSED: &str = "-and = bad 0
 -from A -and = bad 3
 -not = bad 1
 -lbrace = bad 1
--lbrace -from A = bad 2
+-lbrace -from A = bad 3
+-lbrace -from A 5 = bad 4
+-from A -and --x-seen Yes -or = bad 6
 -lbrace -rbrace = bad 1
 -from A -rbrace = bad 2
 -from A -or -and -from B = bad 3
@@ -144,7 +146,7 @@ const REFUSED: &str = "-and = bad 0
 -from A -after 2024-13-01 = date 2
 -and -before someday = bad 0
 -before someday -and -and = date 0
--not 3 -datefield delivered +inbox = bad 1
+-not 3 -datefield delivered +inbox = bad 5
 ";
 
 const TESTS: &str = "-to SECOND = 

@@ -1,14 +1,14 @@
 // The marks of messages that change places.
 ghost use Rattle.std.specs.Prelude.{◌≡◌, ◌∷◌, [], map, IfOk};
 ghost use Rattle.mh_sequences.specs.Runs.{set_of};
-ghost use Rattle.mh_sequences.specs.Sequences.{AreSequences, told};
+ghost use Rattle.mh_sequences.specs.Sequences.{AreSequences, told_entry};
 ghost use Rattle.sequence_commits.specs.PlainMarks.{plain_mark};
 ghost use Rattle.sequence_commits.specs.RunsOfAll.{set_among};
 ghost use Rattle.sortm_plans.specs.Marking.{pairs_of, set_again as set_again_of};
 
 use message_places::Move;
 use mh_base::{List, MsgNum};
-use mh_sequences::{Mark, MarkList, Pair, PairList, Sequences, User};
+use mh_sequences::{Mark, MarkList, Pair, PairList, SeqName, Sequences, UserSequence};
 use opened_folders::number_set;
 use std::alloc::{AllocError, Global};
 
@@ -23,10 +23,10 @@ pub(crate) fn withdrawing(alloc: Global, numbers: &[MsgNum]) -> Result<MarkList,
 }
 
 /// The mark that gives a sequence back just what it has now.
-fn set_again(alloc: Global, user: &User) -> Result<Mark, AllocError>
-    ensures { IfOk result (λ mark. plain_mark mark ≡ set_again_of (told user.now)) }
+fn set_again(alloc: Global, name: &SeqName, user: &UserSequence) -> Result<Mark, AllocError>
+    ensures { IfOk result (λ mark. plain_mark mark ≡ set_again_of (told_entry (name.now, user.now))) }
 {
-    let name = user.name.copy(alloc)?;
+    let name = name.copy(alloc)?;
     let numbers = user.numbers.copy(alloc)?;
     let public = Some(user.public);
     Ok(Mark::Set {
@@ -42,8 +42,8 @@ pub(crate) fn kept_marks(alloc: Global, sequences: &Sequences) -> Result<MarkLis
     ensures valid { AreSequences sequences.now.users }
 {
     let mut marks = List::new(alloc);
-    for user in sequences.users() {
-        marks.push(set_again(alloc, user)?)?;
+    for (name, user) in sequences.users() {
+        marks.push(set_again(alloc, name, user)?)?;
     }
     Ok(marks)
 }

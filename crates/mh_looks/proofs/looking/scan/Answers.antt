@@ -34,6 +34,15 @@ returns-in_err-found-clause-plan g c =
     (go _ (whole (rw (c.in_ok-place.ensures, c.run-2.ensures) at (c.in_ok-text.ensures c.args.hand.now.kept)))
     (refused_by_words (asked c.args.job.now) c.in_ok-names.names c.in_ok-text.text _ _ _ _ c.in_err-found.ensures (rw c.as_slice.ensures at c.in_ok-sequences.ensures) c.from_residual-in_err-found.ensures))
 
+pub returns-in_err-unseen-clause-plan : goal.returns-in_err-unseen-clause-plan
+unfolding scan
+returns-in_err-unseen-clause-plan g c =
+    go _ (whole (rw (c.in_ok-place.ensures, c.run.ensures) at (c.in_ok-names.ensures c.args.hand.now.kept)))
+    (go _ (whole (rw (c.in_ok-place.ensures, c.run-2.ensures) at (c.in_ok-text.ensures c.args.hand.now.kept)))
+    (chosen_on (λ h. chosen_by (asked c.args.job.now) c.in_ok-names.names c.in_ok-text.text (entries_seen h.context)) _ _
+    (listed_by (asked c.args.job.now) c.in_ok-names.names _ _ (Ok c.in_ok-found.found) (rw c.as_slice.ensures at c.in_ok-sequences.ensures) c.in_ok-found.ensures)
+    (no_room _ c.from_residual-in_err-unseen.ensures refl)))
+
 pub returns-in_err-show_all-clause-plan : goal.returns-in_err-show_all-clause-plan
 unfolding scan
 returns-in_err-show_all-clause-plan g c =
@@ -41,7 +50,7 @@ returns-in_err-show_all-clause-plan g c =
     (go _ (whole (rw (c.in_ok-place.ensures, c.run-2.ensures) at (c.in_ok-text.ensures c.args.hand.now.kept)))
     (chosen_on (λ h. chosen_by (asked c.args.job.now) c.in_ok-names.names c.in_ok-text.text (entries_seen h.context)) _ _
     (listed_by (asked c.args.job.now) c.in_ok-names.names _ _ (Ok c.in_ok-found.found) (rw c.as_slice.ensures at c.in_ok-sequences.ensures) c.in_ok-found.ensures)
-    (stop _ (recalls_shown (asked c.args.job.now) _ c.in_ok-text.text _ _ (rw (c.in_ok-place.ensures, c.run-3.ensures, c.as_slice-2.ensures.value, c.ordered.ensures) at (c.in_err-show_all.ensures c.args.hand.now.kept)) (rw c.as_slice.ensures at c.in_ok-sequences.ensures)) c.from_residual-in_err-show_all.ensures)))
+    (stop _ (recalls_shown (asked c.args.job.now) _ c.in_ok-text.text _ _ (rw (c.in_ok-place.ensures, c.run-3.ensures, c.as_slice-3.ensures.value, c.ordered.ensures, c.in_ok-unseen.ensures.0, c.in_ok-unseen.ensures.1, c.as_slice-2.ensures) at (c.in_err-show_all.ensures c.args.hand.now.kept)) (rw c.as_slice.ensures at c.in_ok-sequences.ensures)) c.from_residual-in_err-show_all.ensures)))
 
 pub returns-clause-plan : goal.returns-clause-plan
 unfolding scan
@@ -50,4 +59,4 @@ returns-clause-plan g c =
     (go _ (whole (rw (c.in_ok-place.ensures, c.run-2.ensures) at (c.in_ok-text.ensures c.args.hand.now.kept)))
     (chosen_on (λ h. chosen_by (asked c.args.job.now) c.in_ok-names.names c.in_ok-text.text (entries_seen h.context)) _ _
     (listed_by (asked c.args.job.now) c.in_ok-names.names _ _ (Ok c.in_ok-found.found) (rw c.as_slice.ensures at c.in_ok-sequences.ensures) c.in_ok-found.ensures)
-    (go _ (recalls_shown (asked c.args.job.now) _ c.in_ok-text.text _ _ (rw (c.in_ok-place.ensures, c.run-3.ensures, c.as_slice-2.ensures.value, c.ordered.ensures) at (c.in_ok-show_all.ensures c.args.hand.now.kept)) (rw c.as_slice.ensures at c.in_ok-sequences.ensures)) (whole c.make_current.ensures.plan))))
+    (go _ (recalls_shown (asked c.args.job.now) _ c.in_ok-text.text _ _ (rw (c.in_ok-place.ensures, c.run-3.ensures, c.as_slice-3.ensures.value, c.ordered.ensures, c.in_ok-unseen.ensures.0, c.in_ok-unseen.ensures.1, c.as_slice-2.ensures) at (c.in_ok-show_all.ensures c.args.hand.now.kept)) (rw c.as_slice.ensures at c.in_ok-sequences.ensures)) (whole c.make_current.ensures.plan))))

@@ -1,8 +1,10 @@
-use Rattle.std.proofs.Common.{◌≡◌, ◌++◌, map, take, filter}
+use Rattle.std.proofs.Common.{◌≡◌, ◌++◌, map, filter}
 use Rattle.mh_profile.specs.Printing.{printed}
 use Rattle.mh_sequences.specs.Printing.{entry_of, is_shown}
-use Rattle.mh_sequences.specs.Sequences.{told}
+use Rattle.mh_sequences.specs.Sequences.{told_entry}
 use Rattle.mh_sequences.proofs.printing.put_lines.Given as goal
 
-abbrev pub invariant-loop-user : goal.invariant-loop-user
-invariant-loop-user l = l.text ≡ l.fn.text ++ printed (map entry_of (filter (is_shown l.before) (take l.user-index (map told l.users))))
+abbrev pub invariant-loop-name : goal.invariant-loop-name
+invariant-loop-name l =
+    l.text ++ printed (map entry_of (filter (is_shown l.before) (map told_entry l.name-iterator)))
+    ≡ l.fn.text ++ printed (map entry_of (filter (is_shown l.before) (map told_entry l.users.entries)))

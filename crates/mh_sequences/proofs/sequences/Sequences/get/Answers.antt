@@ -1,10 +1,14 @@
-use Rattle.std.proofs.Common.{map, sym, ◌∙◌, ap}
-use Rattle.mh_sequences.specs.Placing.{IsAt}
-use Rattle.mh_sequences.specs.Sequences.{told, runs_of}
-use Rattle.mh_sequences.proofs.NamePlaces.{at_place}
+use Rattle.std.proofs.Common.{◌∙◌, ap, sym}
+use Rattle.mh_sequences.specs.Sequences.{runs_of}
+use Rattle.mh_sequences.proofs.NamedEntries.{runs_found, runs_missed}
 use Rattle.mh_sequences.proofs.sequences.Sequences.get.Goals as goal
 
-pub returns-in-At : goal.returns-in-At
-returns-in-At c =
-    let at : IsAt c.args.name.now (map told c.self.inside.users.items) c.in-At.at = rw (← c.deref.ensures.value, ← c.bytes.ensures.value) c.in-At.ensures in
-    sym (at_place c.self.inside.users.items c.in-At.at c.args.name.now c.index.result.now at c.index.ensures).1 ∙ ap (λ v. runs_of v.users c.args.name.now) c.self.view_is
+pub returns-in-Some : goal.returns-in-Some
+returns-in-Some c =
+    let found = rw c.in-Some.is at c.get.ensures.value in
+    sym (runs_found c.args.name.now c.self.inside.users.entries c.in-Some.user.now (sym found)) ∙ ap (λ v. runs_of v.users c.args.name.now) c.self.view_is
+
+pub returns-in-None : goal.returns-in-None
+returns-in-None c =
+    let missed = rw c.in-None.is at c.get.ensures.value in
+    ap (λ v. runs_of v.users c.args.name.now) (sym c.self.view_is) ∙ runs_missed c.args.name.now c.self.inside.users.entries (sym missed)
