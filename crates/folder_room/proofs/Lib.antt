@@ -20,3 +20,4 @@ pub mod Fitting
 pub mod Finishing
 pub mod Fitted
 pub mod Telling
+pub mod Calling

@@ -6,3 +6,4 @@ pub mod Played
 pub mod Left
 pub mod Parents
 pub mod Seen
+pub mod Told
