@@ -21,3 +21,5 @@ pub mod Finishing
 pub mod Fitted
 pub mod Telling
 pub mod Calling
+pub mod Unique
+pub mod Nexting

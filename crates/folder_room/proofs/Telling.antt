@@ -5,7 +5,7 @@ use Rattle.std.specs.Prelude.{Result, Ok, Err, MatchResult, IfOk}
 use Rattle.std.specs.declared.alloc.AllocError.{AllocError}
 use Rattle.folder_files.specs.Histories.{past_of, IsLegal, world_after}
 use Rattle.folder_files.specs.Rows.{IsAnswerOf}
-use Rattle.folder_files.specs.Story.{Moment, Mine, Theirs, Asks, Waits, AreOthers, IsOther, places, event_of, Counts}
+use Rattle.folder_files.specs.Story.{Moment, Mine, Theirs, Asks, Waits, AreOthers, IsOther, places, event_of}
 use Rattle.folder_files.specs.declared.step.Step.{Step}
 use Rattle.folder_files.specs.declared.step.Answer.{Answer}
 use Rattle.folder_files.specs.declared.step.Answer.TheVariants.{Failed}

@@ -7,3 +7,4 @@ pub mod Left
 pub mod Parents
 pub mod Seen
 pub mod Told
+pub mod Next

@@ -1,5 +1,5 @@
 -- What contracts see of a mailbox in memory.
-use Rattle.std.specs.Prelude.{◌≡◌, ◌-◌, ℕ, List}
+use Rattle.std.specs.Prelude.{◌≡◌, ℕ, List}
 use Rattle.folder_files.specs.Histories.{world_after, IsLegal, past_of}
 use Rattle.folder_files.specs.Story.{Story}
 use Rattle.folder_files.specs.Worlds.{shown}

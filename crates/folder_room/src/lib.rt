@@ -9,6 +9,7 @@ mod images;
 mod listing;
 mod locks;
 mod naming;
+mod next;
 mod outside;
 mod parents;
 mod places;

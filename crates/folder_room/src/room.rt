@@ -3,15 +3,17 @@ ghost use Rattle.std.specs.Prelude.{◌≡◌, ◌≤◌, ◌++◌, ◌∷◌, [
 ghost use Rattle.folder_files.specs.Histories.{past_of, world_after, IsLegal};
 ghost use Rattle.folder_files.specs.Rows.{IsAnswerOf};
 ghost use Rattle.folder_files.specs.Story.{Asks, Waits, Counts};
-ghost use Rattle.folder_files.specs.Worlds.{shown};
+ghost use Rattle.folder_files.specs.Worlds.{IsStart, shown};
 ghost use Rattle.folder_files.specs.declared.event.Event.TheVariants as event;
 ghost use Rattle.folder_files.specs.declared.world.World.{World};
+ghost use Rattle.folder_room.specs.Next.{ReadsAs};
 ghost use Rattle.folder_room.specs.Played.{IsPlayed, turn_of};
 ghost use Rattle.folder_room.specs.Seen.{Seen, IsNow, story_of, faults_after};
 ghost use Rattle.folder_room.specs.Told.{IsTold};
 ghost use Rattle.mh_base.specs.Counts.{one_more};
 
 use crate::course::Course;
+use crate::next::start_of;
 use crate::playing::{fail_of, turn_at};
 use folder_files::{Answer, Files, Happening, History, PromptList, Step, World};
 use mh_base::{Duplicate, NumberList};
@@ -120,6 +122,15 @@ impl Room {
         ensures err { OnErr result (self.new ≡ self.old) }
     {
         self.course.end(self.alloc, run)
+    }
+
+    /// The start of the history that comes after this one: the world as it is now, with all changes made and every file
+    /// safe, without a lock and without a run that has ended.
+    pub fn into_start(self) -> Result<World, AllocError>
+        ensures reads { IfOk result (λ w. ReadsAs (world_after self.start (past_of self.history)) w) }
+        ensures start { IfOk result (λ w. IsStart w) }
+    {
+        start_of(self.alloc, &self.course.world)
     }
 }
 
