@@ -7,10 +7,9 @@ ghost use Rattle.file_plans.specs.Follows.{Follows, by_out};
 ghost use Rattle.step_plans.specs.CommandFaults.{command_cause};
 ghost use Rattle.mhlist_plans.specs.Listing.{all_listed, header_said, listed_by, no_part as no_part_of, one_listed, rows_said};
 
-use command_stages::LIMIT;
 use file_plans::{Reading, ask_read};
 use folder_files::{Files, Place, Refusal};
-use mh_base::{Duplicate, Entry, List, MsgNum, Sink, entry_name};
+use mh_base::{Duplicate, Entry, List, MsgNum, SIZE_LIMIT, Sink, entry_name};
 use mime_tree::PartPath;
 use part_rows::{MessageParts, header_line, shown_path};
 use std::alloc::{AllocError, Global};
@@ -86,7 +85,7 @@ fn list<O: Sink>(
         Reading::Content(bytes) => say_rows(alloc, out, wanted, number, bytes.as_slice()),
         Reading::Long(length) => Err(CommandFault::Refused(Refusal::TooLarge {
             length,
-            limit: LIMIT,
+            limit: SIZE_LIMIT,
         })),
         Reading::Gone => Err(message_gone(alloc, place, number)?),
     }
@@ -106,7 +105,7 @@ fn list_one<F: Files, O: Sink>(
         (by_out h (F.state files.old) (O.state out.old)) (by_out h (F.state files.new) (O.state out.new)) result }
 {
     let name = entry_name(alloc, &Entry::Number(number))?;
-    let reading = ask_read(alloc, run, files, place, &name, LIMIT)?;
+    let reading = ask_read(alloc, run, files, place, &name, SIZE_LIMIT)?;
     list(alloc, out, wanted, place, number, reading)
 }
 

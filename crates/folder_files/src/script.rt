@@ -1,6 +1,6 @@
 // Scripts of what else happens while a run works in memory.
 
-use folder_files::{After, FilePath, Place, Step};
+use crate::{After, FilePath, Place, Step};
 use mh_base::{Bytes, List, NumberList};
 
 /// Something that a script makes happen.
