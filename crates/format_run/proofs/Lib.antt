@@ -1,3 +1,4 @@
+mod ClosedLines
 mod FirstFields
 pub mod FormatLines
 pub mod HeldStates
