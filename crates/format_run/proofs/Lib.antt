@@ -6,4 +6,5 @@ pub mod KeptWidths
 mod LazyStates
 pub mod RunCode
 pub mod Searching
+mod TableSteps
 pub mod TextCalls
