@@ -58,7 +58,7 @@ pub(crate) fn value_in<'a>(
 ) -> Result<Option<&'a [u8]>, AllocError>
     ensures { (fields : List FieldText) → IsTableOf table.now fields
         → IfOk result (λ r. MatchOption r (first_value name.now fields ≡ None)
-            (λ v. first_value name.now fields ≡ Some v.now)) }
+        (λ v. first_value name.now fields ≡ Some v.now)) }
 {
     let name = small_letters(alloc, name)?;
     Ok(table.get(name.as_slice()).copied())

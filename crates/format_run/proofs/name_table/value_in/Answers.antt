@@ -1,4 +1,4 @@
-use Rattle.std.proofs.Common.{◌∙◌, ap}
+use Rattle.std.proofs.Common.{◌∙◌}
 use Rattle.format_run.proofs.TableSteps.{found}
 use Rattle.format_run.proofs.name_table.value_in.Goals as goal
 
