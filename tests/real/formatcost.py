@@ -1,7 +1,7 @@
 """What formats of many parts cost on large messages: formatcost.py PROGRAM ROOM [COUNT..]. It prints, and judges nothing.
 
 Processor seconds and the greatest resident size of a scan of one message, at each number of uses: of a field of 1 MB, printed and tested; of friendly
-on 100 KB, printed and tested; and of components that are absent beside 1,000,000 fields, of one name and of many. Formats stand in the profile, since
+on 100 KB, printed and tested; and of components that are absent beside 1,000,000 fields, of one name and of many. Formats stand in a file, since
 they take up to 65,536 bytes."""
 import os
 import resource
@@ -65,6 +65,6 @@ for name, message, form in ROWS:
             count = count * 9 // 10
             text = form(count)
         fresh(message, text)
-        seconds, size, status = cost("scan", "-form", "form", "1")
+        seconds, size, status = cost("scan", "-form", f"{ROOM}/Mail/form", "1")
         print(f"{count:>7,} uses: {name}: {seconds:.3f} s, {size} MB" + (f" (status {status})" if status else ""), flush=True)
 shutil.rmtree(ROOM, ignore_errors=True)
