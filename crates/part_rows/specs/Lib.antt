@@ -1,6 +1,8 @@
 pub mod Choices
 pub mod Chosen
 pub mod FileNames
+pub mod Missing
 pub mod PartViews
 pub mod PathTexts
+pub mod Rests
 pub mod Rows
