@@ -1,6 +1,6 @@
 -- What is still to come, level by level.
 use Rattle.std.proofs.Common.{◌≡◌, ℕ, zero, suc, ◌+◌, ◌-◌, ◌<◌, ◌^◌, Bool, Option, Some, None, List, [], ◌∷◌, ◌++◌, length, refl, sym, ◌∙◌, ap, subst, arith, append_assoc, append-nil}
-use Rattle.std.specs.Prelude.{◌==◌, not}
+use Rattle.std.specs.Prelude.{Result, Ok, Err, IfOk}
 use Rattle.mime_tree.specs.declared.fallback.Fallback.{Fallback}
 use Rattle.mime_tree.specs.declared.kids.Kids.{Kids}
 use Rattle.mime_tree.specs.declared.kids.Kids.TheVariants as kinds
@@ -146,6 +146,11 @@ reads_opened bytes u opened odd leaf read o is_odd is_leaf p below = record {
       ∙ opened_below u.levels bytes u.fallback (fallback_in opened.content_type) u.path u.piece.span opened.found.kids (ap (λ (f : Found). f.spans) o.kids_are) (ap fallback_in o.type_is);
   ready = subst (IsLevelReady bytes) (sym below) (record { kids = kept_ready u.levels bytes opened.found.kids o.ready; room = kept_room u.levels opened.found.kids o.room });
 }
+
+pub reads_ok : {E : Type 0} (bytes : List ℕ) (u : Unread) (opened : Opened) (odd : Odd) (leaf : Bool) (r : Result ReadPart E) → Opens bytes u.fallback u.piece.span opened → odd ≡ odd_at u.levels (found bytes opened.found) → leaf ≡ is_leaf_at u.levels (found bytes opened.found)
+    → IfOk r (λ read. IsPartOf opened.content_type opened.encoding u.piece.span opened.body u.path odd leaf read.part) → IfOk r (λ read. read.below ≡ below_of u.levels opened.content_type opened.found.kids u.path) → IfOk r (λ read. Reads bytes u read)
+reads_ok bytes u opened odd leaf (Ok read) o is_odd is_leaf p below = reads_opened bytes u opened odd leaf read o is_odd is_leaf p below
+reads_ok bytes u opened odd leaf (Err e) o is_odd is_leaf p below = tt
 
 -- the part that was read, and those that are left
 pub next_part : (bytes : List ℕ) (root : Option Unread) (old mid new : List Level) (u : Unread) (read : ReadPart) → Reads bytes u read → root_left bytes root ++ levels_left bytes old ≡ unread_left bytes u ++ levels_left bytes mid → new ≡ mid ++ read.below ∷ []

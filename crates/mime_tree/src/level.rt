@@ -107,9 +107,12 @@ pub(crate) fn next_kid<'a>(
     ensures ready { AreLevelsReady bytes.now levels.new.items }
 {
     while let Some(level) = levels.pop() {
-        if let Some(next) = level.next(alloc, bytes)? {
-            levels.push(next.rest)?;
-            return Ok(Some(next.unread));
+        match level.next(alloc, bytes)? {
+            Some(next) => {
+                levels.push(next.rest)?;
+                return Ok(Some(next.unread));
+            }
+            None => {}
         }
     }
     Ok(None)

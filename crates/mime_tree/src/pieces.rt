@@ -64,7 +64,8 @@ pub(crate) fn first_section<'a>(
             };
         }
         let (text, tail) = begun.split_at(len);
-        let line = tail.split_at(line_len(tail)).0;
+        let (line, _) = tail.split_at(line_len(tail));
+        let piece = piece_of(left.span.from, without_line_end(text), left.marks);
         match Mark::of(line, boundary) {
             Mark::Other => {}
             Mark::Boundary => {
@@ -74,7 +75,7 @@ pub(crate) fn first_section<'a>(
                 };
                 let (_, more) = left.marks.split_at(i + 1);
                 return FirstSection {
-                    piece: piece_of(left.span.from, without_line_end(text), left.marks),
+                    piece,
                     behind: Behind::Sections(Piece {
                         span: next,
                         marks: more,
@@ -83,7 +84,7 @@ pub(crate) fn first_section<'a>(
             }
             Mark::Closing => {
                 return FirstSection {
-                    piece: piece_of(left.span.from, without_line_end(text), left.marks),
+                    piece,
                     behind: Behind::Closing,
                 };
             }

@@ -5,15 +5,12 @@ use Rattle.std.specs.List.{filter, list_any}
 use Rattle.std.proofs.lemmas.List.{append_cancel_left}
 use Rattle.std.proofs.lemmas.List.Elements.{filter-append}
 use Rattle.std.proofs.lemmas.Slice.Eq.{bytes_eq-Decides}
-use Rattle.mime_tree.specs.declared.part.Part.{Part, out-Part}
 use Rattle.mime_tree.specs.declared.span.Span.{Span}
 use Rattle.mime_tree.specs.ContentTypes.{fallback_in}
 use Rattle.mime_tree.specs.Spans.{whole}
-use Rattle.mime_tree.specs.Trees.{AreKids, IsPart, kid_of, kids_at, part_at, type_at}
+use Rattle.mime_tree.specs.Trees.{kids_at, type_at}
 use Rattle.part_rows.specs.Choices.{has_path, is_missing}
 use Rattle.part_rows.specs.PartViews.{Fallback, PartView, parts_at, parts_of, plain_text, view_of, within}
-use Rattle.part_rows.proofs.Walking.{kids_left, part_first}
-use Rattle.mail_text.proofs.Emptiness.{not_zero}
 
 false_by : (t : Bool) → (t ≡ true → ⊥) → t ≡ false
 false_by true never = absurd (never refl)

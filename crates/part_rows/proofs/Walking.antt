@@ -5,13 +5,13 @@ use Rattle.std.proofs.lemmas.List.{map-append}
 use Rattle.mime_tree.specs.declared.part.Part.{Part}
 use Rattle.mime_tree.specs.declared.span.Span.{Span}
 use Rattle.mime_tree.specs.ContentTypes.{fallback_in}
-use Rattle.mime_tree.specs.Spans.{text_at}
+use Rattle.mime_tree.specs.Spans.{text_at, whole}
 use Rattle.mime_tree.specs.Trees.{IsMessagePart, content_of, is_leaf_at, kids_at, odd_at, type_at}
 use Rattle.mime_tree.specs.Walk.{IsNext, IsPartAt, Place, Walk, kids_within, places_at}
 use Rattle.part_rows.specs.declared.choices.Choice.{Choice}
 use Rattle.part_rows.specs.Chosen.{chooses}
-use Rattle.part_rows.specs.PartViews.{Fallback, PartView, content_at, description_of, parts_at, span_of, view_at, view_of, within}
-use Rattle.part_rows.specs.Rests.{IsFirst, rest_of, view_at_place}
+use Rattle.part_rows.specs.PartViews.{Fallback, PartView, content_at, description_of, parts_at, parts_of, plain_text, span_of, view_at, view_of, within}
+use Rattle.part_rows.specs.Rests.{IsFirst, Rest, rest_of, view_at_place}
 
 module _ (bytes : List ℕ) (place : Place) (part : Part) where
   same_span : IsMessagePart bytes place.fallback place.path place.span part → place.span ≡ span_of part
@@ -79,3 +79,11 @@ step_end choice old new is = ap (λ l. filter (chooses choice) (map (view_at_pla
 
 pub shorter : (old new : Walk) (part : Part) → IsNext old new (Some part) → length new.left < length old.left
 shorter old new part is = omega (arith, ap (λ (l : List Place). length l) is.1)
+
+-- the parts of a message that are chosen
+pub chosen_all : (choice : Choice) (walk : Walk) (rest : Rest) (marked message : List ℕ) → rest ≡ rest_of choice walk → walk ≡ record { bytes = marked; left = places_at 64 marked plain_text [] (whole marked) } → marked ≡ message
+    → rest.left ≡ filter (chooses choice) (parts_of message)
+chosen_all choice walk rest marked message is all same =
+    ap (λ (r : Rest). r.left) is ∙ ap (λ (w : Walk). (rest_of choice w).left) all
+    ∙ ap (filter (chooses choice)) (told 64 marked plain_text [] (whole marked))
+    ∙ ap (λ m. filter (chooses choice) (parts_of m)) same

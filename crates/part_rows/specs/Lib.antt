@@ -1,7 +1,7 @@
+pub mod Absent
 pub mod Choices
 pub mod Chosen
 pub mod FileNames
-pub mod Missing
 pub mod PartViews
 pub mod PathTexts
 pub mod Rests

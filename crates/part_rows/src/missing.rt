@@ -1,7 +1,7 @@
 // Wanted paths that no part has.
 ghost use Rattle.std.specs.Prelude.{◌≡◌, map, IfOk, MatchOption, None, Some};
 ghost use Rattle.std.specs.List.{find};
-ghost use Rattle.part_rows.specs.Missing.{is_without};
+ghost use Rattle.part_rows.specs.Absent.{is_without};
 
 use crate::chosen::Chosen;
 use crate::wanted::Wanted;

@@ -1,4 +1,5 @@
-use Rattle.std.proofs.Common.{◌+◌, List, ℕ, length, drop, refl, sym, subst, ◌∙◌, arith, length-drop, drop_all}
+use Rattle.std.proofs.Common.{◌+◌, List, ℕ, length, drop, refl, sym, subst, ◌∙◌, arith, length-drop}
+use Rattle.std.proofs.lemmas.List.{drop_all}
 use Rattle.mime_tree.proofs.Marking.{Beyond}
 use Rattle.mime_tree.proofs.Sections.{stands, stand_above, passes, bounds, closes, ends_with, at_next}
 use Rattle.mime_tree.proofs.pieces.first_section.Goals as goal
@@ -24,16 +25,16 @@ returns-then-begun-len c =
 pub returns-in-Boundary : goal.returns-in-Boundary
 returns-in-Boundary c =
     let less = length-drop (c.loop-i.i + 1) c.args.left.marks.now in
-    bounds c.args.bytes.now c.args.boundary.now c.args.left c.piece_of-in-Boundary.result _ c.of-begun.result.now c.split_at.result.0.now c.split_at.result.1.now c.split_at-in-loop-i.result.0.now c.without_line_end.result.now _ _ _ c.line_len.result
+    bounds c.args.bytes.now c.args.boundary.now c.args.left c.piece_of-piece.result _ c.of-begun.result.now c.split_at.result.0.now c.split_at.result.1.now c.split_at-in-loop-i.result.0.now c.without_line_end.result.now _ _ _ c.line_len.result
     c.of-begun.ensures.value refl c.if-begun-len.false c.split_at.ensures.front c.split_at.ensures.back c.line_len.ensures.value c.split_at-in-loop-i.ensures.front (sym c.of.ensures ∙ c.in-Boundary.is)
-    c.without_line_end.ensures c.piece_of-in-Boundary.ensures.span c.piece_of-in-Boundary.ensures.marks refl c.split_at-in-Boundary.ensures.back (omega (arith, less, c.loop-i-test.true)) (omega (arith, less, c.loop-i-test.true, c.loop-i.auto.i-end))
+    c.without_line_end.ensures c.piece_of-piece.ensures.span c.piece_of-piece.ensures.marks refl c.split_at-in-Boundary.ensures.back (omega (arith, less, c.loop-i-test.true)) (omega (arith, less, c.loop-i-test.true, c.loop-i.auto.i-end))
     (at_next c.loop-i.i c.args.left.marks.now c.loop-i-test.true c.loop-i.invariant)
 
 pub returns-in-Closing : goal.returns-in-Closing
 returns-in-Closing c =
-    closes c.args.bytes.now c.args.boundary.now c.args.left c.piece_of-in-Closing.result c.of-begun.result.now c.split_at.result.0.now c.split_at.result.1.now c.split_at-in-loop-i.result.0.now c.without_line_end-in-Closing.result.now _ _ _ c.line_len.result
+    closes c.args.bytes.now c.args.boundary.now c.args.left c.piece_of-piece.result c.of-begun.result.now c.split_at.result.0.now c.split_at.result.1.now c.split_at-in-loop-i.result.0.now c.without_line_end.result.now _ _ _ c.line_len.result
     c.of-begun.ensures.value refl c.if-begun-len.false c.split_at.ensures.front c.split_at.ensures.back c.line_len.ensures.value c.split_at-in-loop-i.ensures.front (sym c.of.ensures ∙ c.in-Closing.is)
-    c.without_line_end-in-Closing.ensures c.piece_of-in-Closing.ensures.span c.piece_of-in-Closing.ensures.marks
+    c.without_line_end.ensures c.piece_of-piece.ensures.span c.piece_of-piece.ensures.marks
     (at_next c.loop-i.i c.args.left.marks.now c.loop-i-test.true c.loop-i.invariant)
 
 pub returns : goal.returns

@@ -1,6 +1,6 @@
 use Rattle.std.proofs.Common.{◌≡◌, drop}
 use Rattle.std.specs.List.{find}
-use Rattle.part_rows.specs.Missing.{is_without}
+use Rattle.part_rows.specs.Absent.{is_without}
 use Rattle.part_rows.proofs.missing.first_without.Given as goal
 
 abbrev pub invariant-loop-path : goal.invariant-loop-path

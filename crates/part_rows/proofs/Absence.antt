@@ -6,7 +6,7 @@ use Rattle.std.proofs.Math.Seq.{drop-cons}
 use Rattle.std.proofs.lemmas.List.{drop_all}
 use Rattle.std.proofs.lemmas.Slice.Eq.{bytes_eq-Decides}
 use Rattle.part_rows.specs.Choices.{has_path, is_listed, is_missing, is_named, listed}
-use Rattle.part_rows.specs.Missing.{is_without}
+use Rattle.part_rows.specs.Absent.{is_without}
 use Rattle.part_rows.specs.PartViews.{PartView}
 use Rattle.part_rows.proofs.WantedKeys.{same_turned}
 
