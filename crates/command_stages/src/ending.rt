@@ -2,9 +2,8 @@
 ghost use Rattle.std.specs.Prelude.{◌≡◌};
 ghost use Rattle.command_stages.specs.Endings.{of_plan};
 
-use crate::LIMIT;
 use folder_files::{Refusal, Which};
-use mh_base::FolderName;
+use mh_base::{FolderName, SIZE_LIMIT};
 use step_plans::{CommandFault, PlanFault};
 
 /// What a fault of a plan on this folder is to the command.
@@ -19,7 +18,7 @@ pub fn fault_in(folder: FolderName, fault: PlanFault) -> CommandFault
         PlanFault::Absent(_) => CommandFault::Refused(Refusal::NoFolder(folder)),
         PlanFault::TooLarge(length) => CommandFault::Refused(Refusal::TooLarge {
             length,
-            limit: LIMIT,
+            limit: SIZE_LIMIT,
         }),
         PlanFault::Memory => CommandFault::Memory,
     }

@@ -8,10 +8,12 @@ ghost use Rattle.draft_contents.specs.Messages.{message_by, message_read, messag
 
 use crate::Forwarding;
 use crate::folder::chosen;
-use command_stages::{LIMIT, folder_place, list_folder, read_sequences_text};
+use command_stages::{folder_place, list_folder, read_sequences_text};
 use file_plans::{Reading, ask_read};
 use folder_files::{Files, Place, Refusal};
-use mh_base::{Bytes, BytesList, Duplicate, Entry, FolderName, List, MsgNum, TextList, entry_name};
+use mh_base::{
+    Bytes, BytesList, Duplicate, Entry, FolderName, List, MsgNum, SIZE_LIMIT, TextList, entry_name,
+};
 use std::alloc::{AllocError, Global};
 use step_plans::{CommandFault, Hand};
 
@@ -35,7 +37,7 @@ fn message_from(
         Reading::Content(bytes) => Ok(bytes),
         Reading::Long(length) => Err(CommandFault::Refused(Refusal::TooLarge {
             length,
-            limit: LIMIT,
+            limit: SIZE_LIMIT,
         })),
         Reading::Gone => Err(meddled(alloc, place, number)?),
     }
@@ -53,7 +55,7 @@ fn read_message<F: Files>(
         (by_hand h (F.state files.new)) result }
 {
     let name = entry_name(alloc, &Entry::Number(number))?;
-    let reading = ask_read(alloc, run, files, place, &name, LIMIT)?;
+    let reading = ask_read(alloc, run, files, place, &name, SIZE_LIMIT)?;
     message_from(alloc, place, number, reading)
 }
 

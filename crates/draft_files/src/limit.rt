@@ -3,9 +3,8 @@ ghost use Rattle.std.specs.Prelude.{◌≡◌, length};
 ghost use Rattle.command_stages.specs.Texts.{too_large as too_large_of};
 ghost use Rattle.draft_files.specs.Limits.{within_limit as within_limit_of};
 
-use command_stages::LIMIT;
 use folder_files::Refusal;
-use mh_base::Bytes;
+use mh_base::{Bytes, SIZE_LIMIT};
 use step_plans::CommandFault;
 
 /// The refusal of a text of this length.
@@ -14,7 +13,7 @@ pub(crate) fn too_large(text: &Bytes) -> CommandFault
 {
     CommandFault::Refused(Refusal::TooLarge {
         length: text.len() as u64,
-        limit: LIMIT,
+        limit: SIZE_LIMIT,
     })
 }
 
@@ -22,7 +21,7 @@ pub(crate) fn too_large(text: &Bytes) -> CommandFault
 pub fn within_limit(text: Bytes) -> Result<Bytes, CommandFault>
     ensures { result ≡ within_limit_of text }
 {
-    if text.len() as u64 > LIMIT {
+    if text.len() as u64 > SIZE_LIMIT {
         Err(too_large(&text))
     } else {
         Ok(text)

@@ -8,10 +8,9 @@ ghost use Rattle.step_plans.specs.Replacing.{renamed};
 ghost use Rattle.draft_files.specs.Replacing.{draft_replaced, of_work, set_in_place as set_in_place_plan};
 
 use crate::DraftName;
-use command_stages::LIMIT;
 use file_plans::ask_rename;
 use folder_files::{Files, Place, Refusal, Which};
-use mh_base::{Bytes, Duplicate, Name};
+use mh_base::{Bytes, Duplicate, Name, SIZE_LIMIT};
 use std::alloc::Global;
 use step_plans::{CommandFault, Hand, PlanFault, hold_to, sync, write_file};
 
@@ -27,7 +26,7 @@ fn fault_at(name: Name, fault: PlanFault) -> CommandFault
         PlanFault::Absent(place) => CommandFault::Meddled(place, name),
         PlanFault::TooLarge(length) => CommandFault::Refused(Refusal::TooLarge {
             length,
-            limit: LIMIT,
+            limit: SIZE_LIMIT,
         }),
         PlanFault::Memory => CommandFault::Memory,
     }

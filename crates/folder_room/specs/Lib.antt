@@ -6,3 +6,5 @@ pub mod Played
 pub mod Left
 pub mod Parents
 pub mod Seen
+pub mod Told
+pub mod Next

@@ -19,5 +19,6 @@ mod StandingWords
 mod Steady
 mod SteadyWords
 mod TwoParts
+mod UnknownNames
 mod WholeTexts
 mod Worked

@@ -1,3 +1,4 @@
+mod ClosedLines
 mod FirstFields
 pub mod FormatLines
 pub mod HeldStates
@@ -5,4 +6,5 @@ pub mod KeptWidths
 mod LazyStates
 pub mod RunCode
 pub mod Searching
+mod TableSteps
 pub mod TextCalls

@@ -9,6 +9,7 @@ mod dates;
 mod evaluating;
 mod indexed;
 mod lazy;
+mod name_table;
 mod names;
 mod numbers;
 mod running;

@@ -29,8 +29,9 @@ fn show_rows(
     wanted: &[PartPath],
     told: &mut Bytes,
 ) -> Result<(), Fail> {
-    for row in parts.rows(alloc, number, wanted)?.as_slice() {
-        told.extend(row.as_slice())?;
+    let mut listed = parts.listed(alloc, wanted)?;
+    while let Some(part) = listed.next(alloc)? {
+        told.extend(parts.row(alloc, number, &part)?.as_slice())?;
     }
     Ok(())
 }
@@ -70,8 +71,9 @@ fn store(
     wanted: &[PartPath],
     told: &mut Bytes,
 ) -> Result<(), Fail> {
-    for part in parts.stored(alloc, wanted)?.as_slice() {
-        store_part(alloc, number, parts, part, told)?;
+    let mut stored = parts.stored(alloc, wanted)?;
+    while let Some(part) = stored.next(alloc)? {
+        store_part(alloc, number, parts, &part, told)?;
     }
     Ok(())
 }
@@ -83,7 +85,7 @@ fn missing(
     wanted: &[PartPath],
     told: &mut Bytes,
 ) -> Result<(), Fail> {
-    match parts.first_missing(wanted) {
+    match parts.first_missing(alloc, wanted)? {
         Some(path) => {
             let length = path.numbers().len();
             let line = format!(in alloc; "no part at a path of {length}")?;

@@ -1,8 +1,7 @@
 mod Bodies
-pub mod Cutting
 pub mod Emptiness
 mod Gapping
-mod Growing
+mod Leveling
 pub mod Lining
 mod Marking
 mod Naming

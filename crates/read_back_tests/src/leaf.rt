@@ -57,10 +57,11 @@ fn put_part(
 
 /// The leaves of a message, in its order.
 pub(crate) fn leaves(alloc: Global, message: &[u8]) -> Result<Bytes, AllocError> {
-    let parts = MessageParts::cut(alloc, message)?;
+    let message = MessageParts::cut(alloc, message)?;
     let mut leaves = Bytes::new(alloc);
-    for part in parts.stored(alloc, &[])? {
-        put_part(alloc, &mut leaves, &parts, part)?;
+    let mut parts = message.stored(alloc, &[])?;
+    while let Some(part) = parts.next(alloc)? {
+        put_part(alloc, &mut leaves, &message, &part)?;
     }
     Ok(leaves)
 }

@@ -1,1 +1,0 @@
--- A list cut at an index.
