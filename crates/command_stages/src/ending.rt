@@ -2,8 +2,9 @@
 ghost use Rattle.std.specs.Prelude.{◌≡◌};
 ghost use Rattle.command_stages.specs.Endings.{of_plan};
 
+use crate::LIMIT;
 use folder_files::{Refusal, Which};
-use mh_base::{FolderName, SIZE_LIMIT};
+use mh_base::FolderName;
 use step_plans::{CommandFault, PlanFault};
 
 /// What a fault of a plan on this folder is to the command.
@@ -18,7 +19,7 @@ pub fn fault_in(folder: FolderName, fault: PlanFault) -> CommandFault
         PlanFault::Absent(_) => CommandFault::Refused(Refusal::NoFolder(folder)),
         PlanFault::TooLarge(length) => CommandFault::Refused(Refusal::TooLarge {
             length,
-            limit: SIZE_LIMIT,
+            limit: LIMIT,
         }),
         PlanFault::Memory => CommandFault::Memory,
     }

@@ -16,4 +16,4 @@ pub use current::make_current;
 pub use ending::fault_in;
 pub use listed::{list_folder, listed_numbers, noted};
 pub use place::folder_place;
-pub use text::{read_sequences_text, read_text};
+pub use text::{LIMIT, read_sequences_text, read_text};

@@ -9,9 +9,12 @@ ghost use Rattle.command_stages.specs.Texts.{text_by as text_by_plan, text_read 
 
 use file_plans::{Reading, ask_read};
 use folder_files::{Files, Place, Refusal};
-use mh_base::{Bytes, Entry, Name, SIZE_LIMIT, entry_name};
+use mh_base::{Bytes, Entry, Name, entry_name};
 use std::alloc::Global;
 use step_plans::CommandFault;
+
+/// The greatest text that is read or written, in bytes.
+pub const LIMIT: u64 = 67_108_864;
 
 fn text_from(alloc: Global, reading: Reading) -> Result<Bytes, CommandFault>
     ensures { (run : ℕ) (x : State) → Follows run command_cause (text_by_plan reading) x x result }
@@ -20,7 +23,7 @@ fn text_from(alloc: Global, reading: Reading) -> Result<Bytes, CommandFault>
         Reading::Content(bytes) => Ok(bytes),
         Reading::Long(length) => Err(CommandFault::Refused(Refusal::TooLarge {
             length,
-            limit: SIZE_LIMIT,
+            limit: LIMIT,
         })),
         Reading::Gone => Ok(Bytes::new(alloc)),
     }
@@ -38,7 +41,7 @@ pub fn read_text<F: Files>(
         → Follows run command_cause (text_read_plan place.now name.now) (by_hand h (F.state files.old))
         (by_hand h (F.state files.new)) result }
 {
-    let reading = ask_read(alloc, run, files, place, name, SIZE_LIMIT)?;
+    let reading = ask_read(alloc, run, files, place, name, LIMIT)?;
     text_from(alloc, reading)
 }
 

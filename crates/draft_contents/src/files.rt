@@ -6,9 +6,10 @@ ghost use Rattle.draft_contents.specs.Files.{file_by, file_read};
 ghost use Rattle.draft_contents.specs.Wants.{file_given};
 ghost use Rattle.std.specs.Prelude.{ℕ};
 
+use command_stages::LIMIT;
 use file_plans::{Reading, ask_read_file};
 use folder_files::{FilePath, Files, Refusal};
-use mh_base::{Bytes, Duplicate, SIZE_LIMIT};
+use mh_base::{Bytes, Duplicate};
 use mhbuild_compose::Given;
 use std::alloc::Global;
 use step_plans::CommandFault;
@@ -20,7 +21,7 @@ fn file_from(alloc: Global, path: &FilePath, reading: Reading) -> Result<Bytes, 
         Reading::Content(bytes) => Ok(bytes),
         Reading::Long(length) => Err(CommandFault::Refused(Refusal::TooLarge {
             length,
-            limit: SIZE_LIMIT,
+            limit: LIMIT,
         })),
         Reading::Gone => Err(CommandFault::Refused(Refusal::NoFile(path.duplicate(alloc)?))),
     }
@@ -37,7 +38,7 @@ fn read_file<F: Files>(
         → Follows run command_cause (file_read path.now) (by_hand h (F.state files.old))
         (by_hand h (F.state files.new)) result }
 {
-    let reading = ask_read_file(alloc, run, files, path, SIZE_LIMIT)?;
+    let reading = ask_read_file(alloc, run, files, path, LIMIT)?;
     file_from(alloc, path, reading)
 }
 

@@ -8,12 +8,10 @@ ghost use Rattle.draft_contents.specs.Messages.{message_by, message_read, messag
 
 use crate::Forwarding;
 use crate::folder::chosen;
-use command_stages::{folder_place, list_folder, read_sequences_text};
+use command_stages::{LIMIT, folder_place, list_folder, read_sequences_text};
 use file_plans::{Reading, ask_read};
 use folder_files::{Files, Place, Refusal};
-use mh_base::{
-    Bytes, BytesList, Duplicate, Entry, FolderName, List, MsgNum, SIZE_LIMIT, TextList, entry_name,
-};
+use mh_base::{Bytes, BytesList, Duplicate, Entry, FolderName, List, MsgNum, TextList, entry_name};
 use std::alloc::{AllocError, Global};
 use step_plans::{CommandFault, Hand};
 
@@ -37,7 +35,7 @@ fn message_from(
         Reading::Content(bytes) => Ok(bytes),
         Reading::Long(length) => Err(CommandFault::Refused(Refusal::TooLarge {
             length,
-            limit: SIZE_LIMIT,
+            limit: LIMIT,
         })),
         Reading::Gone => Err(meddled(alloc, place, number)?),
     }
@@ -55,7 +53,7 @@ fn read_message<F: Files>(
         (by_hand h (F.state files.new)) result }
 {
     let name = entry_name(alloc, &Entry::Number(number))?;
-    let reading = ask_read(alloc, run, files, place, &name, SIZE_LIMIT)?;
+    let reading = ask_read(alloc, run, files, place, &name, LIMIT)?;
     message_from(alloc, place, number, reading)
 }
 

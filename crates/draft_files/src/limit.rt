@@ -3,8 +3,9 @@ ghost use Rattle.std.specs.Prelude.{◌≡◌, length};
 ghost use Rattle.command_stages.specs.Texts.{too_large as too_large_of};
 ghost use Rattle.draft_files.specs.Limits.{within_limit as within_limit_of};
 
+use command_stages::LIMIT;
 use folder_files::Refusal;
-use mh_base::{Bytes, SIZE_LIMIT};
+use mh_base::Bytes;
 use step_plans::CommandFault;
 
 /// The refusal of a text of this length.
@@ -13,7 +14,7 @@ pub(crate) fn too_large(text: &Bytes) -> CommandFault
 {
     CommandFault::Refused(Refusal::TooLarge {
         length: text.len() as u64,
-        limit: SIZE_LIMIT,
+        limit: LIMIT,
     })
 }
 
@@ -21,7 +22,7 @@ pub(crate) fn too_large(text: &Bytes) -> CommandFault
 pub fn within_limit(text: Bytes) -> Result<Bytes, CommandFault>
     ensures { result ≡ within_limit_of text }
 {
-    if text.len() as u64 > SIZE_LIMIT {
+    if text.len() as u64 > LIMIT {
         Err(too_large(&text))
     } else {
         Ok(text)

@@ -6,9 +6,10 @@ ghost use Rattle.step_plans.specs.CommandFaults.{command_cause};
 ghost use Rattle.draft_files.specs.Drafts.{draft_by, draft_read, in_work as in_work_of};
 
 use crate::DraftName;
+use command_stages::LIMIT;
 use file_plans::{Reading, ask_read};
 use folder_files::{FilePath, Files, Place, Refusal};
-use mh_base::{Bytes, Name, SIZE_LIMIT};
+use mh_base::{Bytes, Name};
 use std::alloc::{AllocError, Global};
 use step_plans::CommandFault;
 
@@ -29,7 +30,7 @@ fn draft_from(alloc: Global, name: &Name, reading: Reading) -> Result<Bytes, Com
         Reading::Content(bytes) => Ok(bytes),
         Reading::Long(length) => Err(CommandFault::Refused(Refusal::TooLarge {
             length,
-            limit: SIZE_LIMIT,
+            limit: LIMIT,
         })),
         Reading::Gone => Err(CommandFault::Refused(Refusal::NoFile(in_work(alloc, name)?))),
     }
@@ -46,6 +47,6 @@ pub fn read_draft<F: Files>(
         → Follows run command_cause (draft_read draft.now) (by_hand h (F.state files.old))
         (by_hand h (F.state files.new)) result }
 {
-    let reading = ask_read(alloc, run, files, &Place::Work, draft.name(), SIZE_LIMIT)?;
+    let reading = ask_read(alloc, run, files, &Place::Work, draft.name(), LIMIT)?;
     draft_from(alloc, draft.name(), reading)
 }

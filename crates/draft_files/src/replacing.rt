@@ -8,9 +8,10 @@ ghost use Rattle.step_plans.specs.Replacing.{renamed};
 ghost use Rattle.draft_files.specs.Replacing.{draft_replaced, of_work, set_in_place as set_in_place_plan};
 
 use crate::DraftName;
+use command_stages::LIMIT;
 use file_plans::ask_rename;
 use folder_files::{Files, Place, Refusal, Which};
-use mh_base::{Bytes, Duplicate, Name, SIZE_LIMIT};
+use mh_base::{Bytes, Duplicate, Name};
 use std::alloc::Global;
 use step_plans::{CommandFault, Hand, PlanFault, hold_to, sync, write_file};
 
@@ -26,7 +27,7 @@ fn fault_at(name: Name, fault: PlanFault) -> CommandFault
         PlanFault::Absent(place) => CommandFault::Meddled(place, name),
         PlanFault::TooLarge(length) => CommandFault::Refused(Refusal::TooLarge {
             length,
-            limit: SIZE_LIMIT,
+            limit: LIMIT,
         }),
         PlanFault::Memory => CommandFault::Memory,
     }

@@ -21,7 +21,6 @@ Grows-trans run a b c l m p q =
       start = q.start ∙ p.start;
       history = simp (q.history, p.history, map-append, append_assoc);
       asked = simp (q.asked, p.asked, long, spread, append_assoc);
-      script = q.script ∙ p.script;
       others = AreOthers-append run l m p.others q.others;
       possible = λ old. q.possible (p.possible old);
     }
@@ -41,7 +40,6 @@ Grows-none run a =
       start = refl;
       history = sym (append-nil a.history);
       asked = sym (append-nil a.asked);
-      script = refl;
       others = tt;
       possible = λ old. old;
     }

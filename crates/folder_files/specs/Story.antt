@@ -2,7 +2,6 @@
 use Rattle.std.specs.Prelude.{◌≡◌, ◌≢◌, ◌++◌, ◌∷◌, [], List, ℕ, ◌+◌, ◌≤◌, Option, Some, None, map, length}
 use Rattle.mh_base.specs.Counts.{Rose}
 use Rattle.folder_files.specs.Histories.{IsLegal, past_of}
-use Rattle.folder_files.specs.declared.script.Prompt.{Prompt}
 use Rattle.folder_files.specs.declared.step.Step.{Step}
 use Rattle.folder_files.specs.declared.step.Answer.{Answer}
 use Rattle.folder_files.specs.declared.step.Answer.TheVariants.{Failed}
@@ -11,13 +10,11 @@ use Rattle.folder_files.specs.declared.event.Event.{Event}
 use Rattle.folder_files.specs.declared.event.Event.TheVariants.{Act, Deliver, Crash, End}
 use Rattle.folder_files.specs.declared.world.World.{World}
 
--- what is told: the start, all events since, the places of the steps that calls asked for, and the script of what else
--- happens
+-- what is told: the start, all events since, and the places of the steps that calls asked for
 pub record Story : Type 0 where
   pub start : World
   pub history : List Event
   pub asked : List ℕ
-  pub script : List Prompt
 
 -- what files tell, where they tell it, and how often they have failed
 pub record FilesState : Type 0 where
@@ -60,7 +57,6 @@ pub record Grows (run : ℕ) (old new : Story) (log : List Moment) : Type 0 wher
   pub start : new.start ≡ old.start
   pub history : new.history ≡ old.history ++ map (event_of run) log
   pub asked : new.asked ≡ old.asked ++ places (length old.history) log
-  pub script : new.script ≡ old.script
   pub others : AreOthers run log
   pub possible : IsPossible old → IsPossible new
 

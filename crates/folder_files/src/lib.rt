@@ -6,7 +6,6 @@ mod event;
 mod files;
 mod place;
 mod refusal;
-mod script;
 mod step;
 mod world;
 
@@ -14,7 +13,6 @@ pub use event::{After, Event, EventList, History};
 pub use files::Files;
 pub use place::{FilePath, Place};
 pub use refusal::{Refusal, Which};
-pub use script::{Happening, Keep, KeepList, Prompt, PromptList};
 pub use step::{Answer, Step};
 pub use world::{
     Change, ChangeList, Directory, DirectoryList, File, FileList, Held, LockList, Outside,

@@ -21,7 +21,7 @@ use Rattle.folder_files.specs.declared.world.World.{World}
 use Rattle.folder_room.specs.Crashing.{IsCrashBy}
 use Rattle.folder_room.specs.Played.{has_acted_or_is, failing}
 use Rattle.folder_room.specs.Seen.{IsNow}
-use Rattle.folder_files.specs.declared.script.Keep.{Keep}
+use Rattle.folder_room.specs.declared.script.Keep.{Keep}
 use Rattle.folder_room.proofs.Crashed.{image_of}
 
 pub past_more : (h i : List Event) (e : Event) → i ≡ h ++ e ∷ [] → past_of i ≡ e ∷ past_of h

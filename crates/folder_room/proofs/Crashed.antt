@@ -15,7 +15,7 @@ use Rattle.folder_files.specs.declared.world.File.{File}
 use Rattle.folder_files.specs.declared.world.World.{World}
 use Rattle.folder_room.specs.Closing.{filled_file, kept_set}
 use Rattle.folder_room.specs.Crashing.{asked_at, IsCutDirectory, IsCrashBy, filled}
-use Rattle.folder_files.specs.declared.script.Keep.{Keep}
+use Rattle.folder_room.specs.declared.script.Keep.{Keep}
 use Rattle.folder_room.proofs.Closed.{least_set}
 use Rattle.folder_files.proofs.Sameness.{place_same}
 

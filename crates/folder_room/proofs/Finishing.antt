@@ -17,9 +17,9 @@ use Rattle.folder_room.specs.Crashing.{IsCrashBy}
 use Rattle.folder_room.specs.Played.{IsAnswered, is_dead, fails_by, answers, crashes_within, IsHonest, IsAnsweredBy, IsActed, lives, is_over, failing, has_acted_or_is}
 use Rattle.folder_room.specs.Seen.{IsNow}
 use Rattle.folder_room.specs.declared.course.Course.{Course}
-use Rattle.folder_files.specs.declared.script.Happening.{Happening}
-use Rattle.folder_files.specs.declared.script.Happening.TheVariants as happening
-use Rattle.folder_files.specs.declared.script.Keep.{Keep}
+use Rattle.folder_room.specs.declared.script.Happening.{Happening}
+use Rattle.folder_room.specs.declared.script.Happening.TheVariants as happening
+use Rattle.folder_room.specs.declared.script.Keep.{Keep}
 use Rattle.folder_room.proofs.Coursing.{past_more, live_now, dead_now, answered_now, both_same}
 use Rattle.folder_room.proofs.Fitting.{fits_answers}
 

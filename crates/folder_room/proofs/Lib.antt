@@ -20,6 +20,3 @@ pub mod Fitting
 pub mod Finishing
 pub mod Fitted
 pub mod Telling
-pub mod Calling
-pub mod Unique
-pub mod Nexting

@@ -5,7 +5,7 @@ use Rattle.std.specs.Prelude.{Result, Ok, Err, MatchResult, IfOk}
 use Rattle.std.specs.declared.alloc.AllocError.{AllocError}
 use Rattle.folder_files.specs.Histories.{past_of, IsLegal, world_after}
 use Rattle.folder_files.specs.Rows.{IsAnswerOf}
-use Rattle.folder_files.specs.Story.{Moment, Mine, Theirs, Asks, Waits, AreOthers, IsOther, places, event_of}
+use Rattle.folder_files.specs.Story.{Moment, Mine, Theirs, Asks, Waits, AreOthers, IsOther, places, event_of, Counts}
 use Rattle.folder_files.specs.declared.step.Step.{Step}
 use Rattle.folder_files.specs.declared.step.Answer.{Answer}
 use Rattle.folder_files.specs.declared.step.Answer.TheVariants.{Failed}
@@ -16,8 +16,7 @@ use Rattle.folder_files.specs.declared.event.Event.TheVariants as event
 use Rattle.folder_files.specs.declared.world.World.{World}
 use Rattle.folder_room.specs.Played.{Plays, PlaysOne, stops, plays, skips, acts, lives, is_over, delivers, fails, crashes, IsAnswered, is_dead, fails_by, answers, crashes_within, IsPlayed, failing, fail_of}
 use Rattle.folder_room.specs.Seen.{Seen, story_of}
-use Rattle.folder_files.specs.declared.script.Happening.{Happening}
-use Rattle.folder_files.specs.declared.script.Prompt.{Prompt}
+use Rattle.folder_room.specs.declared.script.Happening.{Happening}
 use Rattle.folder_room.proofs.Fitted.{fits_row, failed_row}
 
 -- events of others, the oldest first, after which the past is this
@@ -87,15 +86,14 @@ places_theirs n [] more = grind arith
 places_theirs n (e ∷ es) more = grind (arith, places_theirs (n + 1) es more)
 
 -- a call that waited
-pub room_waits : (start : World) (run : ℕ) (h i : List Event) (asked : List ℕ) (script : List Prompt) → IsLegal start (past_of i) → Adds run (past_of h) (past_of i)
-    → Waits run (Some (record { start = start; history = h; asked = asked; script = script })) (Some (record { start = start; history = i; asked = asked; script = script }))
-room_waits start run h i asked script legal d =
+pub room_waits : (start : World) (run : ℕ) (h i : List Event) (asked : List ℕ) → IsLegal start (past_of i) → Adds run (past_of h) (past_of i)
+    → Waits run (Some (record { start = start; history = h; asked = asked })) (Some (record { start = start; history = i; asked = asked }))
+room_waits start run h i asked legal d =
     let bare = append-nil (map Theirs d.others) in (
       d.others,
       record {
         start = refl;
         history = history_adds h i d.others d.past_is ∙ ap (λ es. h ++ es) (sym (append-nil d.others) ∙ sym (map_theirs run d.others []) ∙ ap (map (event_of run)) bare);
-        script = refl;
         asked = sym (append-nil asked) ∙ ap (λ ps. asked ++ ps) (sym (places_theirs (length h) d.others []) ∙ ap (places (length h)) bare);
         others = subst (AreOthers run) bare (d.theirs [] tt);
         possible = λ old. legal;
@@ -103,9 +101,9 @@ room_waits start run h i asked script legal d =
     )
 
 -- a call that asked
-pub room_asks : (start : World) (run : ℕ) (h i : List Event) (asked more : List ℕ) (script : List Prompt) (s : Step) (a : Answer) (place : ℕ) → IsLegal start (past_of i) → EndsWith run s a (past_of h) (past_of i) → more ≡ asked ++ place ∷ [] → place + 1 ≡ length i
-    → Asks run (Some (record { start = start; history = h; asked = asked; script = script })) (Some (record { start = start; history = i; asked = more; script = script })) s a
-room_asks start run h i asked more script s a place legal d e l =
+pub room_asks : (start : World) (run : ℕ) (h i : List Event) (asked more : List ℕ) (s : Step) (a : Answer) (place : ℕ) → IsLegal start (past_of i) → EndsWith run s a (past_of h) (past_of i) → more ≡ asked ++ place ∷ [] → place + 1 ≡ length i
+    → Asks run (Some (record { start = start; history = h; asked = asked })) (Some (record { start = start; history = i; asked = more })) s a
+room_asks start run h i asked more s a place legal d e l =
     let whole : i ≡ h ++ (d.others ++ event.Act run s a d.after ∷ []) = history_adds h i (d.others ++ event.Act run s a d.after ∷ []) (d.past_is ∙ ap (λ es. es ++ past_of h) (sym (reverse-append d.others (event.Act run s a d.after ∷ [])))) in
     let long = ap length whole ∙ length-append h (d.others ++ event.Act run s a d.after ∷ []) ∙ ap (λ n. length h + n) (length-append d.others (event.Act run s a d.after ∷ [])) in
     let at : place ≡ length h + length d.others = omega arith in (
@@ -114,7 +112,6 @@ room_asks start run h i asked more script s a place legal d e l =
       record {
         start = refl;
         history = whole ∙ ap (λ es. h ++ es) (sym (map_theirs run d.others (Mine s a d.after ∷ [])));
-        script = refl;
         asked = e ∙ ap (λ p. asked ++ p ∷ []) at ∙ ap (λ ps. asked ++ ps) (sym (places_theirs (length h) d.others (Mine s a d.after ∷ [])));
         others = d.theirs (Mine s a d.after ∷ []) tt;
         possible = λ old. legal;
@@ -122,13 +119,13 @@ room_asks start run h i asked more script s a place legal d e l =
     )
 
 -- what a call of `act` tells
-pub room_tells : (start : World) (run : ℕ) (h i : List Event) (asked more : List ℕ) (script : List Prompt) (s : Step) (turn : List Happening) (r : Result Answer AllocError) → IsLegal start (past_of i) → IsPlayed start run s turn (past_of h) r (past_of i)
+pub room_tells : (start : World) (run : ℕ) (h i : List Event) (asked more : List ℕ) (s : Step) (turn : List Happening) (r : Result Answer AllocError) → IsLegal start (past_of i) → IsPlayed start run s turn (past_of h) r (past_of i)
     → MatchResult r (λ a. (place : ℕ) × ((more ≡ asked ++ place ∷ []) × (place + 1 ≡ length i))) (λ x. more ≡ asked)
-    → MatchResult r (λ a. Asks run (Some (record { start = start; history = h; asked = asked; script = script })) (Some (record { start = start; history = i; asked = more; script = script })) s a) (λ x. Waits run (Some (record { start = start; history = h; asked = asked; script = script })) (Some (record { start = start; history = i; asked = more; script = script })))
-room_tells start run h i asked more script s turn (Ok a) legal p q =
-    room_asks start run h i asked more script s a q.0 legal (answered_ends start run s (fail_of turn) (past_of h) p.1 p.0 a (past_of i) (plays_add start run p.0 turn (past_of h) p.1 p.2) p.3) q.1.0 q.1.1
-room_tells start run h i asked more script s turn (Err x) legal p q =
-    subst (λ ps. Waits run (Some (record { start = start; history = h; asked = asked; script = script })) (Some (record { start = start; history = i; asked = ps; script = script }))) (sym q) (room_waits start run h i asked script legal (plays_add start run p.0 turn (past_of h) (past_of i) p.1))
+    → MatchResult r (λ a. Asks run (Some (record { start = start; history = h; asked = asked })) (Some (record { start = start; history = i; asked = more })) s a) (λ x. Waits run (Some (record { start = start; history = h; asked = asked })) (Some (record { start = start; history = i; asked = more })))
+room_tells start run h i asked more s turn (Ok a) legal p q =
+    room_asks start run h i asked more s a q.0 legal (answered_ends start run s (fail_of turn) (past_of h) p.1 p.0 a (past_of i) (plays_add start run p.0 turn (past_of h) p.1 p.2) p.3) q.1.0 q.1.1
+room_tells start run h i asked more s turn (Err x) legal p q =
+    subst (λ ps. Waits run (Some (record { start = start; history = h; asked = asked })) (Some (record { start = start; history = i; asked = ps }))) (sym q) (room_waits start run h i asked legal (plays_add start run p.0 turn (past_of h) (past_of i) p.1))
 
 -- the answer of a call is one of its step's row
 pub room_row : (start : World) (run : ℕ) (s : Step) (turn : List Happening) (past now : List Event) (r : Result Answer AllocError) → IsPlayed start run s turn past r now → IfOk r (λ a. IsAnswerOf s a)
@@ -142,20 +139,24 @@ room_row start run s turn past now (Ok a) p = row (fail_of turn) p.1 p.0 a now p
 room_row start run s turn past now (Err x) p = tt
 
 -- an answered call of the mailbox
-pub act_asks : (run : ℕ) (old new : Seen) (s : Step) (turn : List Happening) (a : Answer) → new.start ≡ old.start → new.script ≡ old.script → IsLegal new.start (past_of new.history) → IsPlayed old.start run s turn (past_of old.history) (Ok a) (past_of new.history)
-    → (place : ℕ) × ((new.asked ≡ old.asked ++ place ∷ []) × (place + 1 ≡ length new.history)) → Asks run (Some (story_of old)) (Some (story_of new)) s a
-act_asks run old new s turn a e f legal p q =
-    subst (λ st. Asks run (Some (story_of old)) (Some (record { start = st; history = new.history; asked = new.asked; script = new.script })) s a) (sym e)
-    (subst (λ sc. Asks run (Some (story_of old)) (Some (record { start = old.start; history = new.history; asked = new.asked; script = sc })) s a) (sym f)
-    (room_tells old.start run old.history new.history old.asked new.asked old.script s turn (Ok a) (subst (λ st. IsLegal st (past_of new.history)) e legal) p q))
+pub act_asks : (run : ℕ) (old mid new : Seen) (s : Step) (turn : List Happening) (a : Answer) (faults : ℕ) → mid.start ≡ old.start → IsLegal mid.start (past_of mid.history) → IsPlayed old.start run s turn (past_of old.history) (Ok a) (past_of mid.history)
+    → (place : ℕ) × ((mid.asked ≡ old.asked ++ place ∷ []) × (place + 1 ≡ length mid.history)) → new ≡ record mid { faults = faults } → (b : Answer) → b ≡ a → Asks run (Some (story_of old)) (Some (story_of new)) s b
+act_asks run old mid new s turn a faults e legal p q n b same =
+    subst (λ x. Asks run (Some (story_of old)) (Some (story_of new)) s x) (sym same)
+    (subst (λ (r : Seen). Asks run (Some (story_of old)) (Some (story_of r)) s a) (sym n)
+    (subst (λ st. Asks run (Some (story_of old)) (Some (record { start = st; history = mid.history; asked = mid.asked })) s a) (sym e)
+    (room_tells old.start run old.history mid.history old.asked mid.asked s turn (Ok a) (subst (λ st. IsLegal st (past_of mid.history)) e legal) p q)))
 
 -- and one that wants memory
-pub act_waits : (run : ℕ) (old new : Seen) (s : Step) (turn : List Happening) (x : AllocError) → new.start ≡ old.start → new.script ≡ old.script → IsLegal new.start (past_of new.history) → IsPlayed old.start run s turn (past_of old.history) (Err x) (past_of new.history) → new.asked ≡ old.asked
+pub act_waits : (run : ℕ) (old new : Seen) (s : Step) (turn : List Happening) (x : AllocError) → new.start ≡ old.start → IsLegal new.start (past_of new.history) → IsPlayed old.start run s turn (past_of old.history) (Err x) (past_of new.history) → new.asked ≡ old.asked
     → Waits run (Some (story_of old)) (Some (story_of new))
-act_waits run old new s turn x e f legal p q =
-    subst (λ st. Waits run (Some (story_of old)) (Some (record { start = st; history = new.history; asked = new.asked; script = new.script }))) (sym e)
-    (subst (λ sc. Waits run (Some (story_of old)) (Some (record { start = old.start; history = new.history; asked = new.asked; script = sc }))) (sym f)
-    (room_tells old.start run old.history new.history old.asked new.asked old.script s turn (Err x) (subst (λ st. IsLegal st (past_of new.history)) e legal) p q))
+act_waits run old new s turn x e legal p q =
+    subst (λ st. Waits run (Some (story_of old)) (Some (record { start = st; history = new.history; asked = new.asked }))) (sym e)
+    (room_tells old.start run old.history new.history old.asked new.asked s turn (Err x) (subst (λ st. IsLegal st (past_of new.history)) e legal) p q)
 
-pub act_row : (start : World) (run : ℕ) (s : Step) (turn : List Happening) (past now : List Event) (a : Answer) → IsPlayed start run s turn past (Ok a) now → IsAnswerOf s a
-act_row start run s turn past now a p = room_row start run s turn past now (Ok a) p
+pub act_row : (start : World) (run : ℕ) (s : Step) (turn : List Happening) (past now : List Event) (a b : Answer) → IsPlayed start run s turn past (Ok a) now → b ≡ a → IsAnswerOf s b
+act_row start run s turn past now a b p e = subst (IsAnswerOf s) (sym e) (room_row start run s turn past now (Ok a) p)
+
+-- the count that rose rose since the call began
+pub act_counts : (old mid new : ℕ) (a b : Answer) → mid ≡ old → Counts mid new a → b ≡ a → Counts old new b
+act_counts old mid new a b e h g = subst (Counts old new) (sym g) (subst (λ n. Counts n new a) e h)

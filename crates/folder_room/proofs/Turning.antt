@@ -8,9 +8,9 @@ use Rattle.folder_files.specs.declared.world.World.{World}
 use Rattle.folder_room.specs.Left.{left_of}
 use Rattle.folder_room.specs.Played.{Plays, PlaysOne, stops, plays, is_within}
 use Rattle.folder_room.specs.declared.playing.Within.{Within}
-use Rattle.folder_files.specs.declared.script.Happening.{Happening}
-use Rattle.folder_files.specs.declared.script.Happening.TheVariants.{Crash}
-use Rattle.folder_files.specs.declared.script.Keep.{Keep}
+use Rattle.folder_room.specs.declared.script.Happening.{Happening}
+use Rattle.folder_room.specs.declared.script.Happening.TheVariants.{Crash}
+use Rattle.folder_room.specs.declared.script.Keep.{Keep}
 
 module _ {X : Type 0} (f : X → Happening) (start : World) (run : ℕ) where
   pub play_none : (turn : List X) (past : List Event) → length turn ≡ 0 → Plays start run [] (map f turn) past past

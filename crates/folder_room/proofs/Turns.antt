@@ -4,8 +4,8 @@ use Rattle.std.proofs.lemmas.Bool.Decides.{Decides-eqb}
 use Rattle.std.proofs.lemmas.List.{take_more, map-append}
 use Rattle.std.specs.Prelude.{if◌then◌else◌}
 use Rattle.folder_room.specs.Played.{turn_of}
-use Rattle.folder_files.specs.declared.script.Happening.{Happening}
-use Rattle.folder_files.specs.declared.script.Prompt.{Prompt}
+use Rattle.folder_room.specs.declared.script.Happening.{Happening}
+use Rattle.folder_room.specs.declared.script.Prompt.{Prompt}
 
 turn_push : (call : ℕ) (ps : List Prompt) (p : Prompt) → turn_of call (ps ++ p ∷ []) ≡ turn_of call ps ++ (if p.at == call then p.what ∷ [] else [])
 turn_push call [] p = refl

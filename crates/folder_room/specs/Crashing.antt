@@ -5,7 +5,7 @@ use Rattle.folder_files.specs.Places.{same_place}
 use Rattle.folder_files.specs.Worlds.{WorldMap, FileState}
 use Rattle.folder_files.specs.declared.place.Place.{Place}
 use Rattle.folder_files.specs.declared.world.Change.{Change}
-use Rattle.folder_files.specs.declared.script.Keep.{Keep}
+use Rattle.folder_room.specs.declared.script.Keep.{Keep}
 
 abbrev pub has_number : List ℕ → ℕ → Bool
 has_number [] i = false

@@ -3,8 +3,8 @@ use Rattle.std.specs.Prelude.{true, List, [], ◌∷◌, Option, Some, None}
 use denote.Ref.{Bor}
 use Rattle.folder_files.specs.declared.event.After.{After}
 use Rattle.folder_room.specs.declared.playing.Within.{Within}
-use Rattle.folder_files.specs.declared.script.Happening.{Happening}
-use Rattle.folder_files.specs.declared.script.Happening.TheVariants.{Crash}
+use Rattle.folder_room.specs.declared.script.Happening.{Happening}
+use Rattle.folder_room.specs.declared.script.Happening.TheVariants.{Crash}
 
 -- the crash within the step that is left, if there is one
 abbrev pub left_of : Option Within → List Happening

@@ -6,5 +6,3 @@ pub mod Played
 pub mod Left
 pub mod Parents
 pub mod Seen
-pub mod Told
-pub mod Next

@@ -16,10 +16,10 @@ use Rattle.folder_files.specs.declared.event.Event.{Event}
 use Rattle.folder_files.specs.declared.event.Event.TheVariants as event
 use Rattle.folder_files.specs.declared.world.World.{World}
 use Rattle.folder_room.specs.Crashing.{IsCrashBy}
-use Rattle.folder_files.specs.declared.script.Happening.{Happening}
-use Rattle.folder_files.specs.declared.script.Happening.TheVariants.{Other, Deliver, Fail, Crash}
-use Rattle.folder_files.specs.declared.script.Keep.{Keep}
-use Rattle.folder_files.specs.declared.script.Prompt.{Prompt}
+use Rattle.folder_room.specs.declared.script.Happening.{Happening}
+use Rattle.folder_room.specs.declared.script.Happening.TheVariants.{Other, Deliver, Fail, Crash}
+use Rattle.folder_room.specs.declared.script.Keep.{Keep}
+use Rattle.folder_room.specs.declared.script.Prompt.{Prompt}
 
 -- what the script has for the call of this number, in its order
 abbrev pub turn_of : ℕ → List Prompt → List Happening

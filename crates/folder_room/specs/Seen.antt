@@ -1,5 +1,5 @@
 -- What contracts see of a mailbox in memory.
-use Rattle.std.specs.Prelude.{◌≡◌, ℕ, List}
+use Rattle.std.specs.Prelude.{◌≡◌, ◌-◌, ℕ, List}
 use Rattle.folder_files.specs.Histories.{world_after, IsLegal, past_of}
 use Rattle.folder_files.specs.Story.{Story}
 use Rattle.folder_files.specs.Worlds.{shown}
@@ -7,7 +7,7 @@ use Rattle.folder_files.specs.declared.event.Event.{Event}
 use Rattle.folder_files.specs.declared.step.Answer.{Answer}
 use Rattle.folder_files.specs.declared.step.Answer.TheVariants.{Failed}
 use Rattle.folder_files.specs.declared.world.World.{World}
-use Rattle.folder_files.specs.declared.script.Prompt.{Prompt}
+use Rattle.folder_room.specs.declared.script.Prompt.{Prompt}
 use Rattle.mh_base.specs.Counts.{one_more}
 
 -- the start, the events since, the places of the steps that calls asked for, the script, how many calls there were, and
@@ -21,7 +21,7 @@ pub record Seen : Type 0 where
   pub faults : ℕ
 
 abbrev pub story_of : Seen → Story
-story_of r = record { start = r.start; history = r.history; asked = r.asked; script = r.script }
+story_of r = record { start = r.start; history = r.history; asked = r.asked }
 
 -- the count of faults after this answer
 abbrev pub faults_after : ℕ → Answer → ℕ

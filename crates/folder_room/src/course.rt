@@ -10,9 +10,10 @@ ghost use Rattle.folder_room.specs.Crashing.{IsCrashBy};
 ghost use Rattle.folder_room.specs.Played.{IsHonest, has_acted_or_is};
 
 use crate::images::crashed;
+use crate::script::KeepList;
 use crate::steps::{due, leave, make, make_answered};
 use crate::{locks, outside};
-use folder_files::{After, Answer, Event, FilePath, History, KeepList, Step, World};
+use folder_files::{After, Answer, Event, FilePath, History, Step, World};
 use mh_base::{Bytes, Duplicate};
 use std::alloc::{AllocError, Global};
 

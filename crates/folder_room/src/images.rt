@@ -8,10 +8,11 @@ ghost use Rattle.folder_room.specs.Closing as closing;
 ghost use Rattle.folder_room.specs.Crashing.{has_number, asked_at, IsCutDirectory, IsCrashBy};
 ghost use Rattle.folder_room.specs.Played.{has_acted_or_is};
 
+use crate::script::{Keep, KeepList};
 use crate::settled::changed;
 use folder_files::{
-    Change, ChangeList, Directory, DirectoryList, Event, File, FileList, History, Keep, KeepList,
-    LockList, Place, RunList, Slot, SlotList, World,
+    Change, ChangeList, Directory, DirectoryList, Event, File, FileList, History, LockList, Place,
+    RunList, Slot, SlotList, World,
 };
 use mh_base::{Bytes, Duplicate, Name};
 use std::alloc::{AllocError, Global};

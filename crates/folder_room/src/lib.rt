@@ -9,15 +9,15 @@ mod images;
 mod listing;
 mod locks;
 mod naming;
-mod next;
 mod outside;
 mod parents;
 mod places;
 mod playing;
 mod room;
+mod script;
 mod settled;
 mod slots;
 mod steps;
 
-pub use folder_files::{Happening, Keep, KeepList, Prompt, PromptList};
 pub use room::Room;
+pub use script::{Happening, Keep, KeepList, Prompt, PromptList};

@@ -10,12 +10,13 @@ ghost use Rattle.folder_files.specs.Steps.{left_by};
 ghost use Rattle.folder_room.specs.Left.{left_of, failed_of};
 ghost use Rattle.folder_room.specs.Played as played;
 ghost use Rattle.folder_room.specs.Seen.{IsNow};
-ghost use Rattle.folder_files.specs.declared.script.Happening.{Happening};
-ghost use Rattle.folder_files.specs.declared.script.Happening.TheVariants as happening;
+ghost use Rattle.folder_room.specs.declared.script.Happening.{Happening};
+ghost use Rattle.folder_room.specs.declared.script.Happening.TheVariants as happening;
 
 use crate::course::Course;
 use crate::images::has_ended;
-use folder_files::{After, Answer, Event, Happening, KeepList, Prompt, Step};
+use crate::script::{Happening, KeepList, Prompt};
+use folder_files::{After, Answer, Event, Step};
 use mh_base::Duplicate;
 use std::alloc::{AllocError, Global};
 use step_discipline::may_step;

@@ -3,19 +3,17 @@ ghost use Rattle.std.specs.Prelude.{◌≡◌, ◌≤◌, ◌++◌, ◌∷◌, [
 ghost use Rattle.folder_files.specs.Histories.{past_of, world_after, IsLegal};
 ghost use Rattle.folder_files.specs.Rows.{IsAnswerOf};
 ghost use Rattle.folder_files.specs.Story.{Asks, Waits, Counts};
-ghost use Rattle.folder_files.specs.Worlds.{IsStart, shown};
+ghost use Rattle.folder_files.specs.Worlds.{shown};
 ghost use Rattle.folder_files.specs.declared.event.Event.TheVariants as event;
 ghost use Rattle.folder_files.specs.declared.world.World.{World};
-ghost use Rattle.folder_room.specs.Next.{ReadsAs};
 ghost use Rattle.folder_room.specs.Played.{IsPlayed, turn_of};
 ghost use Rattle.folder_room.specs.Seen.{Seen, IsNow, story_of, faults_after};
-ghost use Rattle.folder_room.specs.Told.{IsTold};
 ghost use Rattle.mh_base.specs.Counts.{one_more};
 
 use crate::course::Course;
-use crate::next::start_of;
 use crate::playing::{fail_of, turn_at};
-use folder_files::{Answer, Files, Happening, History, PromptList, Step, World};
+use crate::script::{Happening, PromptList};
+use folder_files::{Answer, Files, History, Step, World};
 use mh_base::{Duplicate, NumberList};
 use std::alloc::{AllocError, Global};
 use std::marker::Model;
@@ -37,9 +35,7 @@ pub struct Room {
 }
 
 impl Model for Room {
-    ghost use Rattle.folder_files.specs.Histories.{past_of};
     ghost use Rattle.folder_room.specs.Seen.{Seen, IsNow};
-    ghost use Rattle.folder_room.specs.Told.{IsTold};
 
     ghost Value = { Seen };
 
@@ -53,8 +49,7 @@ impl Model for Room {
           faults = r.faults;
         } };
 
-    ghost invariant = { λ r. IsNow r.start r.course.world r.course.history
-        × IsTold r.start r.script r.calls r.asked r.faults (past_of r.course.history) };
+    ghost invariant = { λ r. IsNow r.start r.course.world r.course.history };
 }
 
 impl Room {
@@ -89,8 +84,6 @@ impl Room {
     pub fn history(&self) -> &History
         ensures value { result.now ≡ self.now.history }
         ensures possible { IsLegal self.now.start (past_of self.now.history) }
-        ensures told { IsTold self.now.start self.now.script self.now.calls self.now.asked self.now.faults
-            (past_of self.now.history) }
     {
         &self.course.history
     }
@@ -100,13 +93,6 @@ impl Room {
         ensures { result.now ≡ self.now.asked }
     {
         &self.asked
-    }
-
-    /// How many calls of `act` there were.
-    pub fn calls(&self) -> u64
-        ensures { result ≡ self.now.calls }
-    {
-        self.calls
     }
 
     /// How many calls were answered Failed.
@@ -122,15 +108,6 @@ impl Room {
         ensures err { OnErr result (self.new ≡ self.old) }
     {
         self.course.end(self.alloc, run)
-    }
-
-    /// The start of the history that comes after this one: the world as it is now, with all changes made and every file
-    /// safe, without a lock and without a run that has ended.
-    pub fn into_start(self) -> Result<World, AllocError>
-        ensures reads { IfOk result (λ w. ReadsAs (world_after self.start (past_of self.history)) w) }
-        ensures start { IfOk result (λ w. IsStart w) }
-    {
-        start_of(self.alloc, &self.course.world)
     }
 }
 
@@ -183,27 +160,13 @@ fn take_turn(
     }
 }
 
-/// The count of faults after this answer.
-fn counted(faults: u64, answer: &Answer) -> u64
-    ensures value { result ≡ faults_after faults answer.now }
-    ensures cause { Counts faults result answer.now }
-{
-    match answer {
-        Answer::Failed => faults.saturating_add(1),
-        _ => faults,
-    }
-}
-
 impl Room {
-    /// One call of `act`.
+    /// One call of `act` but for its count.
     fn turn(&mut self, alloc: Global, run: u128, step: &Step) -> Result<Answer, AllocError>
         ensures start { self.new.start ≡ self.old.start }
         ensures script { self.new.script ≡ self.old.script }
         ensures calls { self.new.calls ≡ one_more self.old.calls }
-        ensures faults { MatchResult result (λ a. self.new.faults ≡ faults_after self.old.faults a)
-            (λ _. self.new.faults ≡ self.old.faults) }
-        ensures cause { MatchResult result (λ a. Counts self.old.faults self.new.faults a)
-            (λ _. self.old.faults ≤ self.new.faults) }
+        ensures faults { self.new.faults ≡ self.old.faults }
         ensures legal { IsLegal self.new.start (past_of self.new.history) }
         ensures played { IsPlayed self.old.start run step.now (turn_of self.new.calls self.old.script)
             (past_of self.old.history) result (past_of self.new.history) }
@@ -214,16 +177,23 @@ impl Room {
     {
         self.calls = self.calls.saturating_add(1);
         match turn_at(alloc, self.script.as_slice(), self.calls) {
-            Ok(turn) => {
-                match take_turn(alloc, &mut self.course, &mut self.asked, run, step, &turn) {
-                    Ok(answer) => {
-                        self.faults = counted(self.faults, &answer);
-                        Ok(answer)
-                    }
-                    Err(wanting) => Err(wanting),
-                }
-            }
+            Ok(turn) => take_turn(alloc, &mut self.course, &mut self.asked, run, step, &turn),
             Err(wanting) => Err(wanting),
+        }
+    }
+
+    /// Counts the answers that are Failed.
+    fn counted(&mut self, answer: Answer) -> Answer
+        ensures same { result ≡ answer }
+        ensures room { self.new ≡ record self.old { faults = faults_after self.old.faults answer } }
+        ensures cause { Counts self.old.faults self.new.faults answer }
+    {
+        match answer {
+            Answer::Failed => {
+                self.faults = self.faults.saturating_add(1);
+                Answer::Failed
+            }
+            answer => answer,
         }
     }
 }
@@ -247,7 +217,7 @@ impl Files for Room {
         ensures same_script { self.new.script ≡ self.old.script }
     {
         match self.turn(alloc, run, step) {
-            Ok(answer) => Ok(answer),
+            Ok(answer) => Ok(self.counted(answer)),
             Err(wanting) => Err(wanting),
         }
     }

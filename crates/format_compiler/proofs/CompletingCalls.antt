@@ -1,19 +1,19 @@
 -- Calls of functions, up to where they are wrong.
-use Rattle.std.proofs.Common.{◌≡◌, ◌⊎◌, inl, inr, ℕ, zero, suc, ◌&&◌, not, Bool, true, false, List, [], ◌∷◌, ◌++◌, Option, Some, None, Ok, Err, refl, sym, ap, ◌∙◌, subst}
+use Rattle.std.proofs.Common.{◌≡◌, ◌⊎◌, inl, inr, ℕ, zero, suc, ◌&&◌, not, Bool, true, false, List, [], ◌∷◌, ◌++◌, Option, Some, None, Ok, Err, refl, sym, ap, ◌∙◌, subst, append-nil}
 use Rattle.std.specs.Prelude.{if◌then◌else◌}
 use Rattle.std.proofs.lemmas.List.{append_assoc}
 use Rattle.format_compiler.specs.declared.call.Call.{Call}
 use Rattle.format_compiler.specs.declared.function.Function.{Function}
 use Rattle.format_compiler.specs.declared.function.Function.TheVariants.{Msg}
 use Rattle.format_compiler.specs.Calls.{argument_in, call_in, fitting, function_by, function_in, is_in_name, whole_by}
-use Rattle.format_compiler.specs.Functions.{begins_name, every_function, function_named, has_result, kind_of, name_of}
+use Rattle.format_compiler.specs.Functions.{every_function, function_named, has_result, kind_of, name_of}
 use Rattle.format_compiler.specs.Reading.{Read, ◌>>=◌}
-use Rattle.format_compiler.specs.Unfinished.{CallEndsInNone, in_argument, in_number}
+use Rattle.format_compiler.specs.Unfinished.{begins_name, CallEndsInNone, in_argument, in_name, in_number}
 use Rattle.format_compiler.proofs.Completing.{at_once, carried, Carries, made, made_same, Mends, read_at, Reads, Seen, seen_behind}
 use Rattle.format_compiler.proofs.CompletingArguments.{argued, argument_ends, none_read, some_argument, some_call, some_reads}
 use Rattle.format_compiler.proofs.CompletingNames.{Begun, begun_among, name_reads, own_name_reads}
 use Rattle.format_compiler.proofs.CompletingSources.{argument_seen, InnerSeen, Worse}
-use Rattle.format_compiler.proofs.TwoParts.{by_parts, EachIs, StopsHere}
+use Rattle.format_compiler.proofs.TwoParts.{all, by_parts, EachIs, StopsHere}
 
 -- an argument is read behind this name, which is that of the function
 abbrev pub IsReadBefore : Bool → List ℕ → Function → Type 0
@@ -50,17 +50,15 @@ name_mends room in_test name b = record {
       (some_call_reads room in_test b.function b.fits);
 }
 
--- a call is wrong from where it began, or ends within a number that none begins with
+-- a call is wrong from where it began, or ends within a name or a number that none begins with
 abbrev pub BadCall : Bool → List ℕ → List ℕ → List ℕ → Type 0
 BadCall in_test whole text left = (left ≡ whole) ⊎ ((left ≡ []) × CallEndsInNone in_test text)
 
-abbrev pub behind_name : ℕ → Read Function → Read Call
-behind_name room read = read >>= (λ f behind. argument_in (kind_of f) f behind) >>= whole_by (call_in room false)
-
-name_ends : (room : ℕ) (in_test : Bool) (whole name : List ℕ) → (b : Bool) → begins_name in_test name ≡ b
-    → Seen (BadCall in_test whole (name ++ [])) (call_in (suc room) in_test) (name ++ []) (behind_name room (if b then Err [] else Err (name ++ [])))
-name_ends room in_test whole name true is = inl (name_mends room in_test name (begun_among in_test name every_function is))
-name_ends room in_test whole name false none = inl (name_at_once room in_test (name ++ []))
+name_ends : (room : ℕ) (in_test : Bool) (whole name : List ℕ) → EachIs is_in_name name → (b : Bool) → begins_name in_test name ≡ b
+    → Seen (BadCall in_test whole (name ++ [])) (call_in (suc room) in_test) (name ++ []) (Err [])
+name_ends room in_test whole name each true is = inl (name_mends room in_test name (begun_among in_test name every_function is))
+name_ends room in_test whole name each false none =
+    inr (inr (refl, subst (λ (z : List ℕ). CallEndsInNone in_test z) (sym (append-nil name)) (in_name (all is_in_name name each) none)))
 
 -- what ends within an argument ends within the call
 ends_within : (in_test : Bool) (whole text : List ℕ) (f : Function) (behind : List ℕ) → function_in in_test text ≡ Ok (f, behind)
@@ -70,9 +68,12 @@ ends_within in_test whole text f behind is = record {
   argument = λ w inner left here n. inr (n.0, in_argument (ap (λ z. z >>= λ g b. argument_in (kind_of g) g b) is ∙ here) n.1);
 }
 
+abbrev pub behind_name : ℕ → Read Function → Read Call
+behind_name room read = read >>= (λ f behind. argument_in (kind_of f) f behind) >>= whole_by (call_in room false)
+
 name_seen : (room : ℕ) (in_test : Bool) (whole : List ℕ) → InnerSeen (call_in room false) (λ inner left. (left ≡ []) × CallEndsInNone false inner) → (name rest : List ℕ) → EachIs is_in_name name → StopsHere is_in_name rest
     → Seen (BadCall in_test whole (name ++ rest)) (call_in (suc room) in_test) (name ++ rest) (behind_name room (function_by in_test (name ++ rest) name rest))
-name_seen room in_test whole seen name [] each stops = name_ends room in_test whole name (begins_name in_test name) refl
+name_seen room in_test whole seen name [] each stops = name_ends room in_test whole name each (begins_name in_test name) refl
 name_seen room in_test whole seen name (c ∷ rest) each stops = choose (function_named name) refl
   where
     fits : (f : Function) (b : Bool) → function_named name ≡ Some f → (in_test && not (has_result f)) ≡ b

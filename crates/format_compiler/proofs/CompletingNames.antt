@@ -6,8 +6,8 @@ use Rattle.std.proofs.lemmas.Slice.Eq.{bytes_eq-Decides}
 use Rattle.format_compiler.specs.declared.function.Function.{Function}
 use Rattle.format_compiler.specs.declared.function.Function.TheVariants.{Msg, Size, Cur, Unseen, Width, Charleft, Timenow, Me, Num, Lit, Eq, Ne, Gt, Plus, Divide, Modulo, Match, Amatch, Strlen, Null, Nonnull, Zero, Nonzero, Void, Comp, Compval, Trim, Unquote, Decode, Putstr, Putstrf, Putnum, Putnumf, Putlit, Sec, Min, Hour, Mday, Mon, Year, Wday, Day, Weekday, Month, Lmonth, Tzone, Clock, Rclock, Tws, Nodate, Friendly, Addr, Pers, Note, Mbox, Host}
 use Rattle.format_compiler.specs.Calls.{fitting, function_by, function_in, is_in_name}
-use Rattle.format_compiler.specs.Functions.{begins_name_among, every_function, function_named, has_result, is_begun_by, name_of}
-use Rattle.format_compiler.specs.Unfinished.{IsAll}
+use Rattle.format_compiler.specs.Functions.{every_function, function_named, has_result, name_of}
+use Rattle.format_compiler.specs.Unfinished.{begins_name_among, is_begun_by, IsAll}
 use Rattle.format_compiler.proofs.TwoParts.{each, EachIs, far}
 
 -- the table has each function under its name, which ends where it should
@@ -15,7 +15,7 @@ pub record IsNamed (f : Function) : Type 0 where
   pub found : function_named (name_of f) ≡ Some f
   pub all : IsAll is_in_name (name_of f)
 
-pub named : (f : Function) → IsNamed f
+named : (f : Function) → IsNamed f
 unfolding every_function
 named Msg = record { found = refl; all = refl }
 named Size = record { found = refl; all = refl }

@@ -116,7 +116,7 @@ digits_mend room digits w = record {
       ∙ digits_read room whole (digits ++ w.more) 123 (97 ∷ (125 ∷ rest)) w.width w.each refl w.is;
 }
 
--- a word is wrong from where it began, or ends within a number that none begins with
+-- a word is wrong from where it began, or ends within a name or a number that none begins with
 abbrev pub BadWord : List ℕ → List ℕ → List ℕ → Type 0
 BadWord whole word left = (left ≡ whole) ⊎ ((left ≡ []) × WordEndsInNone word)
 

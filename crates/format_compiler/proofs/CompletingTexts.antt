@@ -33,8 +33,8 @@ escape_seen : (o : Open) (c : ℕ) (text : List ℕ) → ((whole t : List ℕ) �
 escape_seen o c [] is = inl (record { front = c ∷ []; parts = refl; more = 97 ∷ []; value = Print (Character 97); reads = λ whole rest. is whole (97 ∷ rest) })
 escape_seen o c (d ∷ text) is = inl (record { front = c ∷ (d ∷ []); parts = refl; reads = λ whole rest. is whole (d ∷ rest) })
 
--- a word is read, or can be completed up to where it is wrong, or is wrong from its beginning, or ends within a number
--- that none begins with
+-- a word is read, or can be completed up to where it is wrong, or is wrong from its beginning, or ends within a name or a
+-- number that none begins with
 pub word_seen : (o : Open) (text : List ℕ) → LongSeen (BadWord text text) (word_read o) text (word_in o text)
 unfolding word_in
 word_seen o [] = inr (inl refl)
@@ -131,7 +131,7 @@ completed front more words after stand =
     let some = some_format (words ++ ends_of after) text all in
     record { more = more ++ closing after; format = some.format; denoted = (words ++ ends_of after, all, some.is) }
 
--- characters before what is left, which begin a format, or end within a number that none begins with
+-- characters before what is left, which begin a format, or end within a name or a number that none begins with
 pub record Before (characters left : List ℕ) : Type 0 where
   pub front : List ℕ
   pub parts : front ++ left ≡ characters

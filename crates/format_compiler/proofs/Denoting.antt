@@ -1,5 +1,5 @@
 -- The format of a text is the one that the text denotes, and a text that is refused is refused where its format is wrong.
-use Rattle.std.proofs.Common.{◌≡◌, ℕ, zero, suc, ◌≤◌, Bool, true, false, List, [], ◌∷◌, length, Result, Ok, Err, inl, inr, ◌⊎◌, refl, sym, ap, ◌∙◌, subst, arith}
+use Rattle.std.proofs.Common.{◌≡◌, ℕ, zero, suc, ◌≤◌, ◌==◌, Bool, true, false, List, [], ◌∷◌, length, Result, Ok, Err, inl, inr, ◌⊎◌, refl, sym, ap, ◌∙◌, subst, arith}
 use Rattle.std.specs.Prelude.{◌↔◌, IfErr, IfOk, IsTrue}
 use Rattle.std.specs.Str.{is_utf8, IsUtf8}
 use Rattle.std.proofs.lemmas.Str.{is_utf8-from_IsUtf8, IsUtf8-from_is_utf8}
@@ -9,12 +9,13 @@ use Rattle.format_compiler.specs.declared.instruction.Instruction.{Instruction}
 use Rattle.format_compiler.specs.declared.one_test.Test.{Test}
 use Rattle.format_compiler.specs.declared.word.Word.{Word}
 use Rattle.format_compiler.specs.declared.word.Word.TheVariants.{Nothing, Print, If, ElseIf, Else, End}
-use Rattle.format_compiler.specs.FormatOf.{before, format_by, format_of, IsRead, Items, items_of, words_of, words_within}
+use Rattle.format_compiler.specs.Code.{code_of, IsCodeOf}
+use Rattle.format_compiler.specs.FormatOf.{before, format_by, format_of, IsRead, Items, items_of, Ways, words_of, words_within}
 use Rattle.format_compiler.specs.Formats.{AreCutOff, AreWrongAt, Denote, Denotes, IsCompiledTo, IsProgramOf, IsRefused, IsRefusedAt, IsStuck, Stand}
 use Rattle.format_compiler.specs.Grammar.{AreItems, AreOthers, AreOver, Choice, Done, Format, IsFormat, over, nothing, print, choice, end, otherwise, otherwise_if}
 use Rattle.format_compiler.specs.Reading.{Read, ◌>>=◌}
 use Rattle.format_compiler.specs.Texts.{characters_in, place_of, without_feed}
-use Rattle.format_compiler.specs.Words.{behind_word, Open, word_in}
+use Rattle.format_compiler.specs.Words.{behind_word, is_inside, Open, word_in}
 use Rattle.format_compiler.proofs.Shorter.{Leaves, word_leaves}
 use Rattle.format_compiler.proofs.StandingWords.{nothing_stands}
 

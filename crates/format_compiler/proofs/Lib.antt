@@ -19,6 +19,5 @@ mod StandingWords
 mod Steady
 mod SteadyWords
 mod TwoParts
-mod UnknownNames
 mod WholeTexts
 mod Worked

@@ -1,8 +1,10 @@
--- What ends within a number that none begins with is wrong, whatever stands behind.
-use Rattle.std.proofs.Common.{◌≡◌, ℕ, zero, suc, ◌+◌, ◌*◌, ◌==◌, ◌&&◌, Bool, true, false, List, [], ◌∷◌, ◌++◌, take, drop, Option, Some, None, Ok, Err, refl, sym, ap, ◌∙◌, subst, ℤ, pos, neg_ℤ}
-use Rattle.std.specs.Prelude.{if◌then◌else◌, is_some, nat_le}
+-- What ends within a name or a number that none begins with is wrong, whatever stands behind.
+use Rattle.std.proofs.Common.{◌≡◌, ℕ, zero, suc, ◌+◌, ◌*◌, ◌==◌, ◌&&◌, not, Bool, true, false, List, [], ◌∷◌, ◌++◌, length, take, drop, Option, Some, None, Ok, Err, refl, sym, ap, ◌∙◌, subst, ℤ, pos, neg_ℤ}
+use Rattle.std.specs.Prelude.{if◌then◌else◌, is_some, nat_le, bytes_eq}
 use Rattle.std.specs.List.{prefix_len}
+use Rattle.std.proofs.Math.Seq.{take-append_seam}
 use Rattle.std.proofs.lemmas.List.{append_assoc}
+use Rattle.std.proofs.lemmas.Slice.Eq.{bytes_eq-Decides}
 use Rattle.format_compiler.specs.declared.function.ArgumentKind.TheVariants.{Number as TakesNumber}
 use Rattle.format_compiler.specs.declared.function.Function.{Function}
 use Rattle.format_compiler.specs.declared.width.Width.{Width}
@@ -10,20 +12,20 @@ use Rattle.format_compiler.specs.declared.piece.Piece.TheVariants.{Character}
 use Rattle.format_compiler.specs.declared.word.Word.{Word}
 use Rattle.format_compiler.specs.declared.word.Word.TheVariants.{Nothing, Print, Else, End}
 use Rattle.format_compiler.specs.Arguments.{decimal_within, is_literal, number_by, number_of, signed_by, some_decimal_within, spaced_number_in}
-use Rattle.format_compiler.specs.Calls.{Around, argument_in, call_in, Front, front_in, function_in, whole_by}
+use Rattle.format_compiler.specs.Calls.{Around, argument_in, call_in, fitting, Front, front_in, function_by, function_in, is_in_name, whole_by}
 use Rattle.format_compiler.specs.Formats.{Denote, Stand}
-use Rattle.format_compiler.specs.Functions.{kind_of}
+use Rattle.format_compiler.specs.Functions.{every_function, function_named, has_result, kind_of, name_of, named_among}
 use Rattle.format_compiler.specs.Grammar.{Format}
 use Rattle.format_compiler.specs.Reading.{before, Read, ◌>>=◌, then_character}
-use Rattle.format_compiler.specs.Unfinished.{begins_number, CallEndsInNone, else_if_test, if_test, in_argument, in_number, IsAll, printed, WordEndsInNone}
+use Rattle.format_compiler.specs.Unfinished.{begins_name, begins_name_among, begins_number, CallEndsInNone, else_if_test, if_test, in_argument, in_name, in_number, is_begun_by, IsAll, printed, WordEndsInNone}
 use Rattle.format_compiler.specs.Widths.{digit_value, width_of}
 use Rattle.format_compiler.specs.Words.{behind_line, else_if_in, if_in, is_inside, mark_in, may_choose, Open, percent_in, printed_by, printed_in, room_in, sized_by, test_in, word_in}
 use Rattle.format_compiler.proofs.Completing.{equal}
 use Rattle.format_compiler.proofs.CompletingWords.{from_bar, from_bar_end, from_bracket, from_question, from_semicolon}
 use Rattle.format_compiler.proofs.TwoParts.{each, EachIs, far}
 use Rattle.format_compiler.proofs.StandingWords.{rest_stands}
-use Rattle.format_compiler.proofs.Steady.{all_front, front_in_keeps, function_keeps, grown, Keeps, KeepsBy}
-use Rattle.format_compiler.proofs.SteadyWords.{left_false, none_of, stand_longer}
+use Rattle.format_compiler.proofs.Steady.{front_in_keeps, function_keeps, grown, Keeps, KeepsBy}
+use Rattle.format_compiler.proofs.SteadyWords.{all_front, left_false, none_of, stand_longer}
 use Rattle.mh_base.specs.Characters.{is_digit}
 
 abbrev pub IsWrong : {A : Type 0} → Read A → Type 0
@@ -93,9 +95,61 @@ number_wrong literal more all none =
     number_rest (32 ∷ text) (take (prefix_len is_literal text) text) (drop (prefix_len is_literal text) text)
     (ap number_of longer.longer ∙ number_none literal (take (prefix_len is_literal more) more) none)
 
+-- the function that a text names has a name that begins as the text does
+named_begins : (in_test : Bool) (name more : List ℕ) (fs : List Function) (f : Function) → named_among fs (name ++ more) ≡ Some f → (in_test && not (has_result f)) ≡ false → begins_name_among in_test name fs ≡ true
+named_begins in_test name more [] f found fits = absurd (cc)
+named_begins in_test name more (g ∷ fs) f found fits = choose (bytes_eq (name_of g) (name ++ more)) refl (named_begins in_test name more fs f)
+  where
+    same : Some g ≡ Some f → g ≡ f
+    same e = cc
+
+    begun : bytes_eq (name_of g) (name ++ more) ≡ true → g ≡ f → is_begun_by in_test name g ≡ true
+    begun is e =
+        let named = bytes_eq-Decides (name_of g) (name ++ more) in
+        let front = bytes_eq-Decides (take (length name) (name_of g)) name in
+        let here = front.1 (ap (take (length name)) (named.0 is) ∙ take-append_seam name more) in
+        let fit = ap (λ z. not (in_test && not (has_result z))) e ∙ ap not fits in
+        (λ i. here i && fit i)
+
+    either : (b : Bool) → begins_name_among in_test name fs ≡ true → (if b then true else begins_name_among in_test name fs) ≡ true
+    either true h = refl
+    either false h = h
+
+    choose : (b : Bool) → bytes_eq (name_of g) (name ++ more) ≡ b
+        → (named_among fs (name ++ more) ≡ Some f → (in_test && not (has_result f)) ≡ false → begins_name_among in_test name fs ≡ true) → begins_name_among in_test name (g ∷ fs) ≡ true
+    choose true is on =
+        let e = same (sym (ap (λ b. if b then Some g else named_among fs (name ++ more)) is) ∙ found) in
+        ap (λ b. if b then true else begins_name_among in_test name fs) (begun is e)
+    choose false is on = either (is_begun_by in_test name g) (on (sym (ap (λ b. if b then Some g else named_among fs (name ++ more)) is) ∙ found) fits)
+
+fitting_wrong : (in_test : Bool) (text behind name more : List ℕ) → begins_name in_test name ≡ false → IsWrong (fitting in_test text behind (function_named (name ++ more)))
+fitting_wrong in_test text behind name more none = choose (function_named (name ++ more)) refl
+  where
+    fits : (f : Function) (b : Bool) → function_named (name ++ more) ≡ Some f → (in_test && not (has_result f)) ≡ b → IsWrong (if b then Err text else Ok (f, behind))
+    fits f true found is = tt
+    fits f false found is = let begun = named_begins in_test name more every_function f found is in absurd (cc)
+
+    choose : (found : Option Function) → function_named (name ++ more) ≡ found → IsWrong (fitting in_test text behind found)
+    choose None is = tt
+    choose (Some f) is = fits f (in_test && not (has_result f)) is refl
+
+by_wrong : (in_test : Bool) (text name more front rest : List ℕ) → begins_name in_test name ≡ false → front ≡ name ++ more → IsWrong (function_by in_test text front rest)
+by_wrong in_test text name more front [] none is = tt
+by_wrong in_test text name more front (c ∷ rest) none is =
+    subst (λ (z : List ℕ). IsWrong (fitting in_test text (c ∷ rest) (function_named z))) (sym is) (fitting_wrong in_test text (c ∷ rest) name more none)
+
+name_wrong : (in_test : Bool) (name more : List ℕ) → IsAll is_in_name name → begins_name in_test name ≡ false → IsWrong (function_in in_test (name ++ more))
+name_wrong in_test name more all none =
+    let text = name ++ more in
+    let longer = all_front is_in_name name more all in
+    by_wrong in_test text name (take (prefix_len is_in_name more) more) (take (prefix_len is_in_name text) text) (drop (prefix_len is_in_name text) text) none longer.longer
+
 call_wrong : (in_test : Bool) (text : List ℕ) → CallEndsInNone in_test text → (room : ℕ) (whole more : List ℕ) → IsWrong (call_in room in_test whole (text ++ more))
 unfolding call_in
 call_wrong in_test text n zero whole more = tt
+call_wrong in_test text (in_name all none) (suc room) whole more =
+    then_wrong (front_in in_test (text ++ more)) (whole_by (call_in room false))
+    (then_wrong (function_in in_test (text ++ more)) (λ f behind. argument_in (kind_of f) f behind) (name_wrong in_test text more all none))
 call_wrong in_test text (in_number {literal = literal} {f = f} is kind all none) (suc room) whole more =
     let named = subst (λ (z : Read Function). Keeps more z (function_in in_test (text ++ more))) is (function_keeps more in_test text) in
     let here = ap (λ z. z >>= λ g behind. argument_in (kind_of g) g behind) named ∙ ap (λ z. argument_in z f (32 ∷ (literal ++ more))) kind in

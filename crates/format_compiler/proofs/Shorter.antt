@@ -1,5 +1,5 @@
 -- What is read at the front of a text leaves less of it.
-use Rattle.std.proofs.Common.{ℕ, zero, suc, ◌≤◌, ◌==◌, Bool, true, false, List, [], ◌∷◌, length, take, drop, Option, Some, None, Ok, Err, arith}
+use Rattle.std.proofs.Common.{◌≡◌, ℕ, zero, suc, ◌≤◌, ◌<◌, ◌==◌, Bool, true, false, List, [], ◌∷◌, length, take, drop, Option, Some, None, Result, Ok, Err, refl, subst, arith}
 use Rattle.std.specs.Prelude.{◌&&◌, not, ℤ, if◌then◌else◌}
 use Rattle.std.specs.List.{prefix_len}
 use Rattle.std.proofs.lemmas.List.{length-drop}
@@ -9,18 +9,19 @@ use Rattle.format_compiler.specs.declared.call.Call.{Call}
 use Rattle.format_compiler.specs.declared.function.ArgumentKind.{ArgumentKind}
 use Rattle.format_compiler.specs.declared.function.ArgumentKind.TheVariants.{Nothing as TakesNothing, Literal as TakesLiteral, LiteralOrNothing as MayTakeLiteral, Number as TakesNumber, Component as TakesComponent, Source as TakesSource, SourceOrNothing as MayTakeSource}
 use Rattle.format_compiler.specs.declared.function.Function.{Function}
+use Rattle.format_compiler.specs.declared.one_test.Test.{Test}
 use Rattle.format_compiler.specs.declared.one_test.Test.TheVariants.{Component as OfComponent, Call as OfCall}
-use Rattle.format_compiler.specs.declared.piece.Piece.TheVariants.{Component, Call as PrintsCall}
+use Rattle.format_compiler.specs.declared.piece.Piece.TheVariants.{Character, Component, Call as PrintsCall}
 use Rattle.format_compiler.specs.declared.width.Width.{Width}
 use Rattle.format_compiler.specs.declared.word.Word.{Word}
-use Rattle.format_compiler.specs.declared.word.Word.TheVariants.{Print, If, ElseIf, Else, End}
+use Rattle.format_compiler.specs.declared.word.Word.TheVariants.{Nothing, Print, If, ElseIf, Else, End}
 use Rattle.format_compiler.specs.Arguments.{is_literal, literal_in, number_by, number_of, spaced_literal_in, spaced_number_in}
 use Rattle.format_compiler.specs.Calls.{argument_in, Around, behind_spaces, call_in, called, closed_component_in, closed_or, component_by, fitting, front_in, Front, function_by, function_in, is_in_name, is_space, one_call, source_by, Whole, whole_by, with_around}
 use Rattle.format_compiler.specs.Components.{braced, component_in, is_name_character}
-use Rattle.format_compiler.specs.Functions.{begins_name, function_named, has_result, kind_of}
+use Rattle.format_compiler.specs.Functions.{function_named, has_result, kind_of}
 use Rattle.format_compiler.specs.Reading.{Read, ◌>>=◌, then_character}
 use Rattle.format_compiler.specs.Widths.{begins_width, width_of}
-use Rattle.format_compiler.specs.Words.{call_test_in, component_test_in, else_if_in, escape_in, if_in, is_in_line, is_inside, mark_in, may_choose, Open, percent_in, printed_by, printed_call_in, printed_component_in, printed_in, room_in, sized_by, test_in, word_in}
+use Rattle.format_compiler.specs.Words.{behind_line, call_test_in, component_test_in, else_if_in, escape_in, if_in, is_in_line, is_inside, mark_in, may_choose, Open, percent_in, printed_by, printed_call_in, printed_component_in, printed_in, room_in, sized_by, test_in, word_in}
 use Rattle.mh_base.specs.Characters.{is_digit}
 
 -- what is read leaves no more than so many characters
@@ -77,7 +78,7 @@ fitting_leaves n in_test text left None h = tt
 fitting_leaves n in_test text left (Some f) h = either n (in_test && not (has_result f)) (Err text) (Ok (f, left)) tt h
 
 function_leaves_by : (n : ℕ) (in_test : Bool) (text name left : List ℕ) → length left ≤ n → Leaves n (function_by in_test text name left)
-function_leaves_by n in_test text name [] h = either n (begins_name in_test name) (Err []) (Err text) tt tt
+function_leaves_by n in_test text name [] h = tt
 function_leaves_by n in_test text name (c ∷ left) h = fitting_leaves n in_test text (c ∷ left) (function_named name) h
 
 function_leaves : (n : ℕ) (in_test : Bool) (text : List ℕ) → length text ≤ n → Leaves n (function_in in_test text)

@@ -3,10 +3,8 @@ use Rattle.std.proofs.Common.{◌≡◌, ℕ, zero, suc, ◌+◌, ◌<◌, ◌�
 use Rattle.std.specs.Prelude.{if◌then◌else◌}
 use Rattle.std.specs.List.{prefix_len}
 use Rattle.std.proofs.lemmas.List.{take-append-le, drop-append-le}
-use Rattle.std.proofs.Math.Seq.{take-length, take-append-add}
 use Rattle.std.proofs.lemmas.List.Folds.{prefix_len-append}
-use Rattle.std.proofs.lemmas.List.Sums.{prefix_len-le-length}
-use Rattle.mh_base.proofs.NumberTests.{equal_test, less_test}
+use Rattle.mh_base.proofs.NumberTests.{less_test}
 use Rattle.format_compiler.specs.declared.argument.Argument.{Argument}
 use Rattle.format_compiler.specs.declared.argument.Argument.TheVariants.{Nothing, Literal, Number, Component}
 use Rattle.format_compiler.specs.declared.call.Call.{Call}
@@ -16,9 +14,8 @@ use Rattle.format_compiler.specs.declared.function.Function.{Function}
 use Rattle.format_compiler.specs.Arguments.{is_literal, literal_in, number_by, number_of, spaced_literal_in, spaced_number_in}
 use Rattle.format_compiler.specs.Calls.{Around, argument_in, behind_spaces, call_in, called, closed_component_in, closed_or, component_by, fitting, Front, front_in, function_by, function_in, is_in_name, is_space, one_call, source_by, Whole, whole_by, with_around}
 use Rattle.format_compiler.specs.Components.{braced, component_in, is_name_character}
-use Rattle.format_compiler.specs.Functions.{begins_name, function_named, has_result, kind_of}
+use Rattle.format_compiler.specs.Functions.{function_named, has_result, kind_of}
 use Rattle.format_compiler.specs.Reading.{before, Read, ◌>>=◌, then_character}
-use Rattle.format_compiler.proofs.UnknownNames.{unknown_by}
 
 -- with more behind the text the same is read, but for what it tells of the text itself; or the text is wrong at the same
 -- place; nothing is said of a text that ends too early
@@ -69,24 +66,6 @@ front_keeps p text more c behind is =
     record {
       front = ap (λ z. take z (text ++ more)) n ∙ take-append-le (prefix_len p text) text more within;
       behind = ap (λ z. drop z (text ++ more)) n ∙ drop-append-le (prefix_len p text) text more within ∙ ap (λ z. z ++ more) is;
-    }
-
--- all of a text are such, so that with more behind it they go on
-pub record AllFront (p : ℕ → Bool) (text more : List ℕ) : Type 0 where
-  pub front : take (prefix_len p text) text ≡ text
-  pub longer : take (prefix_len p (text ++ more)) (text ++ more) ≡ text ++ take (prefix_len p more) more
-
-pub all_front : (p : ℕ → Bool) (text more : List ℕ) → drop (prefix_len p text) text ≡ [] → AllFront p text more
-all_front p text more none =
-    let dropped = length-drop (prefix_len p text) text in
-    let nothing = ap length none in
-    let most = prefix_len-le-length p text in
-    let n : prefix_len p text ≡ length text = omega (arith, dropped, nothing, most) in
-    let m : prefix_len p (text ++ more) ≡ length text + prefix_len p more = prefix_len-append p text more
-    ∙ ap (λ b. cond b (length text + prefix_len p more) (prefix_len p text)) (equal_test (prefix_len p text) (length text) n) in
-    record {
-      front = ap (λ z. take z text) n ∙ take-length text;
-      longer = ap (λ z. take z (text ++ more)) m ∙ take-append-add text more (prefix_len p more);
     }
 
 front_by : {A : Type 0} (grow : A → A) (p : ℕ → Bool) (text more : List ℕ) (by further : List ℕ → List ℕ → Read A) → ((front : List ℕ) → by front [] ≡ Err [])
@@ -183,33 +162,8 @@ fitting_keeps more in_test text c behind (Some f) =
     either_keeps same more (in_test && not (has_result f)) (Err text) (Ok (f, c ∷ behind)) (Err (text ++ more)) (Ok (f, (c ∷ behind) ++ more)) (wrong_keeps same more text) refl
 
 pub function_keeps : (more : List ℕ) (in_test : Bool) (text : List ℕ) → Keeps more (function_in in_test text) (function_in in_test (text ++ more))
-function_keeps more in_test text = choose (drop (prefix_len is_in_name text) text) refl
-  where
-    choose : (rest : List ℕ) → drop (prefix_len is_in_name text) text ≡ rest → Keeps more (function_in in_test text) (function_in in_test (text ++ more))
-    choose [] e = unfinished (begins_name in_test (take (prefix_len is_in_name text) text)) refl
-      where
-        ended : function_in in_test text ≡ (if begins_name in_test (take (prefix_len is_in_name text) text) then Err [] else Err text)
-        ended = ap (function_by in_test text (take (prefix_len is_in_name text) text)) e
-
-        unfinished : (b : Bool) → begins_name in_test (take (prefix_len is_in_name text) text) ≡ b → Keeps more (function_in in_test text) (function_in in_test (text ++ more))
-        unfinished true h =
-            let is = ended ∙ ap (λ b. if b then Err [] else Err text) h in
-            subst (λ (z : Read Function). Keeps more z (function_in in_test (text ++ more))) (sym is) tt
-        unfinished false h =
-            let is = ended ∙ ap (λ b. if b then Err [] else Err text) h in
-            let all = all_front is_in_name text more e in
-            let none : begins_name in_test text ≡ false = ap (begins_name in_test) (sym all.front) ∙ h in
-            let rest = drop (prefix_len is_in_name (text ++ more)) (text ++ more) in
-            let wrong : function_in in_test (text ++ more) ≡ Err (text ++ more) = ap (λ z. function_by in_test (text ++ more) z rest) all.longer ∙ unknown_by in_test (text ++ more) text (take (prefix_len is_in_name more) more) rest none in
-            subst (λ (z : Read Function). Keeps more z (function_in in_test (text ++ more))) (sym is)
-            (subst (λ (z : Read Function). Keeps more (Err text) z) (sym wrong) (wrong_keeps same more text))
-    choose (c ∷ behind) e =
-        let k = front_keeps is_in_name text more c behind e in
-        let name = take (prefix_len is_in_name text) text in
-        let is : function_in in_test text ≡ fitting in_test text (c ∷ behind) (function_named name) = ap (function_by in_test text name) e in
-        let longer : function_in in_test (text ++ more) ≡ fitting in_test (text ++ more) ((c ∷ behind) ++ more) (function_named name) = (λ i. function_by in_test (text ++ more) (k.front i) (k.behind i)) in
-        subst (λ (z : Read Function). Keeps more z (function_in in_test (text ++ more))) (sym is)
-        (subst (λ (z : Read Function). Keeps more (fitting in_test text (c ∷ behind) (function_named name)) z) (sym longer) (fitting_keeps more in_test text c behind (function_named name)))
+function_keeps more in_test text =
+    front_by same is_in_name text more (function_by in_test text) (function_by in_test (text ++ more)) (λ name. refl) (λ name c behind. fitting_keeps more in_test text c behind (function_named name))
 
 pub front_in_keeps : (more : List ℕ) (in_test : Bool) (text : List ℕ) → KeepsBy (grown more) more (front_in in_test text) (front_in in_test (text ++ more))
 front_in_keeps more in_test text =

@@ -1,8 +1,12 @@
 -- Words that are wrong stay wrong, whatever stands behind.
-use Rattle.std.proofs.Common.{◌≡◌, ◌≢◌, ℕ, zero, suc, ◌≤◌, ◌==◌, ◌||◌, Bool, true, false, List, [], ◌∷◌, ◌++◌, length, take, drop, Option, Some, None, Ok, Err, refl, sym, ap, ◌∙◌, subst, arith, length-append}
+use Rattle.std.proofs.Common.{◌≡◌, ◌≢◌, ℕ, zero, suc, ◌+◌, ◌≤◌, ◌==◌, ◌||◌, Bool, true, false, List, [], ◌∷◌, ◌++◌, length, take, drop, Option, Some, None, Ok, Err, refl, sym, ap, ◌∙◌, subst, arith, cond, length-append, length-drop}
 use Rattle.std.specs.Prelude.{if◌then◌else◌, is_some, nat_lt}
 use Rattle.std.specs.List.{prefix_len}
+use Rattle.std.proofs.Math.Seq.{take-length, take-append-add}
+use Rattle.std.proofs.lemmas.List.Folds.{prefix_len-append}
+use Rattle.std.proofs.lemmas.List.Sums.{prefix_len-le-length}
 use Rattle.std.proofs.lemmas.Bool.Decides.{nat_tests}
+use Rattle.mh_base.proofs.NumberTests.{equal_test}
 use Rattle.format_compiler.specs.declared.one_test.Test.TheVariants.{Component as OfComponent, Call as OfCall}
 use Rattle.format_compiler.specs.declared.piece.Piece.TheVariants.{Character, Component as PrintedComponent, Call as PrintedCall}
 use Rattle.format_compiler.specs.declared.width.Width.{Width}
@@ -16,7 +20,7 @@ use Rattle.format_compiler.specs.Reading.{Read, ◌>>=◌}
 use Rattle.format_compiler.specs.Widths.{begins_width, width_of}
 use Rattle.format_compiler.specs.Words.{behind_line, behind_word, call_test_in, component_test_in, else_if_in, escape_in, if_in, is_in_line, is_inside, mark_in, may_choose, Open, percent_in, printed_by, printed_call_in, printed_component_in, printed_in, room_in, sized_by, test_in, word_in}
 use Rattle.format_compiler.proofs.StandingWords.{nothing_stands, wrong_none}
-use Rattle.format_compiler.proofs.Steady.{all_front, call_keeps, component_keeps, either_keeps, front_keeps, Keeps, same, then_keeps, wrong_keeps}
+use Rattle.format_compiler.proofs.Steady.{call_keeps, component_keeps, either_keeps, front_keeps, Keeps, same, then_keeps, wrong_keeps}
 use Rattle.mh_base.specs.Characters.{is_digit}
 
 -- a reading and then something made of it
@@ -83,6 +87,24 @@ begins_none digits more h =
 sized_wrong : (room : ℕ) (whole digits rest : List ℕ) → begins_width digits ≡ false → width_of digits ≡ None → sized_by room whole digits rest ≡ Err whole
 sized_wrong room whole digits [] h k = ap (λ b. if b then Err [] else Err whole) h
 sized_wrong room whole digits (c ∷ rest) h k = ap (printed_by room whole c rest) k
+
+-- all of a text are such, so that with more behind it they go on
+pub record AllFront (p : ℕ → Bool) (text more : List ℕ) : Type 0 where
+  pub front : take (prefix_len p text) text ≡ text
+  pub longer : take (prefix_len p (text ++ more)) (text ++ more) ≡ text ++ take (prefix_len p more) more
+
+pub all_front : (p : ℕ → Bool) (text more : List ℕ) → drop (prefix_len p text) text ≡ [] → AllFront p text more
+all_front p text more none =
+    let dropped = length-drop (prefix_len p text) text in
+    let nothing = ap length none in
+    let most = prefix_len-le-length p text in
+    let n : prefix_len p text ≡ length text = omega (arith, dropped, nothing, most) in
+    let m : prefix_len p (text ++ more) ≡ length text + prefix_len p more = prefix_len-append p text more
+    ∙ ap (λ b. cond b (length text + prefix_len p more) (prefix_len p text)) (equal_test (prefix_len p text) (length text) n) in
+    record {
+      front = ap (λ z. take z text) n ∙ take-length text;
+      longer = ap (λ z. take z (text ++ more)) m ∙ take-append-add text more (prefix_len p more);
+    }
 
 printed_text_keeps : (more : List ℕ) (room : ℕ) (whole text : List ℕ) → Keeps more (printed_in room whole text) (printed_in room (whole ++ more) (text ++ more))
 printed_text_keeps more room whole text = choose (drop (prefix_len is_digit text) text) refl

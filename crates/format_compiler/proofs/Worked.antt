@@ -6,8 +6,8 @@ use Rattle.format_compiler.specs.declared.one_test.Test.TheVariants.{Component a
 use Rattle.format_compiler.specs.declared.piece.Piece.TheVariants.{Component as PrintComponent, Call}
 use Rattle.format_compiler.specs.declared.word.Word.TheVariants.{Print, If}
 use Rattle.format_compiler.specs.Calls.{call_in}
-use Rattle.format_compiler.specs.Functions.{begins_name, every_function}
-use Rattle.format_compiler.specs.Unfinished.{begins_number}
+use Rattle.format_compiler.specs.Functions.{every_function}
+use Rattle.format_compiler.specs.Unfinished.{begins_name, begins_number}
 use Rattle.format_compiler.specs.Words.{word_in}
 
 -- an unknown name is wrong at its first byte
@@ -50,25 +50,11 @@ unfinished : word_in [] (codes "%(ms") ≡ Err []
 unfolding word_in call_in every_function
 unfinished = refl
 
--- a name that no function's begins with is wrong at its first byte, also where the text ends within it
-unbegun : word_in [] (codes "%(nofu") ≡ Err (codes "nofu")
+-- and so does one within a name that no function's begins with, or within a number that is too large
+unbegun : word_in [] (codes "%(nofu") ≡ Err []
 unfolding word_in call_in every_function
 unbegun = refl
 
-unbegun_within : word_in [] (codes "%(null(nof") ≡ Err (codes "nof")
-unfolding word_in call_in every_function
-unbegun_within = refl
-
--- and in a test one that no function with a result begins with
-unbegun_test : word_in [] (codes "%<(voi") ≡ Err (codes "voi")
-unfolding word_in call_in every_function
-unbegun_test = refl
-
-begun_test : word_in [] (codes "%<(null(voi") ≡ Err []
-unfolding word_in call_in every_function
-begun_test = refl
-
--- a text ends within a number that is too large
 too_large : word_in [] (codes "%(num 9223372036854775808") ≡ Err []
 unfolding word_in call_in every_function
 too_large = refl

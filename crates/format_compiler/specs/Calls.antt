@@ -10,7 +10,7 @@ use Rattle.format_compiler.specs.declared.function.Function.{Function}
 use Rattle.format_compiler.specs.Reading.{Read, ◌>>=◌, then_character}
 use Rattle.format_compiler.specs.Components.{component_in}
 use Rattle.format_compiler.specs.Arguments.{spaced_literal_in, spaced_number_in}
-use Rattle.format_compiler.specs.Functions.{begins_name, function_named, has_result, kind_of}
+use Rattle.format_compiler.specs.Functions.{function_named, has_result, kind_of}
 
 -- a function's name ends at a space, a brace or a parenthesis
 abbrev pub is_in_name : ℕ → Bool
@@ -21,9 +21,8 @@ abbrev pub fitting : Bool → List ℕ → List ℕ → Option Function → Read
 fitting in_test text behind None = Err text
 fitting in_test text behind (Some f) = if in_test && not (has_result f) then Err text else Ok (f, behind)
 
--- where the text ends within a name it is wrong there if some function's name begins so, and else where the name begins
 abbrev pub function_by : Bool → List ℕ → List ℕ → List ℕ → Read Function
-function_by in_test text name [] = if begins_name in_test name then Err [] else Err text
+function_by in_test text name [] = Err []
 function_by in_test text name (c ∷ behind) = fitting in_test text (c ∷ behind) (function_named name)
 
 -- the function whose name stands here

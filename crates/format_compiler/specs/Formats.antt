@@ -97,8 +97,8 @@ pub record BeginSome (front : List ℕ) : Type 0 where
   pub format : Format
   pub denoted : Denote (front ++ more) format
 
--- in the word behind those that stand the characters end, within a number that none begins with; so nothing is left of
--- them, and nothing behind them makes them a format
+-- in the word behind those that stand the characters end, within a function's name, or a number, that none begins with;
+-- so nothing is left of them, and nothing behind them makes them a format
 pub record EndInNone (characters left : List ℕ) : Type 0 where
   pub words : List Word
   pub after : Open
@@ -117,7 +117,7 @@ pub record FrontBegins (characters : List ℕ) (at : ℕ) : Type 0 where
   pub begins : BeginSome front ⊎ EndInNone characters left
 
 -- what stands before the place of a refusal begins a format: something behind it makes them one; but a text that ends
--- within a number is refused at its end also where no number begins so
+-- within a function's name, or a number, is refused at its end also where no name and no number begins so
 abbrev pub FrontBeginsSome : List ℕ → FormatFault → Type 0
 FrontBeginsSome text (Bad at) = FrontBegins (characters_in (without_feed text)) at
 FrontBeginsSome text Memory = Unit {0}

@@ -1,5 +1,5 @@
 -- The functions of formats (mh-format): their names, and what they take and give.
-use Rattle.std.specs.Prelude.{ℕ, ◌&&◌, not, Bool, true, false, List, [], ◌∷◌, length, take, codes, Option, Some, None, bytes_eq, if◌then◌else◌}
+use Rattle.std.specs.Prelude.{ℕ, Bool, true, false, List, [], ◌∷◌, codes, Option, Some, None, bytes_eq, if◌then◌else◌}
 use Rattle.format_compiler.specs.declared.function.ArgumentKind.{ArgumentKind}
 use Rattle.format_compiler.specs.declared.function.ArgumentKind.TheVariants.{Nothing, Literal, LiteralOrNothing, Number, Component, Source, SourceOrNothing}
 use Rattle.format_compiler.specs.declared.function.Function.{Function}
@@ -197,15 +197,3 @@ named_among (f ∷ fs) name = if bytes_eq (name_of f) name then Some f else name
 -- the function of this name
 abbrev pub function_named : List ℕ → Option Function
 function_named = named_among every_function
-
--- this function's name begins so, and in a test it has a result
-abbrev pub is_begun_by : Bool → List ℕ → Function → Bool
-is_begun_by in_test name f = bytes_eq (take (length name) (name_of f)) name && not (in_test && not (has_result f))
-
-abbrev pub begins_name_among : Bool → List ℕ → List Function → Bool
-begins_name_among in_test name [] = false
-begins_name_among in_test name (f ∷ fs) = if is_begun_by in_test name f then true else begins_name_among in_test name fs
-
--- the name of some function that can stand there begins so
-abbrev pub begins_name : Bool → List ℕ → Bool
-begins_name in_test name = begins_name_among in_test name every_function

@@ -1,15 +1,15 @@
 // Calls of functions, as they are written.
-ghost use Rattle.std.specs.Prelude.{◌≡◌, ◌≤◌, ◌<◌, [], length, IfOk, if◌then◌else◌};
+ghost use Rattle.std.specs.Prelude.{◌≡◌, ◌≤◌, ◌<◌, length, IfOk};
 ghost use Rattle.std.specs.List.{prefix_len};
 ghost use Rattle.format_compiler.specs.Calls.{call_in, fitting as fitting_of, front_in, function_in, is_in_name as is_in_a_name, with_around as with_around_of};
-ghost use Rattle.format_compiler.specs.Functions.{begins_name as begins_a_name, function_named};
+ghost use Rattle.format_compiler.specs.Functions.{function_named};
 ghost use Rattle.format_compiler.specs.Fronts.{front_of};
 ghost use Rattle.format_compiler.specs.Outcomes.{Gives};
 ghost use Rattle.format_compiler.specs.Reading.{then_character};
 
 use crate::arguments::{argument, closed};
 use crate::front::Front;
-use crate::named::{begins_name, named};
+use crate::named::named;
 use crate::stop::Stop;
 use crate::{Call, Function};
 use std::alloc::{AllocError, Global};
@@ -44,17 +44,6 @@ fn fitting<'a>(
     }
 }
 
-/// What is left where a text ends within this name.
-fn left_of_name<'a>(in_test: bool, text: &'a [char], name: &[char]) -> &'a [char]
-    ensures { result.now ≡ (if begins_a_name in_test name.now then [] else text.now) }
-{
-    if begins_name(in_test, name) {
-        &[]
-    } else {
-        text
-    }
-}
-
 /// The function whose name stands here.
 fn function<'a>(in_test: bool, text: &'a [char]) -> Result<(Function, &'a [char]), Stop<'a>>
     ensures given { Gives (λ x. (x.0, x.1.now)) result (function_in in_test text.now) }
@@ -62,7 +51,7 @@ fn function<'a>(in_test: bool, text: &'a [char]) -> Result<(Function, &'a [char]
 {
     let (name, behind) = text.split_at(name_len(text));
     if behind.is_empty() {
-        return Err(Stop::Wrong(left_of_name(in_test, text, name)));
+        return Err(Stop::Wrong(&[]));
     }
     fitting(in_test, text, name, behind)
 }

@@ -36,6 +36,12 @@ pub shown_at : (view : Viewed) (f : Format) (width : ℕ) (text : List ℕ) (las
 shown_at view f width text last all shown =
     shown ∙ ap (λ (s : LineState). s.row.characters) all ∙ shown_of (meaning view f (start_of width)) width (still_wide view f width)
 
--- the line that its instructions give is the line of the format
+-- the code's line is the line of the format
+pub line_shown : (view : Viewed) (f : Format) (width : ℕ) (text : List ℕ) (first last : LineState) (code : List Instruction)
+    → first ≡ step.start_of width → code ≡ code_of f → last ≡ run view 0 code first → text ≡ last.row.characters → text ≡ line_of view width f
+line_shown view f width text first last code start is ran shown =
+    shown_at view f width text last (ran ∙ ap (λ c. run view 0 c first) is ∙ ap (run view 0 (code_of f)) start ∙ meant_from view f width) shown
+
+-- and so is the line that its instructions give
 pub line_meant : (view : Viewed) (width : ℕ) (f : Format) → line_by view width (code_of f) ≡ line_of view width f
 line_meant view width f = shown_at view f width (line_by view width (code_of f)) (run view 0 (code_of f) (step.start_of width)) (meant_from view f width) refl

@@ -36,14 +36,6 @@ text_meant false s = refl
 pub print_meant : (b : Bool) (w : Option Width) (s : LineState) → meant (lazy b (adding (printed_text w s.text) s)) ≡ adding (printed_text w (meant (lazy b s)).text) (meant (lazy b s))
 print_meant b w s = adding_meant b (printed_text w s.text) s ∙ ap (λ t. adding t (meant (lazy b s))) (printed_meant b w s.text ∙ ap (printed_text w) (text_meant b s))
 
-closed_by : (b : Bool) (s : LineState) → s.row.closed ≡ (meant (lazy b s)).row.closed
-closed_by true s = refl
-closed_by false s = refl
-
--- a raw text closes no line
-pub closed_meant : (l : LazyState) → l.state.row.closed ≡ (meant l).row.closed
-closed_meant l = closed_by l.raw l.state
-
 twice_not : (b : Bool) → not (not b) ≡ b
 twice_not true = refl
 twice_not false = refl

@@ -1,4 +1,3 @@
-mod ClosedLines
 mod FirstFields
 pub mod FormatLines
 pub mod HeldStates
@@ -6,5 +5,4 @@ pub mod KeptWidths
 mod LazyStates
 pub mod RunCode
 pub mod Searching
-mod TableSteps
 pub mod TextCalls

@@ -3,7 +3,6 @@ pub mod Answers
 pub mod Dates
 pub mod Lazy
 pub mod Meaning
-pub mod NameTables
 pub mod Numbers
 pub mod Running
 pub mod Stepping

@@ -148,14 +148,6 @@ impl LazyState {
         Ok(is_not_zero(self.state.number))
     }
 
-    /// Whether the line takes nothing more.
-    #[tactic(auto, using(crate::proofs::LazyStates::closed_meant))]
-    pub(crate) fn is_closed(&self) -> bool
-        ensures { result ≡ (meant self.now).row.closed }
-    {
-        self.state.is_closed()
-    }
-
     /// The line so far.
     pub(crate) fn into_text(self) -> Text
         ensures value { result ≡ (meant self).row.characters }

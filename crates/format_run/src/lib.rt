@@ -9,7 +9,6 @@ mod dates;
 mod evaluating;
 mod indexed;
 mod lazy;
-mod name_table;
 mod names;
 mod numbers;
 mod running;

@@ -48,20 +48,16 @@ fn behind(code: &[Instruction], skipped: usize) -> &[Instruction]
     rest
 }
 
-/// Runs instructions, as long as the line takes anything.
 fn run(
     alloc: Global,
     view: &View,
     state: &mut LazyState,
     code: &[Instruction],
 ) -> Result<(), AllocError>
-    ensures { OnOk result ((meant state.new).row ≡ (run_of view.now 0 code.now (meant state.old)).row) }
+    ensures { OnOk result (meant state.new ≡ run_of view.now 0 code.now (meant state.old)) }
 {
     let mut rest = code;
     while let Some((instruction, following)) = rest.split_first() {
-        if state.is_closed() {
-            return Ok(());
-        }
         let skipped = step(alloc, view, state, instruction)?;
         rest = behind(following, skipped);
     }

@@ -61,13 +61,6 @@ impl LineState {
         put_number(&mut self.row, width, self.number)
     }
 
-    /// Whether the line takes nothing more.
-    pub(crate) fn is_closed(&self) -> bool
-        ensures { result ≡ self.now.row.closed }
-    {
-        self.row.is_closed()
-    }
-
     /// Sets the number to 1 where the text isn't empty, and else to 0.
     pub(crate) fn weigh(&mut self)
         ensures { self.new ≡ weighed self.old }

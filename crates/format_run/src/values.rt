@@ -40,7 +40,7 @@ fn body_value(alloc: Global, message: &IndexedMessage) -> Result<Text, AllocErro
 fn field_value(alloc: Global, message: &IndexedMessage, name: &[u8]) -> Result<Text, AllocError>
     ensures { IfOk result (λ text. text ≡ shown_field (first_value name.now (fields_of message.now))) }
 {
-    match message.first(alloc, name)? {
+    match message.first(name) {
         None => Ok(Text::new(alloc)),
         Some(value) => {
             let value = unfold(alloc, value)?;

@@ -12,9 +12,11 @@ use crate::head::read_head;
 use crate::piece::{PIECE, read_piece};
 use folder_files::{FilePath, Files, Refusal};
 use mbox_drop::DropCounter;
-use mh_base::SIZE_LIMIT;
 use std::alloc::Global;
 use step_plans::CommandFault;
+
+/// The longest message, in bytes.
+const LIMIT: u64 = 67_108_864;
 
 /// What was counted in a drop of this length.
 fn size(length: u64, counter: &DropCounter) -> Result<DropSize, CommandFault>
@@ -25,7 +27,7 @@ fn size(length: u64, counter: &DropCounter) -> Result<DropSize, CommandFault>
     };
     match counter.too_long() {
         Some(length) => {
-            let limit = SIZE_LIMIT;
+            let limit = LIMIT;
             Err(CommandFault::Refused(Refusal::TooLarge { length, limit }))
         }
         None => Ok(DropSize { length, messages }),

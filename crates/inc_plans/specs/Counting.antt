@@ -1,6 +1,5 @@
 -- The plan of the first pass over a drop: it is read from its begin, and its messages are counted.
 use Rattle.std.specs.Prelude.{◌≡◌, ◌≤◌, ◌-◌, ◌++◌, ◌==◌, ℕ, zero, suc, Bool, true, false, List, length, min, nat_lt, Option, None, Some, Result, Ok, Err, if◌then◌else◌}
-use Rattle.mh_base.specs.Limits.{SIZE_LIMIT}
 use Rattle.mbox_drop.specs.Drops.{is_drop, messages}
 use Rattle.mbox_drop.specs.Long.{first_long}
 use Rattle.folder_files.specs.declared.place.FilePath.{FilePath}
@@ -24,7 +23,7 @@ abbrev pub LONGEST : ℕ
 LONGEST = 268435456
 
 abbrev pub LIMIT : ℕ
-LIMIT = SIZE_LIMIT
+LIMIT = 67108864
 
 -- just so many bytes; else the drop was changed
 abbrev pub whole_if : Bool → List ℕ → Commanded (List ℕ)

@@ -60,13 +60,6 @@ impl Row {
         }
     }
 
-    /// Whether something came that had no room: then nothing more is added.
-    pub fn is_closed(&self) -> bool
-        ensures { result ≡ self.now.closed }
-    {
-        self.closed
-    }
-
     /// The columns that its characters don't take.
     pub fn unfilled(&self) -> u32
         ensures { result ≡ self.now.width - columns_of self.now.characters }

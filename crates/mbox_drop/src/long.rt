@@ -2,18 +2,19 @@
 ghost use Rattle.std.specs.Prelude.{◌≡◌};
 ghost use Rattle.mbox_drop.specs.Long.{long_of, overlong_of};
 
-use mh_base::SIZE_LIMIT;
+/// The longest message that is taken, in bytes.
+const LONGEST_MESSAGE: u64 = 67_108_864;
 
-/// The most bytes that the longest message may have with an empty line of two bytes after it and the `From ` of the next
+/// The most bytes that such a message may have with an empty line of two bytes after it and the `From ` of the next
 /// separator.
-const LONGEST_HAND: u64 = SIZE_LIMIT + 7;
+const LONGEST_HAND: u64 = 67_108_871;
 
 /// The length of a message, where it is too long.
 pub fn too_long(length: usize) -> Option<u64>
     ensures { result ≡ long_of length }
 {
     let length = length as u64;
-    if length > SIZE_LIMIT {
+    if length > LONGEST_MESSAGE {
         Some(length)
     } else {
         None

@@ -26,7 +26,7 @@ pub fn message_line(
         number,
         current: standing.current,
         unseen: standing.unseen,
-        message: IndexedMessage::cut_for(alloc, &look.program, message)?,
+        message: IndexedMessage::cut(alloc, message)?,
         moment: look.moment,
         user: &look.user,
     };

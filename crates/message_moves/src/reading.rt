@@ -7,9 +7,12 @@ ghost use Rattle.message_moves.specs.Moving.{content_by, content_read};
 
 use file_plans::{Reading, ask_read};
 use folder_files::{Files, Place};
-use mh_base::{Bytes, Name, SIZE_LIMIT};
+use mh_base::{Bytes, Name};
 use std::alloc::Global;
 use step_plans::{PlanFault, meddled};
+
+/// The greatest message that is read, in bytes.
+const LIMIT: u64 = 67_108_864;
 
 fn content_from(
     alloc: Global,
@@ -39,6 +42,6 @@ pub fn content<F: Files>(
         → Follows run plan_cause (content_read place.now name.now) (by_hand h (F.state files.old))
         (by_hand h (F.state files.new)) result }
 {
-    let reading = ask_read(alloc, run, files, place, name, SIZE_LIMIT)?;
+    let reading = ask_read(alloc, run, files, place, name, LIMIT)?;
     content_from(alloc, place, name, reading)
 }

@@ -8,9 +8,12 @@ ghost use Rattle.message_notes.specs.Noting.{stored_at};
 
 use folder_files::{Files, Place};
 use message_puts::put;
-use mh_base::{Bytes, Entry, MsgNum, SIZE_LIMIT, entry_name};
+use mh_base::{Bytes, Entry, MsgNum, entry_name};
 use std::alloc::Global;
 use step_plans::{Hand, PlanFault, sync};
+
+/// The greatest message that is written, in bytes.
+const LIMIT: u64 = 67_108_864;
 
 /// The lines and then the bytes. Where both together are too long they are refused.
 pub(crate) fn with_lines(alloc: Global, lines: &[u8], bytes: &[u8]) -> Result<Bytes, PlanFault>
@@ -19,7 +22,7 @@ pub(crate) fn with_lines(alloc: Global, lines: &[u8], bytes: &[u8]) -> Result<By
     let mut new = Bytes::from_slice(alloc, lines)?;
     new.extend(bytes)?;
     let length = new.len() as u64;
-    if SIZE_LIMIT < length {
+    if LIMIT < length {
         return Err(PlanFault::TooLarge(length));
     }
     Ok(new)

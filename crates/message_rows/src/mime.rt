@@ -1,7 +1,7 @@
-// The parts of messages.
+// Trees of parts.
 use mail_text::show_bytes;
 use mh_base::Bytes;
-use mime_tree::{MarkedMessage, Odd, Param, Part, PartPath};
+use mime_tree::{Odd, Param, Part, PartPath, Tree};
 use row_text::{number, own, show_line, show_quoted, show_quoted_line, word};
 use std::alloc::{AllocError, Global};
 use std::test::Fail;
@@ -28,63 +28,54 @@ fn put_line(alloc: Global, part: &Part, told: &mut Bytes) -> Result<(), AllocErr
     told.extend(format!(in alloc; " {kind}/{subtype}{odd}\n")?.as_bytes())
 }
 
-/// A line for each part: a dot and a number for each step of its path, its type, and what is odd.
-fn outline(alloc: Global, message: &[u8], told: &mut Bytes) -> Result<(), Fail> {
-    let message = MarkedMessage::new(alloc, message)?;
-    let mut parts = message.parts(alloc);
-    while let Some(part) = parts.next(alloc)? {
-        put_line(alloc, &part, told)?;
+/// A line for the part, and then its kids'.
+fn put_part(alloc: Global, part: &Part, told: &mut Bytes) -> Result<(), AllocError> {
+    put_line(alloc, part, told)?;
+    for kid in &part.kids {
+        put_part(alloc, kid, told)?;
     }
     Ok(())
 }
 
+/// A line for each part: a dot and a number for each step of its path, its type, and what is odd.
+fn outline(alloc: Global, message: &[u8], told: &mut Bytes) -> Result<(), Fail> {
+    let tree = Tree::cut(alloc, message)?;
+    Ok(put_part(alloc, tree.root(), told)?)
+}
+
 /// What the part carries, as a reader sees it.
-fn show_content(
-    alloc: Global,
-    message: &MarkedMessage<'_>,
-    part: &Part,
-    told: &mut Bytes,
-) -> Result<(), Fail> {
-    let content = message.content(alloc, part)?;
+fn show_content(alloc: Global, tree: &Tree<'_>, part: &Part, told: &mut Bytes) -> Result<(), Fail> {
+    let content = tree.content(alloc, part)?;
     let text = show_bytes(alloc, content.as_slice())?;
     show_quoted_line(told, text.as_str().as_bytes())
 }
 
-/// What the part carries whose path has these numbers.
 fn show_below(
     alloc: Global,
-    message: &MarkedMessage<'_>,
-    numbers: &[u64],
+    tree: &Tree<'_>,
+    path: &PartPath,
     told: &mut Bytes,
 ) -> Result<(), Fail> {
-    let mut parts = message.parts(alloc);
-    while let Some(part) = parts.next(alloc)? {
-        if part.path.numbers().as_slice() == numbers {
-            return show_content(alloc, message, &part, told);
-        }
+    match tree.part(path) {
+        Some(part) => show_content(alloc, tree, part, told),
+        None => show_line(told, "no part"),
     }
-    show_line(told, "no part")
 }
 
-fn show_at(
-    alloc: Global,
-    message: &MarkedMessage<'_>,
-    path: &[u8],
-    told: &mut Bytes,
-) -> Result<(), Fail> {
+fn show_at(alloc: Global, tree: &Tree<'_>, path: &[u8], told: &mut Bytes) -> Result<(), Fail> {
     match PartPath::read(alloc, &own(alloc, path)?) {
-        Ok(path) => show_below(alloc, message, path.numbers().as_slice(), told),
+        Ok(path) => show_below(alloc, tree, &path, told),
         Err(_) => show_line(told, "no path"),
     }
 }
 
 /// What the part at a path carries, or the root where the path is empty.
 fn content(alloc: Global, message: &[u8], path: &[u8], told: &mut Bytes) -> Result<(), Fail> {
-    let message = MarkedMessage::new(alloc, message)?;
+    let tree = Tree::cut(alloc, message)?;
     if path.is_empty() {
-        return show_below(alloc, &message, &[], told);
+        return show_content(alloc, &tree, tree.root(), told);
     }
-    show_at(alloc, &message, path, told)
+    show_at(alloc, &tree, path, told)
 }
 
 fn show_param(param: &Param, told: &mut Bytes) -> Result<(), Fail> {
@@ -97,11 +88,9 @@ fn show_param(param: &Param, told: &mut Bytes) -> Result<(), Fail> {
 
 /// The parameters of a message.
 fn params(alloc: Global, message: &[u8], told: &mut Bytes) -> Result<(), Fail> {
-    let message = MarkedMessage::new(alloc, message)?;
-    if let Some(root) = message.parts(alloc).next(alloc)? {
-        for param in root.params.as_slice() {
-            show_param(param, told)?;
-        }
+    let tree = Tree::cut(alloc, message)?;
+    for param in tree.root().params.as_slice() {
+        show_param(param, told)?;
     }
     show_line(told, "and no more")
 }

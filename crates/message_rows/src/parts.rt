@@ -29,9 +29,8 @@ fn show_rows(
     wanted: &[PartPath],
     told: &mut Bytes,
 ) -> Result<(), Fail> {
-    let mut listed = parts.listed(alloc, wanted)?;
-    while let Some(part) = listed.next(alloc)? {
-        told.extend(parts.row(alloc, number, &part)?.as_slice())?;
+    for row in parts.rows(alloc, number, wanted)?.as_slice() {
+        told.extend(row.as_slice())?;
     }
     Ok(())
 }
@@ -71,9 +70,8 @@ fn store(
     wanted: &[PartPath],
     told: &mut Bytes,
 ) -> Result<(), Fail> {
-    let mut stored = parts.stored(alloc, wanted)?;
-    while let Some(part) = stored.next(alloc)? {
-        store_part(alloc, number, parts, &part, told)?;
+    for part in parts.stored(alloc, wanted)?.as_slice() {
+        store_part(alloc, number, parts, part, told)?;
     }
     Ok(())
 }
@@ -85,7 +83,7 @@ fn missing(
     wanted: &[PartPath],
     told: &mut Bytes,
 ) -> Result<(), Fail> {
-    match parts.first_missing(alloc, wanted)? {
+    match parts.first_missing(wanted) {
         Some(path) => {
             let length = path.numbers().len();
             let line = format!(in alloc; "no part at a path of {length}")?;

@@ -2,7 +2,6 @@ pub mod Characters
 pub mod Counts
 pub mod Entries
 pub mod Folders
-pub mod Limits
 pub mod Memory
 pub mod Names
 pub mod Numbers

@@ -23,11 +23,12 @@ use crate::lines::{Lines, line};
 use crate::sequences::sequences_in;
 use crate::unseen::Unseen;
 use command_stages::{
-    choose, folder_place, list_folder, listed_numbers, make_current, numbers, read_sequences_text,
+    LIMIT, choose, folder_place, list_folder, listed_numbers, make_current, numbers,
+    read_sequences_text,
 };
 use file_plans::{Reading, ask_read, say};
 use folder_files::{Files, Place, Refusal};
-use mh_base::{Duplicate, Entry, MsgNum, NameList, SIZE_LIMIT, Sink, entry_name};
+use mh_base::{Duplicate, Entry, MsgNum, NameList, Sink, entry_name};
 use mh_sequences::Sequences;
 use std::alloc::{AllocError, Global};
 use step_plans::{CommandFault, Hand};
@@ -60,7 +61,7 @@ fn show<O: Sink>(
         }
         Reading::Long(length) => Err(CommandFault::Refused(Refusal::TooLarge {
             length,
-            limit: SIZE_LIMIT,
+            limit: LIMIT,
         })),
         Reading::Gone => Err(meddled(alloc, place, number)?),
     }
@@ -80,7 +81,7 @@ fn show_one<F: Files, O: Sink>(
         (by_out h (F.state files.old) (O.state out.old)) (by_out h (F.state files.new) (O.state out.new)) result }
 {
     let name = entry_name(alloc, &Entry::Number(number))?;
-    let reading = ask_read(alloc, run, files, place, &name, SIZE_LIMIT)?;
+    let reading = ask_read(alloc, run, files, place, &name, LIMIT)?;
     show(alloc, out, lines, place, number, reading)
 }
 

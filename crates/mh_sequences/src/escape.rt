@@ -1,11 +1,11 @@
 // Folders' names in names of entries.
-ghost use Rattle.std.specs.Prelude.{◌≡◌, ◌∷◌, ◌++◌, [], true, IfOk, OnOk};
+ghost use Rattle.std.specs.Prelude.{◌≡◌, ◌<◌, ◌∷◌, ◌++◌, [], true, IfOk, OnOk};
 ghost use Rattle.std.specs.List.{flat_map, list_all};
+ghost use Rattle.std.specs.Fmt.{digit_glyph};
 ghost use Rattle.mail_headers.specs.Lines.{is_name_byte};
 ghost use Rattle.mh_sequences.specs.Reading.{escape, is_plain as is_plain_byte, suffix};
 
 use mh_base::{Bytes, FolderName};
-use percent_encoding::percent_encode_byte;
 use std::alloc::{AllocError, Global};
 
 fn is_plain(byte: u8) -> bool
@@ -14,7 +14,17 @@ fn is_plain(byte: u8) -> bool
     33 <= byte && byte <= 126 && byte != b':' && byte != b'%'
 }
 
-#[tactic(auto, unfolding(percent_encoding::specs::Percent::percent_encode_byte))]
+fn hex_digit(digit: u8) -> u8
+    requires { digit < 16 }
+    ensures { result ≡ digit_glyph true digit }
+{
+    if digit < 10 {
+        b'0' + digit
+    } else {
+        b'A' + (digit - 10)
+    }
+}
+
 fn push_escaped(text: &mut Bytes, byte: u8) -> Result<(), AllocError>
     ensures text { OnOk result (text.new ≡ text.old ++ escape byte) }
     ensures clean { list_all is_name_byte (escape byte) ≡ true }
@@ -22,7 +32,7 @@ fn push_escaped(text: &mut Bytes, byte: u8) -> Result<(), AllocError>
     if is_plain(byte) {
         text.extend(&[byte])
     } else {
-        text.extend(percent_encode_byte(byte).as_bytes())
+        text.extend(&[b'%', hex_digit(byte / 16), hex_digit(byte % 16)])
     }
 }
 

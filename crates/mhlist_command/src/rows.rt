@@ -1,19 +1,18 @@
 // The rows of messages, one message after another.
-ghost use Rattle.std.specs.Prelude.{◌≡◌, ℕ, map, IfOk};
+ghost use Rattle.std.specs.Prelude.{◌≡◌, ℕ, IfOk};
 ghost use Rattle.mh_base.specs.Entries.{entry_text};
 ghost use Rattle.folder_files.specs.Story.{FilesState};
 ghost use Rattle.file_plans.specs.Plan.{Hand as Kept};
 ghost use Rattle.file_plans.specs.Follows.{Follows, by_out};
 ghost use Rattle.step_plans.specs.CommandFaults.{command_cause};
-ghost use Rattle.told_folders.specs.Plans.{lines_said};
-ghost use Rattle.part_rows.specs.Rows.{part_row};
 ghost use Rattle.mhlist_plans.specs.Listing.{all_listed, header_said, listed_by, no_part as no_part_of, one_listed, rows_said};
 
-use file_plans::{Reading, ask_read, say};
+use command_stages::LIMIT;
+use file_plans::{Reading, ask_read};
 use folder_files::{Files, Place, Refusal};
-use mh_base::{Duplicate, Entry, List, MsgNum, SIZE_LIMIT, Sink, entry_name};
+use mh_base::{Duplicate, Entry, List, MsgNum, Sink, entry_name};
 use mime_tree::PartPath;
-use part_rows::{Chosen, MessageParts, header_line, shown_path};
+use part_rows::{MessageParts, header_line, shown_path};
 use std::alloc::{AllocError, Global};
 use step_plans::CommandFault;
 use told_folders::say_lines;
@@ -48,27 +47,6 @@ pub fn message_gone(
     Ok(CommandFault::Meddled(place.duplicate(alloc)?, name))
 }
 
-/// Writes the row of each of these parts.
-fn say_parts<O: Sink>(
-    alloc: Global,
-    out: &mut O,
-    number: MsgNum,
-    message: &MessageParts<'_>,
-    parts: Chosen<'_>,
-) -> Result<(), CommandFault>
-    requires { parts.message ≡ message.now }
-    ensures { (run : ℕ) (h : Kept) (f : FilesState)
-        → Follows run command_cause (lines_said (map (part_row number) parts.entry.left))
-        (by_out h f (O.state out.old)) (by_out h f (O.state out.new)) result }
-{
-    let mut rest = parts;
-    while let Some(part) = rest.next(alloc)? {
-        let row = message.row(alloc, number, &part)?;
-        say(out, row.as_slice())?;
-    }
-    Ok(())
-}
-
 /// Writes the rows of a message, where it has all parts that are wanted.
 fn say_rows<O: Sink>(
     alloc: Global,
@@ -81,11 +59,11 @@ fn say_rows<O: Sink>(
         → Follows run command_cause (rows_said wanted.now number message.now) (by_out h f (O.state out.old))
         (by_out h f (O.state out.new)) result }
 {
-    let message = MessageParts::cut(alloc, message)?;
-    match message.first_missing(alloc, wanted)? {
+    let parts = MessageParts::cut(alloc, message)?;
+    match parts.first_missing(wanted) {
         None => {
-            let parts = message.listed(alloc, wanted)?;
-            say_parts(alloc, out, number, &message, parts)
+            let rows = parts.rows(alloc, number, wanted)?;
+            say_lines(out, rows.as_slice())
         }
         Some(path) => Err(no_part(alloc, path)?),
     }
@@ -108,7 +86,7 @@ fn list<O: Sink>(
         Reading::Content(bytes) => say_rows(alloc, out, wanted, number, bytes.as_slice()),
         Reading::Long(length) => Err(CommandFault::Refused(Refusal::TooLarge {
             length,
-            limit: SIZE_LIMIT,
+            limit: LIMIT,
         })),
         Reading::Gone => Err(message_gone(alloc, place, number)?),
     }
@@ -128,7 +106,7 @@ fn list_one<F: Files, O: Sink>(
         (by_out h (F.state files.old) (O.state out.old)) (by_out h (F.state files.new) (O.state out.new)) result }
 {
     let name = entry_name(alloc, &Entry::Number(number))?;
-    let reading = ask_read(alloc, run, files, place, &name, SIZE_LIMIT)?;
+    let reading = ask_read(alloc, run, files, place, &name, LIMIT)?;
     list(alloc, out, wanted, place, number, reading)
 }
 

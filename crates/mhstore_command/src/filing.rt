@@ -18,7 +18,7 @@ use folder_files::{Files, Refusal};
 use mh_base::{Bytes, Duplicate, MsgNum, Name, Sink};
 use mhlist_command::no_part;
 use mime_tree::Part;
-use part_rows::{Chosen, MessageParts, file_name, storing_line};
+use part_rows::{MessageParts, file_name, storing_line};
 use std::alloc::Global;
 use step_plans::{CommandFault, Hand};
 
@@ -90,18 +90,16 @@ fn store_parts<F: Files, O: Sink>(
     job: &StoreJob,
     number: MsgNum,
     message: &MessageParts<'_>,
-    parts: Chosen<'_>,
+    parts: &[&Part],
 ) -> Result<(), CommandFault>
-    requires { parts.message ≡ message.now }
     ensures plan { Follows hand.old.run command_cause
-        (all_filed hand.old.run job.now (map (file_of number) parts.entry.left))
+        (all_filed hand.old.run job.now (map (λ p. file_of number (view_of message.now p.now)) parts.now))
         (by_out hand.old.kept (F.state files.old) (O.state out.old))
         (by_out hand.new.kept (F.state files.new) (O.state out.new)) result }
     ensures same { (hand.new.run ≡ hand.old.run) × (hand.new.mail ≡ hand.old.mail) }
 {
-    let mut rest = parts;
-    while let Some(part) = rest.next(alloc)? {
-        store_part(alloc, hand, files, out, job, number, message, &part)?;
+    for part in parts {
+        store_part(alloc, hand, files, out, job, number, message, part)?;
     }
     Ok(())
 }
@@ -122,10 +120,19 @@ pub(crate) fn store_message<F: Files, O: Sink>(
     ensures same { (hand.new.run ≡ hand.old.run) × (hand.new.mail ≡ hand.old.mail) }
 {
     let message = MessageParts::cut(alloc, message)?;
-    match message.first_missing(alloc, job.parts.as_slice())? {
+    match message.first_missing(job.parts.as_slice()) {
         None => {
             let parts = message.stored(alloc, job.parts.as_slice())?;
-            store_parts(alloc, hand, files, out, job, number, &message, parts)
+            store_parts(
+                alloc,
+                hand,
+                files,
+                out,
+                job,
+                number,
+                &message,
+                parts.as_slice(),
+            )
         }
         Some(path) => Err(no_part(alloc, path)?),
     }

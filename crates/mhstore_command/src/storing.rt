@@ -8,10 +8,10 @@ ghost use Rattle.mhstore_plans.specs.Storing.{all_stored, mhstore as mhstore_pla
 
 use crate::StoreJob;
 use crate::filing::store_message;
-use command_stages::{folder_place, list_folder, make_current, read_sequences_text};
+use command_stages::{LIMIT, folder_place, list_folder, make_current, read_sequences_text};
 use file_plans::{Reading, ask_read};
 use folder_files::{Files, Place, Refusal};
-use mh_base::{Entry, MsgNum, SIZE_LIMIT, Sink, entry_name};
+use mh_base::{Entry, MsgNum, Sink, entry_name};
 use mhlist_command::{chosen_messages, message_gone};
 use std::alloc::Global;
 use step_plans::{CommandFault, Hand};
@@ -38,7 +38,7 @@ fn store_read<F: Files, O: Sink>(
         }
         Reading::Long(length) => Err(CommandFault::Refused(Refusal::TooLarge {
             length,
-            limit: SIZE_LIMIT,
+            limit: LIMIT,
         })),
         Reading::Gone => Err(message_gone(alloc, place, number)?),
     }
@@ -59,7 +59,7 @@ fn store_one<F: Files, O: Sink>(
     ensures same { (hand.new.run ≡ hand.old.run) × (hand.new.mail ≡ hand.old.mail) }
 {
     let name = entry_name(alloc, &Entry::Number(number))?;
-    let reading = ask_read(alloc, hand.run(), files, place, &name, SIZE_LIMIT)?;
+    let reading = ask_read(alloc, hand.run(), files, place, &name, LIMIT)?;
     store_read(alloc, hand, files, out, job, place, number, reading)
 }
 

@@ -1,7 +1,8 @@
 mod Bodies
+pub mod Cutting
 pub mod Emptiness
 mod Gapping
-mod Leveling
+mod Growing
 pub mod Lining
 mod Marking
 mod Naming

@@ -1,24 +1,23 @@
 -- Pieces, mark by mark.
 use Rattle.std.proofs.Common.{◌≡◌, inl, inr, ℕ, ◌+◌, ◌<◌, ◌≤◌, Bool, true, false, List, [], ◌∷◌, ◌++◌, length, get_or, take, drop, map, refl, sym, ◌∙◌, ap, subst, arith, append_assoc, append-nil, add-zero, length-drop, length-append}
 use Rattle.std.proofs.Math.Seq.{take-add, take-nil}
-use Rattle.std.specs.Prelude.{◌-◌, ◌==◌, ◌^◌, nat_le, slice_index, if◌then◌else◌}
+use Rattle.std.specs.Prelude.{◌-◌, ◌==◌, nat_le, slice_index, Result, Ok, Err, IfOk, if◌then◌else◌}
 use Rattle.std.specs.List.{concat}
-use Rattle.std.proofs.lemmas.List.{length-take, length-take-le, drop_all, take_all, drop-drop, drop_at, take-take}
+use Rattle.std.proofs.lemmas.List.{map-append, length-take, length-take-le, drop_all, take_all, drop-drop, drop_at, take-take}
 use Rattle.std.proofs.lemmas.Bool.{leb-true, leb-false}
 use Rattle.mail_headers.specs.Lines.{without_end}
 use Rattle.mail_headers.proofs.Folding.{cut_at}
 use Rattle.mime_tree.specs.declared.mark.Mark.{Mark}
 use Rattle.mime_tree.specs.declared.mark.Mark.TheVariants.{Boundary, Closing, Other}
+use Rattle.mime_tree.specs.declared.odd.Odd.{Odd}
 use Rattle.mime_tree.specs.declared.odd.Odd.TheVariants.{None as no_odd, Unclosed}
 use Rattle.mime_tree.specs.declared.pieces.Piece.{Piece}
-use Rattle.mime_tree.specs.declared.pieces.Behind.TheVariants as behind
-use Rattle.mime_tree.specs.declared.pieces.FirstSection.{FirstSection}
+use Rattle.mime_tree.specs.declared.pieces.Pieces.{Pieces}
 use Rattle.mime_tree.specs.declared.span.Span.{Span}
 use Rattle.mime_tree.specs.BoundaryLines.{line_len, lines, mark_of}
 use Rattle.mime_tree.specs.DashLines.{IsPlain, IsOther, Marks}
-use Rattle.mime_tree.specs.FoundPieces.{IsInside, IsReady}
-use Rattle.mime_tree.specs.Sectioning.{Leads}
-use Rattle.mime_tree.specs.Pieces.{Section, pieces_at, section_with, section}
+use Rattle.mime_tree.specs.FoundPieces.{found, IsInside, IsReady, AreReady}
+use Rattle.mime_tree.specs.Pieces.{Section, Found, pieces_at, section_with, section, section_pieces}
 use Rattle.mime_tree.specs.Spans.{text_at}
 use Rattle.mime_tree.proofs.Lining.{lines_step, line_le}
 use Rattle.mime_tree.proofs.Marking.{Frees, Beyond, marks_above, marks_at, unmark, all_free, lines_behind, concat_lines, marks_front, plain_front}
@@ -26,6 +25,10 @@ use Rattle.mime_tree.proofs.Marking.{Frees, Beyond, marks_above, marks_at, unmar
 -- a section behind more of its first piece
 abbrev pub prepend : List ℕ → Section → Section
 prepend t s = record { text = t ++ s.text; bounded = s.bounded; more = s.more; odd = s.odd }
+
+-- what is found in all, when these pieces were found before the section
+abbrev pub found_all : List Span → ℕ → Section → Found
+found_all spans from s = record { spans = spans ++ pieces_at from s; odd = s.odd }
 
 section_step : (boundary line : List ℕ) (place : ℕ) (ls : List (List ℕ)) →
     section boundary place (line ∷ ls) ≡ section_with (mark_of boundary line) line (place + length line) (section boundary (place + length line) ls)
@@ -148,43 +151,37 @@ pub text_front : (bytes R : List ℕ) (from to n : ℕ) → R ≡ text_at bytes 
 text_front bytes R from to n is inside le =
     ap (take n) is ∙ take_drop_all n from (take to bytes) ∙ ap (drop from) (take-take (from + n) to bytes (omega arith))
 
--- where the search for the end of a section stands: these marks are left
-pub record Stands (bytes b : List ℕ) (left : Piece) (begun ms : List ℕ) : Type 0 where
-  pub inside : left.span.from + length begun ≡ left.span.to
-  pub text : begun ≡ text_at bytes left.span
-  pub others : Marks (IsOther b) left.span.from (lines begun) ms
-  pub plain : Marks IsPlain left.span.from (lines begun) left.marks.now
+-- where the cut of a body stands
+pub record Stands (bytes : List ℕ) (to : ℕ) (b : List ℕ) (all : Found) (ms : List ℕ) (pieces : List Piece) (from : ℕ) (begun own : List ℕ) : Type 0 where
+  pub inside : from + length begun ≡ to
+  pub text : begun ≡ text_at bytes (record { from = from; to = to })
+  pub all_is : found_all (map (λ (q : Piece). q.span) pieces) from (section b from (lines begun)) ≡ all
+  pub others : Marks (IsOther b) from (lines begun) ms
+  pub plain : Marks IsPlain from (lines begun) own
   pub seen : List ℕ
-  pub own_is : left.marks.now ≡ seen ++ ms
+  pub own_is : own ≡ seen ++ ms
+  pub ready : AreReady bytes pieces
 
-pub stands : (bytes b : List ℕ) (left : Piece) (begun ms : List ℕ) → begun ≡ text_at bytes left.span → ms ≡ left.marks.now → IsReady bytes left → Stands bytes b left begun ms
-stands bytes b left begun ms is all ready =
-    let plain : Marks IsPlain left.span.from (lines begun) left.marks.now = subst (λ t. Marks IsPlain left.span.from (lines t) left.marks.now) (sym is) ready.marked in
-    record {
-      inside = ap (λ t. left.span.from + length t) is ∙ ready.inside;
-      text = is;
-      others = subst (λ l. Marks (IsOther b) left.span.from (lines begun) l) (sym all) (marks_mono IsPlain (IsOther b) (plain_other b) (lines begun) left.span.from left.marks.now plain);
-      plain = plain;
-      seen = [];
-      own_is = sym all;
-    }
+pub stands : (bytes b ms : List ℕ) (body : Span) (pieces : List Piece) → pieces ≡ [] → IsInside bytes body → Marks IsPlain body.from (lines (text_at bytes body)) ms →
+    Stands bytes body.to b (section_pieces body.from (section b body.from (lines (text_at bytes body)))) ms pieces body.from (text_at bytes body) ms
+stands bytes b ms body pieces none inside plain =
+    subst (λ ps. Stands bytes body.to b (section_pieces body.from (section b body.from (lines (text_at bytes body)))) ms ps body.from (text_at bytes body) ms) (sym none)
+    (record { inside = inside; text = refl; all_is = refl; others = marks_mono IsPlain (IsOther b) (plain_other b) (lines (text_at bytes body)) body.from ms plain; plain = plain; seen = []; own_is = refl; ready = tt })
 
-pub stand_above : (bytes b : List ℕ) (left : Piece) (begun : List ℕ) (s : ℕ) (more : List ℕ) → Stands bytes b left begun (s ∷ more) → left.span.from ≤ s
-stand_above bytes b left begun s more st = (marks_above (IsOther b) (lines begun) left.span.from (s ∷ more) st.others).0
-
--- the line at the next mark
-pub at_mark : (bytes b : List ℕ) (left : Piece) (begun text tail line : List ℕ) (s : ℕ) (more : List ℕ) (len n : ℕ) (m : Mark) → len ≡ s - left.span.from → len < length begun → text ≡ take len begun → tail ≡ drop len begun → n ≡ line_len tail → line ≡ take n tail → mark_of b line ≡ m →
-    Stands bytes b left begun (s ∷ more) → Here b begun text line (drop n tail) more left.span.from s m
-at_mark bytes b left begun text tail line s more len n m len_is lt text_is tail_is size line_is mark st =
-    let low = stand_above bytes b left begun s more st in
-    here b begun text tail line (drop n tail) left.marks.now st.seen more left.span.from s len n m st.own_is (omega (arith, len_is, low)) lt text_is tail_is size line_is refl mark st.others st.plain
+pub stand_above : (bytes : List ℕ) (to : ℕ) (b : List ℕ) (all : Found) (s : ℕ) (more : List ℕ) (pieces : List Piece) (from : ℕ) (begun own : List ℕ) → Stands bytes to b all (s ∷ more) pieces from begun own → from ≤ s
+stand_above bytes to b all s more pieces from begun own st = (marks_above (IsOther b) (lines begun) from (s ∷ more) st.others).0
 
 -- a mark at a line that bounds nothing here
-pub passes : (bytes b : List ℕ) (left : Piece) (begun text tail line : List ℕ) (s : ℕ) (more : List ℕ) (len n : ℕ) → len ≡ s - left.span.from → len < length begun → text ≡ take len begun → tail ≡ drop len begun → n ≡ line_len tail → line ≡ take n tail → mark_of b line ≡ Other →
-    Stands bytes b left begun (s ∷ more) → Stands bytes b left begun more
-passes bytes b left begun text tail line s more len n len_is lt text_is tail_is size line_is mark st =
-    let h = at_mark bytes b left begun text tail line s more len n Other len_is lt text_is tail_is size line_is mark st in
-    record { inside = st.inside; text = st.text; others = h.skipped refl; plain = st.plain; seen = st.seen ++ s ∷ []; own_is = st.own_is ∙ sym (append_assoc st.seen (s ∷ []) more) }
+pub passes : (bytes : List ℕ) (to : ℕ) (b : List ℕ) (all : Found) (s : ℕ) (more : List ℕ) (pieces : List Piece) (from : ℕ) (begun own text tail line behind : List ℕ) (len n : ℕ) → len ≡ s - from → len < length begun → text ≡ take len begun → tail ≡ drop len begun → n ≡ line_len tail → line ≡ take n tail → behind ≡ drop n tail → mark_of b line ≡ Other →
+    Stands bytes to b all (s ∷ more) pieces from begun own → Stands bytes to b all more pieces from begun own
+passes bytes to b all s more pieces from begun own text tail line behind len n len_is lt text_is tail_is size line_is behind_is mark st =
+    let low = stand_above bytes to b all s more pieces from begun own st in
+    let h = here b begun text tail line behind own st.seen more from s len n Other st.own_is (omega arith) lt text_is tail_is size line_is behind_is mark st.others st.plain in
+    record { inside = st.inside; text = st.text; all_is = st.all_is; others = h.skipped refl; plain = st.plain; seen = st.seen ++ s ∷ []; own_is = st.own_is ∙ sym (append_assoc st.seen (s ∷ []) more); ready = st.ready }
+
+ready_more : (bytes : List ℕ) (pieces : List Piece) (piece : Piece) → AreReady bytes pieces → IsReady bytes piece → AreReady bytes (pieces ++ piece ∷ [])
+ready_more bytes [] piece all one = (one, tt)
+ready_more bytes (q ∷ qs) piece all one = (all.0, ready_more bytes qs piece all.1 one)
 
 -- the front of a section is a piece
 piece_ready : (bytes R own : List ℕ) (piece : Piece) (from to n : ℕ) → R ≡ text_at bytes (record { from = from; to = to }) → from + length R ≡ to → n ≤ length R → piece.span ≡ record { from = from; to = from + n } → piece.marks.now ≡ own → Marks IsPlain from (lines R) own → IsReady bytes piece
@@ -198,101 +195,91 @@ piece_ready bytes R own piece from to n is inside le span_is marks_are plain =
       marked = subst (λ (s : Span). Marks IsPlain s.from (lines (text_at bytes s)) piece.marks.now) (sym span_is) (subst (λ ms. Marks IsPlain from (lines (text_at bytes (record { from = from; to = from + n }))) ms) (sym marks_are) marked);
     }
 
+spans_more : (pieces : List Piece) (piece : Piece) (span : Span) → piece.span ≡ span → map (λ (q : Piece). q.span) (pieces ++ piece ∷ []) ≡ map (λ (q : Piece). q.span) pieces ++ span ∷ []
+spans_more pieces piece span e = map-append (λ (q : Piece). q.span) pieces (piece ∷ []) ∙ ap (λ s. map (λ (q : Piece). q.span) pieces ++ s ∷ []) e
 
-front_le : (begun text ended : List ℕ) (len : ℕ) → text ≡ take len begun → ended ≡ without_end text → length ended ≤ length begun
-front_le begun text ended len text_is cut =
+-- a boundary line ends a piece
+pub bounds : (bytes : List ℕ) (to : ℕ) (b : List ℕ) (all : Found) (s : ℕ) (more : List ℕ) (pieces new : List Piece) (piece : Piece) (from from_new : ℕ) (begun own text tail line behind ended : List ℕ) (len n : ℕ) → len ≡ s - from → len < length begun → text ≡ take len begun → tail ≡ drop len begun → n ≡ line_len tail → line ≡ take n tail → behind ≡ drop n tail → mark_of b line ≡ Boundary →
+    ended ≡ without_end text → piece.span ≡ record { from = from; to = from + length ended } → piece.marks.now ≡ own → new ≡ pieces ++ piece ∷ [] → from_new ≡ s + length line →
+    Stands bytes to b all (s ∷ more) pieces from begun own → Stands bytes to b all more new from_new behind more
+bounds bytes to b all s more pieces new piece from from_new begun own text tail line behind ended len n len_is lt text_is tail_is size line_is behind_is mark cut span_is marks_are pushed on st =
+    let low = stand_above bytes to b all s more pieces from begun own st in
+    let h = here b begun text tail line behind own st.seen more from s len n Boundary st.own_is (omega arith) lt text_is tail_is size line_is behind_is mark st.others st.plain in
+    let next = section b (s + length line) (lines behind) in
     let short : length ended ≤ length text = rw cut (end_shorter text) in
     let text_len : length text ≤ length begun = rw text_is (omega (arith, length-take len begun)) in
-    omega (arith, short, text_len)
-
--- the piece before a line that bounds
-pub cut_ready : (bytes b : List ℕ) (left piece : Piece) (begun text ended ms : List ℕ) (len : ℕ) → text ≡ take len begun → ended ≡ without_end text → piece.span ≡ record { from = left.span.from; to = left.span.from + length ended } → piece.marks.now ≡ left.marks.now →
-    Stands bytes b left begun ms → IsReady bytes piece
-cut_ready bytes b left piece begun text ended ms len text_is cut span_is marks_are st =
-    piece_ready bytes begun left.marks.now piece left.span.from left.span.to (length ended) st.text st.inside (front_le begun text ended len text_is cut) span_is marks_are st.plain
-
-cut_span : (left piece : Piece) (text ended : List ℕ) → ended ≡ without_end text → piece.span ≡ record { from = left.span.from; to = left.span.from + length ended } → record { from = left.span.from; to = left.span.from + length (without_end (text ++ [])) } ≡ piece.span
-cut_span left piece text ended cut span_is = rw append-nil (sym (span_is ∙ ap (λ t. record { from = left.span.from; to = left.span.from + length t }) cut))
-
--- what stands behind a line that bounds
-behind_text : (bytes b : List ℕ) (left : Piece) (begun tail line : List ℕ) (s : ℕ) (more ms : List ℕ) (len n : ℕ) → left.span.from ≤ s → len ≡ s - left.span.from → len < length begun → tail ≡ drop len begun → n ≡ line_len tail → line ≡ take n tail → Stands bytes b left begun ms →
-    (s + length line + length (drop n tail) ≡ left.span.to) × (drop n tail ≡ text_at bytes (record { from = s + length line; to = left.span.to }))
-behind_text bytes b left begun tail line s more ms len n low len_is lt tail_is size line_is st =
-    let from = left.span.from in
     let tail_len : length tail ≡ length begun - len = ap length tail_is ∙ length-drop len begun in
     let n_le : n ≤ length tail = rw size (line_le tail) in
     let line_len_is : length line ≡ n = ap length line_is ∙ length-take-le n tail n_le in
-    let behind_len : length (drop n tail) ≡ length tail - n = length-drop n tail in
-    let place : from + len + n ≡ s + length line = omega (arith, len_is, low, line_len_is) in (
-      omega (arith, st.inside, tail_len, n_le, line_len_is, behind_len, len_is, low, lt),
-      ap (drop n) tail_is ∙ text_back bytes (drop len begun) (from + len) left.span.to n (text_back bytes begun from left.span.to len st.text) ∙ ap (λ f. text_at bytes (record { from = f; to = left.span.to })) place,
+    let behind_len : length behind ≡ length tail - n = ap length behind_is ∙ length-drop n tail in
+    let first : record { from = from; to = from + length (without_end (text ++ [])) } ≡ piece.span = rw append-nil (sym (span_is ∙ ap (λ t. record { from = from; to = from + length t }) cut)) in
+    let spans = map (λ (q : Piece). q.span) pieces in
+    let regrouped : spans ++ (piece.span ∷ pieces_at (s + length line) next) ≡ map (λ (q : Piece). q.span) new ++ pieces_at (s + length line) next =
+    sym (ap (λ ps. map (λ (q : Piece). q.span) ps ++ pieces_at (s + length line) next) pushed ∙ ap (λ x. x ++ pieces_at (s + length line) next) (spans_more pieces piece piece.span refl) ∙ append_assoc spans (piece.span ∷ []) (pieces_at (s + length line) next)) in
+    let whole : found_all (map (λ (q : Piece). q.span) new) (s + length line) next ≡ all =
+    sym (ap (λ p. record { spans = spans ++ (p ∷ pieces_at (s + length line) next); odd = next.odd }) first ∙ ap (λ l. record { spans = l; odd = next.odd }) regrouped)
+    ∙ ap (found_all spans from) (sym h.section_is) ∙ st.all_is in
+    let place : from + len + n ≡ s + length line = omega arith in
+    subst (λ f. Stands bytes to b all more new f behind more) (sym on)
+    (record {
+      inside = omega (arith, st.inside);
+      text = behind_is ∙ ap (drop n) tail_is ∙ text_back bytes (drop len begun) (from + len) to n (text_back bytes begun from to len st.text) ∙ ap (λ f. text_at bytes (record { from = f; to = to })) place;
+      all_is = whole;
+      others = h.others;
+      plain = h.plain;
+      seen = [];
+      own_is = refl;
+      ready = subst (AreReady bytes) (sym pushed) (ready_more bytes pieces piece st.ready (piece_ready bytes begun own piece from to (length ended) st.text st.inside (omega arith) span_is marks_are st.plain));
+    })
+
+-- the closing line ends the last piece
+pub closes : (bytes : List ℕ) (to : ℕ) (b : List ℕ) (all : Found) (s : ℕ) (more : List ℕ) (pieces new : List Piece) (piece : Piece) (from : ℕ) (begun own text tail line behind ended : List ℕ) (len n : ℕ) → len ≡ s - from → len < length begun → text ≡ take len begun → tail ≡ drop len begun → n ≡ line_len tail → line ≡ take n tail → behind ≡ drop n tail → mark_of b line ≡ Closing →
+    ended ≡ without_end text → piece.span ≡ record { from = from; to = from + length ended } → piece.marks.now ≡ own → new ≡ pieces ++ piece ∷ [] →
+    Stands bytes to b all (s ∷ more) pieces from begun own → (record { spans = map (λ (q : Piece). q.span) new; odd = no_odd } ≡ all) × AreReady bytes new
+closes bytes to b all s more pieces new piece from begun own text tail line behind ended len n len_is lt text_is tail_is size line_is behind_is mark cut span_is marks_are pushed st =
+    let low = stand_above bytes to b all s more pieces from begun own st in
+    let h = here b begun text tail line behind own st.seen more from s len n Closing st.own_is (omega arith) lt text_is tail_is size line_is behind_is mark st.others st.plain in
+    let short : length ended ≤ length text = rw cut (end_shorter text) in
+    let text_len : length text ≤ length begun = rw text_is (omega (arith, length-take len begun)) in
+    let first : record { from = from; to = from + length (without_end (text ++ [])) } ≡ piece.span = rw append-nil (sym (span_is ∙ ap (λ t. record { from = from; to = from + length t }) cut)) in
+    let spans = map (λ (q : Piece). q.span) pieces in (
+      ap (λ ps. record { spans = map (λ (q : Piece). q.span) ps; odd = no_odd }) pushed ∙ ap (λ l. record { spans = l; odd = no_odd }) (spans_more pieces piece piece.span refl)
+          ∙ ap (λ p. record { spans = spans ++ (p ∷ []); odd = no_odd }) (sym first)
+          ∙ ap (found_all spans from) (sym h.section_is) ∙ st.all_is,
+      subst (AreReady bytes) (sym pushed) (ready_more bytes pieces piece st.ready (piece_ready bytes begun own piece from to (length ended) st.text st.inside (omega arith) span_is marks_are st.plain)),
     )
 
--- a boundary line ends the section
-pub bounds : (bytes b : List ℕ) (left piece next : Piece) (begun text tail line ended : List ℕ) (s : ℕ) (more : List ℕ) (len n : ℕ) → begun ≡ text_at bytes left.span → len ≡ s - left.span.from → len < length begun → text ≡ take len begun → tail ≡ drop len begun → n ≡ line_len tail → line ≡ take n tail → mark_of b line ≡ Boundary →
-    ended ≡ without_end text → piece.span ≡ record { from = left.span.from; to = left.span.from + length ended } → piece.marks.now ≡ left.marks.now → next.span ≡ record { from = s + length line; to = left.span.to } → next.marks.now ≡ more → length more < length left.marks.now → length more + 1 < 2 ^ 64 →
-    Stands bytes b left begun (s ∷ more) → Leads bytes b left (record { piece = piece; behind = behind.Sections next })
-bounds bytes b left piece next begun text tail line ended s more len n begun_is len_is lt text_is tail_is size line_is mark cut span_is marks_are next_is more_is fewer room st =
-    let h = at_mark bytes b left begun text tail line s more len n Boundary len_is lt text_is tail_is size line_is mark st in
-    let low = stand_above bytes b left begun s more st in
-    let there = behind_text bytes b left begun tail line s more (s ∷ more) len n low len_is lt tail_is size line_is st in
-    let on : section b (s + length line) (lines (drop n tail)) ≡ section b next.span.from (lines (text_at bytes next.span)) =
-    ap (λ t. section b (s + length line) (lines t)) there.1 ∙ ap (λ (sp : Span). section b sp.from (lines (text_at bytes sp))) (sym next_is) in
-    let from_is : s + length line ≡ next.span.from = ap (λ (sp : Span). sp.from) (sym next_is) in
-    let whole : section b left.span.from (lines (text_at bytes left.span)) ≡ prepend text (section_with Boundary line (s + length line) (section b (s + length line) (lines (drop n tail)))) =
-    ap (λ t. section b left.span.from (lines t)) (sym begun_is) ∙ h.section_is in
-    record {
-      spans_are =
-          ap (λ l. piece.span ∷ l) (λ k. pieces_at (sym from_is k) (sym on k))
-          ∙ ap (λ sp. sp ∷ pieces_at (s + length line) (section b (s + length line) (lines (drop n tail)))) (sym (cut_span left piece text ended cut span_is))
-          ∙ ap (pieces_at left.span.from) (sym whole);
-      odd_is = ap (λ (x : Section). x.odd) (sym on) ∙ ap (λ (x : Section). x.odd) (sym whole);
-      ready = cut_ready bytes b left piece begun text ended (s ∷ more) len text_is cut span_is marks_are st;
-      follows = (
-        subst (λ (sp : Span). IsReady bytes (record { span = sp; marks = next.marks })) (sym next_is)
-        (record { inside = ap (λ t. s + length line + length t) (sym there.1) ∙ there.0; marked = subst (λ t. Marks IsPlain (s + length line) (lines t) next.marks.now) there.1 (subst (λ l. Marks IsPlain (s + length line) (lines (drop n tail)) l) (sym more_is) h.plain) }),
-        subst (λ l. length l < length left.marks.now) (sym more_is) fewer,
-        subst (λ l. length l + 1 < 2 ^ 64) (sym more_is) room,
-      );
-    }
-
--- the closing line ends it
-pub closes : (bytes b : List ℕ) (left piece : Piece) (begun text tail line ended : List ℕ) (s : ℕ) (more : List ℕ) (len n : ℕ) → begun ≡ text_at bytes left.span → len ≡ s - left.span.from → len < length begun → text ≡ take len begun → tail ≡ drop len begun → n ≡ line_len tail → line ≡ take n tail → mark_of b line ≡ Closing →
-    ended ≡ without_end text → piece.span ≡ record { from = left.span.from; to = left.span.from + length ended } → piece.marks.now ≡ left.marks.now →
-    Stands bytes b left begun (s ∷ more) → Leads bytes b left (record { piece = piece; behind = behind.Closing })
-closes bytes b left piece begun text tail line ended s more len n begun_is len_is lt text_is tail_is size line_is mark cut span_is marks_are st =
-    let h = at_mark bytes b left begun text tail line s more len n Closing len_is lt text_is tail_is size line_is mark st in
-    let whole : section b left.span.from (lines (text_at bytes left.span)) ≡ prepend text (section_with Closing line (s + length line) (section b (s + length line) (lines (drop n tail)))) =
-    ap (λ t. section b left.span.from (lines t)) (sym begun_is) ∙ h.section_is in
-    record {
-      spans_are = ap (λ sp. sp ∷ []) (sym (cut_span left piece text ended cut span_is)) ∙ ap (pieces_at left.span.from) (sym whole);
-      odd_is = ap (λ (x : Section). x.odd) (sym whole);
-      ready = cut_ready bytes b left piece begun text ended (s ∷ more) len text_is cut span_is marks_are st;
-      follows = tt;
-    }
+all_concat : (ls : List (List ℕ)) → ls ++ [] ≡ ls
+all_concat ls = append-nil ls
 
 empty_other : (b : List ℕ) → IsOther b []
 empty_other b = plain_other b [] refl
 
--- the text ends it
-pub ends_with : (bytes b : List ℕ) (left piece : Piece) (begun ms : List ℕ) → begun ≡ text_at bytes left.span → Beyond (left.span.from + length begun) ms → piece.span ≡ record { from = left.span.from; to = left.span.from + length begun } → piece.marks.now ≡ left.marks.now →
-    Stands bytes b left begun ms → Leads bytes b left (record { piece = piece; behind = behind.End })
-ends_with bytes b left piece begun ms begun_is beyond span_is marks_are st =
-    let from = left.span.from in
+-- the text ends, and with it the last piece
+pub ends_with : (bytes : List ℕ) (to : ℕ) (b : List ℕ) (all : Found) (ms : List ℕ) (pieces new : List Piece) (piece : Piece) (from : ℕ) (begun own : List ℕ) → Beyond (from + length begun) ms → piece.span ≡ record { from = from; to = from + length begun } → piece.marks.now ≡ own → new ≡ pieces ++ piece ∷ [] →
+    Stands bytes to b all ms pieces from begun own → (record { spans = map (λ (q : Piece). q.span) new; odd = Unclosed } ≡ all) × AreReady bytes new
+ends_with bytes to b all ms pieces new piece from begun own beyond span_is marks_are pushed st =
     let free = all_free (IsOther b) (lines begun) from ms (empty_other b) (subst (λ t. Beyond (from + length t) ms) (sym (concat_lines begun)) beyond) st.others in
     let section_is : section b from (lines begun) ≡ record { text = begun ++ []; bounded = false; more = []; odd = Unclosed } =
     ap (section b from) (sym (append-nil (lines begun))) ∙ section_free b (lines begun) [] from free
     ∙ ap (prepend (concat (lines begun))) (section_none b (from + length (concat (lines begun))))
     ∙ ap (λ t. record { text = t ++ []; bounded = false; more = []; odd = Unclosed }) (concat_lines begun) in
-    let whole : section b from (lines (text_at bytes left.span)) ≡ record { text = begun ++ []; bounded = false; more = []; odd = Unclosed } = ap (λ t. section b from (lines t)) (sym begun_is) ∙ section_is in
     let first : record { from = from; to = from + length (begun ++ []) } ≡ piece.span = rw append-nil (sym span_is) in
-    record {
-      spans_are = ap (λ sp. sp ∷ []) (sym first) ∙ ap (pieces_at from) (sym whole);
-      odd_is = ap (λ (x : Section). x.odd) (sym whole);
-      ready = piece_ready bytes begun left.marks.now piece from left.span.to (length begun) st.text st.inside (omega arith) span_is marks_are st.plain;
-      follows = tt;
-    }
+    let spans = map (λ (q : Piece). q.span) pieces in (
+      ap (λ ps. record { spans = map (λ (q : Piece). q.span) ps; odd = Unclosed }) pushed ∙ ap (λ l. record { spans = l; odd = Unclosed }) (spans_more pieces piece piece.span refl)
+          ∙ ap (λ p. record { spans = spans ++ (p ∷ []); odd = Unclosed }) (sym first)
+          ∙ ap (found_all spans from) (sym section_is) ∙ st.all_is,
+      subst (AreReady bytes) (sym pushed) (ready_more bytes pieces piece st.ready (piece_ready bytes begun own piece from to (length begun) st.text st.inside (omega arith) span_is marks_are st.plain)),
+    )
+
+pub ok_found : {E : Type 0} (r : Result Pieces E) (items : List Piece) (odd : Odd) (all : Found) → IfOk r (λ p. p.pieces.items ≡ items) → IfOk r (λ p. p.odd ≡ odd) → record { spans = map (λ (q : Piece). q.span) items; odd = odd } ≡ all → IfOk r (λ p. found p ≡ all)
+ok_found (Ok p) items odd all a b e = ap (λ is. record { spans = map (λ (q : Piece). q.span) is; odd = p.odd }) a ∙ ap (λ o. record { spans = map (λ (q : Piece). q.span) items; odd = o }) b ∙ e
+ok_found (Err x) items odd all a b e = tt
+
+pub ok_ready : {E : Type 0} (bytes : List ℕ) (r : Result Pieces E) (items : List Piece) → IfOk r (λ p. p.pieces.items ≡ items) → AreReady bytes items → IfOk r (λ p. AreReady bytes p.pieces.items)
+ok_ready bytes (Ok p) items a h = subst (AreReady bytes) (sym a) h
+ok_ready bytes (Err x) items a h = tt
 
 -- the next of the marks
-pub at_next : {bytes b begun : List ℕ} {left : Piece} (i : ℕ) (marks : List ℕ) → i < length marks → Stands bytes b left begun (drop i marks) → Stands bytes b left begun (get_or marks i 0 ∷ drop (i + 1) marks)
-at_next {bytes} {b} {begun} {left} i marks lt st = subst (λ ms. Stands bytes b left begun ms) (cut_at marks i (get_or marks i 0) lt refl) st
+pub at_next : {bytes b begun own : List ℕ} {to from : ℕ} {all : Found} {pieces : List Piece} (i : ℕ) (marks : List ℕ) → i < length marks → Stands bytes to b all (drop i marks) pieces from begun own → Stands bytes to b all (get_or marks i 0 ∷ drop (i + 1) marks) pieces from begun own
+at_next {bytes} {b} {begun} {own} {to} {from} {all} {pieces} i marks lt st = subst (λ ms. Stands bytes to b all ms pieces from begun own) (cut_at marks i (get_or marks i 0) lt refl) st

@@ -2,49 +2,27 @@
 ghost use Rattle.std.specs.Prelude.{◌≡◌, ◌++◌, ◌∷◌, ◌≤◌, [], nat_lt, length, OnOk, IfOk, if◌then◌else◌};
 ghost use Rattle.std.specs.List.{prefix_len};
 ghost use Rattle.mime_tree.specs.BoundaryLines.{lines};
-ghost use Rattle.mime_tree.specs.DashLines.{is_dashed as begins_dashed, IsPlain, Marks, marks_from};
+ghost use Rattle.mime_tree.specs.DashLines.{is_dashed, IsPlain, Marks, marks_from};
 
 use crate::mark::line_len;
 use std::alloc::{AllocError, Global};
 
-fn is_dashed(line: &[u8]) -> bool
-    ensures { result ≡ begins_dashed line.now }
-{
-    line.strip_prefix(b"--").is_some()
-}
-
 /// Adds the place of a line that begins with two hyphens.
 fn put_place(marks: &mut Vec<u64>, line: &[u8], place: u64) -> Result<(), AllocError>
     ensures { OnOk result
-        (marks.new.items ≡ (if begins_dashed line.now then marks.old.items ++ place ∷ [] else marks.old.items)) }
+        (marks.new.items ≡ (if is_dashed line.now then marks.old.items ++ place ∷ [] else marks.old.items)) }
 {
-    if is_dashed(line) {
+    if line.strip_prefix(b"--").is_some() {
         marks.push(place)?;
     }
     Ok(())
-}
-
-/// How many lines begin with two hyphens.
-fn dash_count(bytes: &[u8]) -> usize
-    ensures { result ≤ length bytes.now }
-{
-    let mut count = 0;
-    let mut rest = bytes;
-    while !rest.is_empty() {
-        let (line, behind) = rest.split_at(line_len(rest));
-        if is_dashed(line) {
-            count += 1;
-        }
-        rest = behind;
-    }
-    count
 }
 
 /// The places of all lines that begin with two hyphens.
 pub(crate) fn dash_places(alloc: Global, bytes: &[u8]) -> Result<Vec<u64>, AllocError>
     ensures { IfOk result (λ m. Marks IsPlain 0 (lines bytes.now) m.items) }
 {
-    let mut marks = Vec::with_capacity(alloc, dash_count(bytes))?;
+    let mut marks = Vec::new(alloc);
     let mut rest = bytes;
     let mut place = 0;
     while !rest.is_empty() {

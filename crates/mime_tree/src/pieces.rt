@@ -1,11 +1,15 @@
 // The pieces between boundary lines.
-ghost use Rattle.std.specs.Prelude.{◌≡◌, ◌<◌, ◌+◌, ◌^◌, length};
-ghost use Rattle.mime_tree.specs.FoundPieces.{IsReady};
-ghost use Rattle.mime_tree.specs.Sectioning.{Leads};
+ghost use Rattle.std.specs.Prelude.{◌≡◌, ◌<◌, ◌≤◌, ◌+◌, ◌^◌, ◌∷◌, ◌++◌, [], length, IfOk};
+ghost use Rattle.mime_tree.specs.BoundaryLines.{lines};
+ghost use Rattle.mime_tree.specs.DashLines.{IsPlain, Marks};
+ghost use Rattle.mime_tree.specs.FoundPieces.{found, IsInside, AreReady};
+ghost use Rattle.mime_tree.specs.Pieces.{pieces as pieces_of, section, section_pieces};
+ghost use Rattle.mime_tree.specs.Spans.{text_at};
 
-use crate::Span;
 use crate::mark::{Mark, line_len};
+use crate::{Odd, Span};
 use mail_headers::without_line_end;
+use std::alloc::{AllocError, Global};
 
 /// A piece of a body, and the places in it and behind it of the lines that begin with two hyphens.
 #[derive(Clone, Copy, Debug)]
@@ -14,20 +18,43 @@ pub(crate) struct Piece<'a> {
     pub(crate) marks: &'a [u64],
 }
 
-/// What stands behind a section.
-#[derive(Clone, Copy, Debug)]
-pub(crate) enum Behind<'a> {
-    /// A boundary line, and further sections behind it.
-    Sections(Piece<'a>),
-    Closing,
-    End,
+/// Pieces in their order, and what is odd about them.
+#[derive(Debug, Drop)]
+pub(crate) struct Pieces<'a> {
+    pub(crate) pieces: Vec<Piece<'a>>,
+    pub(crate) odd: Odd,
 }
 
-/// The section at the front of a text.
-#[derive(Clone, Copy, Debug)]
-pub(crate) struct FirstSection<'a> {
-    pub(crate) piece: Piece<'a>,
-    pub(crate) behind: Behind<'a>,
+impl<'a> Pieces<'a> {
+    pub(crate) fn none(alloc: Global, odd: Odd) -> Pieces<'a>
+        ensures none { result.pieces.items ≡ [] }
+        ensures odd { result.odd ≡ odd }
+    {
+        Pieces {
+            pieces: Vec::new(alloc),
+            odd,
+        }
+    }
+
+    pub(crate) fn one(alloc: Global, piece: Piece<'a>) -> Result<Pieces<'a>, AllocError>
+        ensures one { IfOk result (λ p. p.pieces.items ≡ piece.entry ∷ []) }
+        ensures odd { IfOk result (λ p. p.odd ≡ Odd.None) }
+    {
+        with_last(Vec::new(alloc), piece, Odd::None)
+    }
+}
+
+fn with_last<'a>(
+    pieces: Vec<Piece<'a>>,
+    piece: Piece<'a>,
+    odd: Odd,
+) -> Result<Pieces<'a>, AllocError>
+    ensures all { IfOk result (λ p. p.pieces.items ≡ pieces.entry.items ++ piece.entry ∷ []) }
+    ensures odd { IfOk result (λ p. p.odd ≡ odd) }
+{
+    let mut all = pieces;
+    all.push(piece)?;
+    Ok(Pieces { pieces: all, odd })
 }
 
 /// The piece that this text is.
@@ -45,53 +72,66 @@ fn piece_of<'a>(from: u64, text: &[u8], marks: &'a [u64]) -> Piece<'a>
     }
 }
 
-/// The section at the front of these ones. Of all lines only those that begin with two hyphens are looked at.
-pub(crate) fn first_section<'a>(
+/// The pieces of a body with what stands before the first boundary line, which ends it. Of all lines only those that
+/// begin with two hyphens are looked at.
+fn cut_sections<'a>(
+    alloc: Global,
     bytes: &[u8],
-    left: Piece<'a>,
+    body: Span,
+    marks: &'a [u64],
     boundary: &[u8],
-) -> FirstSection<'a>
-    requires { IsReady bytes.now left }
-    ensures { Leads bytes.now boundary.now left.entry result }
+) -> Result<Pieces<'a>, AllocError>
+    requires inside { IsInside bytes.now body }
+    requires marked { Marks IsPlain body.from (lines (text_at bytes.now body)) marks.now }
+    ensures found { IfOk result
+        (λ p. found p ≡ section_pieces body.from (section boundary.now body.from (lines (text_at bytes.now body)))) }
+    ensures ready { IfOk result (λ p. AreReady bytes.now p.pieces.items) }
 {
-    let begun = left.span.of(bytes);
-    for (i, place) in left.marks.iter().enumerate() {
-        let len = (*place - left.span.from) as usize;
+    let mut pieces = Vec::new(alloc);
+    let mut from = body.from;
+    let mut begun = body.of(bytes);
+    let mut own = marks;
+    for (i, place) in marks.iter().enumerate() {
+        let len = (*place - from) as usize;
         if begun.len() <= len {
-            return FirstSection {
-                piece: piece_of(left.span.from, begun, left.marks),
-                behind: Behind::End,
-            };
+            return with_last(pieces, piece_of(from, begun, own), Odd::Unclosed);
         }
         let (text, tail) = begun.split_at(len);
-        let (line, _) = tail.split_at(line_len(tail));
-        let piece = piece_of(left.span.from, without_line_end(text), left.marks);
+        let (line, behind) = tail.split_at(line_len(tail));
         match Mark::of(line, boundary) {
             Mark::Other => {}
             Mark::Boundary => {
-                let next = Span {
-                    from: *place + line.len() as u64,
-                    to: left.span.to,
-                };
-                let (_, more) = left.marks.split_at(i + 1);
-                return FirstSection {
-                    piece,
-                    behind: Behind::Sections(Piece {
-                        span: next,
-                        marks: more,
-                    }),
-                };
+                pieces.push(piece_of(from, without_line_end(text), own))?;
+                from = *place + line.len() as u64;
+                begun = behind;
+                (_, own) = marks.split_at(i + 1);
             }
             Mark::Closing => {
-                return FirstSection {
-                    piece,
-                    behind: Behind::Closing,
-                };
+                return with_last(
+                    pieces,
+                    piece_of(from, without_line_end(text), own),
+                    Odd::None,
+                );
             }
         }
     }
-    FirstSection {
-        piece: piece_of(left.span.from, begun, left.marks),
-        behind: Behind::End,
-    }
+    with_last(pieces, piece_of(from, begun, own), Odd::Unclosed)
+}
+
+/// The pieces of a body.
+pub(crate) fn cut<'a>(
+    alloc: Global,
+    bytes: &[u8],
+    body: Span,
+    marks: &'a [u64],
+    boundary: &[u8],
+) -> Result<Pieces<'a>, AllocError>
+    requires inside { IsInside bytes.now body }
+    requires marked { Marks IsPlain body.from (lines (text_at bytes.now body)) marks.now }
+    ensures found { IfOk result (λ p. found p ≡ pieces_of boundary.now body.from (lines (text_at bytes.now body))) }
+    ensures ready { IfOk result (λ p. AreReady bytes.now p.pieces.items) }
+{
+    let mut cut = cut_sections(alloc, bytes, body, marks, boundary)?;
+    let _ = cut.pieces.remove(0);
+    Ok(cut)
 }

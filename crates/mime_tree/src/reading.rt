@@ -1,20 +1,19 @@
-// A part is read, and where its kids are.
-ghost use Rattle.std.specs.Prelude.{◌≡◌, ℕ, List, IfOk};
-ghost use Rattle.mime_tree.specs.FoundKids.{found as found_in};
-ghost use Rattle.mime_tree.specs.FoundPieces.{IsReady};
-ghost use Rattle.mime_tree.specs.Levels.{Reads, below_of, kept_below};
-ghost use Rattle.mime_tree.specs.Opening.{IsPartOf, Opens};
-ghost use Rattle.mime_tree.specs.Trees.{is_leaf_at as is_leaf_of_level, odd_at as odd_of_level};
+// The part at a span of a message, with all below it.
+ghost use Rattle.std.specs.Prelude.{◌≡◌, IfOk};
+ghost use Rattle.mime_tree.specs.BoundaryLines.{lines};
+ghost use Rattle.mime_tree.specs.DashLines.{IsPlain, Marks};
+ghost use Rattle.mime_tree.specs.Opening.{Opens, IsPartOf};
+ghost use Rattle.mime_tree.specs.Spans.{text_at};
+ghost use Rattle.mime_tree.specs.Trees.{IsPart, odd_at as odd_of_level};
+ghost use Rattle.mime_tree.specs.FoundPieces.{found, IsInside, IsReady, AreReady};
 
 use crate::content_type::ContentType;
 use crate::dashes::marks_behind;
 use crate::fallback::Fallback;
-use crate::kids::{FoundKids, Kids, find_kids};
-use crate::level::{Level, Unread};
-use crate::pieces::Piece;
-use crate::{Encoding, Odd, Part, PartPath, Span};
+use crate::kids::find_kids;
+use crate::pieces::{Piece, Pieces};
+use crate::{Encoding, Odd, Part, PartList, PartPath, Span};
 use mail_headers::Message;
-use mh_base::Duplicate;
 use std::alloc::{AllocError, Global};
 
 /// What a message says of itself, and where its kids are.
@@ -23,14 +22,7 @@ pub(crate) struct Opened<'a> {
     content_type: ContentType,
     encoding: Encoding,
     body: Span,
-    found: FoundKids<'a>,
-}
-
-/// A part, and the kids that are to be read behind it.
-#[derive(Drop)]
-pub(crate) struct ReadPart<'a> {
-    pub(crate) part: Part,
-    pub(crate) below: Level<'a>,
+    kids: Pieces<'a>,
 }
 
 /// Reads the message that this piece is.
@@ -41,7 +33,8 @@ fn open<'a>(
     fallback: Fallback,
 ) -> Result<Opened<'a>, AllocError>
     requires { IsReady bytes.now piece }
-    ensures { IfOk result (λ o. Opens bytes.now fallback piece.entry.span o) }
+    ensures opens { IfOk result (λ o. Opens bytes.now fallback piece.entry.span o) }
+    ensures ready { IfOk result (λ o. AreReady bytes.now o.kids.pieces.items) }
 {
     let span = piece.span;
     let message = Message::cut(span.of(bytes));
@@ -52,71 +45,35 @@ fn open<'a>(
         to: span.to,
     };
     let marks = marks_behind(piece.marks, body.from);
-    let within = Piece { span: body, marks };
-    let found = find_kids(alloc, &content_type, encoding, bytes, within)?;
+    let kids = find_kids(alloc, &content_type, encoding, bytes, body, marks)?;
     Ok(Opened {
         content_type,
         encoding,
         body,
-        found,
+        kids,
     })
 }
 
 /// What is odd about a part with so many levels below it.
-fn odd_at(levels: u64, found: &FoundKids<'_>) -> Odd
-    ensures { (bytes : List ℕ) → result ≡ odd_of_level levels (found_in bytes found.now) }
+fn odd_at(levels: u64, kids: &Pieces<'_>) -> Odd
+    ensures { result ≡ odd_of_level levels (found kids.now) }
 {
-    if levels == 0 && !found.kids.are_none() {
+    if levels == 0 && !kids.pieces.is_empty() {
         Odd::TooDeep
     } else {
-        found.odd
+        kids.odd
     }
 }
 
-/// Whether a part with so many levels below it is a leaf.
-fn is_leaf_at(levels: u64, found: &FoundKids<'_>) -> bool
-    ensures { (bytes : List ℕ) → result ≡ is_leaf_of_level levels (found_in bytes found.now) }
+fn part_of(opened: Opened<'_>, span: Span, path: PartPath, odd: Odd, kids: PartList) -> Part
+    ensures { IsPartOf opened.entry span path odd kids.items result }
 {
-    levels == 0 || found.kids.are_none()
-}
-
-/// The kids that are read where a part has so many levels below it.
-fn kids_kept(levels: u64, kids: Kids<'_>) -> Kids<'_>
-    ensures { result ≡ kept_below levels kids.entry }
-{
-    if levels == 0 { Kids::None } else { kids }
-}
-
-/// The kids that are to be read behind a part.
-fn level_below<'a>(
-    alloc: Global,
-    levels: u64,
-    content_type: &ContentType,
-    kids: Kids<'a>,
-    path: &PartPath,
-) -> Result<Level<'a>, AllocError>
-    ensures { IfOk result (λ l. l ≡ below_of levels content_type.now kids.entry path.now) }
-{
-    Ok(Level {
-        kids: kids_kept(levels, kids),
-        fallback: content_type.fallback(),
-        path: path.duplicate(alloc)?,
-        given: 0,
-        levels: levels.saturating_sub(1),
-    })
-}
-
-fn part_of(
-    content_type: ContentType,
-    encoding: Encoding,
-    span: Span,
-    body: Span,
-    path: PartPath,
-    odd: Odd,
-    is_leaf: bool,
-) -> Part
-    ensures { IsPartOf content_type encoding span body path odd is_leaf result }
-{
+    let Opened {
+        content_type,
+        encoding,
+        body,
+        kids: _,
+    } = opened;
     let ContentType {
         kind,
         subtype,
@@ -134,54 +91,32 @@ fn part_of(
         },
         body,
         odd,
-        is_leaf,
+        kids,
     }
 }
 
-/// The part at this span, with the kids that are to be read behind it.
-fn read_opened<'a>(
-    alloc: Global,
-    opened: Opened<'a>,
-    span: Span,
-    path: PartPath,
-    levels: u64,
-    odd: Odd,
-    is_leaf: bool,
-) -> Result<ReadPart<'a>, AllocError>
-    ensures part { IfOk result
-        (λ r. IsPartOf opened.entry.content_type opened.entry.encoding span opened.entry.body path odd is_leaf r.part) }
-    ensures below { IfOk result
-        (λ r. r.below ≡ below_of levels opened.entry.content_type opened.entry.found.kids path) }
-{
-    let Opened {
-        content_type,
-        encoding,
-        body,
-        found,
-    } = opened;
-    let FoundKids { kids, odd: _ } = found;
-    let below = level_below(alloc, levels, &content_type, kids, &path)?;
-    let part = part_of(content_type, encoding, span, body, path, odd, is_leaf);
-    Ok(ReadPart { part, below })
-}
-
-/// Reads a part.
-pub(crate) fn read_part<'a>(
+/// The part that this piece is, with the parts at most so many levels below it.
+pub(crate) fn read_part(
     alloc: Global,
     bytes: &[u8],
-    unread: Unread<'a>,
-) -> Result<ReadPart<'a>, AllocError>
-    requires { IsReady bytes.now unread.piece }
-    ensures { IfOk result (λ read. Reads bytes.now unread.entry read) }
+    piece: Piece<'_>,
+    fallback: Fallback,
+    path: PartPath,
+    levels: u64,
+) -> Result<Part, AllocError>
+    requires { IsReady bytes.now piece }
+    ensures { IfOk result (λ part. IsPart levels bytes.now fallback path piece.entry.span part) }
 {
-    let Unread {
-        piece,
-        fallback,
-        path,
-        levels,
-    } = unread;
     let opened = open(alloc, bytes, piece, fallback)?;
-    let odd = odd_at(levels, &opened.found);
-    let is_leaf = is_leaf_at(levels, &opened.found);
-    read_opened(alloc, opened, piece.span, path, levels, odd, is_leaf)
+    let odd = odd_at(levels, &opened.kids);
+    let mut kids = Vec::new(alloc);
+    if levels == 0 {
+        return Ok(part_of(opened, piece.span, path, odd, kids));
+    }
+    let within = opened.content_type.fallback();
+    for (i, kid) in opened.kids.pieces.iter().enumerate() {
+        let kid_path = path.kid(alloc, i as u64 + 1)?;
+        kids.push(read_part(alloc, bytes, *kid, within, kid_path, levels - 1)?)?;
+    }
+    Ok(part_of(opened, piece.span, path, odd, kids))
 }

@@ -10,12 +10,15 @@ ghost use Rattle.opening_plans.specs.Opening.{marks_read, sequences_read, text_b
 
 use file_plans::{Reading, ask_read};
 use folder_files::{Files, Place};
-use mh_base::{Bytes, Duplicate, Entry, FolderName, SIZE_LIMIT, entry_name};
+use mh_base::{Bytes, Duplicate, Entry, FolderName, entry_name};
 use mh_profile::Entries;
 use mh_sequences::Sequences;
 use sequence_commits::read_sequences;
 use std::alloc::Global;
 use step_plans::{Hand, PlanFault, read_context};
+
+/// The greatest text that is read, in bytes.
+const LIMIT: u64 = 67_108_864;
 
 fn text_from(alloc: Global, reading: Reading) -> Result<Bytes, PlanFault>
     ensures { (run : ℕ) (x : State) → Follows run plan_cause (text_by reading) x x result }
@@ -39,7 +42,7 @@ fn read_text<F: Files>(
         (by_hand h (F.state files.new)) result }
 {
     let name = entry_name(alloc, &Entry::Sequences)?;
-    let reading = ask_read(alloc, run, files, place, &name, SIZE_LIMIT)?;
+    let reading = ask_read(alloc, run, files, place, &name, LIMIT)?;
     text_from(alloc, reading)
 }
 

@@ -1,7 +1,7 @@
 mod Choosing
 mod Cleanness
 mod Encoding
-mod Absence
+mod Missing
 pub mod Naming
 pub mod Once
 pub mod Walking

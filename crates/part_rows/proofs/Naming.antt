@@ -1,16 +1,24 @@
--- The paths of parts, and of those below them.
+-- A path names the part that the tree has at it, and no other.
 use Rattle.std.proofs.Common.{◌≡◌, ◌≤◌, ◌+◌, ℕ, zero, suc, Bool, true, false, cond, Option, Some, None, List, [], ◌∷◌, ◌++◌, length, get_or, refl, ap, sym, subst, ◌∙◌, arith, append_assoc, append-nil, length-append}
 use Rattle.std.specs.Prelude.{◌==◌, ◌||◌, bytes_eq, is_none, not, option_and_then, slice_get}
 use Rattle.std.specs.List.{filter, list_any}
 use Rattle.std.proofs.lemmas.List.{append_cancel_left}
 use Rattle.std.proofs.lemmas.List.Elements.{filter-append}
 use Rattle.std.proofs.lemmas.Slice.Eq.{bytes_eq-Decides}
+use Rattle.mime_tree.specs.declared.part.Part.{Part, out-Part}
 use Rattle.mime_tree.specs.declared.span.Span.{Span}
 use Rattle.mime_tree.specs.ContentTypes.{fallback_in}
 use Rattle.mime_tree.specs.Spans.{whole}
-use Rattle.mime_tree.specs.Trees.{kids_at, type_at}
+use Rattle.mime_tree.specs.Trees.{AreKids, IsPart, kid_of, kids_at, part_at, type_at}
 use Rattle.part_rows.specs.Choices.{has_path, is_missing}
 use Rattle.part_rows.specs.PartViews.{Fallback, PartView, parts_at, parts_of, plain_text, view_of, within}
+use Rattle.part_rows.proofs.Walking.{kids_left, part_first}
+use Rattle.mail_text.proofs.Emptiness.{not_zero}
+
+-- what is told of a part, where there is one
+abbrev views_of : List ℕ → Option Part → List PartView
+views_of bytes None = []
+views_of bytes (Some part) = view_of bytes part ∷ []
 
 false_by : (t : Bool) → (t ≡ true → ⊥) → t ≡ false
 false_by true never = absurd (never refl)
@@ -77,3 +85,87 @@ module _ (levels : ℕ) (bytes : List ℕ) (inner : Fallback) (base : List ℕ) 
   none_named path m (span ∷ spans) never =
       one_kid (has_path path) m span spans [] [] (none_below (base ++ m ∷ []) path (parts (base ++ m ∷ []) span) (never m (omega arith)) (parts_below levels bytes inner (base ++ m ∷ []) span))
       (none_named path (m + 1) spans (λ k le. never k (omega (arith, le))))
+
+  kid_named : (rest : List ℕ) → ((path : List ℕ) (span : Span) (kid : Part) → IsPart levels bytes inner path span kid → filter (has_path (path ++ rest)) (parts path span) ≡ views_of bytes (part_at rest kid))
+      → (m i : ℕ) (spans : List Span) (kids : List Part) → AreKids (IsPart levels bytes inner) base m spans kids
+      → filter (has_path (base ++ (i + m) ∷ rest)) (within parts base m spans) ≡ views_of bytes (option_and_then (part_at rest) (slice_get kids i))
+  kid_named rest at m i [] [] are = refl
+  kid_named rest at m i [] (kid ∷ kids) are = absurd are
+  kid_named rest at m i (span ∷ spans) [] are = absurd are
+  kid_named rest at m zero (span ∷ spans) (kid ∷ kids) are =
+      let here : (base ++ m ∷ []) ++ rest ≡ base ++ (0 + m) ∷ rest = append_assoc base (m ∷ []) rest ∙ ap (λ n. base ++ n ∷ rest) (let e : m ≡ 0 + m = omega arith in e) in
+      one_kid (has_path (base ++ (0 + m) ∷ rest)) m span spans (views_of bytes (part_at rest kid)) []
+      (ap (λ l. filter (has_path l) (parts (base ++ m ∷ []) span)) (sym here) ∙ at (base ++ m ∷ []) span kid are.0)
+      (none_named (base ++ (0 + m) ∷ rest) (m + 1) spans (λ k le more e. not_other base rest more k (0 + m) (λ s. omega (arith, le, s)) e))
+      ∙ append-nil (views_of bytes (part_at rest kid))
+  kid_named rest at m (suc i) (span ∷ spans) (kid ∷ kids) are =
+      let next : i + (m + 1) ≡ suc i + m = omega arith in
+      let path = base ++ (suc i + m) ∷ rest in
+      one_kid (has_path path) m span spans [] (views_of bytes (option_and_then (part_at rest) (slice_get kids i)))
+      (none_below (base ++ m ∷ []) path (parts (base ++ m ∷ []) span) (λ more e. not_other base rest more m (suc i + m) (λ s. omega (arith, s)) e) (parts_below levels bytes inner (base ++ m ∷ []) span))
+      (subst (λ n. filter (has_path (base ++ n ∷ rest)) (within parts base (m + 1) spans) ≡ views_of bytes (option_and_then (part_at rest) (slice_get kids i))) next (kid_named rest at (m + 1) i spans kids are.1))
+
+-- the path of a part, and that of none below it
+path_is : (levels : ℕ) (bytes : List ℕ) (fallback : Fallback) (base : List ℕ) (span : Span) (part : Part) → IsPart levels bytes fallback base span part → (out-Part part).path ≡ base
+unfolding IsPart
+path_is zero bytes fallback base span part is = is.0.path_is
+path_is (suc levels) bytes fallback base span part is = is.0.path_is
+
+none_left_named : (levels : ℕ) (bytes : List ℕ) (fallback : Fallback) (base : List ℕ) (span : Span) → filter (has_path (base ++ [])) (kids_left levels 0 bytes fallback base span) ≡ []
+unfolding kids_left
+none_left_named zero bytes fallback base span = refl
+none_left_named (suc levels) bytes fallback base span =
+    none_named levels bytes (fallback_in (type_at bytes fallback span)) base (base ++ []) 1 (kids_at bytes fallback span).spans (λ k le rest e. not_parent base rest k (e ∙ append-nil base))
+
+no_kid : (n : ℕ) (part : Part) → (out-Part part).kids.items ≡ [] → kid_of n part ≡ None
+no_kid zero part e = refl
+no_kid (suc n) part e = ap (λ (ks : List Part). slice_get ks n) e
+
+kids_named : (levels : ℕ) (bytes : List ℕ) (fallback : Fallback) (base : List ℕ) (span : Span) (part : Part) (n : ℕ) (rest : List ℕ)
+    → ((below : ℕ) (inner : Fallback) (path : List ℕ) (kid_span : Span) (kid : Part) → IsPart below bytes inner path kid_span kid → filter (has_path (path ++ rest)) (parts_at below bytes inner path kid_span) ≡ views_of bytes (part_at rest kid))
+    → IsPart levels bytes fallback base span part → filter (has_path (base ++ n ∷ rest)) (kids_left levels 0 bytes fallback base span) ≡ views_of bytes (part_at (n ∷ rest) part)
+unfolding IsPart kids_left
+kids_named zero bytes fallback base span part n rest at is = ap (λ o. views_of bytes (option_and_then (part_at rest) o)) (sym (no_kid n part is.1))
+kids_named (suc levels) bytes fallback base span part zero rest at is =
+    none_named levels bytes (fallback_in (type_at bytes fallback span)) base (base ++ 0 ∷ rest) 1 (kids_at bytes fallback span).spans (λ k le more e. not_other base rest more k 0 (λ s. omega (arith, le, s)) e)
+kids_named (suc levels) bytes fallback base span part (suc i) rest at is =
+    let inner = fallback_in (type_at bytes fallback span) in
+    let spans = (kids_at bytes fallback span).spans in
+    let same : i + 1 ≡ suc i = omega arith in
+    subst (λ n. filter (has_path (base ++ n ∷ rest)) (within (parts_at levels bytes inner) base 1 spans) ≡ views_of bytes (option_and_then (part_at rest) (slice_get (out-Part part).kids.items i))) same
+    (kid_named levels bytes inner base rest (at levels inner) 1 i spans (out-Part part).kids.items is.1)
+
+longer : (base rest : List ℕ) (n : ℕ) → base ≡ base ++ n ∷ rest → ⊥
+longer base rest n e = omega (arith, ap (λ (l : List ℕ). length l) e, length-append base (n ∷ rest))
+
+-- of the parts that are told of, just the one that the tree has at a path has this path
+pub part_named : (levels : ℕ) (bytes : List ℕ) (fallback : Fallback) (base : List ℕ) (span : Span) (part : Part) → IsPart levels bytes fallback base span part → (path : List ℕ)
+    → filter (has_path (base ++ path)) (parts_at levels bytes fallback base span) ≡ views_of bytes (part_at path part)
+part_named levels bytes fallback base span part is [] =
+    let kids = kids_left levels 0 bytes fallback base span in
+    let here : (view_of bytes part).path ≡ base ++ [] = path_is levels bytes fallback base span part is ∙ sym (append-nil base) in
+    ap (filter (has_path (base ++ []))) (part_first levels bytes fallback base span part is)
+    ∙ filter_yes (has_path (base ++ [])) (view_of bytes part) kids ((bytes_eq-Decides (base ++ []) (view_of bytes part).path).1 (sym here))
+    ∙ ap (λ l. view_of bytes part ∷ l) (none_left_named levels bytes fallback base span)
+part_named levels bytes fallback base span part is (n ∷ rest) =
+    let kids = kids_left levels 0 bytes fallback base span in
+    ap (filter (has_path (base ++ n ∷ rest))) (part_first levels bytes fallback base span part is)
+    ∙ filter_no (has_path (base ++ n ∷ rest)) (view_of bytes part) kids (has_not (base ++ n ∷ rest) (view_of bytes part) (λ e. longer base rest n (sym (path_is levels bytes fallback base span part is) ∙ e)))
+    ∙ kids_named levels bytes fallback base span part n rest (λ below inner path kid_span kid kid_is. part_named below bytes inner path kid_span kid kid_is rest) is
+
+any_by : (t : Bool) (p : PartView → Bool) (part : PartView) (parts : List PartView) → list_any p parts ≡ not (length (filter p parts) == 0) → (t || list_any p parts) ≡ not (length (cond t (part ∷ filter p parts) (filter p parts)) == 0)
+any_by true p part parts e = ap not (sym (not_zero (length (part ∷ filter p parts)) (omega arith)))
+any_by false p part parts e = e
+
+any_filtered : (p : PartView → Bool) (parts : List PartView) → list_any p parts ≡ not (length (filter p parts) == 0)
+any_filtered p [] = refl
+any_filtered p (part ∷ parts) = any_by (p part) p part parts (any_filtered p parts)
+
+missing_of : (bytes : List ℕ) (o : Option Part) → not (not (length (views_of bytes o) == 0)) ≡ is_none o
+missing_of bytes None = refl
+missing_of bytes (Some part) = refl
+
+-- a path is missing where the tree has no part at it
+pub missing_named : (bytes : List ℕ) (root : Part) (path : List ℕ) → IsPart 64 bytes plain_text [] (whole bytes) root → is_missing (parts_of bytes) path ≡ is_none (part_at path root)
+missing_named bytes root path is =
+    ap not (any_filtered (has_path path) (parts_of bytes)) ∙ ap (λ (l : List PartView). not (not (length l == 0))) (part_named 64 bytes plain_text [] (whole bytes) root is path) ∙ missing_of bytes (part_at path root)

@@ -17,7 +17,7 @@ same_test true false f g = sym (f refl)
 same_test false true f g = g refl
 same_test false false f g = refl
 
-pub same_turned : (a b : List ℕ) → bytes_eq a b ≡ bytes_eq b a
+same_turned : (a b : List ℕ) → bytes_eq a b ≡ bytes_eq b a
 same_turned a b =
     same_test (bytes_eq a b) (bytes_eq b a)
     (λ h. (bytes_eq-Decides b a).1 (sym ((bytes_eq-Decides a b).0 h)))

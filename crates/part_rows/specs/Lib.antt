@@ -1,8 +1,6 @@
-pub mod Absent
 pub mod Choices
 pub mod Chosen
 pub mod FileNames
 pub mod PartViews
 pub mod PathTexts
-pub mod Rests
 pub mod Rows

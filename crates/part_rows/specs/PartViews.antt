@@ -6,7 +6,7 @@ use Rattle.mail_text.specs.EncodedWords.{decoded as decoded_words}
 use Rattle.mail_text.specs.ShownBytes.{shown}
 use Rattle.mail_text.specs.Stripping.{stripped}
 use Rattle.mime_tree.specs.declared.odd.Odd.{Odd}
-use Rattle.mime_tree.specs.declared.part.Part.{Part}
+use Rattle.mime_tree.specs.declared.part.Part.{Part, out-Part}
 use Rattle.mime_tree.specs.declared.span.Span.{Span}
 use Rattle.mime_tree.specs.ContentTypes.{fallback_in}
 use Rattle.mime_tree.specs.Encodings.{encoding_of, decoded}
@@ -47,17 +47,17 @@ description_of message = description_by (first_value (codes "Content-Description
 
 -- where the message that a part is stands
 abbrev pub span_of : Part → Span
-span_of part = record { from = part.head.from; to = part.body.to }
+span_of part = record { from = (out-Part part).head.from; to = (out-Part part).body.to }
 
 -- what is told of this part of a message
 abbrev pub view_of : List ℕ → Part → PartView
 view_of bytes part = record {
-  path = part.path;
-  kind = part.kind;
-  subtype = part.subtype;
+  path = (out-Part part).path;
+  kind = (out-Part part).kind;
+  subtype = (out-Part part).subtype;
   description = description_of (text_at bytes (span_of part));
-  odd = part.odd;
-  is_leaf = part.is_leaf;
+  odd = (out-Part part).odd;
+  is_leaf = length (out-Part part).kids.items == 0;
   content = content_of bytes part;
 }
 

@@ -30,7 +30,7 @@ fn is_stored(wanted: &Wanted<'_>, part: &Part) -> bool
     ensures { (bytes : List ℕ) → result ≡ stands_stored wanted.now (view_of bytes part.now) }
 {
     if wanted.is_empty() {
-        part.is_leaf
+        part.kids.is_empty()
     } else {
         is_named(wanted, part)
     }

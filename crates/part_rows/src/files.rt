@@ -2,6 +2,7 @@
 ghost use Rattle.std.specs.Prelude.{◌≡◌, ◌++◌, true, map, IfOk, OnOk};
 ghost use Rattle.std.specs.List.{list_all};
 ghost use Rattle.mh_base.specs.Names.{is_name_byte};
+ghost use Rattle.mime_tree.specs.declared.part.Part.{out-Part};
 ghost use Rattle.part_rows.specs.FileNames.{line_for, name_byte as byte_of_name, name_of, stays as byte_stays, whole_name};
 
 use crate::paths::{put_dotted, put_number, put_path};
@@ -38,7 +39,7 @@ fn put_subtype(name: &mut Bytes, subtype: &[u8]) -> Result<(), AllocError>
 /// The name, however long.
 fn long_name(alloc: Global, number: MsgNum, part: &Part) -> Result<Bytes, AllocError>
     ensures value { IfOk result
-        (λ name. name ≡ whole_name number part.now.path part.now.subtype) }
+        (λ name. name ≡ whole_name number (out-Part part.now).path (out-Part part.now).subtype) }
     ensures clean { IfOk result (λ name. list_all is_name_byte name ≡ true) }
 {
     let mut name = Bytes::new(alloc);
@@ -51,7 +52,7 @@ fn long_name(alloc: Global, number: MsgNum, part: &Part) -> Result<Bytes, AllocE
 
 /// The name of the file that a part of the message of this number is stored in.
 pub fn file_name(alloc: Global, number: MsgNum, part: &Part) -> Result<Name, AllocError>
-    ensures { IfOk result (λ name. name ≡ name_of number part.now.path part.now.subtype) }
+    ensures { IfOk result (λ name. name ≡ name_of number (out-Part part.now).path (out-Part part.now).subtype) }
 {
     let whole = long_name(alloc, number, part)?;
     let (front, _) = whole.as_slice().split_at(LIMIT.min(whole.len()));
@@ -66,7 +67,7 @@ pub fn storing_line(
     part: &Part,
     name: &Name,
 ) -> Result<Bytes, AllocError>
-    ensures { IfOk result (λ line. line ≡ line_for number part.now.path name.now) }
+    ensures { IfOk result (λ line. line ≡ line_for number (out-Part part.now).path name.now) }
 {
     let mut line = Bytes::from_slice(alloc, b"storing message ")?;
     put_number(&mut line, u64::from(number.get()))?;

@@ -3,19 +3,17 @@
 #![tactic(auto)]
 
 mod choices;
-mod chosen;
 mod columns;
 mod descriptions;
 mod files;
 mod message;
-mod missing;
 mod paths;
 mod rows;
 mod spans;
 mod texts;
+mod walk;
 mod wanted;
 
-pub use chosen::Chosen;
 pub use files::{file_name, storing_line};
 pub use message::MessageParts;
 pub use rows::{header_line, shown_path};

@@ -6,9 +6,10 @@ ghost use Rattle.file_plans.specs.Follows.{State, Follows, by_hand};
 ghost use Rattle.step_plans.specs.CommandFaults.{command_cause};
 ghost use Rattle.pick_plans.specs.Testing.{all_tested, kept_if, one_tested, tested_by};
 
+use command_stages::LIMIT;
 use file_plans::{Reading, ask_read};
 use folder_files::{Files, Place, Refusal};
-use mh_base::{Duplicate, Entry, List, MsgNum, SIZE_LIMIT, entry_name};
+use mh_base::{Duplicate, Entry, List, MsgNum, entry_name};
 use pick_expr::{Expr, holds};
 use std::alloc::{AllocError, Global};
 use step_plans::CommandFault;
@@ -35,7 +36,7 @@ fn test_read(
         Reading::Content(bytes) => Ok(holds(alloc, expr, bytes.as_slice())?),
         Reading::Long(length) => Err(CommandFault::Refused(Refusal::TooLarge {
             length,
-            limit: SIZE_LIMIT,
+            limit: LIMIT,
         })),
         Reading::Gone => Err(meddled(alloc, place, number)?),
     }
@@ -54,7 +55,7 @@ fn test_one<F: Files>(
         (by_hand h (F.state files.new)) result }
 {
     let name = entry_name(alloc, &Entry::Number(number))?;
-    let reading = ask_read(alloc, run, files, place, &name, SIZE_LIMIT)?;
+    let reading = ask_read(alloc, run, files, place, &name, LIMIT)?;
     test_read(alloc, place, expr, number, reading)
 }
 

@@ -83,7 +83,7 @@ fn compare_messages(
             number,
             current: number.get() == 23,
             unseen: number.get() == 456,
-            message: IndexedMessage::cut_for(alloc, program, message)?,
+            message: IndexedMessage::cut(alloc, message)?,
             moment: 1_780_394_400,
             user,
         };

@@ -57,11 +57,10 @@ fn put_part(
 
 /// The leaves of a message, in its order.
 pub(crate) fn leaves(alloc: Global, message: &[u8]) -> Result<Bytes, AllocError> {
-    let message = MessageParts::cut(alloc, message)?;
+    let parts = MessageParts::cut(alloc, message)?;
     let mut leaves = Bytes::new(alloc);
-    let mut parts = message.stored(alloc, &[])?;
-    while let Some(part) = parts.next(alloc)? {
-        put_part(alloc, &mut leaves, &message, &part)?;
+    for part in parts.stored(alloc, &[])? {
+        put_part(alloc, &mut leaves, &parts, part)?;
     }
     Ok(leaves)
 }

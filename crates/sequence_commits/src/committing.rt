@@ -18,11 +18,14 @@ use crate::cutting::cut_sequences;
 use crate::marking::mark_all;
 use crate::telling::Told;
 use folder_files::{Files, Place};
-use mh_base::{Bytes, Entry, FolderName, SIZE_LIMIT, entry_name};
+use mh_base::{Bytes, Entry, FolderName, entry_name};
 use mh_profile::NamedValue;
 use mh_sequences::{Mark, NumSet, Sequences};
 use std::alloc::Global;
 use step_plans::{Hand, PlanFault, commit_context, replace_file};
+
+/// The greatest text that is written, in bytes.
+const LIMIT: u64 = 67_108_864;
 
 /// The text takes the place of the folder's, where it is not too long.
 fn replace_sequences<F: Files>(
@@ -37,7 +40,7 @@ fn replace_sequences<F: Files>(
     ensures same { (hand.new.run ≡ hand.old.run) × (hand.new.mail ≡ hand.old.mail) }
 {
     let length = text.len() as u64;
-    if SIZE_LIMIT < length {
+    if LIMIT < length {
         return Err(PlanFault::TooLarge(length));
     }
     let name = entry_name(alloc, &Entry::Sequences)?;

@@ -10,9 +10,10 @@ ghost use Rattle.sortm_plans.specs.Reading.{date_order_read, keys_read, message_
 use crate::SortKey;
 use crate::keys::{date_key, text_key};
 use crate::ordering::{order_by_dates, order_by_texts};
+use command_stages::LIMIT;
 use file_plans::{Reading, ask_read};
 use folder_files::{Files, Place, Refusal};
-use mh_base::{Bytes, BytesList, Duplicate, Entry, List, MsgNum, SIZE_LIMIT, entry_name};
+use mh_base::{Bytes, BytesList, Duplicate, Entry, List, MsgNum, entry_name};
 use std::alloc::{AllocError, Global};
 use step_plans::CommandFault;
 
@@ -36,7 +37,7 @@ fn message_from(
         Reading::Content(bytes) => Ok(bytes),
         Reading::Long(length) => Err(CommandFault::Refused(Refusal::TooLarge {
             length,
-            limit: SIZE_LIMIT,
+            limit: LIMIT,
         })),
         Reading::Gone => Err(meddled(alloc, place, number)?),
     }
@@ -54,7 +55,7 @@ fn read_message<F: Files>(
         (by_hand h (F.state files.new)) result }
 {
     let name = entry_name(alloc, &Entry::Number(number))?;
-    let reading = ask_read(alloc, run, files, place, &name, SIZE_LIMIT)?;
+    let reading = ask_read(alloc, run, files, place, &name, LIMIT)?;
     message_from(alloc, place, number, reading)
 }
 

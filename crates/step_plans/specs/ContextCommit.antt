@@ -1,6 +1,5 @@
 -- The context: its entries, changes of them, and the plan by which changes are committed.
 use Rattle.std.specs.Prelude.{◌≡◌, ◌≤◌, ℕ, drop, Bool, true, false, ◌&&◌, nat_lt, bytes_eq, List, [], ◌∷◌, length, Option, None, Some, Ok, Err, codes, if◌then◌else◌}
-use Rattle.mh_base.specs.Limits.{SIZE_LIMIT}
 use Rattle.mh_profile.specs.declared.named_value.NamedValue.{NamedValue}
 use Rattle.mh_profile.specs.Changes.{value_of, with_entry, without, without_all}
 use Rattle.mh_profile.specs.Names.{IsFieldName}
@@ -25,7 +24,7 @@ context_name = codes "context"
 
 -- the greatest text that is read or written, in bytes
 abbrev pub LIMIT_BYTES : ℕ
-LIMIT_BYTES = SIZE_LIMIT
+LIMIT_BYTES = 67108864
 
 -- how often the mail directory's lock is tried
 abbrev pub TRIES : ℕ

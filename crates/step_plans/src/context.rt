@@ -25,9 +25,12 @@ use crate::replacing::replace;
 use crate::{ChangeEntry, ChangeEntryList, Hand, PlanFault};
 use file_plans::{Reading, ask_make_folder, ask_read};
 use folder_files::{Files, Place};
-use mh_base::{Bytes, Duplicate, Name, SIZE_LIMIT};
+use mh_base::{Bytes, Duplicate, Name};
 use mh_profile::Entries;
 use std::alloc::{AllocError, Global};
+
+/// The greatest text that is read or written, in bytes.
+const LIMIT: u64 = 67_108_864;
 
 /// How often the mail directory's lock is tried.
 const TRIES: u64 = 64;
@@ -61,7 +64,7 @@ pub fn read_context<F: Files>(
         (by_hand h (F.state files.new)) result }
 {
     let name = context_file(alloc)?;
-    let reading = ask_read(alloc, run, files, place, &name, SIZE_LIMIT)?;
+    let reading = ask_read(alloc, run, files, place, &name, LIMIT)?;
     entries_from(alloc, reading)
 }
 
@@ -78,7 +81,7 @@ fn replace_context<F: Files>(
         (by_hand kept.new (F.state files.new)) result }
 {
     let length = text.len() as u64;
-    if SIZE_LIMIT < length {
+    if LIMIT < length {
         return Err(PlanFault::TooLarge(length));
     }
     let name = context_file(alloc)?;

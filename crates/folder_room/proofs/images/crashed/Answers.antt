@@ -4,7 +4,7 @@ use Rattle.folder_room.specs.Played.{has_acted_or_is}
 use Rattle.folder_files.specs.Histories.{past_of}
 use Rattle.folder_files.specs.Worlds.{directory_of}
 use Rattle.folder_files.specs.declared.world.Directory.{Directory}
-use Rattle.folder_files.specs.declared.script.Keep.{Keep}
+use Rattle.folder_room.specs.declared.script.Keep.{Keep}
 use Rattle.folder_room.proofs.Crashed.{world_crashed}
 use Rattle.folder_room.proofs.images.crashed.Goals as goal
 

@@ -2,8 +2,6 @@ use Rattle.std.proofs.Common.{ap, sym, ◌∙◌}
 use Rattle.std.proofs.lemmas.List.{nil_from_length}
 use Rattle.format_run.specs.Lazy.{meant}
 use Rattle.format_run.specs.Running.{run}
-use Rattle.format_run.specs.declared.state.LineState.{LineState}
-use Rattle.format_run.proofs.ClosedLines.{ran_closed}
 use Rattle.format_run.proofs.RunCode.{ran_out, skipping}
 use Rattle.format_run.proofs.running.run.Goals as goal
 
@@ -14,13 +12,7 @@ loop-instruction-preserved c =
     ∙ sym (c.in_ok-skipped.ensures c.in-Some.following.now)
     ∙ ap (λ code. run c.args.view.now 0 code (meant c.loop-instruction.state)) (sym c.in-Some.ensures.cases.0) ∙ c.loop-instruction.invariant
 
-pub returns-then-is_closed : goal.returns-then-is_closed
-returns-then-is_closed c =
-    sym (ran_closed c.args.view.now c.loop-instruction.rest.now (meant c.loop-instruction.state) (sym c.is_closed.ensures ∙ c.if-is_closed.true))
-    ∙ ap (λ (s : LineState). s.row) c.loop-instruction.invariant
-
 pub returns : goal.returns
 returns c =
-    ap (λ (s : LineState). s.row)
-    (sym (ran_out c.args.view.now 0 (meant c.loop-instruction.state))
-    ∙ ap (λ code. run c.args.view.now 0 code (meant c.loop-instruction.state)) (sym (nil_from_length c.loop-instruction.rest.now c.in_default.ensures.cases)) ∙ c.loop-instruction.invariant)
+    sym (ran_out c.args.view.now 0 (meant c.loop-instruction.state))
+    ∙ ap (λ code. run c.args.view.now 0 code (meant c.loop-instruction.state)) (sym (nil_from_length c.loop-instruction.rest.now c.in_default.ensures.cases)) ∙ c.loop-instruction.invariant

@@ -5,7 +5,7 @@ use Rattle.mime_tree.proofs.Marking.{mark_more, marks_end, marks_start}
 use Rattle.mime_tree.proofs.dashes.dash_places.Goals as goal
 
 pub loop-rest-init : goal.loop-rest-init
-loop-rest-init c = (omega arith, marks_start c.args.bytes.now c.in_ok-marks.marks.items c.in_ok-marks.ensures.items)
+loop-rest-init c = (omega arith, marks_start c.args.bytes.now c.new-marks.result.items c.new-marks.ensures.items)
 
 pub loop-rest-smaller : goal.loop-rest-smaller
 loop-rest-smaller c =

@@ -8,8 +8,12 @@ overflow_sub-body c =
     let short = body_short c.of.result.now c.body.result.now f in
     omega (arith, short, c.of.ensures.inside)
 
-pub find_kids-requires : goal.find_kids-requires
-find_kids-requires c =
+pub find_kids-requires-clause-inside : goal.find_kids-requires-clause-inside
+find_kids-requires-clause-inside c =
     let f = fronted_as _ c.of.result.now _ c.body.result.now c.cut-message.ensures.bytes c.body.ensures (body_front _ _ _ c.cut-message.ensures.whole) in
-    let at = body_at_span c.args.bytes.now c.of.result.now c.body.result.now c.args.piece.marks.now c.args.piece.span c.of.ensures.value c.requires.inside c.requires.marked f in
-    record { inside = at.inside; marked = rw c.marks_behind-marks.ensures at.marked }
+    (body_at_span c.args.bytes.now c.of.result.now c.body.result.now c.args.piece.marks.now c.args.piece.span c.of.ensures.value c.requires.inside c.requires.marked f).inside
+
+pub find_kids-requires-clause-marked : goal.find_kids-requires-clause-marked
+find_kids-requires-clause-marked c =
+    let f = fronted_as _ c.of.result.now _ c.body.result.now c.cut-message.ensures.bytes c.body.ensures (body_front _ _ _ c.cut-message.ensures.whole) in
+    rw c.marks_behind-marks.ensures ((body_at_span c.args.bytes.now c.of.result.now c.body.result.now c.args.piece.marks.now c.args.piece.span c.of.ensures.value c.requires.inside c.requires.marked f).marked)

@@ -4,8 +4,8 @@ use Rattle.folder_files.specs.Histories.{past_of}
 use Rattle.folder_files.specs.declared.event.Event.{Event}
 use Rattle.folder_files.specs.declared.event.Event.TheVariants as event
 use Rattle.folder_room.specs.Played.{PlaysOne, delivers, fails, crashes}
-use Rattle.folder_files.specs.declared.script.Happening.TheVariants as happening
-use Rattle.folder_files.specs.declared.script.Happening.{Happening}
+use Rattle.folder_room.specs.declared.script.Happening.TheVariants as happening
+use Rattle.folder_room.specs.declared.script.Happening.{Happening}
 use Rattle.folder_room.proofs.Coursing.{either_way, both_same, past_more, delivered_now, crashed_now, crash_by}
 use Rattle.folder_room.proofs.course.Course.play_one.Goals as goal
 

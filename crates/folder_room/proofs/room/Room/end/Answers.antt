@@ -1,17 +1,8 @@
-use Rattle.std.proofs.Common.{ap}
-use Rattle.folder_room.specs.declared.course.Course.{Course}
-use Rattle.folder_room.proofs.Calling.{told_ended, told_same}
 use Rattle.folder_room.proofs.Coursing.{either_way, both_same, ended_now}
 use Rattle.folder_room.proofs.room.Room.end.Goals as goal
 
 pub invariant_of-self : goal.invariant_of-self
 invariant_of-self c =
     either_way c.end.result c.end.ensures.ok c.end.ensures.err
-    (λ p. (
-      ended_now c.self.inside.start c.self.inside.course.world c.end.new.self.world c.self.inside.course.history c.end.new.self.history c.args.run c.self.invariant.0 p.0 p.1,
-      told_ended c.self.inside.start c.self.inside.script c.self.inside.calls c.self.inside.faults c.self.inside.asked c.self.inside.course.history c.end.new.self.history c.args.run p.0 c.self.invariant.1,
-    ))
-    (λ e. (
-      both_same c.self.inside.start c.self.inside.course c.end.new.self e c.self.invariant.0,
-      told_same c.self.inside.start c.self.inside.script c.self.inside.calls c.self.inside.faults c.self.inside.asked c.self.inside.course.history c.end.new.self.history (ap (λ (k : Course). k.history) e) c.self.invariant.1,
-    ))
+    (λ p. ended_now c.self.inside.start c.self.inside.course.world c.end.new.self.world c.self.inside.course.history c.end.new.self.history c.args.run c.self.invariant p.0 p.1)
+    (λ e. both_same c.self.inside.start c.self.inside.course c.end.new.self e c.self.invariant)

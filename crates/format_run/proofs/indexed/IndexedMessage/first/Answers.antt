@@ -1,9 +1,17 @@
-use Rattle.std.proofs.Common.{List, ℕ, IfSome, subst}
-use Rattle.mail_headers.specs.Fields.{fields_of}
-use Rattle.format_run.specs.NameTables.{IsTableOf}
+use Rattle.std.proofs.Common.{◌∙◌}
+use Rattle.format_run.proofs.FirstFields.{indexed, met, none_met, passed}
 use Rattle.format_run.proofs.indexed.IndexedMessage.first.Goals as goal
 
-pub returns-in-Some : goal.returns-in-Some
-returns-in-Some c =
-    let here = subst (λ t. IfSome t (λ table. IsTableOf table (fields_of c.self.inside.message))) c.in-Some.is c.self.invariant.1 in
-    c.value_in.ensures (fields_of c.args.self.now) (subst (λ (m : List ℕ). IsTableOf c.in-Some.table (fields_of m)) c.self.view_is here)
+pub returns-then-eq_ignore_ascii_case : goal.returns-then-eq_ignore_ascii_case
+returns-then-eq_ignore_ascii_case c =
+    indexed c.args.name.now c.as_slice-field-items.result.now c.self.inside.fields.items _ _ c.as_slice-field-items.ensures.value c.self.invariant c.self.view_is
+    ∙ met c.args.name.now c.as_slice-field-items.result.now c.loop-field.field-index _ c.loop-field-test.true (c.eq_ignore_ascii_case.ensures.test.0 c.if-eq_ignore_ascii_case.true) c.loop-field.invariant
+
+pub loop-field-preserved : goal.loop-field-preserved
+loop-field-preserved c =
+    passed c.args.name.now c.as_slice-field-items.result.now c.loop-field.field-index _ c.eq_ignore_ascii_case.result c.loop-field-test.true c.eq_ignore_ascii_case.ensures.test.1 c.if-eq_ignore_ascii_case.false c.loop-field.invariant
+
+pub returns : goal.returns
+returns c =
+    indexed c.args.name.now c.as_slice-field-items.result.now c.self.inside.fields.items _ _ c.as_slice-field-items.ensures.value c.self.invariant c.self.view_is
+    ∙ none_met c.args.name.now c.as_slice-field-items.result.now c.loop-field.field-index c.loop-field-test.false c.loop-field.invariant

@@ -1,0 +1,1 @@
+-- A list cut at an index.
